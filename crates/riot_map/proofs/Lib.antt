@@ -1,0 +1,5 @@
+pub mod Counts
+pub mod PortBits
+pub mod Lawful
+pub mod Kept
+pub mod Mirrors

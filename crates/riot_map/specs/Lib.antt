@@ -1,0 +1,9 @@
+pub mod Bits
+pub mod Place
+pub mod Cart
+pub mod Ports
+pub mod Timer
+pub mod Parts
+pub mod Interval
+pub mod RiotFields
+pub mod Riot

@@ -1,0 +1,58 @@
+-- The timer: one whole number that falls by one each cycle, an interval and a flag. Registers and
+-- intervals are the Stella Programmer's Guide's (TIM1T, TIM8T, TIM64T, T1024T, INTIM); the phase,
+-- that is in which cycle each value changes, is this project's own.
+use Rattle.std.specs.Prelude.{ℕ, ℤ, pos, negsuc, ◌≡◌, ◌≤ℤ◌, ◌+ℤ◌, ◌-ℤ◌, nat_abs, int_le, ◌+◌, ◌*◌, ◌/◌, ◌%◌, Bool, false, ◌||◌, ◌==◌, if◌then◌else◌}
+use Rattle.std.specs.Ordering.{int_eq}
+
+pub record Countdown : Type 0 where
+  -- r: from 256 intervals down to 1, then from 0 down to -255 and again from 0
+  pub count : ℤ
+  -- in cycles
+  pub interval : ℕ
+  pub flag : Bool
+
+-- each cycle takes 1, and after -255 comes 0
+abbrev pub next_count : ℤ → ℤ
+next_count r = if int_eq r (negsuc 254) then pos 0 else r -ℤ pos 1
+
+-- one cycle; the flag is set in the step from 1 to 0
+unfoldable pub ticked : Countdown → Countdown
+ticked t = record { count = next_count t.count; interval = t.interval; flag = int_eq t.count (pos 1) || t.flag }
+
+-- zero is still ahead: r is at least 1
+abbrev pub is_running : Countdown → Bool
+is_running t = int_le (pos 1) t.count
+
+-- INTIM: (r - 1) div the interval where r is at least 1, else 255 + r
+unfoldable pub shown : Countdown → ℕ
+shown t = if is_running t then nat_abs (t.count -ℤ pos 1) / t.interval else nat_abs (pos 255 +ℤ t.count)
+
+-- the cycles until INTIM changes
+unfoldable pub part_left : Countdown → ℕ
+part_left t = if is_running t then nat_abs (t.count -ℤ pos 1) % t.interval + 1 else 1
+
+-- a write of n starts at n intervals and 1, with a clear flag
+unfoldable pub started : ℕ → ℕ → Countdown
+started interval n = record { count = pos (n * interval + 1); interval = interval; flag = false }
+
+-- a read of INTIM clears the flag
+abbrev pub with_clear_flag : Countdown → Countdown
+with_clear_flag t = record t { flag = false }
+
+-- the intervals by their codes, 0 to 3
+abbrev pub interval_of : ℕ → ℕ
+interval_of code = if code == 0 then 1 else if code == 1 then 8 else if code == 2 then 64 else 1024
+
+-- the code of an interval
+abbrev pub interval_code : ℕ → ℕ
+interval_code interval = if interval == 1 then 0 else if interval == 8 then 1 else if interval == 64 then 2 else 3
+
+-- r by the value that INTIM shows, the cycles until it changes, and whether zero is behind
+abbrev pub count_of : ℕ → ℕ → ℕ → Bool → ℤ
+count_of value part interval past_zero = if past_zero then pos value -ℤ pos 255 else pos (value * interval + part)
+
+-- what a timer can be: one of the four intervals, and r from -255 to 256 of them
+pub record IsTimer (t : Countdown) : Type 0 where
+  pub interval : interval_of (interval_code t.interval) ≡ t.interval
+  pub least : negsuc 254 ≤ℤ t.count
+  pub most : t.count ≤ℤ pos (256 * t.interval)

@@ -1,0 +1,28 @@
+//! Laws about the definitions.
+ghost use Rattle.std.specs.Prelude.{◌≡◌, ℕ, ◌<◌, true};
+ghost use Rattle.riot_map.specs.Riot.{RiotState, IsRiot, riot_of, fields_of, with_pins, after_cycles, after_read, after_write, with_ram, power_on};
+ghost use Rattle.riot_map.specs.RiotFields.{is_riot, AreInRange};
+ghost use Rattle.riot_map.specs.declared.fields.RiotFields.{RiotFields};
+
+/// Lawful numbers come back from the RIOT that they make.
+pub fn fields_come_back()
+    ensures { (f : RiotFields) → f.timer < 256 → is_riot f ≡ true → fields_of (riot_of f) ≡ f }
+{}
+
+/// A RIOT comes back from its numbers, but for its pins, and these are lawful.
+pub fn riots_come_back()
+    ensures same { (r : RiotState) → IsRiot r → riot_of (fields_of r) ≡ with_pins 255 255 r }
+    ensures lawful { (r : RiotState) → IsRiot r → is_riot (fields_of r) ≡ true }
+    ensures in_range { (r : RiotState) → IsRiot r → AreInRange (fields_of r) }
+{}
+
+/// Power-on and lawful numbers make a RIOT, and what the calls do to a RIOT leaves one.
+pub fn riots_stay_lawful()
+    ensures power_on { IsRiot power_on }
+    ensures fields { (f : RiotFields) → AreInRange f → is_riot f ≡ true → IsRiot (riot_of f) }
+    ensures cycles { (r : RiotState) (n : ℕ) → IsRiot r → IsRiot (after_cycles n r) }
+    ensures read { (r : RiotState) (io : ℕ) → IsRiot r → IsRiot (after_read r io) }
+    ensures write { (r : RiotState) (io value : ℕ) → value < 256 → IsRiot r → IsRiot (after_write r io value) }
+    ensures ram { (r : RiotState) (i value : ℕ) → value < 256 → IsRiot r → IsRiot (with_ram i value r) }
+    ensures pins { (r : RiotState) (a b : ℕ) → IsRiot r → IsRiot (with_pins a b r) }
+{}

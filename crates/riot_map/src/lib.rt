@@ -1,0 +1,27 @@
+//! The address map of an Atari 2600, its cartridge, and its RIOT: 128 bytes of memory, two ports
+//! and a timer.
+//!
+//! The rules follow the Stella Programmer's Guide; where that is silent they are this project's
+//! own, as the definitions in `specs/` say.
+#![tactic(auto)]
+
+mod address_map;
+mod bits;
+mod cart;
+mod fields;
+mod interval;
+mod laws;
+mod places;
+mod port;
+mod riot;
+mod timer;
+
+pub use address_map::place;
+pub use cart::{BadCartSize, Cart};
+pub use fields::RiotFields;
+pub use laws::{fields_come_back, riots_come_back, riots_stay_lawful};
+pub use places::Place;
+pub use riot::Riot;
+
+#[cfg(test)]
+mod tests;
