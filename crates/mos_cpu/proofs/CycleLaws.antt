@@ -17,9 +17,9 @@ use Rattle.mos_cpu.specs.declared.opcode_row.Row.{Row}
 use Rattle.mos_cpu.specs.declared.operation.Operation.{Operation}
 use Rattle.mos_cpu.specs.declared.instruction.Operand.{Operand}
 use Rattle.mos_cpu.specs.declared.instruction.Instruction.{Instruction}
-use Rattle.mos_cpu.specs.declared.accesses.Transfer.{Transfer}
-use Rattle.mos_cpu.specs.declared.accesses.Transfer.TheVariants.{Read, Write}
-use Rattle.mos_cpu.specs.declared.accesses.Access.{Access}
+use Rattle.mos_cpu.specs.declared.access.Transfer.{Transfer}
+use Rattle.mos_cpu.specs.declared.access.Transfer.TheVariants.{Read, Write}
+use Rattle.mos_cpu.specs.declared.access.Access.{Access}
 
 -- What holds of each value that the next step gives.
 and_then-ok : {T U : Type 0} (P : U → Type 0) (x : Result T CpuFault) (next : T → Result U CpuFault)

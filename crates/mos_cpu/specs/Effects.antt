@@ -13,8 +13,8 @@ use Rattle.mos_cpu.specs.declared.operation.Operation.TheVariants.{Adc, And, Asl
 use Rattle.mos_cpu.specs.declared.instruction.Operand.{Operand}
 use Rattle.mos_cpu.specs.declared.instruction.Operand.TheVariants.{Register, Value, Place}
 use Rattle.mos_cpu.specs.declared.instruction.Instruction.{Instruction}
-use Rattle.mos_cpu.specs.declared.accesses.Source.{Source}
-use Rattle.mos_cpu.specs.declared.accesses.Source.TheVariants.{Byte, Loaded, Changed}
+use Rattle.mos_cpu.specs.declared.access.Source.{Source}
+use Rattle.mos_cpu.specs.declared.access.Source.TheVariants.{Byte, Loaded, Changed}
 
 -- What an operation that changes its operand makes of it.
 abbrev pub changed_of : Operation → ℕ → ℕ → Alu

@@ -7,7 +7,7 @@ use Rattle.mos_cpu.specs.Registers.{Registers}
 use Rattle.mos_cpu.specs.declared.opcode_row.Row.{Row}
 use Rattle.mos_cpu.specs.declared.operation.Operation.{Operation}
 use Rattle.mos_cpu.specs.declared.instruction.Instruction.{Instruction}
-use Rattle.mos_cpu.specs.declared.accesses.Access.{Access}
+use Rattle.mos_cpu.specs.declared.access.Access.{Access}
 
 -- The fewest cycles that have room for some accesses.
 abbrev pub least_of : Use → ℕ
