@@ -101,8 +101,8 @@ signed-not m h =
     omega (arith, here, there)
 
 -- A difference is the sum with the complement.
-pub binary_sbc-adc : (a m p : ℕ) → a < 256 → m < 256 → binary_adc_of a (255 - m) p ≡ binary_sbc_of a m p
-binary_sbc-adc a m p ha hm =
+pub binary_sbc_adc : (a m p : ℕ) → a < 256 → m < 256 → binary_adc_of a (255 - m) p ≡ binary_sbc_of a m p
+binary_sbc_adc a m p ha hm =
     let d = less_borrow (pos a) (pos m) p in
     let value : modulo d 256 ≡ sum_of a (255 - m) p % 256 = modulo_is d 256 1 (sum_of a (255 - m) p) (omega arith) (omega (arith, ints)) in
     let carry : int_le (pos 0) d ≡ nat_le 256 (sum_of a (255 - m) p) = not_negative_is d (sum_of a (255 - m) p) 256 (omega (arith, ints)) in

@@ -60,6 +60,7 @@ fn branch(base: u16, offset: u8) -> Operand
 }
 
 /// The next address of the same page, or its first one after its last.
+#[tactic(auto, using(crate::proofs::OperandLemmas::page_next))]
 #[inline]
 fn next_in_page(at: u16) -> u16
     ensures { result ≡ next_in_page_of at }

@@ -1,7 +1,7 @@
 //! Addition and subtraction of decimal digits.
 
-ghost use Rattle.std.specs.Prelude.{◌≡◌, ◌<◌, ◌/◌, ◌%◌};
-ghost use Rattle.mos_cpu.specs.Decimal.{low_sum, decimal_sum_of, corrected_of, decimal_adc_of, decimal_difference};
+ghost use Rattle.std.specs.Prelude.{◌≡◌, ◌<◌, ◌≤◌, ◌/◌, ◌%◌, pos, ◌-ℤ◌};
+ghost use Rattle.mos_cpu.specs.Decimal.{low_sum, decimal_sum_of, corrected_of, decimal_adc_of, low_difference_of, decimal_difference};
 
 use crate::arithmetic::Alu;
 use crate::status::{Flag, has, with_flag};
@@ -59,22 +59,32 @@ pub const fn decimal_adc(a: u8, m: u8, p: u8) -> Alu
     }
 }
 
+/// The difference of the low digits with borrow, and the 16 that it borrows or 0.
+#[inline]
+const fn low_difference(a: u8, m: u8, p: u8) -> (u8, u8)
+    ensures difference { pos result.0 -ℤ pos result.1 ≡ low_difference_of a m p }
+    ensures digit { result.0 < 16 }
+    ensures borrow { result.1 ≤ 16 }
+{
+    let have = (a & 0x0F) + (p & 1);
+    let taken = (m & 0x0F) + 1;
+    if have < taken {
+        ((have + 26 - taken) & 0x0F, 0x10)
+    } else {
+        (have - taken, 0)
+    }
+}
+
 /// The decimal difference with borrow: a digit that lacks borrows from the next, and is 6 less.
 pub const fn decimal_sub(a: u8, m: u8, p: u8) -> u8
     ensures { result ≡ decimal_difference a m p }
 {
-    let taken = (m & 0x0F) + 1 - (p & 1);
-    let borrows = a & 0x0F < taken;
-    let low = if borrows {
-        ((a & 0x0F) + 26 - taken) & 0x0F
+    let (digit, borrowed) = low_difference(a, m, p);
+    let have = (a & 0xF0) as u16 + digit as u16;
+    let taken = (m & 0xF0) as u16 + borrowed as u16;
+    if have < taken {
+        ((have + 0x1A0 - taken) & 0xFF) as u8
     } else {
-        (a & 0x0F) - taken
-    };
-    let have = (a & 0xF0) as u16 + low as u16;
-    let want = (m & 0xF0) as u16 + if borrows { 0x10 } else { 0 };
-    if have < want {
-        ((have + 0x1A0 - want) & 0xFF) as u8
-    } else {
-        (have - want) as u8
+        (have - taken) as u8
     }
 }

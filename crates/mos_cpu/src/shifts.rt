@@ -37,6 +37,7 @@ pub const fn lsr(m: u8, p: u8) -> Alu
 }
 
 /// ROL: to the left, with the old C in bit 0 and bit 7 in C.
+#[tactic(auto, using(crate::proofs::SumLemmas::or_carry))]
 #[inline]
 pub const fn rol(m: u8, p: u8) -> Alu
     ensures result { result ≡ rol_of m p }

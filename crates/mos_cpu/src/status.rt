@@ -30,6 +30,7 @@ const fn mask(flag: Flag) -> u8
     }
 }
 
+#[tactic(auto, using(crate::proofs::StatusLemmas::and_weight))]
 #[inline]
 pub const fn has(p: u8, flag: Flag) -> bool
     ensures { result ≡ has_flag flag p }
@@ -38,6 +39,7 @@ pub const fn has(p: u8, flag: Flag) -> bool
 }
 
 /// The status with a flag set or cleared.
+#[tactic(auto, using(crate::proofs::StatusLemmas::or_weight, crate::proofs::StatusLemmas::and_not_weight, crate::proofs::StatusLemmas::put_flag_status))]
 #[inline]
 pub const fn with_flag(p: u8, flag: Flag, on: bool) -> u8
     ensures value { result ≡ put_flag flag on p }
@@ -60,6 +62,7 @@ pub const fn with_sign(p: u8, value: u8) -> u8
 }
 
 /// The status as it is pushed: with bits 5 and 4 set.
+#[tactic(auto, using(crate::proofs::StatusLemmas::or_48))]
 #[inline]
 pub const fn pushed_status(p: u8) -> u8
     requires { IsStatus p }
@@ -69,6 +72,7 @@ pub const fn pushed_status(p: u8) -> u8
 }
 
 /// A pulled byte as the status: its bits 5 and 4 are dropped.
+#[tactic(auto, using(crate::proofs::StatusLemmas::and_207, crate::proofs::StatusLemmas::and_207_status))]
 #[inline]
 pub const fn pulled_status(byte: u8) -> u8
     ensures value { result ≡ pulled_of byte }

@@ -57,6 +57,7 @@ pub const fn sbc(a: u8, m: u8, p: u8) -> Alu
 }
 
 /// The difference as the sum with the operand's complement.
+#[tactic(auto, using(crate::proofs::SumLemmas::binary_sbc_adc))]
 #[inline]
 const fn binary_sbc(a: u8, m: u8, p: u8) -> Alu
     ensures result { result ≡ binary_sbc_of a m p }

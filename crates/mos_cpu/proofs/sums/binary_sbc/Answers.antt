@@ -1,6 +1,0 @@
-use Rattle.std.proofs.Common.{arith, ◌∙◌}
-use Rattle.mos_cpu.proofs.SumLemmas.{binary_sbc-adc}
-use Rattle.mos_cpu.proofs.sums.binary_sbc.Goals as goal
-
-pub returns-clause-result : goal.returns-clause-result
-returns-clause-result c = c.binary_adc.ensures.result ∙ binary_sbc-adc c.args.a c.args.m c.args.p (omega arith) (omega arith)
