@@ -8,14 +8,13 @@ use Rattle.mos_cpu.specs.Registers.{Registers}
 use Rattle.mos_cpu.specs.Opcodes.{row_of}
 use Rattle.mos_cpu.specs.Operands.{and_then, byte_at, operand_of, documented, decoded}
 use Rattle.mos_cpu.specs.Accesses.{accesses_of, cycles_of, use_of}
-use Rattle.mos_cpu.specs.Execution.{Progress, reached, transferred, accessed, begun, performed, executed, step_by, step_of}
+use Rattle.mos_cpu.specs.Execution.{Progress, reached, transferred, accessed, begun, executed, step_by, step_of}
 use Rattle.mos_cpu.specs.Timing.{IsTimed, least_of, AscendsTo, access_clocks, KeepsTime}
-use Rattle.mos_cpu.proofs.AccessLemmas.{AscendsTo-le, accesses_of-ascend, cycles_of-least, cycles_of-most}
+use Rattle.mos_cpu.proofs.AccessLemmas.{accesses_of-ascend, cycles_of-least, cycles_of-most}
 use Rattle.mos_cpu.proofs.OpcodeLemmas.{row_of-timed}
 use Rattle.mos_cpu.specs.declared.fault.CpuFault.{CpuFault}
 use Rattle.mos_cpu.specs.declared.opcode_row.Row.{Row}
 use Rattle.mos_cpu.specs.declared.operation.Operation.{Operation}
-use Rattle.mos_cpu.specs.declared.instruction.Operand.{Operand}
 use Rattle.mos_cpu.specs.declared.instruction.Instruction.{Instruction}
 use Rattle.mos_cpu.specs.declared.access.Transfer.{Transfer}
 use Rattle.mos_cpu.specs.declared.access.Transfer.TheVariants.{Read, Write}

@@ -1,15 +1,30 @@
 -- Decimal sums and differences, digit by digit in natural numbers.
-use Rattle.std.proofs.Common.{◌≡◌, ℕ, ◌+◌, ◌-◌, ◌%◌, ◌<◌, ◌≤◌, true, false, refl, ◌∙◌, arith}
-use Rattle.std.specs.Prelude.{ℤ, pos, ◌+ℤ◌, ◌-ℤ◌, int_lt}
+use Rattle.std.proofs.Common.{◌≡◌, ℕ, ◌+◌, ◌-◌, ◌%◌, ◌/◌, ◌<◌, ◌≤◌, bit_and, nat_eq, true, false, refl, ◌∙◌, arith}
+use Rattle.std.specs.Prelude.{not, bit_xor, ℤ, pos, ◌+ℤ◌, ◌-ℤ◌, int_lt}
 use Rattle.std.proofs.lemmas.Int.{ints}
 use Rattle.std.proofs.lemmas.Bool.{lt-ltb, le-ltb}
 use Rattle.std.proofs.lemmas.Bool.Decides.{nat_tests}
-use Rattle.mos_cpu.proofs.SumLemmas.{modulo_is, negative_is}
-use Rattle.mos_cpu.specs.Numbers.{modulo}
-use Rattle.mos_cpu.specs.Decimal.{low_sum, low_borrowed, high_borrowed}
+use Rattle.mos_cpu.proofs.SumLemmas.{modulo_is, negative_is, top_bits-overflow, signed_sum-modulo}
+use Rattle.mos_cpu.specs.Numbers.{overflows, modulo}
+use Rattle.mos_cpu.specs.Decimal.{high, low_sum, decimal_sum_of, signed_sum_of, low_borrowed, high_borrowed}
 
 pub low_sum-lt : (a m p : ℕ) → low_sum a m p < 32
 low_sum-lt a m p = grind (arith, nat_tests)
+
+-- The digits' sum is out of range exactly where the operands' top bits differ from its own.
+pub decimal_overflow : (a m p : ℕ) → a < 256 → m < 256 → not (nat_eq (bit_and (bit_and (bit_xor a (decimal_sum_of a m p % 256)) (bit_xor m (decimal_sum_of a m p % 256))) 128) 0) ≡ overflows (signed_sum_of a m p)
+decimal_overflow a m p ha hm =
+    let small : low_sum a m p < 32 = low_sum-lt a m p in
+    let xa : high a < 256 = omega arith in
+    let xm : high m < 256 = omega arith in
+    let ta : a / 128 % 2 ≡ high a / 128 = omega arith in
+    let tm : m / 128 % 2 ≡ high m / 128 = omega arith in
+    let room : high a % 128 + high m % 128 + low_sum a m p < 256 = omega arith in
+    top_bits-overflow a m (high a) (high m) (low_sum a m p) (decimal_sum_of a m p % 256) xa xm ta tm room refl
+
+-- The digits' sum modulo 256 is that of the signed sum.
+pub decimal_modulo : (a m p : ℕ) → a < 256 → m < 256 → modulo (signed_sum_of a m p) 256 ≡ decimal_sum_of a m p % 256
+decimal_modulo a m p ha hm = signed_sum-modulo (high a) (high m) (low_sum a m p) (omega arith) (omega arith)
 
 -- A low digit that lacks what is taken from it.
 pub low_lacks : (x y c : ℕ) → x < 16 → y < 16 → c < 2 → x + c < y + 1

@@ -1,6 +1,6 @@
 -- Sums and differences over the whole numbers, in natural ones and in bits.
 use Rattle.std.proofs.Common.{◌≡◌, ℕ, ◌+◌, ◌-◌, ◌*◌, ◌/◌, ◌%◌, ◌^◌, ◌<◌, ◌≤◌, Bool, true, false, nat_eq, refl, ap, sym, ◌∙◌, arith, bit_and, bit_or}
-use Rattle.std.specs.Prelude.{not, ◌&&◌, nat_lt, nat_le, min, bit_xor, ℤ, pos, negsuc, ◌+ℤ◌, ◌-ℤ◌, int_lt, int_le, unsigned_abs, cond, if◌then◌else◌}
+use Rattle.std.specs.Prelude.{not, ◌&&◌, nat_lt, nat_le, min, bit_xor, ℤ, pos, negsuc, ◌+ℤ◌, ◌-ℤ◌, int_lt, int_le, unsigned_abs, cond}
 use borrow.Author.Differences.{up, down}
 use Rattle.std.proofs.lemmas.Int.{ints, int_rem_euclid_is}
 use Rattle.std.proofs.lemmas.Bool.{leb-false, leb-true}
@@ -72,6 +72,15 @@ top_bits-natural a m x y c v hx hy ha hm hc hv =
 pub top_bits-overflow : (a m x y c v : ℕ) → x < 256 → y < 256 → a / 128 % 2 ≡ x / 128 → m / 128 % 2 ≡ y / 128 → x % 128 + y % 128 + c < 256 → v ≡ (x + y + c) % 256 → not (nat_eq (bit_and (bit_and (bit_xor a v) (bit_xor m v)) 128) 0) ≡ overflows (signed x +ℤ signed y +ℤ pos c)
 top_bits-overflow a m x y c v hx hy ha hm hc hv =
     top_bits-natural a m x y c v hx hy ha hm hc hv ∙ sym (overflows-natural (signed x +ℤ signed y +ℤ pos c) (biased x + biased y + c) (signed-sum x y c hx hy))
+
+-- V of a binary sum, as the code makes it.
+pub binary_overflow : (a m c : ℕ) → a < 256 → m < 256 → c < 2
+    → not (nat_eq (bit_and (bit_and (bit_xor a ((a + m + c) % 256)) (bit_xor m ((a + m + c) % 256))) 128) 0) ≡ overflows (signed a +ℤ signed m +ℤ pos c)
+binary_overflow a m c ha hm hc =
+    let ta : a / 128 % 2 ≡ a / 128 = omega arith in
+    let tm : m / 128 % 2 ≡ m / 128 = omega arith in
+    let room : a % 128 + m % 128 + c < 256 = omega arith in
+    top_bits-overflow a m a m c ((a + m + c) % 256) ha hm ta tm room refl
 
 -- A rotated value with the carry below.
 pub or_carry : (m p : ℕ) → bit_or (m * 2 % 256) (bit_and p 1) ≡ (2 * m + p % 2) % 256
