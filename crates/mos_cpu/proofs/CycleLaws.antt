@@ -167,7 +167,8 @@ module _ {S : Type 0} (m : Meaning S) (Fact : S → Type 0) (kept : IsKept m Fac
   pub step_of-kept : (r : Registers) (s : S) → Fact s → Fact (step_of m r s).bus
   step_of-kept r s h = step_by-kept r s (decoded m s r) h
 
--- Counts that may be clocks: one that goes on without end, and one modulo a number, at a rate of so many a cycle.
+-- Counts that may be clocks: one that goes on without end, and one modulo a number, at a rate of so
+-- many a cycle.
 pub count-adds : (rate t a b : ℕ) → t + rate * a + rate * b ≡ t + rate * (a + b)
 count-adds rate t a b = grind arith
 

@@ -15,11 +15,3 @@ page_next n h =
     let g : (n + 1) % 65536 % 256 ≡ (n + 1) % 256 = omega arith in
     let b : (n + 1) % 256 < 2 ^ 8 = omega arith in
     rw (e, f, g) (or_shifted (n / 256) 8 ((n + 1) % 256) b)
-
--- The target of a branch, forwards and backwards.
-pub forwards : (base offset : ℕ) → offset < 128 → modulo (pos base +ℤ pos offset) 65536 ≡ (base + offset) % 65536
-forwards base offset h = modulo_is (pos base +ℤ pos offset) 65536 0 (base + offset) (omega arith) (omega (arith, ints))
-
-pub backwards : (base offset : ℕ) → 128 ≤ offset → modulo (pos base +ℤ (pos offset -ℤ pos 256)) 65536 ≡ (base + (65280 + offset)) % 65536
-backwards base offset h =
-    modulo_is (pos base +ℤ (pos offset -ℤ pos 256)) 65536 1 (base + (65280 + offset)) (omega arith) (omega (arith, ints))

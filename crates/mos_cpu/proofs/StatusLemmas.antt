@@ -51,19 +51,22 @@ and_not_weight Negative p h = eqb-true _ _ (at_byte (clears Negative) p refl h)
 abbrev keeps : Flag → Bool → ℕ → Bool
 keeps flag on q = nat_eq (put_flag flag on q / 16 % 4) (q / 16 % 4)
 
-pub put_flag_status : (flag : Flag) (on : Bool) (p : ℕ) → p < 256 → put_flag flag on p / 16 % 4 ≡ p / 16 % 4
-put_flag_status Carry true p h = eqb-true _ _ (at_byte (keeps Carry true) p refl h)
-put_flag_status Zero true p h = eqb-true _ _ (at_byte (keeps Zero true) p refl h)
-put_flag_status Interrupt true p h = eqb-true _ _ (at_byte (keeps Interrupt true) p refl h)
-put_flag_status Decimal true p h = eqb-true _ _ (at_byte (keeps Decimal true) p refl h)
-put_flag_status Overflow true p h = eqb-true _ _ (at_byte (keeps Overflow true) p refl h)
-put_flag_status Negative true p h = eqb-true _ _ (at_byte (keeps Negative true) p refl h)
-put_flag_status Carry false p h = eqb-true _ _ (at_byte (keeps Carry false) p refl h)
-put_flag_status Zero false p h = eqb-true _ _ (at_byte (keeps Zero false) p refl h)
-put_flag_status Interrupt false p h = eqb-true _ _ (at_byte (keeps Interrupt false) p refl h)
-put_flag_status Decimal false p h = eqb-true _ _ (at_byte (keeps Decimal false) p refl h)
-put_flag_status Overflow false p h = eqb-true _ _ (at_byte (keeps Overflow false) p refl h)
-put_flag_status Negative false p h = eqb-true _ _ (at_byte (keeps Negative false) p refl h)
+pub put_flag-status : (flag : Flag) (on : Bool) (p : ℕ) → p < 256 → put_flag flag on p / 16 % 4 ≡ p / 16 % 4
+put_flag-status Carry true p h = eqb-true _ _ (at_byte (keeps Carry true) p refl h)
+put_flag-status Zero true p h = eqb-true _ _ (at_byte (keeps Zero true) p refl h)
+put_flag-status Interrupt true p h = eqb-true _ _ (at_byte (keeps Interrupt true) p refl h)
+put_flag-status Decimal true p h = eqb-true _ _ (at_byte (keeps Decimal true) p refl h)
+put_flag-status Overflow true p h = eqb-true _ _ (at_byte (keeps Overflow true) p refl h)
+put_flag-status Negative true p h = eqb-true _ _ (at_byte (keeps Negative true) p refl h)
+put_flag-status Carry false p h = eqb-true _ _ (at_byte (keeps Carry false) p refl h)
+put_flag-status Zero false p h = eqb-true _ _ (at_byte (keeps Zero false) p refl h)
+put_flag-status Interrupt false p h = eqb-true _ _ (at_byte (keeps Interrupt false) p refl h)
+put_flag-status Decimal false p h = eqb-true _ _ (at_byte (keeps Decimal false) p refl h)
+put_flag-status Overflow false p h = eqb-true _ _ (at_byte (keeps Overflow false) p refl h)
+put_flag-status Negative false p h = eqb-true _ _ (at_byte (keeps Negative false) p refl h)
+
+-- A flag set or cleared.
+pub ruleset puts = (or_weight, and_not_weight, put_flag-status)
 
 -- The carry, as a bit.
 pub and_one : (p : ℕ) → bit_and p 1 ≡ p % 2
@@ -86,5 +89,8 @@ drops q = nat_eq (bit_and q 207) (q % 16 + q / 64 * 64)
 pub and_207 : (b : ℕ) → b < 256 → bit_and b 207 ≡ b % 16 + b / 64 * 64
 and_207 b h = eqb-true _ _ (at_byte drops b refl h)
 
-pub and_207_status : (b : ℕ) → b < 256 → bit_and b 207 / 16 % 4 ≡ 0
-and_207_status b h = rw (and_207 b h) (omega arith)
+pub and_207-status : (b : ℕ) → b < 256 → bit_and b 207 / 16 % 4 ≡ 0
+and_207-status b h = rw (and_207 b h) (omega arith)
+
+-- A pulled status.
+pub ruleset pulls = (and_207, and_207-status)

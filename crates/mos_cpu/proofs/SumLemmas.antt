@@ -99,10 +99,6 @@ signed_sum-modulo x y c hx hy =
     let e : modulo (signed x +ℤ signed y +ℤ pos c) 256 ≡ (biased x + biased y + c) % 256 = modulo_is _ 256 1 (biased x + biased y + c) (omega arith) (omega (arith, ints, sum)) in
     e ∙ omega arith
 
--- A difference of bytes modulo 256, as the code makes it.
-pub difference-modulo : (x y : ℕ) → y < 256 → modulo (pos x -ℤ pos y) 256 ≡ (x + (256 - y)) % 256
-difference-modulo x y h = modulo_is (pos x -ℤ pos y) 256 1 (x + (256 - y)) (omega arith) (omega (arith, ints))
-
 signed-not : (m : ℕ) → m < 256 → up (signed (255 - m)) + up (signed m) + 1 ≡ down (signed (255 - m)) + down (signed m)
 signed-not m h =
     let here = signed-biased m h in

@@ -1,5 +1,5 @@
--- ADC and SBC in decimal mode, by the MOS MCS6500 programming manual. What it leaves open is this project's own: digits above 9, and
--- N, V and Z.
+-- ADC and SBC in decimal mode, by the MOS MCS6500 programming manual. What it leaves open is this
+-- project's own: digits above 9, and N, V and Z.
 use Rattle.std.specs.Prelude.{ℕ, ◌+◌, ◌*◌, ◌/◌, ◌%◌, ◌==◌, nat_le, ℤ, pos, ◌+ℤ◌, ◌-ℤ◌, int_lt, if◌then◌else◌}
 use Rattle.mos_cpu.specs.Numbers.{signed, overflows, modulo}
 use Rattle.mos_cpu.specs.Status.{has_flag, put_flag, carry_of}
@@ -32,7 +32,8 @@ signed_sum_of a m p = signed (high a) +ℤ signed (high m) +ℤ pos (low_sum a m
 abbrev pub corrected_of : ℕ → ℕ
 corrected_of sum = if nat_le 160 sum then sum + 96 else sum
 
--- The decimal sum with carry. N and V are of the signed sum before the correction, Z is of the binary sum.
+-- The decimal sum with carry. N and V are of the signed sum before the correction, Z is of the
+-- binary sum.
 abbrev pub decimal_adc_of : ℕ → ℕ → ℕ → Alu
 decimal_adc_of a m p =
     let sum = corrected_of (decimal_sum_of a m p) in
@@ -41,7 +42,8 @@ decimal_adc_of a m p =
       value = sum % 256;
       p = put_flag Carry (nat_le 256 sum)
           (put_flag Overflow (overflows signed_sum)
-          (put_flag Negative (has_flag Negative (modulo signed_sum 256)) (put_flag Zero (sum_of a m p % 256 == 0) p)));
+          (put_flag Negative (has_flag Negative (modulo signed_sum 256))
+          (put_flag Zero (sum_of a m p % 256 == 0) p)));
     }
 
 abbrev pub adc_of : ℕ → ℕ → ℕ → Alu
@@ -61,12 +63,14 @@ high_borrowed s = if int_lt s (pos 0) then s -ℤ pos 96 else s
 
 -- The decimal difference with borrow.
 abbrev pub decimal_difference : ℕ → ℕ → ℕ → ℕ
-decimal_difference a m p = modulo (high_borrowed (pos (high a) -ℤ pos (high m) +ℤ low_difference_of a m p)) 256
+decimal_difference a m p =
+    modulo (high_borrowed (pos (high a) -ℤ pos (high m) +ℤ low_difference_of a m p)) 256
 
 -- The difference with borrow. All its flags are those of the binary difference.
 abbrev pub sbc_of : ℕ → ℕ → ℕ → Alu
 sbc_of a m p =
+    let binary = binary_sbc_of a m p in
     record {
-      value = (if has_flag Decimal p then decimal_difference a m p else (binary_sbc_of a m p).value);
-      p = (binary_sbc_of a m p).p;
+      value = (if has_flag Decimal p then decimal_difference a m p else binary.value);
+      p = binary.p;
     }

@@ -32,11 +32,16 @@ written operation p bytes (Byte b) = b
 written operation p bytes Loaded = slice_index bytes 0
 written operation p bytes Changed = (changed_of operation (slice_index bytes 0) p).value
 
--- The value that an operation works on: of a register, of the instruction, or the first byte that was read.
+-- The value that an operation works on: of a register, of the instruction, or the first byte that
+-- was read.
 abbrev pub worked_on : Operand → ℕ → List ℕ → ℕ
 worked_on Register register bytes = register
 worked_on (Value b) register bytes = b
 worked_on (Place address crossed) register bytes = slice_index bytes 0
+
+-- The number of two bytes that were read, its low one first.
+abbrev pub word_in : List ℕ → ℕ → ℕ
+word_in bytes i = slice_index bytes i + 256 * slice_index bytes (i + 1)
 
 -- Where an operand is.
 abbrev pub target_of : Operand → ℕ
@@ -100,9 +105,11 @@ effect Bvc operand r bytes = if is_taken Bvc r.p then with_pc r (target_of opera
 effect Bvs operand r bytes = if is_taken Bvs r.p then with_pc r (target_of operand) else r
 effect Jmp operand r bytes = with_pc r (target_of operand)
 effect Jsr operand r bytes = with_pc (stack_down r 2) (target_of operand)
-effect Brk operand r bytes = with_pc (with_p (stack_down r 3) (put_flag Interrupt true r.p)) (target_of operand)
-effect Rts operand r bytes = with_pc (stack_up r 2) ((slice_index bytes 0 + 256 * slice_index bytes 1 + 1) % 65536)
-effect Rti operand r bytes = with_pc (with_p (stack_up r 3) (pulled_of (slice_index bytes 0))) (slice_index bytes 1 + 256 * slice_index bytes 2)
+effect Brk operand r bytes =
+    with_pc (with_p (stack_down r 3) (put_flag Interrupt true r.p)) (target_of operand)
+effect Rts operand r bytes = with_pc (stack_up r 2) ((word_in bytes 0 + 1) % 65536)
+effect Rti operand r bytes =
+    with_pc (with_p (stack_up r 3) (pulled_of (slice_index bytes 0))) (word_in bytes 1)
 effect Pha operand r bytes = stack_down r 1
 effect Php operand r bytes = stack_down r 1
 effect Pla operand r bytes = with_a (stack_up r 1) (load_of (slice_index bytes 0) r.p)

@@ -6,7 +6,8 @@ use Rattle.mos_cpu.specs.declared.operation.Operation.TheVariants.{Adc, And, Asl
 use Rattle.mos_cpu.specs.declared.mode.Mode.{Mode}
 use Rattle.mos_cpu.specs.declared.mode.Mode.TheVariants.{Implied, Accumulator, Immediate, ZeroPage, ZeroPageX, ZeroPageY, Absolute, AbsoluteX, AbsoluteY, Relative, Indirect, IndirectX, IndirectY}
 
--- An opcode, its operation, addressing mode and cycles, and whether it takes one more where indexing crosses a page.
+-- An opcode, its operation, addressing mode and cycles, and whether it takes one more where
+-- indexing crosses a page.
 abbrev pub Entry : Type 0
 Entry = ℕ × Operation × Mode × ℕ × Bool
 
@@ -165,13 +166,18 @@ entries =
     (0x88, Dey, Implied, 2, false) ∷
     (0xEA, Nop, Implied, 2, false) ∷ []
 
+abbrev pub row_with : Operation → Mode → ℕ → Bool → Row
+row_with operation mode cycles crossing =
+    record { operation = operation; mode = mode; cycles = cycles; crossing = crossing }
+
 abbrev pub row_at : Entry → Row
-row_at entry = record { operation = entry.1; mode = entry.2; cycles = entry.3; crossing = entry.4 }
+row_at entry = row_with entry.1 entry.2 entry.3 entry.4
 
 -- The row of the first entry for an opcode.
 abbrev pub row_in : List Entry → ℕ → Option Row
 row_in [] opcode = None
-row_in (entry ∷ entries) opcode = if entry.0 == opcode then Some (row_at entry) else row_in entries opcode
+row_in (entry ∷ entries) opcode =
+    if entry.0 == opcode then Some (row_at entry) else row_in entries opcode
 
 abbrev pub row_of : ℕ → Option Row
 row_of opcode = row_in entries opcode

@@ -16,14 +16,16 @@ binary_adc_of a m p =
     let signed_sum = signed a +ℤ signed m +ℤ pos (carry_of p) in
     record {
       value = sum % 256;
-      p = put_flag Carry (nat_le 256 sum) (put_flag Overflow (overflows signed_sum) (with_nz (sum % 256) p));
+      p = put_flag Carry (nat_le 256 sum)
+          (put_flag Overflow (overflows signed_sum) (with_nz (sum % 256) p));
     }
 
 -- A difference with borrow: 1 less where C isn't set.
 abbrev pub less_borrow : ℤ → ℤ → ℕ → ℤ
 less_borrow a m p = a -ℤ m +ℤ pos (carry_of p) -ℤ pos 1
 
--- The binary difference with borrow: C says that none is borrowed, and V that the signed difference is out of range.
+-- The binary difference with borrow: C says that none is borrowed, and V that the signed difference
+-- is out of range.
 abbrev pub binary_sbc_of : ℕ → ℕ → ℕ → Alu
 binary_sbc_of a m p =
     let difference = less_borrow (pos a) (pos m) p in
@@ -31,5 +33,6 @@ binary_sbc_of a m p =
     let value = modulo difference 256 in
     record {
       value = value;
-      p = put_flag Carry (int_le (pos 0) difference) (put_flag Overflow (overflows signed_difference) (with_nz value p));
+      p = put_flag Carry (int_le (pos 0) difference)
+          (put_flag Overflow (overflows signed_difference) (with_nz value p));
     }

@@ -1,4 +1,5 @@
--- When things happen within an instruction. What is said here follows from the table and the accesses.
+-- When things happen within an instruction. What is said here follows from the table and the
+-- accesses.
 use Rattle.std.specs.Prelude.{ℕ, ◌≡◌, ◌≤◌, ◌+◌, ◌-◌, map, is_some, if◌then◌else◌, List, [], ◌∷◌, length}
 use Rattle.mos_cpu.specs.Accesses.{Use, Modifies, Pushes, Pulls, use_of, branch_test, accesses_of, cycles_of}
 use Rattle.mos_cpu.specs.Buses.{Meaning, IsClock}
@@ -18,7 +19,9 @@ least_of other = 0
 
 -- The most cycles that an instruction of a row takes.
 abbrev pub most_cycles : Row → ℕ
-most_cycles row = row.cycles + (if row.crossing then 1 else 0) + (if is_some (branch_test row.operation) then 2 else 0)
+most_cycles row =
+    let branching = (if is_some (branch_test row.operation) then 2 else 0) in
+    row.cycles + (if row.crossing then 1 else 0) + branching
 
 -- An instruction of a row takes 2 to 7 cycles, which have room for its accesses.
 pub record IsTimed (row : Row) : Type 0 where
@@ -32,15 +35,18 @@ AscendsTo now [] last = now ≤ last
 AscendsTo now (access ∷ accesses) last = (now ≤ access.cycle) × AscendsTo access.cycle accesses last
 
 -- What a clock shows at each access in turn.
-abbrev pub access_clocks : {S : Type 0} → Meaning S → (S → ℕ) → Operation → ℕ → Progress S → List Access → List ℕ
+abbrev pub access_clocks : {S : Type 0} → Meaning S → (S → ℕ) → Operation → ℕ → Progress S
+    → List Access → List ℕ
 access_clocks m clock operation p progress [] = []
 access_clocks m clock operation p progress (access ∷ accesses) =
     clock (reached m progress access.cycle) ∷
     access_clocks m clock operation p (accessed m operation p progress access) accesses
 
--- Each access of an instruction is made when exactly the cycles up to its own have passed, by any clock.
+-- Each access of an instruction is made when exactly the cycles up to its own have passed, by any
+-- clock.
 abbrev pub KeepsTime : {S : Type 0} → Meaning S → Registers → S → Instruction → Type 0
 KeepsTime {S} m r s i =
     let accesses = accesses_of i r (cycles_of i r.p) in
     (advance : ℕ → ℕ → ℕ) (clock : S → ℕ) → IsClock m advance clock
-    → access_clocks m clock i.row.operation r.p (begun s) accesses ≡ map (λ access. advance (clock s) access.cycle) accesses
+    → access_clocks m clock i.row.operation r.p (begun s) accesses
+    ≡ map (λ access. advance (clock s) access.cycle) accesses

@@ -5,7 +5,8 @@ ghost use Rattle.mos_cpu.specs.Buses.{Meaning};
 
 /// A bus of 16 address lines and 8 data lines, with the parts on it and the clock that drives them.
 ///
-/// An implementer says by `State` and `state` what contracts see of it, and by `meaning` what each call does to that.
+/// An implementer says by `State` and `state` what contracts see of it, and by `meaning` what each
+/// call does to that.
 pub trait Bus {
     ghost State: { Type 0 };
 
@@ -13,7 +14,8 @@ pub trait Bus {
 
     ghost meaning: { Meaning State };
 
-    /// Lets cycles go by in which the processor makes no data access. They are at most the 76 of a scanline.
+    /// Lets cycles go by in which the processor makes no data access. They are at most the 76 of a
+    /// scanline.
     fn pass(&mut self, cycles: u8)
         requires { cycles ≤ 76 }
         ensures { state self.new ≡ meaning.passed (state self.old) cycles };
@@ -27,7 +29,8 @@ pub trait Bus {
     fn write(&mut self, addr: u16, value: u8)
         ensures { state self.new ≡ meaning.after_write (state self.old) addr value };
 
-    /// An opcode, operand, pointer or vector byte, looked at with no effect. None where a register of a device would answer.
+    /// An opcode, operand, pointer or vector byte, looked at with no effect. None where a register
+    /// of a device would answer.
     fn peek(&self, addr: u16) -> Option<u8>
         ensures { result ≡ meaning.peeked (state self.now) addr };
 

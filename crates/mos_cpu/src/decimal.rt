@@ -37,7 +37,8 @@ const fn corrected(sum: u16) -> u16
     if sum >= 0xA0 { sum + 0x60 } else { sum }
 }
 
-/// The decimal sum, with C of itself, N and V of the sum before its correction, and Z of the binary sum.
+/// The decimal sum, with C of itself, N and V of the sum before its correction, and Z of the binary
+/// sum.
 pub const fn decimal_adc(a: u8, m: u8, p: u8) -> Alu
     ensures result { result ≡ decimal_adc_of a m p }
     ensures status { result.p / 16 % 4 ≡ p / 16 % 4 }

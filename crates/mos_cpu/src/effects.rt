@@ -1,7 +1,7 @@
 //! What an instruction does to the registers.
 
 ghost use Rattle.std.specs.Prelude.{◌≡◌, ◌<◌, ◌+◌, ◌*◌, slice_index};
-ghost use Rattle.mos_cpu.specs.Effects.{worked_on, kept, effect};
+ghost use Rattle.mos_cpu.specs.Effects.{word_in, worked_on, kept, effect};
 ghost use Rattle.mos_cpu.specs.Registers.{IsStatus};
 
 use crate::arithmetic::{Alu, and, bit, compare, dec, eor, inc, load, ora};
@@ -24,7 +24,7 @@ pub fn byte_of(bytes: &[u8], i: usize) -> u8
 #[inline]
 fn word_of(bytes: &[u8], i: usize) -> u16
     requires { i < 3 }
-    ensures { result ≡ slice_index bytes.now i + 256 * slice_index bytes.now (i + 1) }
+    ensures { result ≡ word_in bytes.now i }
 {
     u16::from_le_bytes([byte_of(bytes, i), byte_of(bytes, i + 1)])
 }
@@ -41,7 +41,8 @@ fn keep(operand: Operand, cpu: Cpu, outcome: Alu) -> Cpu
     }
 }
 
-/// The value that an operation works on: of a register, of the instruction, or the first byte that was read.
+/// The value that an operation works on: of a register, of the instruction, or the first byte that
+/// was read.
 #[inline]
 fn worked_value(operand: Operand, register: u8, bytes: &[u8]) -> u8
     ensures { result ≡ worked_on operand register bytes.now }

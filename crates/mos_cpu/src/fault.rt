@@ -2,7 +2,8 @@
 
 use thiserror::Error;
 
-/// A fault of the instruction at the program counter. It is found before the instruction has done anything.
+/// A fault of the instruction at the program counter. It is found before the instruction has done
+/// anything.
 #[derive(Clone, Copy, Debug, PartialEq, Eq, Drop, Error)]
 pub enum CpuFault {
     /// The byte at `at` is no documented opcode.

@@ -5,8 +5,8 @@ use crate::operation::Operation;
 
 /// The row of an opcode in the table of instructions.
 ///
-/// `cycles` are those of an instruction that crosses no page and takes no branch. `crossing` is true where indexing that crosses a page
-/// costs one more.
+/// `cycles` are those of an instruction that crosses no page and takes no branch. `crossing` is
+/// true where indexing that crosses a page costs one more.
 #[derive(Clone, Copy, Debug, PartialEq, Eq)]
 pub struct Row {
     pub operation: Operation,

@@ -1,7 +1,7 @@
 //! Which instruction an opcode stands for.
 
 ghost use Rattle.std.specs.Prelude.{◌≡◌, false, true};
-ghost use Rattle.mos_cpu.specs.Opcodes.{row_of};
+ghost use Rattle.mos_cpu.specs.Opcodes.{row_with, row_of};
 
 use crate::mode::Mode;
 use crate::opcode_row::Row;
@@ -10,7 +10,7 @@ use crate::operation::Operation;
 /// A row whose indexing costs no more cycles.
 #[inline]
 const fn fixed(operation: Operation, mode: Mode, cycles: u8) -> Row
-    ensures { result ≡ record { operation = operation; mode = mode; cycles = cycles; crossing = false } }
+    ensures { result ≡ row_with operation mode cycles false }
 {
     Row {
         operation,
@@ -23,7 +23,7 @@ const fn fixed(operation: Operation, mode: Mode, cycles: u8) -> Row
 /// A row with one more cycle where indexing crosses a page.
 #[inline]
 const fn indexed(operation: Operation, mode: Mode, cycles: u8) -> Row
-    ensures { result ≡ record { operation = operation; mode = mode; cycles = cycles; crossing = true } }
+    ensures { result ≡ row_with operation mode cycles true }
 {
     Row {
         operation,
@@ -33,7 +33,8 @@ const fn indexed(operation: Operation, mode: Mode, cycles: u8) -> Row
     }
 }
 
-/// The row of an opcode in the manual's table of the 151 documented instructions. None for any other opcode.
+/// The row of an opcode in the manual's table of the 151 documented instructions. None for any
+/// other opcode.
 #[inline]
 pub const fn row(opcode: u8) -> Option<Row>
     ensures { result ≡ row_of opcode }

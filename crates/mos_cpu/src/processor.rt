@@ -12,10 +12,11 @@ use crate::execute::execute;
 use crate::fault::CpuFault;
 use crate::registers::Cpu;
 
-/// Executes the instruction at the program counter, and answers its cycles, 2 to 7, without any waiting that the bus asks for.
+/// Executes the instruction at the program counter, and answers its cycles, 2 to 7, without any
+/// waiting that the bus asks for.
 ///
-/// The bytes of the instruction are looked at before it does anything, so a fault changes nothing. Each access is made when exactly the
-/// cycles up to its own have passed.
+/// The bytes of the instruction are looked at before it does anything, so a fault changes nothing.
+/// Each access is made when exactly the cycles up to its own have passed.
 pub fn step<B: Bus>(cpu: &mut Cpu, bus: &mut B) -> Result<u8, CpuFault>
     ensures answer { result ≡ (step_of B.meaning cpu.old (B.state bus.old)).answer }
     ensures registers { cpu.new ≡ (step_of B.meaning cpu.old (B.state bus.old)).registers }
@@ -26,9 +27,11 @@ pub fn step<B: Bus>(cpu: &mut Cpu, bus: &mut B) -> Result<u8, CpuFault>
 
     ensures least { IfOk result (λ cycles. 2 ≤ cycles) }
     ensures most { IfOk result (λ cycles. cycles ≤ 7) }
-    ensures clock { (advance : ℕ → ℕ → ℕ) (clock : B.State → ℕ) → IsClock B.meaning advance clock
-        → IfOk result (λ cycles. clock (B.state bus.new) ≡ advance (clock (B.state bus.old)) cycles) }
-    ensures times { IfOk (decoded B.meaning (B.state bus.old) cpu.old) (KeepsTime B.meaning cpu.old (B.state bus.old)) }
+    ensures clock { (advance : ℕ → ℕ → ℕ) (clock : B.State → ℕ) → IsClock B.meaning advance clock →
+        let start = clock (B.state bus.old) in
+        IfOk result (λ cycles. clock (B.state bus.new) ≡ advance start cycles) }
+    ensures times { let start = B.state bus.old in
+        IfOk (decoded B.meaning start cpu.old) (KeepsTime B.meaning cpu.old start) }
 {
     let instruction = decode(cpu, bus)?;
     Ok(execute(cpu, bus, &instruction))

@@ -39,7 +39,7 @@ pub const fn has(p: u8, flag: Flag) -> bool
 }
 
 /// The status with a flag set or cleared.
-#[tactic(auto, using(crate::proofs::StatusLemmas::or_weight, crate::proofs::StatusLemmas::and_not_weight, crate::proofs::StatusLemmas::put_flag_status))]
+#[tactic(auto, using(crate::proofs::StatusLemmas::puts))]
 #[inline]
 pub const fn with_flag(p: u8, flag: Flag, on: bool) -> u8
     ensures value { result ≡ put_flag flag on p }
@@ -72,7 +72,7 @@ pub const fn pushed_status(p: u8) -> u8
 }
 
 /// A pulled byte as the status: its bits 5 and 4 are dropped.
-#[tactic(auto, using(crate::proofs::StatusLemmas::and_207, crate::proofs::StatusLemmas::and_207_status))]
+#[tactic(auto, using(crate::proofs::StatusLemmas::pulls))]
 #[inline]
 pub const fn pulled_status(byte: u8) -> u8
     ensures value { result ≡ pulled_of byte }
