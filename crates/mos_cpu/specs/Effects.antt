@@ -1,0 +1,142 @@
+-- What an instruction does to the registers, by the MOS MCS6500 programming manual.
+use Rattle.std.specs.Prelude.{ℕ, ◌+◌, ◌*◌, ◌%◌, true, false, if◌then◌else◌, List, slice_index}
+use Rattle.mos_cpu.specs.Accesses.{is_taken}
+use Rattle.mos_cpu.specs.Arithmetic.{load_of, and_of, ora_of, eor_of, compare_of, bit_of, asl_of, lsr_of, rol_of, ror_of, inc_of, dec_of}
+use Rattle.mos_cpu.specs.Decimal.{adc_of, sbc_of}
+use Rattle.mos_cpu.specs.Operands.{length_of}
+use Rattle.mos_cpu.specs.Registers.{Registers, after_pushes, after_pulls}
+use Rattle.mos_cpu.specs.Status.{put_flag, pulled_of}
+use Rattle.mos_cpu.specs.declared.arithmetic.Alu.{Alu}
+use Rattle.mos_cpu.specs.declared.status.Flag.TheVariants.{Carry, Interrupt, Decimal, Overflow}
+use Rattle.mos_cpu.specs.declared.operation.Operation.{Operation}
+use Rattle.mos_cpu.specs.declared.operation.Operation.TheVariants.{Adc, And, Asl, Bcc, Bcs, Beq, Bit, Bmi, Bne, Bpl, Brk, Bvc, Bvs, Clc, Cld, Cli, Clv, Cmp, Cpx, Cpy, Dec, Dex, Dey, Eor, Inc, Inx, Iny, Jmp, Jsr, Lda, Ldx, Ldy, Lsr, Nop, Ora, Pha, Php, Pla, Plp, Rol, Ror, Rti, Rts, Sbc, Sec, Sed, Sei, Sta, Stx, Sty, Tax, Tay, Tsx, Txa, Txs, Tya}
+use Rattle.mos_cpu.specs.declared.instruction.Operand.{Operand}
+use Rattle.mos_cpu.specs.declared.instruction.Operand.TheVariants.{Register, Value, Place}
+use Rattle.mos_cpu.specs.declared.instruction.Instruction.{Instruction}
+use Rattle.mos_cpu.specs.declared.access.Source.{Source}
+use Rattle.mos_cpu.specs.declared.access.Source.TheVariants.{Byte, Loaded, Changed}
+
+-- What an operation that changes its operand makes of it.
+abbrev pub changed_of : Operation → ℕ → ℕ → Alu
+changed_of Asl m p = asl_of m p
+changed_of Lsr m p = lsr_of m p
+changed_of Rol m p = rol_of m p
+changed_of Ror m p = ror_of m p
+changed_of Inc m p = inc_of m p
+changed_of Dec m p = dec_of m p
+changed_of other m p = load_of m p
+
+-- What an access writes, after the bytes that were read.
+abbrev pub written : Operation → ℕ → List ℕ → Source → ℕ
+written operation p bytes (Byte b) = b
+written operation p bytes Loaded = slice_index bytes 0
+written operation p bytes Changed = (changed_of operation (slice_index bytes 0) p).value
+
+-- The value that an operation works on: of a register, of the instruction, or the first byte that
+-- was read.
+abbrev pub worked_on : Operand → ℕ → List ℕ → ℕ
+worked_on Register register bytes = register
+worked_on (Value b) register bytes = b
+worked_on (Place address crossed) register bytes = slice_index bytes 0
+
+-- The number of two bytes that were read, its low one first.
+abbrev pub word_in : List ℕ → ℕ → ℕ
+word_in bytes i = slice_index bytes i + 256 * slice_index bytes (i + 1)
+
+-- Where an operand is.
+abbrev pub target_of : Operand → ℕ
+target_of (Place address crossed) = address
+target_of other = 0
+
+abbrev pub with_a : Registers → Alu → Registers
+with_a r o = record r { a = o.value; p = o.p }
+
+abbrev pub with_x : Registers → Alu → Registers
+with_x r o = record r { x = o.value; p = o.p }
+
+abbrev pub with_y : Registers → Alu → Registers
+with_y r o = record r { y = o.value; p = o.p }
+
+abbrev pub with_p : Registers → ℕ → Registers
+with_p r p = record r { p = p }
+
+abbrev pub with_pc : Registers → ℕ → Registers
+with_pc r pc = record r { pc = pc }
+
+-- The registers after some pushes or pulls.
+abbrev pub stack_down : Registers → ℕ → Registers
+stack_down r n = record r { s = after_pushes r.s n }
+
+abbrev pub stack_up : Registers → ℕ → Registers
+stack_up r n = record r { s = after_pulls r.s n }
+
+-- A changed operand: in A, or in memory, where only the status is left to change.
+abbrev pub kept : Operand → Registers → Alu → Registers
+kept Register r o = with_a r o
+kept other r o = with_p r o.p
+
+-- The registers after an operation, from those with the next instruction's address.
+abbrev pub effect : Operation → Operand → Registers → List ℕ → Registers
+effect Adc operand r bytes = with_a r (adc_of r.a (worked_on operand r.a bytes) r.p)
+effect And operand r bytes = with_a r (and_of r.a (worked_on operand r.a bytes) r.p)
+effect Eor operand r bytes = with_a r (eor_of r.a (worked_on operand r.a bytes) r.p)
+effect Ora operand r bytes = with_a r (ora_of r.a (worked_on operand r.a bytes) r.p)
+effect Sbc operand r bytes = with_a r (sbc_of r.a (worked_on operand r.a bytes) r.p)
+effect Lda operand r bytes = with_a r (load_of (worked_on operand r.a bytes) r.p)
+effect Ldx operand r bytes = with_x r (load_of (worked_on operand r.a bytes) r.p)
+effect Ldy operand r bytes = with_y r (load_of (worked_on operand r.a bytes) r.p)
+effect Cmp operand r bytes = with_p r (compare_of r.a (worked_on operand r.a bytes) r.p).p
+effect Cpx operand r bytes = with_p r (compare_of r.x (worked_on operand r.a bytes) r.p).p
+effect Cpy operand r bytes = with_p r (compare_of r.y (worked_on operand r.a bytes) r.p).p
+effect Bit operand r bytes = with_p r (bit_of r.a (worked_on operand r.a bytes) r.p).p
+effect Asl operand r bytes = kept operand r (asl_of (worked_on operand r.a bytes) r.p)
+effect Lsr operand r bytes = kept operand r (lsr_of (worked_on operand r.a bytes) r.p)
+effect Rol operand r bytes = kept operand r (rol_of (worked_on operand r.a bytes) r.p)
+effect Ror operand r bytes = kept operand r (ror_of (worked_on operand r.a bytes) r.p)
+effect Inc operand r bytes = kept operand r (inc_of (worked_on operand r.a bytes) r.p)
+effect Dec operand r bytes = kept operand r (dec_of (worked_on operand r.a bytes) r.p)
+effect Bcc operand r bytes = if is_taken Bcc r.p then with_pc r (target_of operand) else r
+effect Bcs operand r bytes = if is_taken Bcs r.p then with_pc r (target_of operand) else r
+effect Beq operand r bytes = if is_taken Beq r.p then with_pc r (target_of operand) else r
+effect Bmi operand r bytes = if is_taken Bmi r.p then with_pc r (target_of operand) else r
+effect Bne operand r bytes = if is_taken Bne r.p then with_pc r (target_of operand) else r
+effect Bpl operand r bytes = if is_taken Bpl r.p then with_pc r (target_of operand) else r
+effect Bvc operand r bytes = if is_taken Bvc r.p then with_pc r (target_of operand) else r
+effect Bvs operand r bytes = if is_taken Bvs r.p then with_pc r (target_of operand) else r
+effect Jmp operand r bytes = with_pc r (target_of operand)
+effect Jsr operand r bytes = with_pc (stack_down r 2) (target_of operand)
+effect Brk operand r bytes =
+    with_pc (with_p (stack_down r 3) (put_flag Interrupt true r.p)) (target_of operand)
+effect Rts operand r bytes = with_pc (stack_up r 2) ((word_in bytes 0 + 1) % 65536)
+effect Rti operand r bytes =
+    with_pc (with_p (stack_up r 3) (pulled_of (slice_index bytes 0))) (word_in bytes 1)
+effect Pha operand r bytes = stack_down r 1
+effect Php operand r bytes = stack_down r 1
+effect Pla operand r bytes = with_a (stack_up r 1) (load_of (slice_index bytes 0) r.p)
+effect Plp operand r bytes = with_p (stack_up r 1) (pulled_of (slice_index bytes 0))
+effect Clc operand r bytes = with_p r (put_flag Carry false r.p)
+effect Sec operand r bytes = with_p r (put_flag Carry true r.p)
+effect Cli operand r bytes = with_p r (put_flag Interrupt false r.p)
+effect Sei operand r bytes = with_p r (put_flag Interrupt true r.p)
+effect Clv operand r bytes = with_p r (put_flag Overflow false r.p)
+effect Cld operand r bytes = with_p r (put_flag Decimal false r.p)
+effect Sed operand r bytes = with_p r (put_flag Decimal true r.p)
+effect Tax operand r bytes = with_x r (load_of r.a r.p)
+effect Txa operand r bytes = with_a r (load_of r.x r.p)
+effect Tay operand r bytes = with_y r (load_of r.a r.p)
+effect Tya operand r bytes = with_a r (load_of r.y r.p)
+effect Tsx operand r bytes = with_x r (load_of r.s r.p)
+effect Txs operand r bytes = record r { s = r.x }
+effect Inx operand r bytes = with_x r (inc_of r.x r.p)
+effect Iny operand r bytes = with_y r (inc_of r.y r.p)
+effect Dex operand r bytes = with_x r (dec_of r.x r.p)
+effect Dey operand r bytes = with_y r (dec_of r.y r.p)
+effect Nop operand r bytes = r
+effect Sta operand r bytes = r
+effect Stx operand r bytes = r
+effect Sty operand r bytes = r
+
+-- The registers after an instruction that read some bytes.
+abbrev pub registers_after : Instruction → Registers → List ℕ → Registers
+registers_after i r bytes =
+    effect i.row.operation i.operand (with_pc r ((r.pc + length_of i.row.mode) % 65536)) bytes

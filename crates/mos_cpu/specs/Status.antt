@@ -1,0 +1,37 @@
+-- The status register, by the MOS MCS6500 programming manual.
+use Rattle.std.specs.Prelude.{ℕ, ◌+◌, ◌-◌, ◌*◌, ◌/◌, ◌%◌, Bool, ◌==◌, if◌then◌else◌}
+use Rattle.mos_cpu.specs.declared.status.Flag.{Flag}
+use Rattle.mos_cpu.specs.declared.status.Flag.TheVariants.{Carry, Zero, Interrupt, Decimal, Overflow, Negative}
+
+-- The weight of a flag's bit: N V D I Z C are bits 7 6 3 2 1 0.
+abbrev pub weight : Flag → ℕ
+weight Carry = 1
+weight Zero = 2
+weight Interrupt = 4
+weight Decimal = 8
+weight Overflow = 64
+weight Negative = 128
+
+-- Whether a flag is set, or its bit in any byte.
+abbrev pub has_flag : Flag → ℕ → Bool
+has_flag flag p = p / weight flag % 2 == 1
+
+-- The status with a flag set or cleared. Its other bits stay.
+abbrev pub put_flag : Flag → Bool → ℕ → ℕ
+put_flag flag on p = p - weight flag * (p / weight flag % 2) + (if on then weight flag else 0)
+
+-- The carry as a number.
+abbrev pub carry_of : ℕ → ℕ
+carry_of p = p % 2
+
+-- The status with N and Z of a value: its bit 7, and whether it is 0.
+abbrev pub with_nz : ℕ → ℕ → ℕ
+with_nz value p = put_flag Negative (has_flag Negative value) (put_flag Zero (value == 0) p)
+
+-- The status as PHP and BRK push it: with bits 5 and 4 set.
+abbrev pub pushed_of : ℕ → ℕ
+pushed_of p = p + 48
+
+-- A byte as PLP and RTI pull it: without bits 5 and 4.
+abbrev pub pulled_of : ℕ → ℕ
+pulled_of byte = byte % 16 + byte / 64 * 64

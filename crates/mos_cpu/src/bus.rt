@@ -1,0 +1,40 @@
+//! What the processor is connected to.
+
+ghost use Rattle.std.specs.Prelude.{◌≡◌, ◌≤◌};
+ghost use Rattle.mos_cpu.specs.Buses.{Meaning};
+
+/// A bus of 16 address lines and 8 data lines, with the parts on it and the clock that drives them.
+///
+/// An implementer says by `State` and `state` what contracts see of it, and by `meaning` what each
+/// call does to that.
+pub trait Bus {
+    ghost State: { Type 0 };
+
+    ghost state: { Self → State };
+
+    ghost meaning: { Meaning State };
+
+    /// Lets cycles go by in which the processor makes no data access. They are at most the 76 of a
+    /// scanline.
+    fn pass(&mut self, cycles: u8)
+        requires { cycles ≤ 76 }
+        ensures { state self.new ≡ meaning.passed (state self.old) cycles };
+
+    /// A data read, at the end of the cycle that passed last. It may change what it reads from.
+    fn read(&mut self, addr: u16) -> u8
+        ensures value { result ≡ meaning.read_value (state self.old) addr }
+        ensures bus { state self.new ≡ meaning.after_read (state self.old) addr };
+
+    /// A data write, at the end of the cycle that passed last.
+    fn write(&mut self, addr: u16, value: u8)
+        ensures { state self.new ≡ meaning.after_write (state self.old) addr value };
+
+    /// An opcode, operand, pointer or vector byte, looked at with no effect. None where a register
+    /// of a device would answer.
+    fn peek(&self, addr: u16) -> Option<u8>
+        ensures { result ≡ meaning.peeked (state self.now) addr };
+
+    /// A byte of a pointer in page zero, looked at with no effect: what a read of it would give.
+    fn peek_zero(&self, addr: u8) -> u8
+        ensures { result ≡ meaning.peeked_zero (state self.now) addr };
+}

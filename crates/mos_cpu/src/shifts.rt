@@ -1,0 +1,56 @@
+//! Shifts and rotations.
+
+ghost use Rattle.std.specs.Prelude.{◌≡◌, ◌/◌, ◌%◌};
+ghost use Rattle.mos_cpu.specs.Arithmetic.{shifted, asl_of, lsr_of, rol_of, ror_of};
+
+use crate::arithmetic::Alu;
+use crate::status::{Flag, has, with_flag, with_sign};
+
+/// A shifted value, with N and Z, and in C the bit that fell out.
+#[inline]
+const fn shift_to(value: u8, out: bool, p: u8) -> Alu
+    ensures result { result ≡ shifted value out p }
+    ensures status { result.p / 16 % 4 ≡ p / 16 % 4 }
+{
+    Alu {
+        value,
+        p: with_flag(with_sign(p, value), Flag::Carry, out),
+    }
+}
+
+/// ASL: to the left, with 0 in bit 0 and bit 7 in C.
+#[inline]
+pub const fn asl(m: u8, p: u8) -> Alu
+    ensures result { result ≡ asl_of m p }
+    ensures status { result.p / 16 % 4 ≡ p / 16 % 4 }
+{
+    shift_to(m << 1, has(m, Flag::Negative), p)
+}
+
+/// LSR: to the right, with 0 in bit 7 and bit 0 in C.
+#[inline]
+pub const fn lsr(m: u8, p: u8) -> Alu
+    ensures result { result ≡ lsr_of m p }
+    ensures status { result.p / 16 % 4 ≡ p / 16 % 4 }
+{
+    shift_to(m >> 1, has(m, Flag::Carry), p)
+}
+
+/// ROL: to the left, with the old C in bit 0 and bit 7 in C.
+#[tactic(auto, using(crate::proofs::SumLemmas::or_carry))]
+#[inline]
+pub const fn rol(m: u8, p: u8) -> Alu
+    ensures result { result ≡ rol_of m p }
+    ensures status { result.p / 16 % 4 ≡ p / 16 % 4 }
+{
+    shift_to(m << 1 | p & 1, has(m, Flag::Negative), p)
+}
+
+/// ROR: to the right, with the old C in bit 7 and bit 0 in C.
+#[inline]
+pub const fn ror(m: u8, p: u8) -> Alu
+    ensures result { result ≡ ror_of m p }
+    ensures status { result.p / 16 % 4 ≡ p / 16 % 4 }
+{
+    shift_to(m >> 1 | (p & 1) << 7, has(m, Flag::Carry), p)
+}

@@ -1,0 +1,82 @@
+//! The status register P.
+
+ghost use Rattle.std.specs.Prelude.{◌≡◌, ◌+◌, ◌/◌, ◌%◌};
+ghost use Rattle.mos_cpu.specs.Registers.{IsStatus};
+ghost use Rattle.mos_cpu.specs.Status.{weight, has_flag, put_flag, with_nz, pushed_of, pulled_of};
+
+/// A flag of the status register.
+#[derive(Clone, Copy, Debug, PartialEq, Eq)]
+pub enum Flag {
+    Carry,
+    Zero,
+    Interrupt,
+    Decimal,
+    Overflow,
+    Negative,
+}
+
+/// The bit of a flag.
+#[inline]
+const fn mask(flag: Flag) -> u8
+    ensures { result ≡ weight flag }
+{
+    match flag {
+        Flag::Carry => 0x01,
+        Flag::Zero => 0x02,
+        Flag::Interrupt => 0x04,
+        Flag::Decimal => 0x08,
+        Flag::Overflow => 0x40,
+        Flag::Negative => 0x80,
+    }
+}
+
+#[tactic(auto, using(crate::proofs::StatusLemmas::and_weight))]
+#[inline]
+pub const fn has(p: u8, flag: Flag) -> bool
+    ensures { result ≡ has_flag flag p }
+{
+    p & mask(flag) != 0
+}
+
+/// The status with a flag set or cleared.
+#[tactic(auto, using(crate::proofs::StatusLemmas::puts))]
+#[inline]
+pub const fn with_flag(p: u8, flag: Flag, on: bool) -> u8
+    ensures value { result ≡ put_flag flag on p }
+    ensures status { result / 16 % 4 ≡ p / 16 % 4 }
+{
+    if on { p | mask(flag) } else { p & !mask(flag) }
+}
+
+/// The status with N and Z of a value.
+#[inline]
+pub const fn with_sign(p: u8, value: u8) -> u8
+    ensures value { result ≡ with_nz value p }
+    ensures status { result / 16 % 4 ≡ p / 16 % 4 }
+{
+    with_flag(
+        with_flag(p, Flag::Zero, value == 0),
+        Flag::Negative,
+        has(value, Flag::Negative),
+    )
+}
+
+/// The status as it is pushed: with bits 5 and 4 set.
+#[tactic(auto, using(crate::proofs::StatusLemmas::or_48))]
+#[inline]
+pub const fn pushed_status(p: u8) -> u8
+    requires { IsStatus p }
+    ensures { result ≡ pushed_of p }
+{
+    p | 0x30
+}
+
+/// A pulled byte as the status: its bits 5 and 4 are dropped.
+#[tactic(auto, using(crate::proofs::StatusLemmas::pulls))]
+#[inline]
+pub const fn pulled_status(byte: u8) -> u8
+    ensures value { result ≡ pulled_of byte }
+    ensures status { IsStatus result }
+{
+    byte & 0xCF
+}
