@@ -1,0 +1,21 @@
+-- The fifteen collision bits.
+-- Stella Programmer's Guide: CXM0P to CXPPMM and CXCLR. This project's own: pixels in the dark collide too.
+use Rattle.std.specs.Prelude.{ℕ, ◌+◌, ◌*◌, ◌&&◌, Bool, if◌then◌else◌, List, [], ◌∷◌}
+use Rattle.tia_core.specs.declared.objects.Objects.{Objects}
+
+-- the number with these bits, highest first, behind the digits of n
+abbrev pub number_from : ℕ → List Bool → ℕ
+number_from n [] = n
+number_from n (b ∷ bs) = number_from (2 * n + (if b then 1 else 0)) bs
+
+-- all pairs of the objects that cover a pixel, in the order of the registers that are read: bit 14 first
+unfoldable pub pairs_of : Objects → ℕ
+pairs_of o = number_from 0
+    ((o.missile0 && o.player1) ∷ (o.missile0 && o.player0)
+    ∷ (o.missile1 && o.player0) ∷ (o.missile1 && o.player1)
+    ∷ (o.player0 && o.playfield) ∷ (o.player0 && o.ball)
+    ∷ (o.player1 && o.playfield) ∷ (o.player1 && o.ball)
+    ∷ (o.missile0 && o.playfield) ∷ (o.missile0 && o.ball)
+    ∷ (o.missile1 && o.playfield) ∷ (o.missile1 && o.ball)
+    ∷ (o.ball && o.playfield)
+    ∷ (o.player0 && o.player1) ∷ (o.missile0 && o.missile1) ∷ [])
