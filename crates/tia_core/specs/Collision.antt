@@ -8,14 +8,18 @@ abbrev pub number_from : ℕ → List Bool → ℕ
 number_from n [] = n
 number_from n (b ∷ bs) = number_from (2 * n + (if b then 1 else 0)) bs
 
--- all pairs of the objects that cover a pixel, in the order of the registers that are read: bit 14 first
-unfoldable pub pairs_of : Objects → ℕ
-pairs_of o = number_from 0
-    ((o.missile0 && o.player1) ∷ (o.missile0 && o.player0)
+-- whether each pair of the objects that cover a pixel meets, in the order of the registers that are read: bit 14 first
+abbrev pub pairs_list : Objects → List Bool
+pairs_list o =
+    (o.missile0 && o.player1) ∷ (o.missile0 && o.player0)
     ∷ (o.missile1 && o.player0) ∷ (o.missile1 && o.player1)
     ∷ (o.player0 && o.playfield) ∷ (o.player0 && o.ball)
     ∷ (o.player1 && o.playfield) ∷ (o.player1 && o.ball)
     ∷ (o.missile0 && o.playfield) ∷ (o.missile0 && o.ball)
     ∷ (o.missile1 && o.playfield) ∷ (o.missile1 && o.ball)
     ∷ (o.ball && o.playfield)
-    ∷ (o.player0 && o.player1) ∷ (o.missile0 && o.missile1) ∷ [])
+    ∷ (o.player0 && o.player1) ∷ (o.missile0 && o.missile1) ∷ []
+
+-- the collision bits of these objects
+unfoldable pub pairs_of : Objects → ℕ
+pairs_of o = number_from 0 (pairs_list o)
