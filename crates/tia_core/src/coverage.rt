@@ -65,6 +65,9 @@ pub fn player_covers(mode: u8, reflected: bool, graphic: u8, position: u8, x: u8
     requires { position < 160 }
     ensures { result ≡ player_covers mode reflected graphic position x }
 {
+    if graphic == 0 {
+        return false;
+    }
     let width = width(mode);
     copies(mode).iter().any(|copy| is_shown_at(
         width,
