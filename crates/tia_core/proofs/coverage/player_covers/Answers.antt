@@ -20,5 +20,5 @@ is_shown_at-empty width reflected d =
 pub returns-then-graphic-eq0 : goal.returns-then-graphic-eq0
 returns-then-graphic-eq0 c =
     rw c.if-graphic-eq0.true
-      (sym (list_any-none (λ copy. is_shown_at (width_of c.args.mode) c.args.reflected 0 (distance_of c.args.x c.args.position copy)) (copies_of c.args.mode)
-        (λ copy. is_shown_at-empty (width_of c.args.mode) c.args.reflected (distance_of c.args.x c.args.position copy))))
+    (sym (list_any-none (λ copy. is_shown_at (width_of c.args.mode) c.args.reflected 0 (distance_of c.args.x c.args.position copy)) (copies_of c.args.mode)
+    (λ copy. is_shown_at-empty (width_of c.args.mode) c.args.reflected (distance_of c.args.x c.args.position copy))))
