@@ -1,14 +1,10 @@
 -- What a read gives. It changes nothing.
 -- Stella Programmer's Guide: the summary of TIA read addresses. This project's own: INPT0 to INPT3, the numbers 0E and 0F and all
 -- bits that aren't named read 0.
-use Rattle.std.specs.Prelude.{ℕ, ◌+◌, ◌-◌, ◌*◌, ◌%◌, ◌==◌, nat_lt, Bool, false, if◌then◌else◌}
-use Rattle.tia_core.specs.Bits.{bit}
+use Rattle.std.specs.Prelude.{ℕ, ◌-◌, ◌*◌, ◌%◌, ◌==◌, nat_lt, Bool, false, if◌then◌else◌}
+use Rattle.tia_core.specs.Bits.{bit, two_bits}
 use Rattle.tia_core.specs.TiaState.{TiaState}
 use Rattle.tia_core.specs.declared.fields.TiaFields.{TiaFields}
-
--- a byte by its bits 7 and 6
-abbrev pub two_bits : Bool → Bool → ℕ
-two_bits high low = (if high then 128 else 0) + (if low then 64 else 0)
 
 -- a button by bit 7, which is clear where it counts as pressed: by its latch where VBLANK has bit 6
 abbrev pub button_byte : ℕ → Bool → Bool → ℕ

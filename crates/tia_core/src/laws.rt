@@ -1,16 +1,19 @@
 //! Laws of what a TIA does, for the machine that runs one.
-ghost use Rattle.std.specs.Prelude.{◌≡◌, ◌↔◌, ◌<◌, ◌+◌, ◌*◌, ◌/◌, ◌%◌, ◌++◌, ◌^◌, ℕ, Bool, true, false, All, map, filter};
+ghost use Rattle.std.specs.Prelude.{◌≡◌, ◌↔◌, ◌<◌, ◌+◌, ◌*◌, ◌/◌, ◌%◌, ◌++◌, ◌^◌, ℕ, Bool, true, false, All, map, filter, [], ◌∷◌};
 ghost use Rattle.std.specs.Fn.{iterate};
 ghost use Rattle.std.specs.List.{range_with_len};
 ghost use Rattle.std.specs.List.Sorted.{IsStrictlyIncreasing};
 ghost use Rattle.tia_core.specs.Beam.{beam_of, place_of, is_visible};
 ghost use Rattle.tia_core.specs.Bits.{bit};
 ghost use Rattle.tia_core.specs.Clock.{clocked, pixels};
+ghost use Rattle.tia_core.specs.Collision.{pairs_of, collision_bytes};
+ghost use Rattle.tia_core.specs.Read.{byte_at};
 ghost use Rattle.tia_core.specs.TiaState.{TiaState, IsLawful, frame_begun};
 ghost use Rattle.tia_core.specs.Write.{fields_after, effect_after, written};
 
 use crate::effect::Effect;
 use crate::fields::TiaFields;
+use crate::objects::Objects;
 use crate::register::Register;
 
 /// Clocks in two parts are clocks one after another, and so are their pixels.
@@ -60,4 +63,10 @@ pub fn collisions_stay()
 pub fn frame_ends_with_vsync()
     ensures { (t : TiaFields) (fire0 fire1 : Bool) (r : Register) (v : ℕ)
         → (effect_after t r v ≡ Effect.FrameEnd) ↔ ((bit t.vsync 1 ≡ true) × (bit (fields_after t fire0 fire1 r v).vsync 1 ≡ false)) }
+{}
+
+/// After a pixel that these objects cover, with the collisions cleared before, the registers 0 to 7 give the pairs that met.
+pub fn collision_registers_give_pairs()
+    ensures { (t : TiaFields) (fire0 fire1 : Bool) (o : Objects)
+        → map (byte_at (record t { collisions = pairs_of o }) fire0 fire1) (0 ∷ 1 ∷ 2 ∷ 3 ∷ 4 ∷ 5 ∷ 6 ∷ 7 ∷ []) ≡ collision_bytes o }
 {}
