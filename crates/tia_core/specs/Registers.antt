@@ -1,0 +1,59 @@
+-- The registers that are written, by number, and the bits that each keeps.
+-- Stella Programmer's Guide: the summary of TIA write addresses. This project's own: RSYNC (03), the audio registers (15 to 1A)
+-- and the numbers from 2D on are ignored.
+use Rattle.std.specs.Prelude.{◌≡◌, ℕ, ◌%◌, List, [], ◌∷◌, bit_and, slice_index_or}
+use Rattle.tia_core.specs.declared.register.Register.{Register}
+use Rattle.tia_core.specs.declared.register.Register.TheVariants.{Vsync, Vblank, Wsync, Nusiz0, Nusiz1, Colup0, Colup1, Colupf, Colubk, Ctrlpf, Refp0, Refp1, Pf0, Pf1, Pf2, Resp0, Resp1, Resm0, Resm1, Resbl, Grp0, Grp1, Enam0, Enam1, Enabl, Hmp0, Hmp1, Hmm0, Hmm1, Hmbl, Vdelp0, Vdelp1, Vdelbl, Resmp0, Resmp1, Hmove, Hmclr, Cxclr, Ignored}
+
+-- from 00 to 2C
+abbrev pub registers_list : List Register
+registers_list =
+    Vsync ∷ Vblank ∷ Wsync ∷ Ignored ∷ Nusiz0 ∷ Nusiz1 ∷ Colup0 ∷ Colup1 ∷ Colupf ∷ Colubk ∷ Ctrlpf ∷ Refp0 ∷ Refp1
+    ∷ Pf0 ∷ Pf1 ∷ Pf2 ∷ Resp0 ∷ Resp1 ∷ Resm0 ∷ Resm1 ∷ Resbl ∷ Ignored ∷ Ignored ∷ Ignored ∷ Ignored ∷ Ignored ∷ Ignored
+    ∷ Grp0 ∷ Grp1 ∷ Enam0 ∷ Enam1 ∷ Enabl ∷ Hmp0 ∷ Hmp1 ∷ Hmm0 ∷ Hmm1 ∷ Hmbl ∷ Vdelp0 ∷ Vdelp1 ∷ Vdelbl
+    ∷ Resmp0 ∷ Resmp1 ∷ Hmove ∷ Hmclr ∷ Cxclr ∷ []
+
+-- the register of a number, of which the low six bits count; those past the list are ignored
+abbrev pub register_of : ℕ → Register
+register_of number = slice_index_or registers_list (number % 64) Ignored
+
+-- the bits that a register keeps; a strobe keeps none
+abbrev pub mask_of : Register → ℕ
+mask_of Vsync = 0x02
+mask_of Vblank = 0xC2
+mask_of Nusiz0 = 0x37
+mask_of Nusiz1 = 0x37
+mask_of Colup0 = 0xFE
+mask_of Colup1 = 0xFE
+mask_of Colupf = 0xFE
+mask_of Colubk = 0xFE
+mask_of Ctrlpf = 0x37
+mask_of Refp0 = 0x08
+mask_of Refp1 = 0x08
+mask_of Pf0 = 0xF0
+mask_of Pf1 = 0xFF
+mask_of Pf2 = 0xFF
+mask_of Grp0 = 0xFF
+mask_of Grp1 = 0xFF
+mask_of Enam0 = 0x02
+mask_of Enam1 = 0x02
+mask_of Enabl = 0x02
+mask_of Hmp0 = 0xF0
+mask_of Hmp1 = 0xF0
+mask_of Hmm0 = 0xF0
+mask_of Hmm1 = 0xF0
+mask_of Hmbl = 0xF0
+mask_of Vdelp0 = 0x01
+mask_of Vdelp1 = 0x01
+mask_of Vdelbl = 0x01
+mask_of Resmp0 = 0x02
+mask_of Resmp1 = 0x02
+mask_of _ = 0
+
+-- the bits of a written value that a register keeps
+abbrev pub kept_of : Register → ℕ → ℕ
+kept_of register value = bit_and value (mask_of register)
+
+-- a number that has no other bits than those that a register keeps
+abbrev pub IsKept : Register → ℕ → Type 0
+IsKept register number = kept_of register number ≡ number

@@ -1,0 +1,12 @@
+//! Single bits.
+ghost use Rattle.std.specs.Prelude.{◌≡◌, ◌<◌};
+ghost use Rattle.tia_core.specs.Bits.{bit};
+
+/// Whether bit `index` of `value` is set.
+#[inline]
+pub fn bit(value: u8, index: u8) -> bool
+    requires { index < 8 }
+    ensures { result ≡ bit value index }
+{
+    (value >> index) % 2 == 1
+}
