@@ -1,0 +1,7 @@
+pub mod AlongBuses
+pub mod BeamLaws
+pub mod FrameOutcomes
+pub mod LawfulParts
+pub mod OneStop
+pub mod PictureTable
+pub mod Sinks

@@ -1,0 +1,17 @@
+use Rattle.vcs_machine.proofs.Sinks.{plays-on, halts-on}
+use Rattle.vcs_machine.proofs.frames.play.Goals as goal
+
+pub returns-in-Ok-clause-ok : goal.returns-in-Ok-clause-ok
+returns-in-Ok-clause-ok g c =
+    let stopped = rw (c.cpu-cpu.ensures, c.begin-console.ensures) at c.in-Ok.ensures.ok in
+    rw (c.finish-after.ensures.state, c.finish-after.ensures.sink)
+    (plays-on g.S.Paint.drawn c.args.cart.now c.args.state.now c.args.input c.args.sink
+    (record { registers = c.run-ran.new.cpu; bus = c.run-ran.new.console; cycles = c.in-Ok.cycles }) stopped)
+
+pub returns-in-Err-clause-err : goal.returns-in-Err-clause-err
+returns-in-Err-clause-err g c =
+    let at = c.in-Err.ensures.err in
+    let stopped = rw (c.cpu-cpu.ensures, c.begin-console.ensures) at at.1 in
+    rw c.finish-after.ensures.state
+    (halts-on g.S.Paint.drawn c.args.cart.now c.args.state.now c.args.input c.args.sink c.in-Err.kind
+    (record { registers = c.run-ran.new.cpu; bus = c.run-ran.new.console; cycles = at.0 }) stopped)

@@ -1,0 +1,127 @@
+-- A frame over any bus: instructions, each with its wait, until the least number of them at which the frame stops.
+-- When a frame stops is this project's own rule.
+use Rattle.std.specs.Prelude.{◌≡◌, ℕ, zero, suc, ◌+◌, ◌<◌, ◌≤◌, ◌||◌, nat_le, Bool, true, false, if◌then◌else◌, Result, Ok, Err}
+use Rattle.mos_cpu.specs.Buses.{Meaning, Respects}
+use Rattle.mos_cpu.specs.Registers.{Registers}
+use Rattle.mos_cpu.specs.Execution.{step_of}
+use Rattle.mos_cpu.specs.declared.fault.CpuFault.{CpuFault}
+
+-- What a frame asks of a bus: what its calls mean, the bus after the wait that an instruction left to it and the cycles of
+-- that wait, and whether the frame's end has come.
+pub record Rules (B : Type 0) : Type 0 where
+  pub meaning : Meaning B
+  pub rested : B → B
+  pub wait : B → ℕ
+  pub ended : B → Bool
+
+-- The processor and its bus in a frame, and the cycles of the frame so far.
+pub record Machine (B : Type 0) : Type 0 where
+  pub registers : Registers
+  pub bus : B
+  pub cycles : ℕ
+
+-- What an instruction with its wait comes to.
+pub data Turn (B : Type 0) : Type 0 where
+  Failed : CpuFault → Turn B
+  Went : Machine B → Turn B
+
+-- Cycles after which a frame that has not ended is too long: 320 scanlines.
+abbrev pub too_many_cycles : ℕ
+too_many_cycles = 24320
+
+module _ {B : Type 0} (rules : Rules B) where
+  abbrev pub turn_by : ℕ → Registers → B → Result ℕ CpuFault → Turn B
+  turn_by cycles r bus (Err fault) = Failed fault
+  turn_by cycles r bus (Ok n) = Went (record { registers = r; bus = rules.rested bus; cycles = cycles + n + rules.wait bus })
+
+  -- One instruction with its wait.
+  unfoldable pub turn : Machine B → Turn B
+  turn m =
+      let step = step_of rules.meaning m.registers m.bus in
+      turn_by m.cycles step.registers step.bus step.answer
+
+  abbrev pub turn_after : Turn B → Turn B
+  turn_after (Failed fault) = Failed fault
+  turn_after (Went m) = turn m
+
+  -- So many of them, one after another.
+  abbrev pub turns : ℕ → Machine B → Turn B
+  turns zero m = Went m
+  turns (suc n) m = turn_after (turns n m)
+
+  -- Whether a frame stops here.
+  abbrev pub is_over : Machine B → Bool
+  is_over m = rules.ended m.bus || nat_le too_many_cycles m.cycles
+
+-- After so many instructions from the start the machine is here, and it was not over after fewer.
+pub record Reaches {B : Type 0} (rules : Rules B) (start : Machine B) (count : ℕ) (here : Machine B) : Type 0 where
+  pub reached : turns rules count start ≡ Went here
+  pub least : (k : ℕ) → k < count → 0 < k → (m : Machine B) → turns rules k start ≡ Went m → is_over rules m ≡ false
+
+-- A frame ends here: its end has come at the least number of instructions at which it is over,
+pub record Ends {B : Type 0} (rules : Rules B) (start here : Machine B) : Type 0 where
+  pub count : ℕ
+  pub some : 0 < count
+  pub reaches : Reaches rules start count here
+  pub ended : rules.ended here.bus ≡ true
+
+-- or it is too long without that,
+pub record IsTooLong {B : Type 0} (rules : Rules B) (start here : Machine B) : Type 0 where
+  pub count : ℕ
+  pub some : 0 < count
+  pub reaches : Reaches rules start count here
+  pub unended : rules.ended here.bus ≡ false
+  pub long : too_many_cycles ≤ here.cycles
+
+-- or the next instruction faults, before it is over.
+pub record Faults {B : Type 0} (rules : Rules B) (start here : Machine B) (fault : CpuFault) : Type 0 where
+  pub count : ℕ
+  pub reaches : Reaches rules start count here
+  pub going : 0 < count → is_over rules here ≡ false
+  pub fails : turn rules here ≡ Failed fault
+
+-- How a frame stops, and where.
+pub data Stop (B : Type 0) : Type 0 where
+  Ended : Machine B → Stop B
+  Overlong : Machine B → Stop B
+  Faulted : CpuFault → Machine B → Stop B
+
+-- A frame from this start stops so.
+abbrev pub StopsAs : {B : Type 0} → Rules B → Machine B → Stop B → Type 0
+StopsAs rules start (Ended here) = Ends rules start here
+StopsAs rules start (Overlong here) = IsTooLong rules start here
+StopsAs rules start (Faulted fault here) = Faults rules start here fault
+
+-- The one way in which a frame stops, found by trying one instruction after another. Each takes at least two cycles, so that
+-- this many are enough: a law says that a frame stops so, and in no other way.
+abbrev pub most_turns : ℕ
+most_turns = 12160
+
+module _ {B : Type 0} (rules : Rules B) where
+  abbrev pub stop_after : (Machine B → Stop B) → Machine B → Turn B → Stop B
+  stop_after later m (Failed fault) = Faulted fault m
+  stop_after later m (Went next) = if rules.ended next.bus then Ended next else later next
+
+  unfoldable pub stop_within : ℕ → Machine B → Stop B
+  stop_within zero m = Overlong m
+  stop_within (suc n) m =
+      if nat_le too_many_cycles m.cycles then Overlong m else stop_after (stop_within n) m (turn rules m)
+
+  unfoldable pub stop_of : Machine B → Stop B
+  stop_of m = stop_within most_turns m
+
+-- A map between buses that keeps what a frame asks of them.
+pub record Follows {B C : Type 0} (b : Rules B) (c : Rules C) (h : B → C) : Type 0 where
+  pub meaning : Respects b.meaning c.meaning h
+  pub rested : (x : B) → c.rested (h x) ≡ h (b.rested x)
+  pub wait : (x : B) → c.wait (h x) ≡ b.wait x
+  pub ended : (x : B) → c.ended (h x) ≡ b.ended x
+
+-- The machine, and the way to stop, on the other bus.
+abbrev pub machine_along : {B C : Type 0} → (B → C) → Machine B → Machine C
+machine_along h m = record { registers = m.registers; bus = h m.bus; cycles = m.cycles }
+
+abbrev pub stop_along : {B C : Type 0} → (B → C) → Stop B → Stop C
+stop_along h (Ended m) = Ended (machine_along h m)
+stop_along h (Overlong m) = Overlong (machine_along h m)
+stop_along h (Faulted fault m) = Faulted fault (machine_along h m)

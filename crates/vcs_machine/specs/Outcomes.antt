@@ -1,0 +1,67 @@
+-- What one frame does to a state.
+use Rattle.std.specs.Prelude.{ℕ, ◌≡◌, false, List, []}
+use Rattle.riot_map.specs.Riot.{riot_of, fields_of, with_pins}
+use Rattle.tia_core.specs.TiaState.{state_of as tia_state_of, fire_set, frame_begun}
+use Rattle.tia_core.specs.Clock.{Pixel, painted}
+use Rattle.vcs_machine.specs.Consoles.{Console, console_rules, logged}
+use Rattle.vcs_machine.specs.Faults.{kind_of, halted}
+use Rattle.vcs_machine.specs.Frame.{Machine, Stop, Ended, Overlong, Faulted, stop_of}
+use Rattle.vcs_machine.specs.Inputs.{Controls, is_pressed}
+use Rattle.vcs_machine.specs.Pictures.{Rows, picture_of, rows_of}
+use Rattle.vcs_machine.specs.States.{registers_of, riot_fields_of, tia_fields_of, joined}
+use Rattle.vcs_machine.specs.declared.fault.FaultKind.{FaultKind}
+use Rattle.vcs_machine.specs.declared.fault.FaultKind.TheVariants.{Overlong as TooLong}
+use Rattle.vcs_machine.specs.declared.fault.FrameError.{FrameError}
+use Rattle.vcs_machine.specs.declared.fault.FrameError.TheVariants.{Fault, NoMemory}
+use Rattle.vcs_machine.specs.declared.fields.StateFields.{StateFields}
+
+-- A frame ended with a state and a picture, or it failed and left a state.
+pub data Outcome : Type 0 where
+  Played : StateFields → Rows → Outcome
+  Failed : FaultKind → StateFields → Outcome
+
+-- The console of a state at a frame's start: the pins and the latches are those of the input, then a pressed button sets its
+-- latch where VBLANK has bit 6, and the line is 0.
+abbrev pub console_of : {S : Type 0} → List ℕ → StateFields → Controls → S → Console S
+console_of cart s i sink =
+    record {
+      cart = cart;
+      riot = with_pins i.swcha i.swchb (riot_of (riot_fields_of s));
+      tia = frame_begun (fire_set (tia_state_of (tia_fields_of s)) (is_pressed 0 i) (is_pressed 1 i));
+      synced = false;
+      ended = false;
+      sink = sink;
+    }
+
+abbrev pub machine_of : {S : Type 0} → List ℕ → StateFields → Controls → S → Machine (Console S)
+machine_of cart s i sink = record { registers = registers_of s; bus = console_of cart s i sink; cycles = 0 }
+
+-- The state that a machine leaves.
+abbrev pub state_at : {S : Type 0} → Machine (Console S) → StateFields
+state_at m = joined m.registers (fields_of m.bus.riot) m.bus.tia.fields
+
+-- The outcome of a way to stop, for a frame that began at this cycle of its scanline.
+abbrev pub outcome_of : ℕ → Stop (Console (List Pixel)) → Outcome
+outcome_of line_cycle (Ended m) = Played (state_at m) (picture_of (rows_of line_cycle m.cycles) m.bus.sink)
+outcome_of line_cycle (Overlong m) = Failed TooLong (state_at m)
+outcome_of line_cycle (Faulted fault m) = Failed (kind_of fault) (state_at m)
+
+-- What a frame on a cartridge does to a state, with this input.
+unfoldable pub frame_of : List ℕ → StateFields → Controls → Outcome
+frame_of cart s i = outcome_of s.line_cycle (stop_of (console_rules logged) (machine_of cart s i []))
+
+-- A frame's error, and the state that it leaves.
+abbrev pub FailsAs : Outcome → FrameError → StateFields → Type 0
+FailsAs outcome (Fault kind) s = outcome ≡ Failed kind s
+FailsAs outcome NoMemory s = Unit {0}
+
+-- A frame stops for this cause and leaves this state.
+abbrev pub Halts : List ℕ → StateFields → Controls → FaultKind → StateFields → Type 0
+Halts cart s i kind after =
+    (here : Machine (Console (List Pixel))) × (stop_of (console_rules logged) (machine_of cart s i []) ≡ halted kind here) × (state_at here ≡ after)
+
+-- A frame that ends leaves this state after so many cycles, and its pixels have been put on a sink.
+abbrev pub PlaysOn : {S : Type 0} → (S → ℕ → ℕ → ℕ → S) → List ℕ → StateFields → Controls → S → StateFields → S → ℕ → Type 0
+PlaysOn drawn cart s i sink after sink_after cycles =
+    (here : Machine (Console (List Pixel))) × (stop_of (console_rules logged) (machine_of cart s i []) ≡ Ended here) × (state_at here ≡ after)
+    × (painted drawn sink here.bus.sink ≡ sink_after) × (here.cycles ≡ cycles)

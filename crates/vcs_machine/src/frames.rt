@@ -1,0 +1,75 @@
+//! One frame.
+ghost use Rattle.std.specs.Prelude.{◌≡◌, ◌≤◌, ◌+◌, true, false, if◌then◌else◌, Some, None, IfOk, IfErr};
+ghost use Rattle.tia_core.specs.Clock.{Pixel, painted};
+ghost use Rattle.vcs_machine.specs.Consoles.{console_rules, logged, drawn_on, Console};
+ghost use Rattle.vcs_machine.specs.Faults.{halted};
+ghost use Rattle.vcs_machine.specs.Frame.{stop_of, Machine, Ended};
+ghost use Rattle.vcs_machine.specs.Outcomes.{frame_of, machine_of, state_at, Played, FailsAs, PlaysOn, Halts};
+ghost use Rattle.vcs_machine.specs.Pictures.{Rows};
+
+use crate::console::Console;
+use crate::fault::{FaultKind, FrameError};
+use crate::input::Input;
+use crate::picture::{Picture, rows};
+use crate::run::run;
+use crate::state::State;
+use riot_map::Cart;
+use std::alloc::Global;
+use tia_core::paint::{NoPaint, Paint};
+
+/// A frame from a state, whose pixels go to a sink; it answers the sink, and the cycles of a frame that ended.
+fn play<S: Paint + Drop>(
+    cart: &Cart,
+    state: &mut State,
+    input: Input,
+    sink: S,
+) -> Result<(S, u32), FaultKind>
+    ensures ok { IfOk result (λ played. PlaysOn S.drawn cart.now state.old input sink state.new played.0 played.1) }
+    ensures err { IfErr result (λ kind. Halts cart.now state.old input kind state.new) }
+    ensures most { IfOk result (λ played. played.1 ≤ 24401) }
+{
+    let mut cpu = state.cpu();
+    let mut console = Console::begin(cart, state, input, sink);
+    let ran = run(&mut cpu, &mut console);
+    let (after, sink) = console.finish(cpu);
+    *state = after;
+    match ran {
+        Ok(cycles) => Ok((sink, cycles)),
+        Err(kind) => Err(kind),
+    }
+}
+
+/// One frame on a cartridge from a state, with its picture where `keep` is true.
+///
+/// A frame sets the pins and buttons from its input, then executes instructions, each with its wait after WSYNC, until bit 1 of
+/// VSYNC has fallen. It takes at most 24,401 cycles. After a fault the state is the one before the faulty instruction, with the
+/// frame's beginning done, and after `Overlong` the one that was reached. With `keep` false no memory is taken; with `keep` true
+/// that of 322 rows is taken first, in one growth, and where it is refused the state stays as it was.
+pub fn frame(
+    alloc: Global,
+    cart: &Cart,
+    state: &mut State,
+    input: Input,
+    keep: bool,
+) -> Result<Option<Picture>, FrameError>
+    ensures ok { IfOk result (λ picture. (rows : Rows) × (frame_of cart.now state.old input ≡ Played state.new rows)
+        × (picture ≡ (if keep then Some rows else None))) }
+    ensures err { IfErr result (λ error. FailsAs (frame_of cart.now state.old input) error state.new) }
+    ensures memory { result ≡ Err FrameError.NoMemory → keep ≡ true }
+    ensures refused { result ≡ Err FrameError.NoMemory → state.new ≡ state.old }
+{
+    if !keep {
+        return match play(cart, state, input, NoPaint) {
+            Ok(_) => Ok(None),
+            Err(kind) => Err(FrameError::Fault(kind)),
+        };
+    }
+    let line_cycle = state.line_cycle();
+    let Ok(blank) = Picture::blank(alloc) else {
+        return Err(FrameError::NoMemory);
+    };
+    match play(cart, state, input, blank) {
+        Ok((picture, cycles)) => Ok(Some(picture.cut(rows(line_cycle, cycles)))),
+        Err(kind) => Err(FrameError::Fault(kind)),
+    }
+}

@@ -1,0 +1,36 @@
+//! Laws about the definitions of a frame.
+ghost use Rattle.std.specs.Prelude.{◌≡◌, ◌↔◌, ℕ, ◌+◌, ◌*◌, ◌%◌, ◌<◌, ◌≤◌, List, [], true};
+ghost use Rattle.tia_core.specs.Clock.{Pixel};
+ghost use Rattle.vcs_machine.specs.Consoles.{Console, console_rules, logged, rested, wait_cycles};
+ghost use Rattle.vcs_machine.specs.Frame.{Rules, Machine, Stop, Ended, StopsAs, stop_of, turn, Went};
+ghost use Rattle.vcs_machine.specs.Inputs.{Controls};
+ghost use Rattle.vcs_machine.specs.Outcomes.{machine_of, state_at};
+ghost use Rattle.vcs_machine.specs.Pictures.{rows_of};
+ghost use Rattle.vcs_machine.specs.declared.fields.StateFields.{StateFields};
+
+/// A law: on any bus a frame stops in one way, at the least number of instructions at which it can stop, and the function that
+/// searches for that way finds it.
+pub const fn law_of_one_stop<B>()
+    ensures only { (rules : Rules B) (start : Machine B) (stop : Stop B) → start.cycles ≡ 0
+        → StopsAs rules start stop → stop ≡ stop_of rules start }
+    ensures found { (rules : Rules B) (start : Machine B) (stop : Stop B) → start.cycles ≡ 0
+        → stop ≡ stop_of rules start → StopsAs rules start stop }
+{}
+
+/// A law: an instruction waits at most 75 cycles, and then the beam stands where a scanline begins.
+pub const fn law_of_waits<S>()
+    ensures most { (c : Console S) → wait_cycles c ≤ 75 }
+    ensures line { (drawn : S → ℕ → ℕ → ℕ → S) (c : Console S) → c.synced ≡ true → c.tia.fields.clock < 228 → c.tia.fields.clock % 3 ≡ 0
+        → (rested drawn c).tia.fields.clock ≡ 0 }
+{}
+
+/// A law: a frame takes at most 24,401 cycles, its picture has at most 322 rows, and the state that it leaves keeps the beam.
+pub const fn law_of_frame_lengths()
+    ensures cycles { (cart : List ℕ) (s : StateFields) (i : Controls) (here : Machine (Console (List Pixel))) → s.line_cycle < 76
+        → stop_of (console_rules logged) (machine_of cart s i []) ≡ Ended here → here.cycles ≤ 24401 }
+    ensures rows { (cart : List ℕ) (s : StateFields) (i : Controls) (here : Machine (Console (List Pixel))) → s.line_cycle < 76
+        → stop_of (console_rules logged) (machine_of cart s i []) ≡ Ended here → rows_of s.line_cycle here.cycles ≤ 322 }
+    ensures beam { (cart : List ℕ) (s : StateFields) (i : Controls) (here : Machine (Console (List Pixel))) → s.line_cycle < 76
+        → stop_of (console_rules logged) (machine_of cart s i []) ≡ Ended here
+        → 3 * (state_at here).line_cycle ≡ here.bus.tia.fields.clock }
+{}

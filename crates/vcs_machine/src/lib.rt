@@ -1,0 +1,26 @@
+//! The console: its states between frames, and what one frame does to a state.
+#![tactic(auto)]
+
+mod console;
+mod fault;
+mod fields;
+mod frames;
+mod input;
+mod lawful;
+mod laws;
+mod parts;
+mod picture;
+mod run;
+mod same;
+mod state;
+
+pub use fault::{FaultKind, FrameError};
+pub use fields::StateFields;
+pub use frames::frame;
+pub use input::Input;
+pub use laws::{law_of_frame_lengths, law_of_one_stop, law_of_waits};
+pub use picture::{MOST_ROWS, Picture};
+pub use state::State;
+
+#[cfg(test)]
+mod tests;

@@ -1,0 +1,101 @@
+//! The picture of a frame.
+ghost use Rattle.std.specs.Prelude.{◌≡◌, ◌↔◌, ◌<◌, ◌≤◌, [], length, take, slice_index, slice_index_or, IsTrue, IfOk};
+ghost use Rattle.vcs_machine.specs.Pictures.{with_pixel, blank, rows_of};
+
+use std::alloc::{AllocError, Global};
+use std::marker::Model;
+use tia_core::paint::Paint;
+
+/// The most scanlines that a frame reaches.
+pub const MOST_ROWS: u16 = 322;
+
+/// Rows from the top, each of 160 colour bytes from the left, which contracts see as a list of lists.
+///
+/// A colour byte is a colour register of the TIA, with the hue in bits 7 to 4 and the luminance in bits 3 to 1.
+#[derive(Drop)]
+pub struct Picture {
+    rows: Vec<[u8; 160]>,
+}
+
+impl Model for Picture {
+    ghost use Rattle.std.specs.Prelude.{List, ℕ, length, ◌≤◌};
+
+    ghost Value = { List (List ℕ) };
+
+    ghost view = { λ p. p.rows.items };
+
+    ghost invariant = { λ p. length p.rows.items ≤ 322 };
+}
+
+impl Paint for Picture {
+    ghost drawn = { with_pixel };
+
+    fn put(&mut self, line: u16, x: u8, colour: u8) {
+        let line = line as usize;
+        if line < self.rows.len() && x < 160 {
+            let row = &mut self.rows[line];
+            row[x as usize] = colour;
+        }
+    }
+}
+
+impl Picture {
+    /// A picture of the most rows, all zeros. Its memory is taken in one growth.
+    pub(crate) fn blank(alloc: Global) -> Result<Picture, AllocError>
+        ensures { IfOk result (λ p. p ≡ blank MOST_ROWS) }
+    {
+        let mut rows = Vec::with_capacity(alloc, MOST_ROWS as usize)?;
+        for _row in 0..MOST_ROWS {
+            rows.push([0; 160])?;
+        }
+        Ok(Picture { rows })
+    }
+
+    /// Its first rows.
+    pub(crate) fn cut(mut self, rows: u16) -> Picture
+        ensures { result ≡ take rows self }
+    {
+        self.rows.truncate(rows as usize);
+        self
+    }
+
+    /// How many rows it has.
+    pub fn rows(&self) -> u16
+        ensures value { result ≡ length self.now }
+        ensures most { result ≤ MOST_ROWS }
+    {
+        self.rows.len() as u16
+    }
+
+    /// The colours of a row, counted from 0.
+    pub fn row(&self, row: u16) -> &[u8; 160]
+        requires { row < length self.now }
+        ensures { result.now ≡ slice_index_or self.now row [] }
+    {
+        &self.rows[row as usize]
+    }
+
+    /// The colour at a place of a row, 0 to 159.
+    pub fn at(&self, row: u16, x: u8) -> u8
+        requires row { row < length self.now }
+        requires x { x < 160 }
+        ensures { result ≡ slice_index (slice_index_or self.now row []) x }
+    {
+        self.row(row)[x as usize]
+    }
+
+    /// Whether both have the same rows.
+    pub fn equals(&self, other: &Picture) -> bool
+        ensures { IsTrue result ↔ (self.now ≡ other.now) }
+    {
+        self.rows == other.rows
+    }
+}
+
+/// The rows of a frame that began at this cycle of its scanline and took so many cycles.
+pub(crate) fn rows(line_cycle: u8, cycles: u32) -> u16
+    requires { cycles ≤ 24401 }
+    ensures { result ≡ rows_of line_cycle cycles }
+{
+    ((line_cycle as u32 + cycles + 75) / 76) as u16
+}

@@ -1,0 +1,135 @@
+//! States between frames.
+ghost use Rattle.std.specs.Prelude.{◌≡◌, ◌<◌, ◌↔◌, IsTrue, if◌then◌else◌};
+ghost use Rattle.mos_cpu.specs.Registers.{IsStatus};
+ghost use Rattle.riot_map.specs.Riot.{riot_of, fields_of};
+ghost use Rattle.tia_core.specs.TiaState.{state_of as tia_state_of};
+ghost use Rattle.vcs_machine.specs.States.{is_state, registers_of, riot_fields_of, tia_fields_of, joined, power_on};
+
+use crate::fields::StateFields;
+use crate::lawful::is_lawful;
+use crate::parts::{join, riot_fields, tia_fields};
+use crate::same::is_same;
+use mos_cpu::Cpu;
+use riot_map::{Cart, Riot};
+use std::marker::Model;
+use tia_core::tia::Tia;
+
+/// Where a processor that was reset finds the address of its first instruction.
+const RESET_VECTOR: u16 = 0xFFFC;
+
+/// The state of a console between two frames, which contracts see as its numbers.
+///
+/// Each condition of the state record holds of it; a run need not reach it.
+#[derive(Clone, Copy, Debug, PartialEq, Eq)]
+pub struct State {
+    fields: StateFields,
+}
+
+impl Model for State {
+    ghost use Rattle.std.specs.Prelude.{IsTrue};
+    ghost use Rattle.vcs_machine.specs.declared.fields.StateFields.{StateFields};
+    ghost use Rattle.vcs_machine.specs.States.{is_state};
+
+    ghost Value = { StateFields };
+
+    ghost view = { λ s. s.fields };
+
+    ghost invariant = { λ s. IsTrue (is_state s.fields) };
+
+    ghost inverse = { λ f. record { fields = f } };
+}
+
+impl State {
+    /// The state of a console that was just switched on, with this cartridge.
+    pub fn power_on(cart: &Cart) -> State
+        ensures { result ≡ power_on cart.now }
+    {
+        let cpu = Cpu {
+            a: 0,
+            x: 0,
+            y: 0,
+            s: 0xFF,
+            p: 0x04,
+            pc: u16::from_le_bytes([cart.at(RESET_VECTOR), cart.at(RESET_VECTOR + 1)]),
+        };
+        State::of_parts(cpu, &Riot::power_on(), &Tia::power_on())
+    }
+
+    /// The state of these numbers, where each condition of the state record holds.
+    pub fn from_fields(fields: StateFields) -> Option<State>
+        ensures { result ≡ (if is_state fields then Some fields else None) }
+    {
+        if is_lawful(&fields) {
+            Some(State { fields })
+        } else {
+            None
+        }
+    }
+
+    /// Its numbers.
+    pub fn fields(&self) -> StateFields
+        ensures value { result ≡ self.now }
+        ensures lawful { IsTrue (is_state result) }
+    {
+        self.fields
+    }
+
+    /// Whether both have the same numbers.
+    pub fn equals(&self, other: &State) -> bool
+        ensures { IsTrue result ↔ (self.now ≡ other.now) }
+    {
+        is_same(&self.fields, &other.fields)
+    }
+
+    /// The beam's place in its scanline, in cycles.
+    pub(crate) fn line_cycle(&self) -> u8
+        ensures value { result ≡ self.now.line_cycle }
+        ensures range { result < 76 }
+    {
+        self.fields.line_cycle
+    }
+
+    /// A state with the same numbers.
+    pub fn copy(&self) -> State
+        ensures { result ≡ self.now }
+    {
+        *self
+    }
+
+    /// The state that these parts are left in.
+    pub(crate) fn of_parts(cpu: Cpu, riot: &Riot, tia: &Tia) -> State
+        ensures { result ≡ joined cpu (fields_of riot.now) tia.now.fields }
+    {
+        State {
+            fields: join(cpu, &riot.fields(), &tia.fields()),
+        }
+    }
+
+    /// Its processor.
+    pub(crate) fn cpu(&self) -> Cpu
+        ensures { result ≡ registers_of self.now }
+    {
+        Cpu {
+            a: self.fields.a,
+            x: self.fields.x,
+            y: self.fields.y,
+            s: self.fields.s,
+            p: self.fields.p,
+            pc: self.fields.pc,
+        }
+    }
+
+    /// Its RIOT, whose pins are up.
+    pub(crate) fn riot(&self) -> Riot
+        ensures { result ≡ riot_of (riot_fields_of self.now) }
+    {
+        Riot::from_fields(riot_fields(&self.fields)).unwrap()
+    }
+
+    /// Its TIA, at line 0 with no button pressed.
+    pub(crate) fn tia(&self) -> Tia
+        ensures { result ≡ tia_state_of (tia_fields_of self.now) }
+    {
+        Tia::from_fields(tia_fields(&self.fields)).unwrap()
+    }
+}
