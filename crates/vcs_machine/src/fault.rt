@@ -1,5 +1,5 @@
 //! Why a frame did not end.
-ghost use Rattle.std.specs.Prelude.{◌≡◌};
+ghost use Rattle.std.specs.Prelude.{◌≡◌, ◌↔◌, IsTrue};
 
 use mos_cpu::CpuFault;
 use thiserror::Error;
@@ -16,6 +16,22 @@ pub enum FaultKind {
     /// The frame has taken 24,320 cycles, which are 320 scanlines, and has not ended.
     #[error("overlong")]
     Overlong,
+}
+
+impl FaultKind {
+    /// Whether both are the same.
+    pub fn equals(self, other: FaultKind) -> bool
+        ensures { IsTrue result ↔ (self ≡ other) }
+    {
+        match (self, other) {
+            (FaultKind::BadOpcode { opcode, at }, FaultKind::BadOpcode { opcode: other_opcode, at: other_at }) => {
+                opcode == other_opcode && at == other_at
+            }
+            (FaultKind::FetchOutside { at }, FaultKind::FetchOutside { at: other_at }) => at == other_at,
+            (FaultKind::Overlong, FaultKind::Overlong) => true,
+            _ => false,
+        }
+    }
 }
 
 impl From<CpuFault> for FaultKind {

@@ -49,28 +49,28 @@ impl Input {
     }
 
     /// The pins of port A.
-    pub fn swcha(&self) -> u8
+    pub(crate) fn swcha(&self) -> u8
         ensures { result ≡ self.now.swcha }
     {
         self.swcha
     }
 
     /// The pins of port B.
-    pub fn swchb(&self) -> u8
+    pub(crate) fn swchb(&self) -> u8
         ensures { result ≡ self.now.swchb }
     {
         self.swchb
     }
 
     /// Whether button 0 is pressed.
-    pub fn fire0(&self) -> bool
+    pub(crate) fn fire0(&self) -> bool
         ensures { result ≡ is_pressed 0 self.now }
     {
         self.buttons % 2 == 1
     }
 
     /// Whether button 1 is pressed.
-    pub fn fire1(&self) -> bool
+    pub(crate) fn fire1(&self) -> bool
         ensures { result ≡ is_pressed 1 self.now }
     {
         self.buttons / 2 % 2 == 1

@@ -71,7 +71,8 @@ impl State {
         ensures value { result ≡ self.now }
         ensures lawful { IsTrue (is_state result) }
     {
-        self.fields
+        let State { fields } = *self;
+        fields
     }
 
     /// Whether both have the same numbers.

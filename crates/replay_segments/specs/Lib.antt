@@ -1,0 +1,4 @@
+pub mod Keeping
+pub mod KeptPictures
+pub mod Steps
+pub mod Verdicts

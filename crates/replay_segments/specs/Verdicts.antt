@@ -1,0 +1,25 @@
+-- The verdict of a movie, by cases. This project's own.
+use Rattle.std.specs.Prelude.{ℕ, ◌+◌, ◌<◌, ◌≡◌, length}
+use Rattle.vcs_machine.specs.Outcomes.{frame_result}
+use Rattle.vcs_machine.specs.declared.fields.StateFields.{StateFields}
+use Rattle.movie_file.specs.Movie.{MovieData}
+use Rattle.movie_file.specs.Judgement.{AllSound, FaultsAt, IsFalseAt}
+use Rattle.replay_segments.specs.declared.keep.Keep.{Keep}
+use Rattle.replay_segments.specs.declared.verdict.Verdict.{Verdict}
+use Rattle.replay_segments.specs.declared.verdict.Verdict.TheVariants.{Genuine, FalseCheckpoint, Fault}
+use Rattle.replay_segments.specs.KeptPictures.{pictures}
+
+-- What is said of `len` frames from a state that stands after frame `from`. It is of the least frame that faults, or after
+-- which a checkpoint claims another state; of one that does both the fault, since a frame that faults has no state after it.
+-- Where there is no such frame they are genuine, with the kept pictures.
+abbrev pub IsJudged : MovieData → Keep → StateFields → ℕ → ℕ → Verdict → Type 0
+IsJudged m keep start from len (Genuine frames) =
+    AllSound frame_result m start from len × (frames ≡ pictures m keep start from len)
+IsJudged m keep start from len (FalseCheckpoint number frame) =
+    (k : ℕ) × (k < len) × (frame ≡ from + k + 1) × AllSound frame_result m start from k × IsFalseAt frame_result m start from k number
+IsJudged m keep start from len (Fault frame kind) =
+    (k : ℕ) × (k < len) × (frame ≡ from + k + 1) × AllSound frame_result m start from k × FaultsAt frame_result m start from k kind
+
+-- The verdict of the movie's one unbroken run, from its start state to its last frame.
+abbrev pub IsVerdict : MovieData → Keep → Verdict → Type 0
+IsVerdict m keep verdict = IsJudged m keep m.start 0 (length m.inputs) verdict

@@ -1,0 +1,129 @@
+//! Replays frames from a state, and judges them.
+ghost use Rattle.std.specs.Prelude.{◌≡◌, ℕ, ◌+◌, ◌<◌, ◌≤◌, length, IfOk, OnOk, OnErr, true, vec_len, vec_capacity, if◌then◌else◌};
+ghost use Rattle.replay_segments.specs.Keeping.{is_kept, kept_count};
+ghost use Rattle.replay_segments.specs.Steps.{IsStep, IsNext, IsClaim, IsAdvance};
+ghost use Rattle.replay_segments.specs.Verdicts.{IsJudged, IsVerdict};
+
+use std::alloc::Global;
+
+use movie_file::{Movie, NoMemory};
+use vcs_machine::{FrameError, Picture, State, frame};
+
+use crate::keep::Keep;
+use crate::verdict::{Frames, Verdict};
+
+/// Frame `before` + 1 of the movie.
+fn step(
+    alloc: Global,
+    movie: &Movie,
+    before: u32,
+    state: &mut State,
+    keep: bool,
+) -> Result<Option<Picture>, FrameError>
+    requires { before < length movie.now.inputs }
+    ensures { IsStep movie.now before state.old keep state.new result }
+{
+    let frames = movie.frames();
+    prove!(frames < 65_536);
+    frame(alloc, movie.cart(), state, movie.input(before + 1), keep)
+}
+
+/// Frame `before` + 1 of the movie, whose picture is kept where it is to be.
+fn advance(
+    alloc: Global,
+    movie: &Movie,
+    keep: Keep,
+    before: u32,
+    state: &mut State,
+    pictures: &mut Vec<Picture>,
+) -> Result<(), FrameError>
+    requires frame { before < length movie.now.inputs }
+    requires room { is_kept keep (before + 1) ≡ true → vec_len pictures.old < vec_capacity pictures.old }
+    ensures advance { IsAdvance movie.now keep before state.old pictures.old.items state.new pictures.new.items result }
+    ensures len { OnOk result (vec_len pictures.new ≡ vec_len pictures.old + (if is_kept keep (before + 1) then 1 else 0)) }
+    ensures capacity { vec_capacity pictures.new ≡ vec_capacity pictures.old }
+{
+    let frames = movie.frames();
+    prove!(frames < 65_536);
+    let kept = keep.has(before + 1);
+    if let Some(picture) = step(alloc, movie, before, state, kept)? {
+        pictures.push_reserved(picture);
+    }
+    Ok(())
+}
+
+/// Compares a state with the checkpoint after a frame, if there is one. `next` is the index of the first that is not before the
+/// frame. The answer is that of the first after it, or None where the checkpoint is false.
+fn next_checkpoint(movie: &Movie, next: u16, frame: u32, state: &State) -> Option<u16>
+    requires { IsNext movie.now next frame }
+    ensures { IsClaim movie.now next frame state.now result }
+{
+    if next == movie.checkpoints() {
+        return Some(next);
+    }
+    let checkpoint = movie.checkpoint(next + 1);
+    if checkpoint.frame != frame {
+        return Some(next);
+    }
+    if checkpoint.state.equals(state) {
+        Some(next + 1)
+    } else {
+        None
+    }
+}
+
+/// Judges `len` frames from a state that stands after frame `from`. `first` is the index of the first checkpoint after that.
+///
+/// The list of the kept pictures is grown once, before the first frame.
+pub(crate) fn judge(
+    alloc: Global,
+    movie: &Movie,
+    keep: Keep,
+    start: &State,
+    from: u32,
+    len: u32,
+    first: u16,
+) -> Result<Verdict, NoMemory>
+    requires range { from + len ≤ length movie.now.inputs }
+    requires next { IsNext movie.now first (from + 1) }
+    ensures judged { IfOk result (λ verdict. IsJudged movie.now keep start.now from len verdict) }
+    ensures refused { OnErr result (0 < kept_count keep from len) }
+{
+    let room = keep.count(from, len);
+    let frames = movie.frames();
+    prove!(frames < 65_536);
+    let Ok(mut pictures) = Vec::with_capacity(alloc, room) else {
+        return Err(NoMemory);
+    };
+    let mut state = start.copy();
+    let mut next = first;
+    for k in 0..len {
+        let frame = from + k + 1;
+        match advance(alloc, movie, keep, from + k, &mut state, &mut pictures) {
+            Ok(()) => {}
+            Err(FrameError::Fault(kind)) => return Ok(Verdict::Fault { frame, kind }),
+            Err(FrameError::NoMemory) => return Err(NoMemory),
+        }
+        let Some(after) = next_checkpoint(movie, next, frame, &state) else {
+            return Ok(Verdict::FalseCheckpoint {
+                number: next + 1,
+                frame,
+            });
+        };
+        next = after;
+    }
+    Ok(Verdict::Genuine {
+        frames: Frames { pictures },
+    })
+}
+
+/// The verdict of a movie, by one unbroken replay on the calling thread.
+///
+/// NoMemory comes only where a growth was refused, for a kept picture or for their list; where no frame is kept none is taken.
+#[tactic(auto, using(crate::proofs::CheckpointLemmas::at_start))]
+pub fn verify_one(alloc: Global, movie: &Movie, keep: Keep) -> Result<Verdict, NoMemory>
+    ensures verdict { IfOk result (λ verdict. IsVerdict movie.now keep verdict) }
+    ensures refused { OnErr result (0 < kept_count keep 0 (length movie.now.inputs)) }
+{
+    judge(alloc, movie, keep, movie.start(), 0, movie.frames(), 0)
+}
