@@ -1,0 +1,114 @@
+-- Reading items one after the other, as a loop does.
+use Rattle.std.proofs.Common.{◌≡◌, ◌≢◌, ℕ, suc, ◌-◌, ◌+◌, ◌≤◌, ◌<◌, List, [], ◌∷◌, ◌++◌, drop, Result, Ok, Err, refl, sym, ap, ◌∙◌, append_assoc, arith}
+use Rattle.std.proofs.lemmas.List.{append-nil}
+use Rattle.vcs_machine.specs.Inputs.{Controls}
+use Rattle.movie_file.specs.Format.{input_length, checkpoint_length}
+use Rattle.movie_file.specs.declared.error.MovieError.{MovieError}
+use Rattle.movie_file.specs.declared.error.MovieError.TheVariants.{Short, BadMagic, BadVersion, BadCartSize, BadCounts, BadState, BadInput, BadOrder, Trailing, NoMemory}
+use Rattle.movie_file.specs.declared.checkpoint.Checkpoint.{Checkpoint}
+use Rattle.movie_file.specs.Reading.{◌>>=◌, input_at, inputs_at, checkpoint_at, checkpoints_at}
+use Rattle.movie_file.specs.MovieError.{Fails}
+
+-- what was read before, and what is still read
+abbrev pub with_front : {A : Type 0} → List A → Result (List A × List ℕ) MovieError → Result (List A × List ℕ) MovieError
+with_front front read = read >>= λ x. Ok (front ++ x.0, x.1)
+
+regroup : {A : Type 0} (front : List A) (n : A) (read : Result (List A × List ℕ) MovieError) → with_front front (read >>= λ x. Ok (n ∷ x.0, x.1)) ≡ with_front (front ++ n ∷ []) read
+regroup front n (Ok x) = ap (λ (ns : List _). Ok (ns, x.1)) (simp append_assoc)
+regroup front n (Err f) = refl
+
+-- a refusal is what any reading that is refused so gives
+pub fails_is : {A : Type 0} (e : MovieError) (x y : Result A MovieError) → x ≡ y → Fails e x → Fails e y
+fails_is Short x y e h = sym e ∙ h
+fails_is BadMagic x y e h = sym e ∙ h
+fails_is BadVersion x y e h = sym e ∙ h
+fails_is BadCartSize x y e h = sym e ∙ h
+fails_is BadCounts x y e h = sym e ∙ h
+fails_is (BadState k) x y e h = sym e ∙ h
+fails_is (BadInput k) x y e h = sym e ∙ h
+fails_is (BadOrder k) x y e h = sym e ∙ h
+fails_is Trailing x y e h = sym e ∙ h
+fails_is NoMemory x y e h = tt
+
+-- a refusal that is no want of memory is exact
+pub fails_exact : {A : Type 0} (e : MovieError) (x : Result A MovieError) → Fails e x → e ≢ NoMemory → x ≡ Err e
+fails_exact Short x h n = h
+fails_exact BadMagic x h n = h
+fails_exact BadVersion x h n = h
+fails_exact BadCartSize x h n = h
+fails_exact BadCounts x h n = h
+fails_exact (BadState k) x h n = h
+fails_exact (BadInput k) x h n = h
+fails_exact (BadOrder k) x h n = h
+fails_exact Trailing x h n = h
+fails_exact NoMemory x h n = absurd (n refl)
+
+-- a refusal of the first step is one of the whole
+pub fails_on : {A B : Type 0} (e : MovieError) (x : Result A MovieError) (f : A → Result B MovieError) → Fails e x → Fails e (x >>= f)
+fails_on Short x f h = ap (λ (r : Result _ MovieError). r >>= f) h
+fails_on BadMagic x f h = ap (λ (r : Result _ MovieError). r >>= f) h
+fails_on BadVersion x f h = ap (λ (r : Result _ MovieError). r >>= f) h
+fails_on BadCartSize x f h = ap (λ (r : Result _ MovieError). r >>= f) h
+fails_on BadCounts x f h = ap (λ (r : Result _ MovieError). r >>= f) h
+fails_on (BadState k) x f h = ap (λ (r : Result _ MovieError). r >>= f) h
+fails_on (BadInput k) x f h = ap (λ (r : Result _ MovieError). r >>= f) h
+fails_on (BadOrder k) x f h = ap (λ (r : Result _ MovieError). r >>= f) h
+fails_on Trailing x f h = ap (λ (r : Result _ MovieError). r >>= f) h
+fails_on NoMemory x f h = tt
+
+-- ---- inputs
+
+pub inputs_step : (count i : ℕ) (bytes : List ℕ) → i < count → inputs_at (count - i) (i + 1) bytes ≡ (input_at (i + 1) bytes >>= λ first. inputs_at (count - (i + 1)) (i + 1 + 1) (drop input_length bytes) >>= λ others. Ok (first ∷ others.0, others.1))
+unfolding inputs_at
+inputs_step count i bytes lt =
+    let k : count - i ≡ suc (count - (i + 1)) = omega arith in
+    let j : suc (i + 1) ≡ i + 1 + 1 = omega arith in
+    ap (λ (n : ℕ). inputs_at n (i + 1) bytes) k ∙ ap (λ (n : ℕ). input_at (i + 1) bytes >>= λ first. inputs_at (count - (i + 1)) n (drop input_length bytes) >>= λ others. Ok (first ∷ others.0, others.1)) j
+
+pub inputs_go_on : (front : List Controls) (count i : ℕ) (bytes : List ℕ) (n : Controls) (total : Result (List Controls × List ℕ) MovieError) → i < count → input_at (i + 1) bytes ≡ Ok n
+    → with_front front (inputs_at (count - i) (i + 1) bytes) ≡ total → with_front (front ++ n ∷ []) (inputs_at (count - (i + 1)) (i + 1 + 1) (drop input_length bytes)) ≡ total
+inputs_go_on front count i bytes n total lt h so_far =
+    let rest = inputs_at (count - (i + 1)) (i + 1 + 1) (drop input_length bytes) in
+    sym (ap (with_front front) (inputs_step count i bytes lt ∙ ap (λ (r : Result Controls MovieError). r >>= λ first. rest >>= λ others. Ok (first ∷ others.0, others.1)) h) ∙ regroup front n rest) ∙ so_far
+
+pub inputs_end : (e : MovieError) (front : List Controls) (count i : ℕ) (bytes : List ℕ) (total : Result (List Controls × List ℕ) MovieError) → i < count → Fails e (input_at (i + 1) bytes)
+    → with_front front (inputs_at (count - i) (i + 1) bytes) ≡ total → Fails e total
+inputs_end e front count i bytes total lt h so_far =
+    let rest = inputs_at (count - (i + 1)) (i + 1 + 1) (drop input_length bytes) in
+    fails_is e _ total so_far (fails_is e _ _ (ap (with_front front) (sym (inputs_step count i bytes lt)))
+    (fails_on e (input_at (i + 1) bytes >>= λ first. rest >>= λ others. Ok (first ∷ others.0, others.1)) (λ x. Ok (front ++ x.0, x.1))
+    (fails_on e (input_at (i + 1) bytes) (λ first. rest >>= λ others. Ok (first ∷ others.0, others.1)) h)))
+
+pub inputs_done : (front : List Controls) (count i : ℕ) (bytes : List ℕ) (total : Result (List Controls × List ℕ) MovieError) → count ≤ i → with_front front (inputs_at (count - i) (i + 1) bytes) ≡ total → total ≡ Ok (front, bytes)
+unfolding inputs_at
+inputs_done front count i bytes total le so_far =
+    let k : count - i ≡ 0 = omega arith in
+    sym so_far ∙ ap (λ (n : ℕ). with_front front (inputs_at n (i + 1) bytes)) k ∙ ap (λ (ns : List Controls). Ok (ns, bytes)) (append-nil front)
+
+-- ---- checkpoints
+
+checkpoints_step : (count i last n : ℕ) (bytes : List ℕ) → i < count → checkpoints_at (count - i) (i + 1) last n bytes ≡ (checkpoint_at (i + 1) last n bytes >>= λ first. checkpoints_at (count - (i + 1)) (i + 1 + 1) first.frame n (drop checkpoint_length bytes) >>= λ others. Ok (first ∷ others.0, others.1))
+unfolding checkpoints_at
+checkpoints_step count i last n bytes lt =
+    let k : count - i ≡ suc (count - (i + 1)) = omega arith in
+    let j : suc (i + 1) ≡ i + 1 + 1 = omega arith in
+    ap (λ (m : ℕ). checkpoints_at m (i + 1) last n bytes) k ∙ ap (λ (m : ℕ). checkpoint_at (i + 1) last n bytes >>= λ first. checkpoints_at (count - (i + 1)) m first.frame n (drop checkpoint_length bytes) >>= λ others. Ok (first ∷ others.0, others.1)) j
+
+pub checkpoints_go_on : (front : List Checkpoint) (count i last n : ℕ) (bytes : List ℕ) (c : Checkpoint) (total : Result (List Checkpoint × List ℕ) MovieError) → i < count → checkpoint_at (i + 1) last n bytes ≡ Ok c
+    → with_front front (checkpoints_at (count - i) (i + 1) last n bytes) ≡ total → with_front (front ++ c ∷ []) (checkpoints_at (count - (i + 1)) (i + 1 + 1) c.frame n (drop checkpoint_length bytes)) ≡ total
+checkpoints_go_on front count i last n bytes c total lt h so_far =
+    let rest = λ (first : Checkpoint). checkpoints_at (count - (i + 1)) (i + 1 + 1) first.frame n (drop checkpoint_length bytes) >>= λ others. Ok (first ∷ others.0, others.1) in
+    sym (ap (with_front front) (checkpoints_step count i last n bytes lt ∙ ap (λ (r : Result Checkpoint MovieError). r >>= rest) h) ∙ regroup front c (checkpoints_at (count - (i + 1)) (i + 1 + 1) c.frame n (drop checkpoint_length bytes))) ∙ so_far
+
+pub checkpoints_end : (e : MovieError) (front : List Checkpoint) (count i last n : ℕ) (bytes : List ℕ) (total : Result (List Checkpoint × List ℕ) MovieError) → i < count → Fails e (checkpoint_at (i + 1) last n bytes)
+    → with_front front (checkpoints_at (count - i) (i + 1) last n bytes) ≡ total → Fails e total
+checkpoints_end e front count i last n bytes total lt h so_far =
+    let rest = λ (first : Checkpoint). checkpoints_at (count - (i + 1)) (i + 1 + 1) first.frame n (drop checkpoint_length bytes) >>= λ others. Ok (first ∷ others.0, others.1) in
+    fails_is e _ total so_far (fails_is e _ _ (ap (with_front front) (sym (checkpoints_step count i last n bytes lt)))
+    (fails_on e (checkpoint_at (i + 1) last n bytes >>= rest) (λ x. Ok (front ++ x.0, x.1)) (fails_on e (checkpoint_at (i + 1) last n bytes) rest h)))
+
+pub checkpoints_done : (front : List Checkpoint) (count i last n : ℕ) (bytes : List ℕ) (total : Result (List Checkpoint × List ℕ) MovieError) → count ≤ i → with_front front (checkpoints_at (count - i) (i + 1) last n bytes) ≡ total → total ≡ Ok (front, bytes)
+unfolding checkpoints_at
+checkpoints_done front count i last n bytes total le so_far =
+    let k : count - i ≡ 0 = omega arith in
+    sym so_far ∙ ap (λ (m : ℕ). with_front front (checkpoints_at m (i + 1) last n bytes)) k ∙ ap (λ (ns : List Checkpoint). Ok (ns, bytes)) (append-nil front)

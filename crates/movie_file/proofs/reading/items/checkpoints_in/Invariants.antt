@@ -1,0 +1,11 @@
+use Rattle.std.proofs.Common.{◌≡◌, ◌+◌, ◌*◌, ◌-◌, length}
+use Rattle.movie_file.specs.Format.{checkpoint_length}
+use Rattle.movie_file.specs.Reading.{checkpoints_at}
+use Rattle.movie_file.proofs.Loops.{with_front}
+use Rattle.movie_file.proofs.reading.items.checkpoints_in.Given as goal
+
+abbrev pub invariant-loop-i : goal.invariant-loop-i
+invariant-loop-i l = record {
+  so_far : with_front l.checkpoints.items (checkpoints_at (l.count - l.i) (l.i + 1) l.last l.frames l.rest) ≡ checkpoints_at l.count 1 0 l.frames l.bytes;
+  long : length l.rest + checkpoint_length * l.i ≡ length l.bytes;
+}

@@ -1,0 +1,9 @@
+pub mod Format
+pub mod Movie
+pub mod MovieParts
+pub mod Record
+pub mod Spelling
+pub mod MovieError
+pub mod Reading
+pub mod Run
+pub mod Judgement

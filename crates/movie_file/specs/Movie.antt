@@ -1,0 +1,41 @@
+-- What a movie is, wherever it lies in memory. This project's own.
+use Rattle.std.specs.Prelude.{◌≡◌, ℕ, ◌<◌, ◌≤◌, ◌^◌, List, [], ◌∷◌, length, IsTrue}
+use Rattle.std.specs.List.{AllByRecursion}
+use Rattle.riot_map.specs.Cart.{is_cart_length}
+use Rattle.vcs_machine.specs.Inputs.{Controls, is_input}
+use Rattle.vcs_machine.specs.States.{is_state}
+use Rattle.vcs_machine.specs.declared.fields.StateFields.{StateFields}
+use Rattle.movie_file.specs.declared.checkpoint.Checkpoint.{Checkpoint}
+use Rattle.movie_file.specs.Format.{movie_version, most_frames, most_checkpoints}
+
+-- inputs are those of frames 1, 2, .., and checkpoints have the numbers 1, 2, ..
+pub record MovieData : Type 0 where
+  pub version : ℕ
+  pub cart : List ℕ
+  pub start : StateFields
+  pub inputs : List Controls
+  pub checkpoints : List Checkpoint
+
+-- numbers that meet the conditions of a state record, in the ranges of their types
+pub record IsState (f : StateFields) : Type 0 where
+  pub lawful : IsTrue (is_state f)
+  pub pc : f.pc < 2 ^ 16
+  pub part : f.part < 2 ^ 16
+  pub collisions : f.collisions < 2 ^ 16
+  pub ram : length f.ram ≡ 128
+
+-- each frame number is greater than the one before it, and none is above n; each claimed state is one
+abbrev pub AreCheckpoints : ℕ → ℕ → List Checkpoint → Type 0
+AreCheckpoints last n [] = Unit {0}
+AreCheckpoints last n (c ∷ cs) = (last < c.frame) × (c.frame ≤ n) × IsState c.state × AreCheckpoints c.frame n cs
+
+-- what a movie keeps to
+pub record IsMovie (m : MovieData) : Type 0 where
+  pub version : m.version ≡ movie_version
+  pub cart : IsTrue (is_cart_length (length m.cart))
+  pub start : IsState m.start
+  pub some_frames : 1 ≤ length m.inputs
+  pub few_frames : length m.inputs ≤ most_frames
+  pub few_checkpoints : length m.checkpoints ≤ most_checkpoints
+  pub inputs : AllByRecursion (λ i. IsTrue (is_input i)) m.inputs
+  pub checkpoints : AreCheckpoints 0 (length m.inputs) m.checkpoints

@@ -1,0 +1,108 @@
+-- Reading a movie, with the first refusal that is met, in the order of the format: the fields of the header front to
+-- back, the length of the file, the start state, the inputs, the checkpoints, the end. This project's own.
+use Rattle.std.specs.Prelude.{ℕ, zero, suc, ◌&&◌, List, [], ◌∷◌, length, take, drop, slice_index, Option, Some, None, Result, Ok, Err, nat_lt, nat_le, ◌==◌, if◌then◌else◌}
+use Rattle.std.specs.Int.{Width, w16, w32, byte_len, from_be_bytes}
+use Rattle.riot_map.specs.Cart.{is_cart_length}
+use Rattle.vcs_machine.specs.Inputs.{Controls, is_input}
+use Rattle.movie_file.specs.declared.checkpoint.Checkpoint.{Checkpoint}
+use Rattle.movie_file.specs.declared.error.MovieError.{MovieError}
+use Rattle.movie_file.specs.declared.error.MovieError.TheVariants.{Short, BadMagic, BadVersion, BadCartSize, BadCounts, BadState, BadInput, BadOrder, Trailing}
+use Rattle.movie_file.specs.declared.reading.sizes.Sizes.{Sizes}
+use Rattle.movie_file.specs.Format.{magic, movie_version, most_frames, most_checkpoints, state_length, input_length, checkpoint_length, body_length}
+use Rattle.movie_file.specs.Movie.{MovieData}
+use Rattle.movie_file.specs.Record.{state_at}
+
+-- one step after another, up to the first refusal
+infixl 10 ◌>>=◌
+abbrev pub ◌>>=◌ : {A B : Type 0} → Result A MovieError → (A → Result B MovieError) → Result B MovieError
+(Ok x) >>= f = f x
+(Err e) >>= f = Err e
+
+-- the value, or the refusal where there is none
+abbrev pub or_refuse : {A : Type 0} → Option A → MovieError → Result A MovieError
+or_refuse (Some x) e = Ok x
+or_refuse None e = Err e
+
+-- a number and the bytes after it
+abbrev pub number_at : Width → List ℕ → Result (ℕ × List ℕ) MovieError
+number_at w bytes = if nat_lt (length bytes) (byte_len w) then Err Short else Ok (from_be_bytes w (take (byte_len w) bytes), drop (byte_len w) bytes)
+
+unfoldable pub magic_at : List ℕ → Result (List ℕ) MovieError
+magic_at bytes = do
+  n ← number_at w32 bytes
+  if n.0 == from_be_bytes w32 magic then Ok n.1 else Err BadMagic
+
+unfoldable pub version_at : List ℕ → Result (List ℕ) MovieError
+version_at bytes = do
+  n ← number_at w16 bytes
+  if n.0 == movie_version then Ok n.1 else Err BadVersion
+
+unfoldable pub cart_length_at : List ℕ → Result (ℕ × List ℕ) MovieError
+cart_length_at bytes = do
+  n ← number_at w16 bytes
+  if is_cart_length n.0 then Ok n else Err BadCartSize
+
+-- frames and checkpoints are one field
+unfoldable pub counts_at : List ℕ → Result (ℕ × ℕ × List ℕ) MovieError
+counts_at bytes = do
+  n ← number_at w32 bytes
+  m ← number_at w16 n.1
+  if nat_le 1 n.0 && nat_le n.0 most_frames && nat_le m.0 most_checkpoints then Ok (n.0, m.0, m.1) else Err BadCounts
+
+-- the header, and the bytes after it, of which there are enough
+unfoldable pub sizes_at : List ℕ → Result (Sizes × List ℕ) MovieError
+sizes_at bytes = do
+  a ← magic_at bytes
+  b ← version_at a
+  l ← cart_length_at b
+  c ← counts_at l.1
+  if nat_lt (length c.2) (body_length l.0 c.0 c.1) then Err Short else Ok (record { cart = l.0; frames = c.0; checkpoints = c.1 }, c.2)
+
+abbrev pub controls_at : List ℕ → Controls
+controls_at bytes = record { swcha = slice_index bytes 0; swchb = slice_index bytes 1; buttons = slice_index bytes 2 }
+
+-- the input of number k
+unfoldable pub input_at : ℕ → List ℕ → Result Controls MovieError
+input_at k bytes = if is_input (controls_at bytes) then Ok (controls_at bytes) else Err (BadInput k)
+
+-- so many inputs, the first of number k, and the bytes after them
+unfoldable pub inputs_at : ℕ → ℕ → List ℕ → Result (List Controls × List ℕ) MovieError
+inputs_at zero k bytes = Ok ([], bytes)
+inputs_at (suc n) k bytes = do
+  first ← input_at k bytes
+  others ← inputs_at n (suc k) (drop input_length bytes)
+  Ok (first ∷ others.0, others.1)
+
+abbrev pub frame_at : List ℕ → ℕ
+frame_at bytes = from_be_bytes w32 (take 4 bytes)
+
+-- the checkpoint of number j: its frame is greater than the last one and at most n, and its state is one
+unfoldable pub checkpoint_at : ℕ → ℕ → ℕ → List ℕ → Result Checkpoint MovieError
+checkpoint_at j last n bytes =
+    if nat_lt last (frame_at bytes) && nat_le (frame_at bytes) n
+    then (or_refuse (state_at (take state_length (drop 4 bytes))) (BadState j) >>= λ s. Ok (record { frame = frame_at bytes; state = s }))
+    else Err (BadOrder j)
+
+-- so many checkpoints, the first of number j, and the bytes after them
+unfoldable pub checkpoints_at : ℕ → ℕ → ℕ → ℕ → List ℕ → Result (List Checkpoint × List ℕ) MovieError
+checkpoints_at zero j last n bytes = Ok ([], bytes)
+checkpoints_at (suc m) j last n bytes = do
+  first ← checkpoint_at j last n bytes
+  others ← checkpoints_at m (suc j) first.frame n (drop checkpoint_length bytes)
+  Ok (first ∷ others.0, others.1)
+
+-- what stands after the header, to the end
+unfoldable pub body_at : Sizes → List ℕ → Result MovieData MovieError
+body_at h bytes = do
+  start ← or_refuse (state_at (take state_length (drop h.cart bytes))) (BadState 0)
+  inputs ← inputs_at h.frames 1 (drop state_length (drop h.cart bytes))
+  checkpoints ← checkpoints_at h.checkpoints 1 0 h.frames inputs.1
+  if length checkpoints.1 == 0
+      then Ok (record { version = movie_version; cart = take h.cart bytes; start = start; inputs = inputs.0; checkpoints = checkpoints.0 })
+      else Err Trailing
+
+-- the movie that the bytes are, or their refusal
+unfoldable pub movie_at : List ℕ → Result MovieData MovieError
+movie_at bytes = do
+  h ← sizes_at bytes
+  body_at h.0 h.1

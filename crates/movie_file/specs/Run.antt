@@ -1,0 +1,29 @@
+-- The run of a movie: one frame after another, from one state.
+use Rattle.std.specs.Prelude.{ℕ, zero, suc, ◌+◌, List, [], ◌∷◌, Option, Some, None, slice_get, option_and_then}
+use Rattle.std.specs.Option.{option_map}
+use Rattle.vcs_machine.specs.Outcomes.{Outcome, Played, Failed, frame_of}
+use Rattle.vcs_machine.specs.Pictures.{Rows}
+use Rattle.vcs_machine.specs.declared.fields.StateFields.{StateFields}
+use Rattle.movie_file.specs.Movie.{MovieData}
+
+-- what frame k + 1 of a movie does to a state, where the movie has that frame
+abbrev pub frame_after : MovieData → ℕ → StateFields → Option Outcome
+frame_after m k state = option_map (λ input. frame_of m.cart state input) (slice_get m.inputs k)
+
+-- the state after a frame that ended
+abbrev pub state_after : Option Outcome → Option StateFields
+state_after (Some (Played state picture)) = Some state
+state_after (Some (Failed kind state)) = None
+state_after None = None
+
+-- its picture
+abbrev pub pictures_of : Option Outcome → List Rows
+pictures_of (Some (Played state picture)) = picture ∷ []
+pictures_of (Some (Failed kind state)) = []
+pictures_of None = []
+
+-- The run from a state that stands after frame `from`: the state after k more frames, or none where one of them failed.
+-- From the movie's start, with from = 0, it is the movie's one unbroken run.
+abbrev pub run : MovieData → StateFields → ℕ → ℕ → Option StateFields
+run m start from zero = Some start
+run m start from (suc k) = option_and_then (λ state. state_after (frame_after m (from + k) state)) (run m start from k)

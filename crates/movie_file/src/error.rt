@@ -1,0 +1,77 @@
+//! Refusals.
+ghost use Rattle.std.specs.Prelude.{◌≡◌};
+ghost use Rattle.movie_file.specs.declared.error.MovieError.TheVariants.{NoMemory as NoMemoryError};
+
+use std::alloc::{AllocError, AllocFailed};
+use std::fmt;
+use thiserror::Error;
+
+/// Why bytes are no movie, or no inputs: the first refusal in the order of reading.
+///
+/// It is shown as the program prints it, as in `BadState 2`.
+#[derive(Clone, Copy, Debug, PartialEq, Eq, Error)]
+pub enum MovieError {
+    /// The file ends in its header, or is shorter than its header says.
+    Short,
+    /// The first four bytes aren't `A26M`.
+    BadMagic,
+    /// The version isn't 1.
+    BadVersion,
+    /// No cartridge has this length.
+    BadCartSize,
+    /// No frame or too many, or too many checkpoints.
+    BadCounts,
+    /// The start state (0), or the state of a checkpoint (from 1), is no state.
+    BadState(u16),
+    /// The input of this number, from 1, has a bit set that no input has.
+    BadInput(u64),
+    /// The checkpoint of this number, from 1, isn't after the one before it, or is after the end.
+    BadOrder(u16),
+    /// Bytes follow the movie.
+    Trailing,
+    /// A growth for the movie was refused.
+    NoMemory,
+}
+
+impl fmt::Display for MovieError {
+    ghost use Rattle.std.specs.Prelude.{Some};
+    ghost use Rattle.movie_file.specs.MovieError.{refusal_text};
+
+    ghost output = { λ e. Some (refusal_text e) };
+
+    fn fmt<W: fmt::Write>(&self, f: &mut fmt::Formatter<W>) -> fmt::Result {
+        match *self {
+            MovieError::Short => write!(f, "Short"),
+            MovieError::BadMagic => write!(f, "BadMagic"),
+            MovieError::BadVersion => write!(f, "BadVersion"),
+            MovieError::BadCartSize => write!(f, "BadCartSize"),
+            MovieError::BadCounts => write!(f, "BadCounts"),
+            MovieError::BadState(k) => write!(f, "BadState {k}"),
+            MovieError::BadInput(k) => write!(f, "BadInput {k}"),
+            MovieError::BadOrder(k) => write!(f, "BadOrder {k}"),
+            MovieError::Trailing => write!(f, "Trailing"),
+            MovieError::NoMemory => write!(f, "NoMemory"),
+        }
+    }
+}
+
+impl From<AllocError> for MovieError {
+    ghost from_gives = { λ _ e. e ≡ NoMemoryError };
+
+    fn from(_e: AllocError) -> MovieError {
+        MovieError::NoMemory
+    }
+}
+
+impl<T: Drop> From<AllocFailed<T>> for MovieError {
+    ghost from_gives = { λ _ e. e ≡ NoMemoryError };
+
+    fn from(_e: AllocFailed<T>) -> MovieError {
+        MovieError::NoMemory
+    }
+}
+
+/// A growth was refused.
+#[derive(Clone, Copy, Debug, PartialEq, Eq, Error)]
+#[error("out of memory")]
+pub struct NoMemory;

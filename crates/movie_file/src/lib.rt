@@ -1,0 +1,30 @@
+//! Movie files: a cartridge, a start state, an input for each frame, and claimed states
+//! (checkpoints), as bytes.
+//!
+//! The format is this project's own. Each movie has one spelling; `specs/Spelling` says what it
+//! is, and `specs/Reading` which bytes are refused, and with which refusal.
+#![tactic(auto)]
+
+mod checkpoint;
+mod error;
+mod format;
+mod laws;
+mod movie;
+mod parts;
+mod reading;
+mod record;
+mod writing;
+
+pub use checkpoint::Checkpoint;
+pub use error::{MovieError, NoMemory};
+pub use laws::{
+    law_of_checkpoints, law_of_judgements, law_of_one_movie, law_of_one_spelling, law_of_reading,
+    law_of_records, law_of_runs,
+};
+pub use movie::Movie;
+pub use reading::read_movie;
+pub use record::{read_state, write_state};
+pub use writing::write_movie;
+
+#[cfg(test)]
+mod tests;

@@ -1,0 +1,13 @@
+//! What a movie is made of, before it is known to be one.
+use crate::checkpoint::Checkpoint;
+use riot_map::Cart;
+use vcs_machine::{Input, State};
+
+/// The parts of a movie of version 1.
+#[derive(Drop)]
+pub(crate) struct MovieParts {
+    pub cart: Cart,
+    pub start: State,
+    pub inputs: Vec<Input>,
+    pub checkpoints: Vec<Checkpoint>,
+}

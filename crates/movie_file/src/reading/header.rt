@@ -1,0 +1,125 @@
+//! Reading the header.
+ghost use Rattle.std.specs.Prelude.{◌≡◌, ◌≢◌, ◌≤◌, IfErr, IfOk, IsTrue, length};
+ghost use Rattle.std.specs.Int.{w16, w32};
+ghost use Rattle.riot_map.specs.Cart.{is_cart_length};
+ghost use Rattle.movie_file.specs.Format.{most_frames, most_checkpoints, body_length};
+ghost use Rattle.movie_file.specs.MovieError.{Gives};
+ghost use Rattle.movie_file.specs.Reading.{number_at, magic_at, version_at, cart_length_at, counts_at, sizes_at};
+
+use super::sizes::Sizes;
+use crate::error::MovieError;
+use crate::format::{
+    CHECKPOINT_LENGTH, INPUT_LENGTH, MAGIC, MOST_CHECKPOINTS, MOST_FRAMES, STATE_LENGTH, VERSION,
+};
+use riot_map::Cart;
+
+/// A number of two bytes, and what follows it.
+fn u16_at(bytes: &[u8]) -> Result<(u16, &[u8]), MovieError>
+    ensures gives { Gives (λ x. (x.0, x.1.now)) result (number_at w16 bytes.now) }
+    ensures never { IfErr result (λ e. e ≢ MovieError.NoMemory) }
+{
+    if bytes.len() < 2 {
+        return Err(MovieError::Short);
+    }
+    let (front, rest) = bytes.split_at(2);
+    Ok((u16::from_be_bytes([front[0], front[1]]), rest))
+}
+
+/// A number of four bytes, and what follows it.
+fn u32_at(bytes: &[u8]) -> Result<(u32, &[u8]), MovieError>
+    ensures gives { Gives (λ x. (x.0, x.1.now)) result (number_at w32 bytes.now) }
+    ensures never { IfErr result (λ e. e ≢ MovieError.NoMemory) }
+{
+    if bytes.len() < 4 {
+        return Err(MovieError::Short);
+    }
+    let (front, rest) = bytes.split_at(4);
+    let number = u32::from_be_bytes([front[0], front[1], front[2], front[3]]);
+    Ok((number, rest))
+}
+
+/// What follows the magic.
+#[tactic(auto, unfolding(crate::specs::Reading::magic_at))]
+fn magic_in(bytes: &[u8]) -> Result<&[u8], MovieError>
+    ensures gives { Gives (λ x. x.now) result (magic_at bytes.now) }
+    ensures never { IfErr result (λ e. e ≢ MovieError.NoMemory) }
+{
+    let (magic, rest) = u32_at(bytes)?;
+    if magic != MAGIC {
+        return Err(MovieError::BadMagic);
+    }
+    Ok(rest)
+}
+
+/// What follows the version.
+#[tactic(auto, unfolding(crate::specs::Reading::version_at))]
+fn version_in(bytes: &[u8]) -> Result<&[u8], MovieError>
+    ensures gives { Gives (λ x. x.now) result (version_at bytes.now) }
+    ensures never { IfErr result (λ e. e ≢ MovieError.NoMemory) }
+{
+    let (version, rest) = u16_at(bytes)?;
+    if version != VERSION {
+        return Err(MovieError::BadVersion);
+    }
+    Ok(rest)
+}
+
+/// The length of the cartridge, and what follows it.
+#[tactic(auto, unfolding(crate::specs::Reading::cart_length_at))]
+fn cart_length_in(bytes: &[u8]) -> Result<(u16, &[u8]), MovieError>
+    ensures gives { Gives (λ x. (x.0, x.1.now)) result (cart_length_at bytes.now) }
+    ensures never { IfErr result (λ e. e ≢ MovieError.NoMemory) }
+    ensures length { IfOk result (λ x. IsTrue (is_cart_length x.0)) }
+{
+    let (length, rest) = u16_at(bytes)?;
+    if !Cart::is_length(length as usize) {
+        return Err(MovieError::BadCartSize);
+    }
+    Ok((length, rest))
+}
+
+/// The numbers of frames and checkpoints, which are one field, and what follows them.
+#[tactic(auto, unfolding(crate::specs::Reading::counts_at))]
+fn counts_in(bytes: &[u8]) -> Result<(u32, u16, &[u8]), MovieError>
+    ensures gives { Gives (λ x. (x.0, x.1, x.2.now)) result (counts_at bytes.now) }
+    ensures never { IfErr result (λ e. e ≢ MovieError.NoMemory) }
+    ensures few { IfOk result (λ x. (x.0 ≤ most_frames) × (x.1 ≤ most_checkpoints)) }
+{
+    let (frames, rest) = u32_at(bytes)?;
+    let (checkpoints, rest) = u16_at(rest)?;
+    if 1 <= frames && frames <= MOST_FRAMES && checkpoints <= MOST_CHECKPOINTS {
+        Ok((frames, checkpoints, rest))
+    } else {
+        Err(MovieError::BadCounts)
+    }
+}
+
+/// What the header says, and the bytes after it, of which there are enough.
+#[tactic(auto, unfolding(crate::specs::Reading::sizes_at))]
+pub(super) fn sizes_in(bytes: &[u8]) -> Result<(Sizes, &[u8]), MovieError>
+    ensures gives { Gives (λ x. (x.0, x.1.now)) result (sizes_at bytes.now) }
+    ensures never { IfErr result (λ e. e ≢ MovieError.NoMemory) }
+    ensures long { IfOk result (λ x. body_length x.0.cart x.0.frames x.0.checkpoints ≤ length x.1.now) }
+    ensures cart { IfOk result (λ x. IsTrue (is_cart_length x.0.cart)) }
+    ensures few { IfOk result (λ x. (x.0.frames ≤ most_frames) × (x.0.checkpoints ≤ most_checkpoints)) }
+{
+    let rest = magic_in(bytes)?;
+    let rest = version_in(rest)?;
+    let (cart, rest) = cart_length_in(rest)?;
+    let (frames, checkpoints, rest) = counts_in(rest)?;
+    let wanted = cart as usize
+        + STATE_LENGTH
+        + INPUT_LENGTH * frames as usize
+        + CHECKPOINT_LENGTH * checkpoints as usize;
+    if rest.len() < wanted {
+        return Err(MovieError::Short);
+    }
+    Ok((
+        Sizes {
+            cart,
+            frames,
+            checkpoints,
+        },
+        rest,
+    ))
+}

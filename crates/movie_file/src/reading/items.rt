@@ -1,0 +1,90 @@
+//! Reading inputs and checkpoints.
+ghost use Rattle.std.specs.Prelude.{◌≡◌, ◌≤◌, ◌<◌, ◌+◌, ◌*◌, ◌^◌, [], IfOk, length};
+ghost use Rattle.movie_file.specs.Format.{input_length, checkpoint_length, most_checkpoints};
+ghost use Rattle.movie_file.specs.MovieError.{Gives};
+ghost use Rattle.movie_file.specs.Reading.{input_at, inputs_at, checkpoint_at, checkpoints_at};
+
+use crate::checkpoint::Checkpoint;
+use crate::error::MovieError;
+use crate::format::{CHECKPOINT_LENGTH, INPUT_LENGTH};
+use crate::record::read_state;
+use vcs_machine::Input;
+
+/// The input of a number, at the head of the bytes.
+#[tactic(auto, unfolding(crate::specs::Reading::input_at))]
+fn input_in(number: u64, bytes: &[u8]) -> Result<Input, MovieError>
+    requires { input_length ≤ length bytes.now }
+    ensures { Gives (λ x. x) result (input_at number bytes.now) }
+{
+    match Input::new(bytes[0], bytes[1], bytes[2]) {
+        Some(input) => Ok(input),
+        None => Err(MovieError::BadInput(number)),
+    }
+}
+
+/// So many inputs, put into an empty list, and what follows them.
+pub(super) fn inputs_in(
+    mut inputs: Vec<Input>,
+    count: usize,
+    bytes: &[u8],
+) -> Result<(Vec<Input>, &[u8]), MovieError>
+    requires empty { inputs.items ≡ [] }
+    requires long { input_length * count ≤ length bytes.now }
+    ensures gives { Gives (λ x. (x.0.items, x.1.now)) result (inputs_at count 1 bytes.now) }
+    ensures rest { IfOk result (λ x. length x.1.now + input_length * count ≡ length bytes.now) }
+{
+    let mut rest = bytes;
+    for i in 0..count {
+        let input = input_in(i as u64 + 1, rest)?;
+        inputs.push(input)?;
+        let (_, after) = rest.split_at(INPUT_LENGTH);
+        rest = after;
+    }
+    Ok((inputs, rest))
+}
+
+/// The checkpoint of a number, at the head of the bytes, where the one before it stands after
+/// frame `last`.
+#[tactic(auto, unfolding(crate::specs::Reading::checkpoint_at))]
+fn checkpoint_in(
+    number: u16,
+    last: u32,
+    frames: u32,
+    bytes: &[u8],
+) -> Result<Checkpoint, MovieError>
+    requires { checkpoint_length ≤ length bytes.now }
+    ensures { Gives (λ x. x) result (checkpoint_at number last frames bytes.now) }
+{
+    let frame = u32::from_be_bytes([bytes[0], bytes[1], bytes[2], bytes[3]]);
+    if frame <= last || frames < frame {
+        return Err(MovieError::BadOrder(number));
+    }
+    match read_state(&bytes[4..CHECKPOINT_LENGTH]) {
+        Some(state) => Ok(Checkpoint { frame, state }),
+        None => Err(MovieError::BadState(number)),
+    }
+}
+
+/// So many checkpoints, put into an empty list, and what follows them.
+pub(super) fn checkpoints_in(
+    mut checkpoints: Vec<Checkpoint>,
+    count: u16,
+    frames: u32,
+    bytes: &[u8],
+) -> Result<(Vec<Checkpoint>, &[u8]), MovieError>
+    requires empty { checkpoints.items ≡ [] }
+    requires few { count ≤ most_checkpoints }
+    requires long { checkpoint_length * count ≤ length bytes.now }
+    ensures { Gives (λ x. (x.0.items, x.1.now)) result (checkpoints_at count 1 0 frames bytes.now) }
+{
+    let mut rest = bytes;
+    let mut last = 0;
+    for i in 0..count {
+        let checkpoint = checkpoint_in(i + 1, last, frames, rest)?;
+        last = checkpoint.frame;
+        checkpoints.push(checkpoint)?;
+        let (_, after) = rest.split_at(CHECKPOINT_LENGTH);
+        rest = after;
+    }
+    Ok((checkpoints, rest))
+}

@@ -1,0 +1,107 @@
+//! Writing movies.
+ghost use Rattle.std.specs.Prelude.{◌≡◌, ◌++◌, OnOk, OnErr};
+ghost use Rattle.std.specs.Io.{StartsWith};
+ghost use Rattle.std.specs.List.{flat_map};
+ghost use Rattle.vcs_machine.specs.Inputs.{input_bytes};
+ghost use Rattle.movie_file.specs.Movie.{IsMovie};
+ghost use Rattle.movie_file.specs.Spelling.{header_of, checkpoint_bytes, spelling};
+
+use crate::checkpoint::Checkpoint;
+use crate::error::NoMemory;
+use crate::format::{HEADER_LENGTH, MAGIC};
+use crate::movie::Movie;
+use crate::record::write_state;
+use std::alloc::AllocError;
+use vcs_machine::Input;
+
+/// The header of a movie.
+fn header(movie: &Movie) -> [u8; HEADER_LENGTH]
+    ensures { result ≡ header_of movie.now }
+{
+    let magic = MAGIC.to_be_bytes();
+    let version = movie.version().to_be_bytes();
+    let cart = movie.cart().len().to_be_bytes();
+    let frames = movie.frames().to_be_bytes();
+    let checkpoints = movie.checkpoints().to_be_bytes();
+    [
+        magic[0],
+        magic[1],
+        magic[2],
+        magic[3],
+        version[0],
+        version[1],
+        cart[0],
+        cart[1],
+        frames[0],
+        frames[1],
+        frames[2],
+        frames[3],
+        checkpoints[0],
+        checkpoints[1],
+    ]
+}
+
+/// Appends inputs.
+fn put_inputs(out: &mut Vec<u8>, inputs: &[Input]) -> Result<(), AllocError>
+    ensures ok { OnOk result (out.new.items ≡ out.old.items ++ flat_map input_bytes inputs.now) }
+    ensures front { StartsWith out.new.items out.old.items }
+{
+    for input in inputs {
+        out.extend_from_slice(&input.bytes())?;
+    }
+    Ok(())
+}
+
+/// Appends a checkpoint.
+fn put_checkpoint(out: &mut Vec<u8>, checkpoint: &Checkpoint) -> Result<(), AllocError>
+    ensures ok { OnOk result (out.new.items ≡ out.old.items ++ checkpoint_bytes checkpoint.now) }
+    ensures front { StartsWith out.new.items out.old.items }
+{
+    out.extend_from_slice(&checkpoint.frame.to_be_bytes())?;
+    out.extend_from_slice(&write_state(&checkpoint.state))?;
+    Ok(())
+}
+
+/// Appends checkpoints.
+#[tactic(auto, using(crate::proofs::Fronts::front_then))]
+fn put_checkpoints(out: &mut Vec<u8>, checkpoints: &[Checkpoint]) -> Result<(), AllocError>
+    ensures ok { OnOk result (out.new.items ≡ out.old.items ++ flat_map checkpoint_bytes checkpoints.now) }
+    ensures front { StartsWith out.new.items out.old.items }
+{
+    for checkpoint in checkpoints {
+        put_checkpoint(out, checkpoint)?;
+    }
+    Ok(())
+}
+
+/// Appends a movie. After a refusal the front of it may stand there.
+#[tactic(auto, using(crate::proofs::Fronts::front_then))]
+fn put_movie(out: &mut Vec<u8>, movie: &Movie) -> Result<(), AllocError>
+    ensures ok { OnOk result (out.new.items ≡ out.old.items ++ spelling movie.now) }
+    ensures front { StartsWith out.new.items out.old.items }
+{
+    out.extend_from_slice(&header(movie))?;
+    out.extend_from_slice(movie.cart().bytes())?;
+    out.extend_from_slice(&write_state(movie.start()))?;
+    put_inputs(out, movie.inputs())?;
+    put_checkpoints(out, movie.all_checkpoints())?;
+    Ok(())
+}
+
+/// Appends the one spelling of a movie. Where memory is refused the vector has the bytes that it
+/// had.
+pub fn write_movie(movie: &Movie, out: &mut Vec<u8>) -> Result<(), NoMemory>
+    ensures ok { OnOk result (out.new.items ≡ out.old.items ++ spelling movie.now) }
+    ensures err { OnErr result (out.new.items ≡ out.old.items) }
+    ensures lawful { IsMovie movie.now }
+{
+    let _version = movie.version();
+    let length = out.len();
+    match put_movie(out, movie) {
+        Ok(()) => Ok(()),
+        Err(_) => {
+            out.truncate(length);
+            Err(NoMemory)
+        }
+    }
+}
