@@ -20,7 +20,7 @@ use Rattle.mos_cpu.specs.declared.access.Transfer.{Transfer}
 use Rattle.mos_cpu.specs.declared.access.Transfer.TheVariants.{Read, Write}
 use Rattle.mos_cpu.specs.declared.access.Access.{Access}
 
--- What holds of each value that the next step gives.
+-- What holds of each value that a chain gives.
 and_then-ok : {T U : Type 0} (P : U → Type 0) (x : Result T CpuFault) (next : T → Result U CpuFault)
     → ((t : T) → IfOk (next t) P) → IfOk (and_then x next) P
 and_then-ok P (Ok t) next h = h t
@@ -41,7 +41,8 @@ decoded-timed m s r =
     (λ opcode. documented-ok Timed (row_of opcode) opcode r.pc _ (row_of-timed opcode)
     (λ row timed. and_then-ok Timed (operand_of m s r row) _ (λ operand. timed)))
 
-pub timed-if : {S : Type 0} (m : Meaning S) (s : S) (r : Registers) (i : Instruction) → ◌≡◌ {A = Result Instruction CpuFault} (Ok i) (decoded m s r) → IsTimed i.row
+pub timed-if : {S : Type 0} (m : Meaning S) (s : S) (r : Registers) (i : Instruction)
+    → ◌≡◌ {A = Result Instruction CpuFault} (Ok i) (decoded m s r) → IsTimed i.row
 timed-if m s r i e = rw (← e) at (decoded-timed m s r)
 
 pub cycles_of-timed : (i : Instruction) (p : ℕ) → IsTimed i.row
@@ -55,7 +56,8 @@ cycles_of-timed i p timed =
     (omega arith, omega arith, omega arith)
 
 -- The cycles that an instruction answers.
-pub answered : (n : ℕ) (i : Instruction) (p : ℕ) → ◌≡◌ {A = Result ℕ CpuFault} (Ok n) (Ok (cycles_of i p)) → n ≡ cycles_of i p
+pub answered : (n : ℕ) (i : Instruction) (p : ℕ)
+    → ◌≡◌ {A = Result ℕ CpuFault} (Ok n) (Ok (cycles_of i p)) → n ≡ cycles_of i p
 answered n i p e = ap (λ (x : Result ℕ CpuFault). result_unwrap_or x 0) e
 
 module _ {S : Type 0} (m : Meaning S) where
