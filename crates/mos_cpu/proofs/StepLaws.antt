@@ -1,8 +1,9 @@
--- How many cycles an instruction takes, and that each clock of its bus is advanced by them.
+-- What follows from the definition of an instruction: how many cycles it takes, that each clock of its
+-- bus is advanced by them, what it keeps, and that a fault changes nothing.
 use Rattle.std.proofs.Common.{◌≡◌, ℕ, ◌+◌, ◌-◌, ◌*◌, ◌%◌, ◌≤◌, List, [], ◌∷◌, Option, Some, None, Result, Ok, Err, zero-add, refl, ap, sym, ◌∙◌, arith}
 use Rattle.std.proofs.Math.Nat.{mod-add-mod}
 use Rattle.std.specs.Result.{result_unwrap_or}
-use Rattle.std.specs.Prelude.{fold, map, IfOk, IfSome}
+use Rattle.std.specs.Prelude.{fold, map, IfOk, IfSome, OnErr}
 use Rattle.mos_cpu.specs.Buses.{Meaning, IsClock, IsKept}
 use Rattle.mos_cpu.specs.Registers.{Registers}
 use Rattle.mos_cpu.specs.Opcodes.{row_of}
@@ -78,6 +79,25 @@ module _ {S : Type 0} (m : Meaning S) where
   -- It takes at most 7.
   pub step_of-most : (r : Registers) (s : S) → IfOk (step_of m r s).answer (λ cycles. cycles ≤ 7)
   step_of-most r s = step_by-most r s (decoded m s r) (decoded-timed m s r)
+
+  step_by-fault_registers : (r : Registers) (s : S) (d : Result Instruction CpuFault)
+      → OnErr (step_by m r s d).answer ((step_by m r s d).registers ≡ r)
+  step_by-fault_registers r s (Ok i) = tt
+  step_by-fault_registers r s (Err fault) = refl
+
+  step_by-fault_bus : (r : Registers) (s : S) (d : Result Instruction CpuFault)
+      → OnErr (step_by m r s d).answer ((step_by m r s d).bus ≡ s)
+  step_by-fault_bus r s (Ok i) = tt
+  step_by-fault_bus r s (Err fault) = refl
+
+  -- After a fault the registers and the bus are as before.
+  pub step_of-fault_registers : (r : Registers) (s : S)
+      → OnErr (step_of m r s).answer ((step_of m r s).registers ≡ r)
+  step_of-fault_registers r s = step_by-fault_registers r s (decoded m s r)
+
+  pub step_of-fault_bus : (r : Registers) (s : S)
+      → OnErr (step_of m r s).answer ((step_of m r s).bus ≡ s)
+  step_of-fault_bus r s = step_by-fault_bus r s (decoded m s r)
 
 module _ {S : Type 0} (m : Meaning S) (advance : ℕ → ℕ → ℕ) (clock : S → ℕ) (is : IsClock m advance clock) where
   -- A clock is ahead of a time by the cycles of an instruction that are over.
