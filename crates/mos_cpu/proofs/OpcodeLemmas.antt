@@ -32,13 +32,15 @@ timed-at entry e =
     let inner = and_parts (nat_le 2 row.cycles) (nat_le (least_of (use_of row.operation)) row.cycles) outer.0 in
     record { least = leb-true _ _ inner.0; room = leb-true _ _ inner.1; most = leb-true _ _ outer.1 }
 
-row_in-timed : (entries : List Entry) (opcode : ℕ) → list_all is_timed entries ≡ true → IfSome (row_in entries opcode) IsTimed
+row_in-timed : (entries : List Entry) (opcode : ℕ) → list_all is_timed entries ≡ true
+    → IfSome (row_in entries opcode) IsTimed
 row_in-timed [] opcode e = tt
 row_in-timed (entry ∷ entries) opcode e =
     let parts = and_parts (is_timed entry) (list_all is_timed entries) e in
     by (entry.0 == opcode) (row_at entry) (row_in entries opcode) (timed-at entry parts.0) (row_in-timed entries opcode parts.1)
   where
-    by : (t : Bool) (row : Row) (rest : Option Row) → IsTimed row → IfSome rest IsTimed → IfSome (if t then Some row else rest) IsTimed
+    by : (t : Bool) (row : Row) (rest : Option Row) → IsTimed row → IfSome rest IsTimed
+        → IfSome (if t then Some row else rest) IsTimed
     by true row rest here there = here
     by false row rest here there = there
 

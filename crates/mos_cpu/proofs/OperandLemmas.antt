@@ -1,14 +1,11 @@
 -- Addresses, as the code makes them.
-use Rattle.std.proofs.Common.{◌≡◌, ℕ, ◌+◌, ◌*◌, ◌/◌, ◌%◌, ◌^◌, ◌<◌, ◌≤◌, arith, bit_and, bit_or}
-use Rattle.std.specs.Prelude.{pos, ◌+ℤ◌, ◌-ℤ◌}
-use Rattle.std.proofs.lemmas.Int.{ints}
+use Rattle.std.proofs.Common.{◌≡◌, ℕ, ◌+◌, ◌*◌, ◌/◌, ◌%◌, ◌^◌, ◌<◌, arith, bit_and, bit_or}
 use Rattle.std.proofs.lemmas.Nat.{or_shifted, and_mask}
 use Rattle.std.proofs.lemmas.Nat.Bits.{and_high_mask}
-use Rattle.mos_cpu.proofs.SumLemmas.{modulo_is}
-use Rattle.mos_cpu.specs.Numbers.{modulo}
 
 -- The next address of a page.
-pub page_next : (n : ℕ) → n < 65536 → bit_or (bit_and n 65280) (bit_and ((n + 1) % 65536) 255) ≡ n / 256 * 256 + (n + 1) % 256
+pub page_next : (n : ℕ) → n < 65536
+    → bit_or (bit_and n 65280) (bit_and ((n + 1) % 65536) 255) ≡ n / 256 * 256 + (n + 1) % 256
 page_next n h =
     let e : bit_and n 65280 ≡ n / 256 * 256 = and_high_mask 16 8 (omega arith) n h in
     let f : bit_and ((n + 1) % 65536) 255 ≡ (n + 1) % 65536 % 256 = and_mask ((n + 1) % 65536) 8 in

@@ -8,14 +8,16 @@ use Rattle.mos_cpu.specs.declared.status.Flag.{Flag}
 use Rattle.mos_cpu.specs.declared.status.Flag.TheVariants.{Carry, Zero, Interrupt, Decimal, Overflow, Negative}
 
 -- A test that holds of each byte.
-at_byte : (test : ℕ → Bool) (p : ℕ) → agree_below test (λ q. true) 256 ≡ true → p < 256 → test p ≡ true
+at_byte : (test : ℕ → Bool) (p : ℕ) → agree_below test (λ q. true) 256 ≡ true → p < 256
+    → test p ≡ true
 at_byte test p e h = agree_below_at test (λ q. true) 256 p e h
 
 -- The bit of a flag tested.
 abbrev tests : Flag → ℕ → Bool
 tests flag q = not (nat_eq (bit_and q (weight flag)) 0)
 
-pub and_weight : (flag : Flag) (p : ℕ) → p < 256 → not (nat_eq (bit_and p (weight flag)) 0) ≡ has_flag flag p
+pub and_weight : (flag : Flag) (p : ℕ) → p < 256
+    → not (nat_eq (bit_and p (weight flag)) 0) ≡ has_flag flag p
 and_weight Carry p h = agree_below_at (tests Carry) (has_flag Carry) 256 p refl h
 and_weight Zero p h = agree_below_at (tests Zero) (has_flag Zero) 256 p refl h
 and_weight Interrupt p h = agree_below_at (tests Interrupt) (has_flag Interrupt) 256 p refl h
@@ -39,7 +41,8 @@ or_weight Negative p h = eqb-true _ _ (at_byte (sets Negative) p refl h)
 abbrev clears : Flag → ℕ → Bool
 clears flag q = nat_eq (bit_and q (255 - weight flag)) (put_flag flag false q)
 
-pub and_not_weight : (flag : Flag) (p : ℕ) → p < 256 → bit_and p (255 - weight flag) ≡ put_flag flag false p
+pub and_not_weight : (flag : Flag) (p : ℕ) → p < 256
+    → bit_and p (255 - weight flag) ≡ put_flag flag false p
 and_not_weight Carry p h = eqb-true _ _ (at_byte (clears Carry) p refl h)
 and_not_weight Zero p h = eqb-true _ _ (at_byte (clears Zero) p refl h)
 and_not_weight Interrupt p h = eqb-true _ _ (at_byte (clears Interrupt) p refl h)
@@ -51,7 +54,8 @@ and_not_weight Negative p h = eqb-true _ _ (at_byte (clears Negative) p refl h)
 abbrev keeps : Flag → Bool → ℕ → Bool
 keeps flag on q = nat_eq (put_flag flag on q / 16 % 4) (q / 16 % 4)
 
-pub put_flag-status : (flag : Flag) (on : Bool) (p : ℕ) → p < 256 → put_flag flag on p / 16 % 4 ≡ p / 16 % 4
+pub put_flag-status : (flag : Flag) (on : Bool) (p : ℕ) → p < 256
+    → put_flag flag on p / 16 % 4 ≡ p / 16 % 4
 put_flag-status Carry true p h = eqb-true _ _ (at_byte (keeps Carry true) p refl h)
 put_flag-status Zero true p h = eqb-true _ _ (at_byte (keeps Zero true) p refl h)
 put_flag-status Interrupt true p h = eqb-true _ _ (at_byte (keeps Interrupt true) p refl h)

@@ -1,6 +1,9 @@
 //! Addition and subtraction of decimal digits.
 
-ghost use Rattle.std.specs.Prelude.{◌≡◌, ◌<◌, ◌≤◌, ◌/◌, ◌%◌, pos, ◌-ℤ◌};
+ghost use Rattle.std.specs.Prelude.{◌≡◌, ◌<◌, ◌≤◌, ◌/◌, ◌%◌, ◌==◌, pos, ◌-ℤ◌};
+ghost use Rattle.mos_cpu.specs.Numbers.{modulo};
+ghost use Rattle.mos_cpu.specs.Status.{put_flag};
+ghost use Rattle.mos_cpu.specs.Sums.{sum_of};
 ghost use Rattle.mos_cpu.specs.Decimal.{low_sum, decimal_sum_of, corrected_of, decimal_adc_of, low_difference_of, decimal_difference};
 
 use crate::arithmetic::Alu;
@@ -37,18 +40,28 @@ const fn corrected(sum: u16) -> u16
     if sum >= 0xA0 { sum + 0x60 } else { sum }
 }
 
+/// The status with Z of the binary sum.
+#[tactic(auto, using(crate::proofs::DecimalLemmas::carried, crate::proofs::StatusLemmas::and_one))]
+#[inline]
+const fn with_binary_zero(a: u8, m: u8, p: u8) -> u8
+    ensures value { result ≡ put_flag Flag.Zero (sum_of a m p % 256 == 0) p }
+    ensures status { result / 16 % 4 ≡ p / 16 % 4 }
+{
+    let binary = a.wrapping_add(m).wrapping_add(p & 1);
+    with_flag(p, Flag::Zero, binary == 0)
+}
+
 /// The decimal sum, with C of itself, N and V of the sum before its correction, and Z of the binary
 /// sum.
 pub const fn decimal_adc(a: u8, m: u8, p: u8) -> Alu
     ensures result { result ≡ decimal_adc_of a m p }
     ensures status { result.p / 16 % 4 ≡ p / 16 % 4 }
 {
-    let binary = a.wrapping_add(m).wrapping_add(p & 1);
     let sum = decimal_sum(a, m, p);
     let middle = (sum & 0xFF) as u8;
     let outcome = corrected(sum);
     let overflow = (a ^ middle) & (m ^ middle) & 0x80 != 0;
-    let zero = with_flag(p, Flag::Zero, binary == 0);
+    let zero = with_binary_zero(a, m, p);
     let negative = with_flag(zero, Flag::Negative, has(middle, Flag::Negative));
     Alu {
         value: (outcome & 0xFF) as u8,
@@ -58,6 +71,18 @@ pub const fn decimal_adc(a: u8, m: u8, p: u8) -> Alu
             outcome > 0xFF,
         ),
     }
+}
+
+/// A low digit that lacks what is taken from it: 6 less, modulo 16.
+#[tactic(auto, using(crate::proofs::DecimalLemmas::digit_modulo))]
+#[inline]
+const fn lacking_digit(have: u8, taken: u8) -> u8
+    requires digit { taken ≤ 16 }
+    requires lacks { have < taken }
+    ensures value { result ≡ modulo (pos have -ℤ pos taken -ℤ pos 6) 16 }
+    ensures digit { result < 16 }
+{
+    (have + 26 - taken) & 0x0F
 }
 
 /// The difference of the low digits with borrow, and the 16 that it borrows or 0.
@@ -70,7 +95,7 @@ const fn low_difference(a: u8, m: u8, p: u8) -> (u8, u8)
     let have = (a & 0x0F) + (p & 1);
     let taken = (m & 0x0F) + 1;
     if have < taken {
-        ((have + 26 - taken) & 0x0F, 0x10)
+        (lacking_digit(have, taken), 0x10)
     } else {
         (have - taken, 0)
     }

@@ -7,8 +7,10 @@ ghost use Rattle.mos_cpu.specs.Registers.{Registers};
 
 /// A law: every instruction takes 2 to 7 cycles, on any bus.
 pub const fn law_of_cycles<S>()
-    ensures least { (m : Meaning S) (r : Registers) (s : S) → IfOk (step_of m r s).answer (λ cycles. 2 ≤ cycles) }
-    ensures most { (m : Meaning S) (r : Registers) (s : S) → IfOk (step_of m r s).answer (λ cycles. cycles ≤ 7) }
+    ensures least { (m : Meaning S) (r : Registers) (s : S) →
+        IfOk (step_of m r s).answer (λ cycles. 2 ≤ cycles) }
+    ensures most { (m : Meaning S) (r : Registers) (s : S) →
+        IfOk (step_of m r s).answer (λ cycles. cycles ≤ 7) }
 {}
 
 /// A law: an instruction commutes with each map between buses that keeps what they say.

@@ -1,12 +1,8 @@
-use Rattle.std.proofs.Common.{◌≡◌, ℕ, ◌+◌, ◌%◌, arith, refl}
+use Rattle.std.proofs.Common.{arith, refl}
 use Rattle.std.proofs.lemmas.Nat.{and_mask}
 use Rattle.mos_cpu.specs.Decimal.{decimal_sum_of, corrected_of}
-use Rattle.mos_cpu.proofs.StatusLemmas.{and_one}
 use Rattle.mos_cpu.proofs.DecimalLemmas.{decimal_overflow, decimal_modulo}
 use Rattle.mos_cpu.proofs.decimal.decimal_adc.Goals as goal
-
-carried : (a m c : ℕ) → ((a + m) % 256 + c) % 256 ≡ (a + m + c) % 256
-carried a m c = omega arith
 
 pub returns-clause-result : goal.returns-clause-result
 returns-clause-result c =
@@ -15,13 +11,11 @@ returns-clause-result c =
       c.with_flag.ensures.value,
       c.with_flag-negative.ensures.value,
       c.has.ensures,
-      c.with_flag-zero.ensures.value,
+      c.with_binary_zero-zero.ensures.value,
       c.corrected-outcome.ensures,
       c.decimal_sum-sum.ensures.value,
-      and_one c.args.p,
       and_mask (corrected_of (decimal_sum_of c.args.a c.args.m c.args.p)) 8,
       and_mask (decimal_sum_of c.args.a c.args.m c.args.p) 8,
-      carried c.args.a c.args.m (c.args.p % 2),
       decimal_modulo c.args.a c.args.m c.args.p (omega arith) (omega arith),
       decimal_overflow c.args.a c.args.m c.args.p (omega arith) (omega arith),
     ) refl

@@ -1,4 +1,4 @@
-use Rattle.std.proofs.Common.{◌≡◌, ◌+◌, ◌-◌, ◌%◌, ◌<◌, ◌≤◌, arith, bit_and}
+use Rattle.std.proofs.Common.{◌≡◌, ◌+◌, ◌%◌, ◌<◌, ◌≤◌, bit_and}
 use Rattle.std.proofs.lemmas.Nat.{and_mask}
 use Rattle.mos_cpu.proofs.DecimalLemmas.{low_lacks, low_suffices}
 use Rattle.mos_cpu.proofs.StatusLemmas.{and_one}
@@ -13,7 +13,8 @@ returns-then-have-taken-clause-difference c =
     let em : bit_and c.args.m 15 ≡ y = and_mask c.args.m 4 in
     let ep : bit_and c.args.p 1 ≡ carry = and_one c.args.p in
     let less : x + carry < y + 1 = rw (ea, em, ep) at c.if-have-taken.true in
-    rw (ea, em, ep, and_mask (x + carry + 26 - (y + 1)) 4) (low_lacks x y carry (omega arith) (omega arith) (omega arith) less)
+    let value = rw (ea, em, ep) at c.lacking_digit.ensures.value in
+    low_lacks x y carry c.lacking_digit.result less value
 
 pub returns-else-have-taken-clause-difference : goal.returns-else-have-taken-clause-difference
 returns-else-have-taken-clause-difference c =

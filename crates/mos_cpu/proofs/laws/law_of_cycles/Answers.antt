@@ -1,4 +1,4 @@
-use Rattle.mos_cpu.proofs.CycleLaws.{step_of-least, step_of-most}
+use Rattle.mos_cpu.proofs.StepLaws.{step_of-least, step_of-most}
 use Rattle.mos_cpu.proofs.laws.law_of_cycles.Goals as goal
 
 pub returns-clause-least : goal.returns-clause-least

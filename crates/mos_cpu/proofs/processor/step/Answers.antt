@@ -1,4 +1,4 @@
-use Rattle.mos_cpu.proofs.CycleLaws.{decoded-keeps, timed-if, cycles_of-timed, answered, executed-clock}
+use Rattle.mos_cpu.proofs.StepLaws.{decoded-keeps, timed-if, cycles_of-timed, answered, executed-clock}
 use Rattle.mos_cpu.proofs.processor.step.Goals as goal
 
 pub execute-requires : goal.execute-requires

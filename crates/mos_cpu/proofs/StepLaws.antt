@@ -1,8 +1,9 @@
--- How many cycles an instruction takes, and that each clock of its bus is advanced by them.
+-- What follows from the definition of an instruction: how many cycles it takes, that each clock of its
+-- bus is advanced by them, what it keeps, and that a fault changes nothing.
 use Rattle.std.proofs.Common.{◌≡◌, ℕ, ◌+◌, ◌-◌, ◌*◌, ◌%◌, ◌≤◌, List, [], ◌∷◌, Option, Some, None, Result, Ok, Err, zero-add, refl, ap, sym, ◌∙◌, arith}
 use Rattle.std.proofs.Math.Nat.{mod-add-mod}
 use Rattle.std.specs.Result.{result_unwrap_or}
-use Rattle.std.specs.Prelude.{fold, map, IfOk, IfSome}
+use Rattle.std.specs.Prelude.{fold, map, IfOk, IfSome, OnErr}
 use Rattle.mos_cpu.specs.Buses.{Meaning, IsClock, IsKept}
 use Rattle.mos_cpu.specs.Registers.{Registers}
 use Rattle.mos_cpu.specs.Opcodes.{row_of}
@@ -20,29 +21,33 @@ use Rattle.mos_cpu.specs.declared.access.Transfer.{Transfer}
 use Rattle.mos_cpu.specs.declared.access.Transfer.TheVariants.{Read, Write}
 use Rattle.mos_cpu.specs.declared.access.Access.{Access}
 
--- What holds of each value that the next step gives.
+-- What holds of each value that a chain gives.
 and_then-ok : {T U : Type 0} (P : U → Type 0) (x : Result T CpuFault) (next : T → Result U CpuFault)
     → ((t : T) → IfOk (next t) P) → IfOk (and_then x next) P
 and_then-ok P (Ok t) next h = h t
 and_then-ok P (Err fault) next h = tt
 
 documented-ok : {U : Type 0} (P : U → Type 0) (x : Option Row) (opcode at : ℕ) (next : Row → Result U CpuFault)
-    → IfSome x IsTimed → ((row : Row) → IsTimed row → IfOk (next row) P) → IfOk (and_then (documented x opcode at) next) P
+    → IfSome x IsTimed → ((row : Row) → IsTimed row → IfOk (next row) P)
+    → IfOk (and_then (documented x opcode at) next) P
 documented-ok P (Some row) opcode at next timed h = h row timed
 documented-ok P None opcode at next timed h = tt
 
 -- An instruction that was decoded is one of the table.
-pub decoded-timed : {S : Type 0} (m : Meaning S) (s : S) (r : Registers) → IfOk (decoded m s r) (λ i. IsTimed i.row)
+pub decoded-timed : {S : Type 0} (m : Meaning S) (s : S) (r : Registers)
+    → IfOk (decoded m s r) (λ i. IsTimed i.row)
 decoded-timed m s r =
     let Timed : Instruction → Type 0 = λ i. IsTimed i.row in
     and_then-ok Timed (byte_at m s r.pc) _
     (λ opcode. documented-ok Timed (row_of opcode) opcode r.pc _ (row_of-timed opcode)
     (λ row timed. and_then-ok Timed (operand_of m s r row) _ (λ operand. timed)))
 
-pub timed-if : {S : Type 0} (m : Meaning S) (s : S) (r : Registers) (i : Instruction) → ◌≡◌ {A = Result Instruction CpuFault} (Ok i) (decoded m s r) → IsTimed i.row
+pub timed-if : {S : Type 0} (m : Meaning S) (s : S) (r : Registers) (i : Instruction)
+    → ◌≡◌ {A = Result Instruction CpuFault} (Ok i) (decoded m s r) → IsTimed i.row
 timed-if m s r i e = rw (← e) at (decoded-timed m s r)
 
-pub cycles_of-timed : (i : Instruction) (p : ℕ) → IsTimed i.row → (2 ≤ cycles_of i p) × (cycles_of i p ≤ 7) × (least_of (use_of i.row.operation) ≤ cycles_of i p)
+pub cycles_of-timed : (i : Instruction) (p : ℕ) → IsTimed i.row
+    → (2 ≤ cycles_of i p) × (cycles_of i p ≤ 7) × (least_of (use_of i.row.operation) ≤ cycles_of i p)
 cycles_of-timed i p timed =
     let low = cycles_of-least i p in
     let high = cycles_of-most i p in
@@ -52,11 +57,13 @@ cycles_of-timed i p timed =
     (omega arith, omega arith, omega arith)
 
 -- The cycles that an instruction answers.
-pub answered : (n : ℕ) (i : Instruction) (p : ℕ) → ◌≡◌ {A = Result ℕ CpuFault} (Ok n) (Ok (cycles_of i p)) → n ≡ cycles_of i p
+pub answered : (n : ℕ) (i : Instruction) (p : ℕ)
+    → ◌≡◌ {A = Result ℕ CpuFault} (Ok n) (Ok (cycles_of i p)) → n ≡ cycles_of i p
 answered n i p e = ap (λ (x : Result ℕ CpuFault). result_unwrap_or x 0) e
 
 module _ {S : Type 0} (m : Meaning S) where
-  step_by-least : (r : Registers) (s : S) (d : Result Instruction CpuFault) → IfOk d (λ i. IsTimed i.row) → IfOk (step_by m r s d).answer (λ cycles. 2 ≤ cycles)
+  step_by-least : (r : Registers) (s : S) (d : Result Instruction CpuFault)
+      → IfOk d (λ i. IsTimed i.row) → IfOk (step_by m r s d).answer (λ cycles. 2 ≤ cycles)
   step_by-least r s (Ok i) timed = (cycles_of-timed i r.p timed).0
   step_by-least r s (Err fault) timed = tt
 
@@ -64,7 +71,8 @@ module _ {S : Type 0} (m : Meaning S) where
   pub step_of-least : (r : Registers) (s : S) → IfOk (step_of m r s).answer (λ cycles. 2 ≤ cycles)
   step_of-least r s = step_by-least r s (decoded m s r) (decoded-timed m s r)
 
-  step_by-most : (r : Registers) (s : S) (d : Result Instruction CpuFault) → IfOk d (λ i. IsTimed i.row) → IfOk (step_by m r s d).answer (λ cycles. cycles ≤ 7)
+  step_by-most : (r : Registers) (s : S) (d : Result Instruction CpuFault)
+      → IfOk d (λ i. IsTimed i.row) → IfOk (step_by m r s d).answer (λ cycles. cycles ≤ 7)
   step_by-most r s (Ok i) timed = (cycles_of-timed i r.p timed).1
   step_by-most r s (Err fault) timed = tt
 
@@ -72,13 +80,36 @@ module _ {S : Type 0} (m : Meaning S) where
   pub step_of-most : (r : Registers) (s : S) → IfOk (step_of m r s).answer (λ cycles. cycles ≤ 7)
   step_of-most r s = step_by-most r s (decoded m s r) (decoded-timed m s r)
 
+  step_by-fault_registers : (r : Registers) (s : S) (d : Result Instruction CpuFault)
+      → OnErr (step_by m r s d).answer ((step_by m r s d).registers ≡ r)
+  step_by-fault_registers r s (Ok i) = tt
+  step_by-fault_registers r s (Err fault) = refl
+
+  step_by-fault_bus : (r : Registers) (s : S) (d : Result Instruction CpuFault)
+      → OnErr (step_by m r s d).answer ((step_by m r s d).bus ≡ s)
+  step_by-fault_bus r s (Ok i) = tt
+  step_by-fault_bus r s (Err fault) = refl
+
+  -- After a fault the registers and the bus are as before.
+  pub step_of-fault_registers : (r : Registers) (s : S)
+      → OnErr (step_of m r s).answer ((step_of m r s).registers ≡ r)
+  step_of-fault_registers r s = step_by-fault_registers r s (decoded m s r)
+
+  pub step_of-fault_bus : (r : Registers) (s : S)
+      → OnErr (step_of m r s).answer ((step_of m r s).bus ≡ s)
+  step_of-fault_bus r s = step_by-fault_bus r s (decoded m s r)
+
 module _ {S : Type 0} (m : Meaning S) (advance : ℕ → ℕ → ℕ) (clock : S → ℕ) (is : IsClock m advance clock) where
   -- A clock is ahead of a time by the cycles of an instruction that are over.
   abbrev IsAhead : ℕ → Progress S → Type 0
   IsAhead t g = (n : ℕ) → advance (clock g.bus) n ≡ advance t (g.cycle + n)
 
+  begun-ahead : (s : S) → IsAhead (clock s) (begun s)
+  begun-ahead s n = ap (advance (clock s)) (sym (zero-add n))
+
   ahead-after : (t : ℕ) (g : Progress S) (cycle : ℕ) (bus : S) → g.cycle ≤ cycle → IsAhead t g
-      → clock bus ≡ clock (reached m g cycle) → (n : ℕ) → advance (clock bus) n ≡ advance t (cycle + n)
+      → clock bus ≡ clock (reached m g cycle) → (n : ℕ)
+      → advance (clock bus) n ≡ advance t (cycle + n)
   ahead-after t g cycle bus le ahead e n =
       let over = cycle - g.cycle in
       let sum : g.cycle + (over + n) ≡ cycle + n = omega arith in
@@ -87,60 +118,83 @@ module _ {S : Type 0} (m : Meaning S) (advance : ℕ → ℕ → ℕ) (clock : S
       ∙ ahead (over + n)
       ∙ ap (advance t) sum
 
-  transferred-ahead : (o : Operation) (p t : ℕ) (g : Progress S) (cycle address : ℕ) (transfer : Transfer) → g.cycle ≤ cycle → IsAhead t g
+  transferred-ahead : (o : Operation) (p t : ℕ) (g : Progress S) (cycle address : ℕ) (transfer : Transfer)
+      → g.cycle ≤ cycle → IsAhead t g
       → IsAhead t (transferred m o p g cycle address transfer)
   transferred-ahead o p t g cycle address Read le ahead n = ahead-after t g cycle _ le ahead (is.read _ address) n
   transferred-ahead o p t g cycle address (Write source) le ahead n = ahead-after t g cycle _ le ahead (is.written _ address _) n
 
-  accessed-ahead : (o : Operation) (p t : ℕ) (g : Progress S) (access : Access) → g.cycle ≤ access.cycle → IsAhead t g → IsAhead t (accessed m o p g access)
+  accessed-ahead : (o : Operation) (p t : ℕ) (g : Progress S) (access : Access)
+      → g.cycle ≤ access.cycle → IsAhead t g → IsAhead t (accessed m o p g access)
   accessed-ahead o p t g access le ahead = transferred-ahead o p t g access.cycle access.address access.transfer le ahead
 
   transferred-ascends : (o : Operation) (p : ℕ) (g : Progress S) (cycle address : ℕ) (transfer : Transfer) (accesses : List Access) (last : ℕ)
-      → AscendsTo cycle accesses last → AscendsTo (transferred m o p g cycle address transfer).cycle accesses last
+      → AscendsTo cycle accesses last
+      → AscendsTo (transferred m o p g cycle address transfer).cycle accesses last
   transferred-ascends o p g cycle address Read accesses last h = h
   transferred-ascends o p g cycle address (Write source) accesses last h = h
 
-  reached-clock : (t : ℕ) (g : Progress S) (cycle : ℕ) → g.cycle ≤ cycle → IsAhead t g → clock (reached m g cycle) ≡ advance t cycle
+  accessed-ascends : (o : Operation) (p : ℕ) (g : Progress S) (access : Access)
+      (accesses : List Access) (last : ℕ) → AscendsTo access.cycle accesses last
+      → AscendsTo (accessed m o p g access).cycle accesses last
+  accessed-ascends o p g access accesses last h =
+      transferred-ascends o p g access.cycle access.address access.transfer accesses last h
+
+  reached-clock : (t : ℕ) (g : Progress S) (cycle : ℕ) → g.cycle ≤ cycle → IsAhead t g
+      → clock (reached m g cycle) ≡ advance t cycle
   reached-clock t g cycle le ahead =
       let e : g.cycle + (cycle - g.cycle) ≡ cycle = omega arith in
       is.passed g.bus (cycle - g.cycle) ∙ ahead (cycle - g.cycle) ∙ ap (advance t) e
 
-  ended-clock : (o : Operation) (p t : ℕ) (g : Progress S) (accesses : List Access) (last : ℕ) → AscendsTo g.cycle accesses last → IsAhead t g
+  ended-clock : (o : Operation) (p t : ℕ) (g : Progress S) (accesses : List Access) (last : ℕ)
+      → AscendsTo g.cycle accesses last → IsAhead t g
       → (let end = fold (accessed m o p) g accesses in clock (reached m end last)) ≡ advance t last
   ended-clock o p t g [] last ascends ahead = reached-clock t g last ascends ahead
   ended-clock o p t g (access ∷ accesses) last ascends ahead =
-      ended-clock o p t (accessed m o p g access) accesses last (transferred-ascends o p g access.cycle access.address access.transfer accesses last ascends.1) (accessed-ahead o p t g access ascends.0 ahead)
+      ended-clock o p t (accessed m o p g access) accesses last
+      (accessed-ascends o p g access accesses last ascends.1)
+      (accessed-ahead o p t g access ascends.0 ahead)
 
-  pub executed-clock : (r : Registers) (s : S) (i : Instruction) → IsTimed i.row → clock (executed m r s i).bus ≡ advance (clock s) (cycles_of i r.p)
+  pub executed-clock : (r : Registers) (s : S) (i : Instruction) → IsTimed i.row
+      → clock (executed m r s i).bus ≡ advance (clock s) (cycles_of i r.p)
   executed-clock r s i timed =
       let cycles = cycles_of i r.p in
       let ascends = accesses_of-ascend i r cycles (cycles_of-timed i r.p timed).2 in
-      ended-clock i.row.operation r.p (clock s) (begun s) (accesses_of i r cycles) cycles ascends (λ n. ap (advance (clock s)) (sym (zero-add n)))
+      ended-clock i.row.operation r.p (clock s) (begun s) (accesses_of i r cycles) cycles ascends
+      (begun-ahead s)
 
-  step_by-clock : (r : Registers) (s : S) (d : Result Instruction CpuFault) → IfOk d (λ i. IsTimed i.row)
+  step_by-clock : (r : Registers) (s : S) (d : Result Instruction CpuFault)
+      → IfOk d (λ i. IsTimed i.row)
       → IfOk (step_by m r s d).answer (λ cycles. clock (step_by m r s d).bus ≡ advance (clock s) cycles)
   step_by-clock r s (Ok i) timed = executed-clock r s i timed
   step_by-clock r s (Err fault) timed = tt
 
   -- A clock of the bus is advanced by the cycles of the instruction.
-  pub step_of-clock : (r : Registers) (s : S) → IfOk (step_of m r s).answer (λ cycles. clock (step_of m r s).bus ≡ advance (clock s) cycles)
+  pub step_of-clock : (r : Registers) (s : S)
+      → IfOk (step_of m r s).answer (λ cycles. clock (step_of m r s).bus ≡ advance (clock s) cycles)
   step_of-clock r s = step_by-clock r s (decoded m s r) (decoded-timed m s r)
 
-  access_clocks-ahead : (o : Operation) (p t : ℕ) (g : Progress S) (accesses : List Access) (last : ℕ) → AscendsTo g.cycle accesses last → IsAhead t g
+  access_clocks-ahead : (o : Operation) (p t : ℕ) (g : Progress S) (accesses : List Access) (last : ℕ)
+      → AscendsTo g.cycle accesses last → IsAhead t g
       → access_clocks m clock o p g accesses ≡ map (λ access. advance t access.cycle) accesses
   access_clocks-ahead o p t g [] last ascends ahead = refl
   access_clocks-ahead o p t g (access ∷ accesses) last ascends ahead =
-      let rest = access_clocks-ahead o p t (accessed m o p g access) accesses last (transferred-ascends o p g access.cycle access.address access.transfer accesses last ascends.1) (accessed-ahead o p t g access ascends.0 ahead) in
+      let rest = access_clocks-ahead o p t (accessed m o p g access) accesses last
+      (accessed-ascends o p g access accesses last ascends.1)
+      (accessed-ahead o p t g access ascends.0 ahead) in
       rw (reached-clock t g access.cycle ascends.0 ahead, rest) refl
 
 -- Each access of an instruction is made when its cycle has passed.
-pub timed-keeps : {S : Type 0} (m : Meaning S) (r : Registers) (s : S) (i : Instruction) → IsTimed i.row → KeepsTime m r s i
+pub timed-keeps : {S : Type 0} (m : Meaning S) (r : Registers) (s : S) (i : Instruction)
+    → IsTimed i.row → KeepsTime m r s i
 timed-keeps m r s i timed advance clock is =
     let cycles = cycles_of i r.p in
     let ascends = accesses_of-ascend i r cycles (cycles_of-timed i r.p timed).2 in
-    access_clocks-ahead m advance clock is i.row.operation r.p (clock s) (begun s) (accesses_of i r cycles) cycles ascends (λ n. ap (advance (clock s)) (sym (zero-add n)))
+    access_clocks-ahead m advance clock is i.row.operation r.p (clock s) (begun s)
+    (accesses_of i r cycles) cycles ascends (begun-ahead m advance clock is s)
 
-pub decoded-keeps : {S : Type 0} (m : Meaning S) (r : Registers) (s : S) → IfOk (decoded m s r) (KeepsTime m r s)
+pub decoded-keeps : {S : Type 0} (m : Meaning S) (r : Registers) (s : S)
+    → IfOk (decoded m s r) (KeepsTime m r s)
 decoded-keeps m r s = by (decoded m s r) (decoded-timed m s r)
   where
     by : (d : Result Instruction CpuFault) → IfOk d (λ i. IsTimed i.row) → IfOk d (KeepsTime m r s)
@@ -148,16 +202,19 @@ decoded-keeps m r s = by (decoded m s r) (decoded-timed m s r)
     by (Err fault) timed = tt
 
 module _ {S : Type 0} (m : Meaning S) (Fact : S → Type 0) (kept : IsKept m Fact) where
-  transferred-kept : (o : Operation) (p : ℕ) (g : Progress S) (cycle address : ℕ) (t : Transfer) → Fact g.bus → Fact (transferred m o p g cycle address t).bus
+  transferred-kept : (o : Operation) (p : ℕ) (g : Progress S) (cycle address : ℕ) (t : Transfer)
+      → Fact g.bus → Fact (transferred m o p g cycle address t).bus
   transferred-kept o p g cycle address Read h = kept.read _ address (kept.passed g.bus (cycle - g.cycle) h)
   transferred-kept o p g cycle address (Write source) h = kept.written _ address _ (kept.passed g.bus (cycle - g.cycle) h)
 
-  fold-kept : (o : Operation) (p : ℕ) (g : Progress S) (accesses : List Access) → Fact g.bus → Fact (fold (accessed m o p) g accesses).bus
+  fold-kept : (o : Operation) (p : ℕ) (g : Progress S) (accesses : List Access) → Fact g.bus
+      → Fact (fold (accessed m o p) g accesses).bus
   fold-kept o p g [] h = h
   fold-kept o p g (access ∷ accesses) h =
       fold-kept o p (accessed m o p g access) accesses (transferred-kept o p g access.cycle access.address access.transfer h)
 
-  step_by-kept : (r : Registers) (s : S) (d : Result Instruction CpuFault) → Fact s → Fact (step_by m r s d).bus
+  step_by-kept : (r : Registers) (s : S) (d : Result Instruction CpuFault) → Fact s
+      → Fact (step_by m r s d).bus
   step_by-kept r s (Ok i) h =
       let cycles = cycles_of i r.p in
       kept.passed _ _ (fold-kept i.row.operation r.p (begun s) (accesses_of i r cycles) h)
@@ -172,5 +229,6 @@ module _ {S : Type 0} (m : Meaning S) (Fact : S → Type 0) (kept : IsKept m Fac
 pub count-adds : (rate t a b : ℕ) → t + rate * a + rate * b ≡ t + rate * (a + b)
 count-adds rate t a b = grind arith
 
-pub count_modulo-adds : (rate modulus t a b : ℕ) → ((t + rate * a) % modulus + rate * b) % modulus ≡ (t + rate * (a + b)) % modulus
+pub count_modulo-adds : (rate modulus t a b : ℕ)
+    → ((t + rate * a) % modulus + rate * b) % modulus ≡ (t + rate * (a + b)) % modulus
 count_modulo-adds rate modulus t a b = mod-add-mod (t + rate * a) modulus (rate * b) ∙ ap (λ n. n % modulus) (count-adds rate t a b)
