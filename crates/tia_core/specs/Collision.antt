@@ -1,5 +1,5 @@
 -- The fifteen collision bits.
--- Stella Programmer's Guide: CXM0P to CXPPMM and CXCLR. This project's own: pixels in the dark collide too.
+-- Stella Programmer's Guide: CXM0P to CXPPMM and CXCLR. This project's own: blanked pixels collide too, and a pair stays until CXCLR.
 use Rattle.std.specs.Prelude.{ℕ, ◌+◌, ◌*◌, ◌&&◌, Bool, false, if◌then◌else◌, List, [], ◌∷◌}
 use Rattle.tia_core.specs.Bits.{two_bits}
 use Rattle.tia_core.specs.declared.objects.Objects.{Objects}

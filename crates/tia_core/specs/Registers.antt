@@ -5,7 +5,7 @@ use Rattle.std.specs.Prelude.{◌≡◌, ℕ, ◌%◌, List, [], ◌∷◌, bit_
 use Rattle.tia_core.specs.declared.register.Register.{Register}
 use Rattle.tia_core.specs.declared.register.Register.TheVariants.{Vsync, Vblank, Wsync, Nusiz0, Nusiz1, Colup0, Colup1, Colupf, Colubk, Ctrlpf, Refp0, Refp1, Pf0, Pf1, Pf2, Resp0, Resp1, Resm0, Resm1, Resbl, Grp0, Grp1, Enam0, Enam1, Enabl, Hmp0, Hmp1, Hmm0, Hmm1, Hmbl, Vdelp0, Vdelp1, Vdelbl, Resmp0, Resmp1, Hmove, Hmclr, Cxclr, Ignored}
 
--- from 00 to 2C
+-- the registers from 00 to 2C
 abbrev pub registers_list : List Register
 registers_list =
     Vsync ∷ Vblank ∷ Wsync ∷ Ignored ∷ Nusiz0 ∷ Nusiz1 ∷ Colup0 ∷ Colup1 ∷ Colupf ∷ Colubk ∷ Ctrlpf ∷ Refp0 ∷ Refp1

@@ -1,4 +1,4 @@
--- A TIA as contracts see it.
+-- A TIA as contracts see it, and what is true of its numbers. This project's own: the ranges, all 0 at power-on, and how a frame begins.
 use Rattle.std.specs.Prelude.{◌≡◌, ◌<◌, ◌^◌, ℕ, Bool, false}
 use Rattle.tia_core.specs.Bits.{bit}
 use Rattle.tia_core.specs.Latch.{latches_begun}

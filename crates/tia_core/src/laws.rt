@@ -7,6 +7,7 @@ ghost use Rattle.tia_core.specs.Beam.{beam_of, place_of, is_visible};
 ghost use Rattle.tia_core.specs.Bits.{bit};
 ghost use Rattle.tia_core.specs.Clock.{clocked, pixels};
 ghost use Rattle.tia_core.specs.Collision.{pairs_of, collision_bytes};
+ghost use Rattle.tia_core.specs.Coverage.{player_covers, missile_covers, ball_covers};
 ghost use Rattle.tia_core.specs.Read.{byte_at};
 ghost use Rattle.tia_core.specs.TiaState.{TiaState, IsLawful, frame_begun};
 ghost use Rattle.tia_core.specs.Write.{fields_after, effect_after, written};
@@ -69,4 +70,14 @@ pub fn frame_ends_with_vsync()
 pub fn collision_registers_give_pairs()
     ensures { (t : TiaFields) (fire0 fire1 : Bool) (o : Objects)
         → map (byte_at (record t { collisions = pairs_of o }) fire0 fire1) (0 ∷ 1 ∷ 2 ∷ 3 ∷ 4 ∷ 5 ∷ 6 ∷ 7 ∷ []) ≡ collision_bytes o }
+{}
+
+/// Coverage goes round the line: an object that is moved by k pixels covers the pixels k further, counted modulo 160.
+pub fn coverage_goes_round()
+    ensures players { (mode : ℕ) (reflected : Bool) (graphic position x k : ℕ) → x < 160 → position < 160
+        → player_covers mode reflected graphic ((position + k) % 160) ((x + k) % 160) ≡ player_covers mode reflected graphic position x }
+    ensures missiles { (mode size position x k : ℕ) → x < 160 → position < 160
+        → missile_covers mode size ((position + k) % 160) ((x + k) % 160) ≡ missile_covers mode size position x }
+    ensures ball { (size position x k : ℕ) → x < 160 → position < 160
+        → ball_covers size ((position + k) % 160) ((x + k) % 160) ≡ ball_covers size position x }
 {}
