@@ -1,5 +1,4 @@
 use crate::error::MovieError;
-use crate::movie::Movie;
 use crate::reading::read_movie;
 use crate::record::{read_state, write_state};
 use crate::writing::write_movie;
@@ -52,11 +51,14 @@ fn file(alloc: Global) -> Result<Vec<u8>, Fail> {
     Ok(bytes)
 }
 
-/// That file with another byte somewhere.
-fn file_with(alloc: Global, at: usize, byte: u8) -> Result<Vec<u8>, Fail> {
-    let mut bytes = file(alloc)?;
-    bytes[at] = byte;
-    Ok(bytes)
+/// A copy of a file with other bytes from a place on.
+fn changed(alloc: Global, bytes: &[u8], at: u16, new: &[u8]) -> Result<Vec<u8>, Fail> {
+    let at = at as usize;
+    let mut copy = Vec::new(alloc);
+    copy.extend_from_slice(bytes.get(..at).ok_or("a place in the file")?)?;
+    copy.extend_from_slice(new)?;
+    copy.extend_from_slice(bytes.get(at + new.len()..).ok_or("a place in the file")?)?;
+    Ok(copy)
 }
 
 /// The refusal of a file.
@@ -72,23 +74,24 @@ fn movie_is_written_as_it_was_read(rt: HostRuntime) -> Result<(), Fail> {
     let mut written = Vec::new(rt.alloc());
     written.push(0x99)?;
     write_movie(&movie, &mut written).ok().ok_or("written")?;
-    assert_eq!(rt; written.len(), 2447);
-    assert_eq!(rt; written[0], 0x99);
-    assert!(rt; written[1..] == bytes[..]);
+    let (first, rest) = written.split_first().ok_or("bytes")?;
+    assert_eq!(rt; *first, 0x99);
+    assert!(rt; rest == bytes.as_slice());
     Ok(())
 }
 
 #[test]
 fn readers_name_the_parts(rt: HostRuntime) -> Result<(), Fail> {
-    let movie = read_movie(rt.alloc(), &file(rt.alloc())?)
-        .ok()
-        .ok_or("a movie")?;
+    let bytes = file(rt.alloc())?;
+    let movie = read_movie(rt.alloc(), &bytes).ok().ok_or("a movie")?;
     assert_eq!(rt; movie.version(), 1);
     assert_eq!(rt; movie.cart().len(), 2048);
     assert_eq!(rt; movie.start().fields().pc, 0xF000);
-    assert_eq!(rt; movie.frames(), 2);
+    let frames = movie.frames();
+    assert_eq!(rt; frames, 2);
     assert_eq!(rt; movie.input(2).bytes(), [0xFF, 0x3F, 0x00]);
-    assert_eq!(rt; movie.checkpoints(), 1);
+    let checkpoints = movie.checkpoints();
+    assert_eq!(rt; checkpoints, 1);
     assert_eq!(rt; movie.checkpoint(1).frame, 1);
     assert_eq!(rt; movie.checkpoint(1).state.fields().line_cycle, 13);
     Ok(())
@@ -98,10 +101,8 @@ fn readers_name_the_parts(rt: HostRuntime) -> Result<(), Fail> {
 fn lengths_are_judged(rt: HostRuntime) -> Result<(), Fail> {
     let mut bytes = file(rt.alloc())?;
     for length in [0usize, 3, 13, 2300, 2445] {
-        assert_eq!(rt;
-            refusal(rt.alloc(), &bytes[..length]),
-            Some(MovieError::Short)
-        );
+        let front = bytes.get(..length).ok_or("a shorter file")?;
+        assert_eq!(rt; refusal(rt.alloc(), front), Some(MovieError::Short));
     }
     bytes.push(0)?;
     assert_eq!(rt; refusal(rt.alloc(), &bytes), Some(MovieError::Trailing));
@@ -110,66 +111,68 @@ fn lengths_are_judged(rt: HostRuntime) -> Result<(), Fail> {
 
 #[test]
 fn headers_are_judged(rt: HostRuntime) -> Result<(), Fail> {
+    let bytes = file(rt.alloc())?;
     for (at, byte, want) in [
-        (3usize, b'N', MovieError::BadMagic),
+        (3u16, b'N', MovieError::BadMagic),
         (5, 9, MovieError::BadVersion),
         (7, 1, MovieError::BadCartSize),
         (11, 0, MovieError::BadCounts),
     ] {
-        let bytes = file_with(rt.alloc(), at, byte)?;
-        assert_eq!(rt; refusal(rt.alloc(), &bytes), Some(want));
+        let bad = changed(rt.alloc(), &bytes, at, &[byte])?;
+        assert_eq!(rt; refusal(rt.alloc(), &bad), Some(want));
     }
-    let mut bytes = file(rt.alloc())?;
-    bytes[12..14].copy_from_slice(&4096u16.to_be_bytes());
-    assert_eq!(rt; refusal(rt.alloc(), &bytes), Some(MovieError::BadCounts));
-    bytes[12..14].copy_from_slice(&4095u16.to_be_bytes());
-    assert_eq!(rt; refusal(rt.alloc(), &bytes), Some(MovieError::Short));
+    for (checkpoints, want) in [(4096u16, MovieError::BadCounts), (4095, MovieError::Short)] {
+        let bad = changed(rt.alloc(), &bytes, 12, &checkpoints.to_be_bytes())?;
+        assert_eq!(rt; refusal(rt.alloc(), &bad), Some(want));
+    }
     Ok(())
 }
 
 #[test]
 fn states_and_inputs_are_judged(rt: HostRuntime) -> Result<(), Fail> {
+    let bytes = file(rt.alloc())?;
     for (at, byte, want) in [
-        (2239usize, 0xA0, MovieError::BadState(0)),
+        (2239u16, 0xA0, MovieError::BadState(0)),
         (2251, 0x04, MovieError::BadInput(1)),
         (2254, 0x04, MovieError::BadInput(2)),
         (2258, 0, MovieError::BadOrder(1)),
         (2258, 3, MovieError::BadOrder(1)),
         (2263, 0x34, MovieError::BadState(1)),
     ] {
-        let bytes = file_with(rt.alloc(), at, byte)?;
-        assert_eq!(rt; refusal(rt.alloc(), &bytes), Some(want));
+        let bad = changed(rt.alloc(), &bytes, at, &[byte])?;
+        assert_eq!(rt; refusal(rt.alloc(), &bad), Some(want));
     }
     Ok(())
 }
 
 #[test]
 fn checkpoints_rise(rt: HostRuntime) -> Result<(), Fail> {
-    let mut bytes = file_with(rt.alloc(), 13, 2)?;
-    bytes.extend_from_slice(&[0, 0, 0, 1])?;
-    bytes.extend_from_slice(&state_after_frame_1())?;
-    assert_eq!(rt; refusal(rt.alloc(), &bytes), Some(MovieError::BadOrder(2)));
-    bytes[2449] = 2;
-    let movie = read_movie(rt.alloc(), &bytes).ok().ok_or("a movie")?;
-    assert_eq!(rt; movie.checkpoint(2).frame, 2);
+    let bytes = file(rt.alloc())?;
+    let mut two = changed(rt.alloc(), &bytes, 13, &[2])?;
+    two.extend_from_slice(&[0, 0, 0, 1])?;
+    two.extend_from_slice(&state_after_frame_1())?;
+    assert_eq!(rt; refusal(rt.alloc(), &two), Some(MovieError::BadOrder(2)));
+    let risen = changed(rt.alloc(), &two, 2449, &[2])?;
+    assert_eq!(rt; refusal(rt.alloc(), &risen), None);
     Ok(())
 }
 
 #[test]
 fn first_refusal_is_named(rt: HostRuntime) -> Result<(), Fail> {
-    let mut bytes = file_with(rt.alloc(), 2239, 0xA0)?;
-    bytes[2254] = 0x04;
-    bytes[2258] = 3;
-    bytes[2263] = 0x34;
+    let mut bytes = file(rt.alloc())?;
+    for (at, byte) in [(2239u16, 0xA0), (2254, 0x04), (2258, 3), (2263, 0x34)] {
+        bytes = changed(rt.alloc(), &bytes, at, &[byte])?;
+    }
     bytes.push(0)?;
-    assert_eq!(rt; refusal(rt.alloc(), &bytes), Some(MovieError::BadState(0)));
-    bytes[2239] = 0x00;
-    assert_eq!(rt; refusal(rt.alloc(), &bytes), Some(MovieError::BadInput(2)));
-    bytes[2254] = 0x00;
-    assert_eq!(rt; refusal(rt.alloc(), &bytes), Some(MovieError::BadOrder(1)));
-    bytes[2258] = 2;
-    assert_eq!(rt; refusal(rt.alloc(), &bytes), Some(MovieError::BadState(1)));
-    bytes[2263] = 0x06;
+    for (at, byte, want) in [
+        (2239u16, 0x00, MovieError::BadState(0)),
+        (2254, 0x00, MovieError::BadInput(2)),
+        (2258, 2, MovieError::BadOrder(1)),
+        (2263, 0x06, MovieError::BadState(1)),
+    ] {
+        assert_eq!(rt; refusal(rt.alloc(), &bytes), Some(want));
+        bytes = changed(rt.alloc(), &bytes, at, &[byte])?;
+    }
     assert_eq!(rt; refusal(rt.alloc(), &bytes), Some(MovieError::Trailing));
     Ok(())
 }
@@ -193,7 +196,8 @@ fn record_is_read_and_written(rt: HostRuntime) -> Result<(), Fail> {
     let record = state_after_frame_1();
     let state = read_state(&record).ok_or("a state")?;
     assert!(rt; write_state(&state) == record);
-    assert!(rt; read_state(&record[..186]).is_none());
+    let front = record.get(..186).ok_or("a shorter record")?;
+    assert!(rt; read_state(front).is_none());
     assert_eq!(rt; state.fields().pc, 0xF00A);
     assert_eq!(rt; state.fields().timer, 0xF3);
     Ok(())
