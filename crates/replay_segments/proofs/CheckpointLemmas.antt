@@ -1,12 +1,12 @@
 -- Which checkpoint is the next.
-use Rattle.std.proofs.Common.{◌≡◌, ◌≢◌, ◌⊎◌, inl, inr, ℕ, ◌+◌, ◌-◌, ◌<◌, ◌≤◌, Some, length, slice_get, arith, sym, ap, ◌∙◌}
+use Rattle.std.proofs.Common.{◌≡◌, ◌≢◌, inl, inr, ℕ, ◌+◌, ◌<◌, ◌≤◌, Some, length, slice_get, arith, sym, ap, ◌∙◌}
 use Rattle.std.proofs.lemmas.Bool.{cases_lt}
 use Rattle.std.proofs.lemmas.Option.{slice_get_within}
 use Rattle.vcs_machine.specs.declared.fields.StateFields.{StateFields}
 use Rattle.movie_file.specs.Movie.{MovieData, IsMovie}
 use Rattle.movie_file.specs.declared.checkpoint.Checkpoint.{Checkpoint}
 use Rattle.movie_file.proofs.Orders.{checkpoint_in_range, checkpoints_rise}
-use Rattle.replay_segments.specs.Steps.{IsNext, ClaimsHold, IsClaim}
+use Rattle.replay_segments.specs.Steps.{IsNext, IsClaim}
 
 -- None stands before the first frame.
 pub IsNext-start : (m : MovieData) → IsMovie m → IsNext m 0 (0 + 1)
@@ -20,13 +20,14 @@ pub ruleset at_start = IsNext-start
 
 -- No checkpoint is left: each frame to come has none.
 pub IsClaim-none : (m : MovieData) (next frame : ℕ) (state : StateFields) → IsNext m next frame → next ≡ length m.checkpoints → IsClaim m next frame state (Some next)
-IsClaim-none m next frame state is all =
-    (record {
-      within = is.within;
-      before = λ j c here less. let h = is.before j c here less in omega arith;
-      after = λ j c here le. let h = slice_get_within m.checkpoints j c here in absurd (omega arith);
-    } ,
-    λ j c here at. let h = slice_get_within m.checkpoints j c here in let less : j < next = omega arith in let before = is.before j c here less in absurd (omega arith))
+IsClaim-none m next frame state is all = (
+  record {
+    within = is.within;
+    before = λ j c here less. let h = is.before j c here less in omega arith;
+    after = λ j c here le. let h = slice_get_within m.checkpoints j c here in absurd (omega arith);
+  },
+  λ j c here at. let h = slice_get_within m.checkpoints j c here in let less : j < next = omega arith in let before = is.before j c here less in absurd (omega arith),
+)
 
 module _ (m : MovieData) (movie : IsMovie m) (next frame : ℕ) (state : StateFields) (is : IsNext m next frame)
     (c : Checkpoint) (here : slice_get m.checkpoints next ≡ Some c) where
@@ -42,35 +43,42 @@ module _ (m : MovieData) (movie : IsMovie m) (next frame : ℕ) (state : StateFi
   later other j d at le =
       let low = is.after next c here (omega arith) in
       elim (cases_lt next j) [
-          inl less ↦ (let h = rises next j c d less here at in omega arith)
-          | inr ge ↦ (let same = same_checkpoint j d at (omega arith) in
-              let frames : d.frame ≡ c.frame = ap (λ (x : Checkpoint). x.frame) same in omega arith) ]
+        | inl less ↦ (let h = rises next j c d less here at in omega arith)
+        | inr ge ↦ (let same = same_checkpoint j d at (omega arith) in
+            let frames : d.frame ≡ c.frame = ap (λ (x : Checkpoint). x.frame) same in omega arith)
+      ]
 
   pub IsClaim-later : c.frame ≢ frame → IsClaim m next frame state (Some next)
-  IsClaim-later other =
-      (record {
-        within = is.within;
-        before = λ j d at less. let h = is.before j d at less in omega arith;
-        after = later other;
-      } ,
-      λ j d at e. elim (cases_lt j next) [
-          inl less ↦ (let h = is.before j d at less in absurd (omega arith))
-          | inr ge ↦ (let h = later other j d at ge in absurd (omega arith)) ])
+  IsClaim-later other = (
+    record {
+      within = is.within;
+      before = λ j d at less. let h = is.before j d at less in omega arith;
+      after = later other;
+    },
+    λ j d at e. elim (cases_lt j next) [
+      | inl less ↦ (let h = is.before j d at less in absurd (omega arith))
+      | inr ge ↦ (let h = later other j d at ge in absurd (omega arith))
+    ],
+  )
 
   -- The next one stands after this frame, and is true.
   pub IsClaim-true : c.frame ≡ frame → c.state ≡ state → IsClaim m next frame state (Some (next + 1))
   IsClaim-true this true_state =
-      let within = slice_get_within m.checkpoints next c here in
-      (record {
-        within = omega arith;
-        before = λ j d at less. elim (cases_lt j next) [
-            inl low ↦ (let h = is.before j d at low in omega arith)
+      let within = slice_get_within m.checkpoints next c here in (
+        record {
+          within = omega arith;
+          before = λ j d at less. elim (cases_lt j next) [
+            | inl low ↦ (let h = is.before j d at low in omega arith)
             | inr ge ↦ (let same = same_checkpoint j d at (omega arith) in
-                let frames : d.frame ≡ c.frame = ap (λ (x : Checkpoint). x.frame) same in omega arith) ];
-        after = λ j d at le. let h = rises next j c d (omega arith) here at in omega arith;
-      } ,
-      λ j d at e. elim (cases_lt j next) [
-          inl less ↦ (let h = is.before j d at less in absurd (omega arith))
+                let frames : d.frame ≡ c.frame = ap (λ (x : Checkpoint). x.frame) same in omega arith)
+          ];
+          after = λ j d at le. let h = rises next j c d (omega arith) here at in omega arith;
+        },
+        λ j d at e. elim (cases_lt j next) [
+          | inl less ↦ (let h = is.before j d at less in absurd (omega arith))
           | inr ge ↦ elim (cases_lt next j) [
-              inl less ↦ (let h = rises next j c d less here at in absurd (omega arith))
-              | inr le ↦ (let same = same_checkpoint j d at (omega arith) in ap (λ (x : Checkpoint). x.state) same ∙ true_state) ] ])
+            | inl less ↦ (let h = rises next j c d less here at in absurd (omega arith))
+            | inr le ↦ (let same = same_checkpoint j d at (omega arith) in ap (λ (x : Checkpoint). x.state) same ∙ true_state)
+          ]
+        ],
+      )

@@ -1,5 +1,5 @@
 -- How many frames are kept.
-use Rattle.std.proofs.Common.{◌≡◌, ℕ, ◌+◌, ◌-◌, ◌<◌, ◌≤◌, Bool, true, false, arith, min, max, nat_le, nat_lt, ◌&&◌, if◌then◌else◌, refl, add-zero, ◌∙◌, sym}
+use Rattle.std.proofs.Common.{◌≡◌, ℕ, ◌+◌, ◌<◌, ◌≤◌, Bool, true, false, arith, if◌then◌else◌, refl, add-zero, ◌∙◌, sym}
 use Rattle.std.proofs.lemmas.Bool.Decides.{nat_tests}
 use Rattle.replay_segments.specs.declared.keep.Keep.{Keep}
 use Rattle.replay_segments.specs.Keeping.{is_kept, kept_count}

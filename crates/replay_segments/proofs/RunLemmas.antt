@@ -1,7 +1,7 @@
 -- One more frame of a run.
-use Rattle.std.proofs.Common.{◌≡◌, ℕ, ◌+◌, ◌<◌, ◌≤◌, List, [], ◌∷◌, ◌++◌, Option, Some, None, Result, Ok, Err, slice_get, refl, arith, ap, ◌∙◌, sym, add-one, below_more}
+use Rattle.std.proofs.Common.{◌≡◌, ℕ, ◌+◌, ◌<◌, List, [], ◌∷◌, ◌++◌, Some, None, refl, ap, ◌∙◌, sym, add-one, below_more}
 use Rattle.std.specs.Prelude.{if◌then◌else◌}
-use Rattle.vcs_machine.specs.Outcomes.{frame_result}
+use Rattle.vcs_machine.specs.Outcomes.{Played}
 use Rattle.vcs_machine.specs.Pictures.{Rows}
 use Rattle.vcs_machine.specs.declared.fields.StateFields.{StateFields}
 use Rattle.movie_file.specs.Movie.{MovieData}
@@ -15,19 +15,19 @@ use Rattle.replay_segments.specs.Steps.{ClaimsHold, IsClaim, SoFar}
 use Rattle.replay_segments.specs.Verdicts.{IsJudged}
 
 module _ (m : MovieData) (start : StateFields) (from k : ℕ) (state new : StateFields) (rows : Rows)
-    (is : run frame_result m start from k ≡ Some state) (ends : frame_after frame_result m (from + k) state ≡ Some (Ok (new , rows))) where
-  run-next : run frame_result m start from (k + 1) ≡ Some new
+    (is : run m start from k ≡ Some state) (ends : frame_after m (from + k) state ≡ Some (Played new rows)) where
+  run-next : run m start from (k + 1) ≡ Some new
   run-next = rw (add-one, is, ends) refl
 
   pictures-next : (keep : Keep) → pictures m keep start from (k + 1) ≡ pictures m keep start from k ++ (if is_kept keep (from + k + 1) then rows ∷ [] else [])
   pictures-next keep = rw (add-one k, is, ends) refl
 
   -- A frame that ends, and after which each checkpoint is true, keeps all sound.
-  AllSound-next : AllSound frame_result m start from k → ClaimsHold m (from + k + 1) new → AllSound frame_result m start from (k + 1)
-  AllSound-next sound claims = below_more (λ (i : ℕ). IsSound frame_result m start from i) k sound (new , run-next , claims)
+  AllSound-next : AllSound m start from k → ClaimsHold m (from + k + 1) new → AllSound m start from (k + 1)
+  AllSound-next sound claims = below_more (λ (i : ℕ). IsSound m start from i) k sound (new, run-next, claims)
 
 pub SoFar-next : (m : MovieData) (keep : Keep) (start : StateFields) (from k : ℕ) (state new : StateFields) (rows : Rows) (frames out : List Rows)
-    → SoFar m keep start from k state frames → frame_after frame_result m (from + k) state ≡ Some (Ok (new , rows)) → ClaimsHold m (from + k + 1) new
+    → SoFar m keep start from k state frames → frame_after m (from + k) state ≡ Some (Played new rows) → ClaimsHold m (from + k + 1) new
     → out ≡ frames ++ (if is_kept keep (from + k + 1) then rows ∷ [] else []) → SoFar m keep start from (k + 1) new out
 SoFar-next m keep start from k state new rows frames out far ends claims is = record {
   state_is = run-next m start from k state new rows far.state_is ends;
@@ -38,8 +38,12 @@ SoFar-next m keep start from k state new rows frames out far ends claims is = re
 
 -- A frame that ends, and after which a checkpoint is false, is the first that is not sound.
 pub IsJudged-false : (m : MovieData) (keep : Keep) (start : StateFields) (from k len : ℕ) (state new : StateFields) (next : ℕ) (rows : Rows) (frames : List Rows)
-    → SoFar m keep start from k state frames → frame_after frame_result m (from + k) state ≡ Some (Ok (new , rows)) → k < len
+    → SoFar m keep start from k state frames → frame_after m (from + k) state ≡ Some (Played new rows) → k < len
     → IsClaim m next (from + k + 1) new None → IsJudged m keep start from len (FalseCheckpoint (next + 1) (from + k + 1))
-IsJudged-false m keep start from k len state new next rows frames far ends less claim =
-    (k , less , refl , far.sound ,
-      (new , next , claim.0 , run-next m start from k state new rows far.state_is ends , refl , claim.1 , claim.2 , claim.3))
+IsJudged-false m keep start from k len state new next rows frames far ends less claim = (
+  k,
+  less,
+  refl,
+  far.sound,
+  (new, next, claim.0, run-next m start from k state new rows far.state_is ends, refl, claim.1, claim.2, claim.3),
+)

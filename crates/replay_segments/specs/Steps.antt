@@ -1,6 +1,6 @@
 -- What replaying a frame answers, and how far a replay has come.
-use Rattle.std.specs.Prelude.{ℕ, ◌+◌, ◌<◌, ◌≤◌, ◌≡◌, ◌≢◌, List, length, Option, Some, None, Result, Ok, Err, Bool, true, false, slice_get, [], ◌∷◌, ◌++◌, if◌then◌else◌}
-use Rattle.vcs_machine.specs.Outcomes.{frame_result}
+use Rattle.std.specs.Prelude.{ℕ, ◌+◌, ◌<◌, ◌≤◌, ◌≡◌, ◌≢◌, List, length, Option, Some, None, Result, Ok, Err, Bool, true, slice_get, [], ◌∷◌, ◌++◌, if◌then◌else◌}
+use Rattle.vcs_machine.specs.Outcomes.{Played, Failed}
 use Rattle.vcs_machine.specs.Pictures.{Rows}
 use Rattle.vcs_machine.specs.declared.fault.FrameError.{FrameError}
 use Rattle.vcs_machine.specs.declared.fault.FrameError.TheVariants.{Fault, NoMemory}
@@ -16,16 +16,17 @@ use Rattle.replay_segments.specs.declared.keep.Keep.{Keep}
 -- What replaying frame k + 1 answers, which leaves a state.
 abbrev pub IsStep : MovieData → ℕ → StateFields → Bool → StateFields → Result (Option Rows) FrameError → Type 0
 IsStep m k old keep new (Ok picture) =
-    (rows : Rows) × (frame_after frame_result m k old ≡ Some (Ok (new , rows))) × (picture ≡ (if keep then Some rows else None))
-IsStep m k old keep new (Err (Fault kind)) = frame_after frame_result m k old ≡ Some (Err kind)
+    (rows : Rows) × (frame_after m k old ≡ Some (Played new rows)) × (picture ≡ (if keep then Some rows else None))
+IsStep m k old keep new (Err (Fault kind)) = (left : StateFields) × (frame_after m k old ≡ Some (Failed kind left))
 IsStep m k old keep new (Err NoMemory) = keep ≡ true
 
 -- The same, where a kept picture goes to the end of a list.
 abbrev pub IsAdvance : MovieData → Keep → ℕ → StateFields → List Rows → StateFields → List Rows → Result (Unit {0}) FrameError → Type 0
 IsAdvance m keep before old olds new news (Ok _) =
-    (rows : Rows) × (frame_after frame_result m before old ≡ Some (Ok (new , rows)))
+    (rows : Rows) × (frame_after m before old ≡ Some (Played new rows))
     × (news ≡ olds ++ (if is_kept keep (before + 1) then rows ∷ [] else []))
-IsAdvance m keep before old olds new news (Err (Fault kind)) = frame_after frame_result m before old ≡ Some (Err kind)
+IsAdvance m keep before old olds new news (Err (Fault kind)) =
+    (left : StateFields) × (frame_after m before old ≡ Some (Failed kind left))
 IsAdvance m keep before old olds new news (Err NoMemory) = is_kept keep (before + 1) ≡ true
 
 -- The checkpoints before index `next` stand before a frame, and no other does.
@@ -45,6 +46,6 @@ IsClaim m next frame state None = (c : Checkpoint) × (slice_get m.checkpoints n
 
 -- k frames from a state were sound, and left this state and these pictures.
 pub record SoFar (m : MovieData) (keep : Keep) (start : StateFields) (from k : ℕ) (state : StateFields) (frames : List Rows) : Type 0 where
-  pub state_is : run frame_result m start from k ≡ Some state
-  pub sound : AllSound frame_result m start from k
+  pub state_is : run m start from k ≡ Some state
+  pub sound : AllSound m start from k
   pub frames_are : frames ≡ pictures m keep start from k

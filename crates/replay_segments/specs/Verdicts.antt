@@ -1,6 +1,5 @@
 -- The verdict of a movie, by cases. This project's own.
 use Rattle.std.specs.Prelude.{ℕ, ◌+◌, ◌<◌, ◌≡◌, length}
-use Rattle.vcs_machine.specs.Outcomes.{frame_result}
 use Rattle.vcs_machine.specs.declared.fields.StateFields.{StateFields}
 use Rattle.movie_file.specs.Movie.{MovieData}
 use Rattle.movie_file.specs.Judgement.{AllSound, FaultsAt, IsFalseAt}
@@ -14,11 +13,11 @@ use Rattle.replay_segments.specs.KeptPictures.{pictures}
 -- Where there is no such frame they are genuine, with the kept pictures.
 abbrev pub IsJudged : MovieData → Keep → StateFields → ℕ → ℕ → Verdict → Type 0
 IsJudged m keep start from len (Genuine frames) =
-    AllSound frame_result m start from len × (frames ≡ pictures m keep start from len)
+    AllSound m start from len × (frames ≡ pictures m keep start from len)
 IsJudged m keep start from len (FalseCheckpoint number frame) =
-    (k : ℕ) × (k < len) × (frame ≡ from + k + 1) × AllSound frame_result m start from k × IsFalseAt frame_result m start from k number
+    (k : ℕ) × (k < len) × (frame ≡ from + k + 1) × AllSound m start from k × IsFalseAt m start from k number
 IsJudged m keep start from len (Fault frame kind) =
-    (k : ℕ) × (k < len) × (frame ≡ from + k + 1) × AllSound frame_result m start from k × FaultsAt frame_result m start from k kind
+    (k : ℕ) × (k < len) × (frame ≡ from + k + 1) × AllSound m start from k × FaultsAt m start from k kind
 
 -- The verdict of the movie's one unbroken run, from its start state to its last frame.
 abbrev pub IsVerdict : MovieData → Keep → Verdict → Type 0

@@ -4,13 +4,11 @@ ghost use Rattle.replay_segments.specs.Keeping.{is_kept, kept_count};
 ghost use Rattle.replay_segments.specs.Steps.{IsStep, IsNext, IsClaim, IsAdvance};
 ghost use Rattle.replay_segments.specs.Verdicts.{IsJudged, IsVerdict};
 
-use std::alloc::Global;
-
-use movie_file::{Movie, NoMemory};
-use vcs_machine::{FrameError, Picture, State, frame};
-
 use crate::keep::Keep;
 use crate::verdict::{Frames, Verdict};
+use movie_file::{Movie, NoMemory};
+use std::alloc::Global;
+use vcs_machine::{FrameError, Picture, State, frame};
 
 /// Frame `before` + 1 of the movie.
 fn step(

@@ -45,7 +45,9 @@ impl Keep {
     pub(crate) fn count(self, from: u32, len: u32) -> usize
         ensures { result ≡ kept_count self from len }
     {
-        let end = (u64::from(self.first) + u64::from(self.count)).min(u64::from(from) + u64::from(len) + 1);
+        let end = (u64::from(self.first) + u64::from(self.count)).min(
+            u64::from(from) + u64::from(len) + 1,
+        );
         let begin = u64::from(self.first).max(u64::from(from) + 1);
         end.saturating_sub(begin) as usize
     }

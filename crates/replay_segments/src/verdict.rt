@@ -74,14 +74,23 @@ impl Verdict {
         ensures { IsTrue result ↔ (self.now ≡ other.now) }
     {
         match (self, other) {
-            (Verdict::Genuine { frames }, Verdict::Genuine { frames: others }) => frames.equals(others),
+            (Verdict::Genuine { frames }, Verdict::Genuine { frames: others }) => frames.equals(
+                others,
+            ),
             (
                 Verdict::FalseCheckpoint { number, frame },
-                Verdict::FalseCheckpoint { number: other_number, frame: other_frame },
+                Verdict::FalseCheckpoint {
+                    number: other_number,
+                    frame: other_frame,
+                },
             ) => *number == *other_number && *frame == *other_frame,
-            (Verdict::Fault { frame, kind }, Verdict::Fault { frame: other_frame, kind: other_kind }) => {
-                *frame == *other_frame && kind.equals(*other_kind)
-            }
+            (
+                Verdict::Fault { frame, kind },
+                Verdict::Fault {
+                    frame: other_frame,
+                    kind: other_kind,
+                },
+            ) => { *frame == *other_frame && kind.equals(*other_kind) }
             _ => false,
         }
     }

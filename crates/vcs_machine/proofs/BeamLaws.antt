@@ -7,7 +7,7 @@ use Rattle.mos_cpu.specs.Buses.{IsClock, IsKept}
 use Rattle.mos_cpu.specs.Registers.{Registers}
 use Rattle.mos_cpu.specs.Execution.{step_of}
 use Rattle.mos_cpu.specs.declared.fault.CpuFault.{CpuFault}
-use Rattle.mos_cpu.proofs.CycleLaws.{step_of-least, step_of-most, step_of-clock, step_of-kept, count_modulo-adds}
+use Rattle.mos_cpu.proofs.StepLaws.{step_of-least, step_of-most, step_of-clock, step_of-kept, count_modulo-adds}
 use Rattle.riot_map.specs.Place.{place_of}
 use Rattle.riot_map.specs.declared.places.Place.{Place}
 use Rattle.riot_map.specs.declared.places.Place.TheVariants.{Cart, Tia, Ram, Io}

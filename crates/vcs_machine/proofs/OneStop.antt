@@ -1,7 +1,7 @@
 -- A frame stops in one way, and the search for it finds that one.
 use Rattle.std.proofs.Common.{◌≡◌, ℕ, zero, suc, ◌+◌, ◌-◌, ◌*◌, ◌<◌, ◌≤◌, Bool, true, false, inl, inr, ◌⊎◌, zero-add, suc-add, refl, sym, ap, ◌∙◌, arith, below_more}
 use Rattle.std.specs.Prelude.{Result, Ok, Err, IfOk, nat_le, if◌then◌else◌}
-use Rattle.mos_cpu.proofs.CycleLaws.{step_of-least}
+use Rattle.mos_cpu.proofs.StepLaws.{step_of-least}
 use Rattle.std.proofs.lemmas.Bool.Decides.{nat_tests}
 use Rattle.mos_cpu.specs.Registers.{Registers}
 use Rattle.mos_cpu.specs.Execution.{step_of}

@@ -1,5 +1,5 @@
 -- What one frame does to a state.
-use Rattle.std.specs.Prelude.{ℕ, ◌≡◌, false, List, [], Result, Ok, Err}
+use Rattle.std.specs.Prelude.{ℕ, ◌≡◌, false, List, []}
 use Rattle.riot_map.specs.Riot.{riot_of, fields_of, with_pins}
 use Rattle.tia_core.specs.TiaState.{state_of as tia_state_of, fire_set, frame_begun}
 use Rattle.tia_core.specs.Clock.{Pixel, painted}
@@ -65,11 +65,3 @@ abbrev pub PlaysOn : {S : Type 0} → (S → ℕ → ℕ → ℕ → S) → List
 PlaysOn drawn cart s i sink after sink_after cycles =
     (here : Machine (Console (List Pixel))) × (stop_of (console_rules logged) (machine_of cart s i []) ≡ Ended here) × (state_at here ≡ after)
     × (painted drawn sink here.bus.sink ≡ sink_after) × (here.cycles ≡ cycles)
-
--- The outcome as a result: the state after the frame and its picture, or its fault.
-abbrev pub result_of : Outcome → Result (StateFields × Rows) FaultKind
-result_of (Played s rows) = Ok (s , rows)
-result_of (Failed kind s) = Err kind
-
-unfoldable pub frame_result : List ℕ → StateFields → Controls → Result (StateFields × Rows) FaultKind
-frame_result cart s i = result_of (frame_of cart s i)
