@@ -2,7 +2,9 @@
 #![tactic(auto)]
 
 mod engine;
+mod information;
 mod line;
+mod making;
 mod output;
 mod plan;
 mod run_error;
@@ -10,7 +12,8 @@ mod status;
 mod streams;
 
 pub use engine::run;
+pub use information::run_info;
+pub use making::run_make;
 pub use plan::{BadPlan, Plan};
 pub use run_error::RunError;
 pub use status::Status;
-
