@@ -4,13 +4,13 @@
 //! 5: an error of reading, of writing or of memory, which is printed on standard error.
 #![tactic(auto)]
 
-use std::alloc::Global;
-use std::env;
-use std::io;
-use std::io::{Read, Write};
-use std::process::ExitCode;
+ghost use Rattle.std.specs.Prelude.{◌≡◌};
 
 use replay_segments::Keep;
+use std::alloc::Global;
+use std::io::{Read, Write};
+use std::process::ExitCode;
+use std::{env, io};
 use vcs_engine::{Plan, RunError, Status, run};
 
 /// The exit status of a command line that is no command.
@@ -20,13 +20,21 @@ const USAGE: u8 = 4;
 const FAILED: u8 = 5;
 
 /// One worker, a cut at each checkpoint, and no picture.
-fn plan() -> Plan {
+fn plan() -> Plan
+    ensures workers { result.workers ≡ 1 }
+    ensures every { result.every ≡ 1 }
+    ensures pictures { result.keep.count ≡ 0 }
+{
     let keep = Keep::new(1, 0).unwrap();
     Plan::new(1, 1, keep).unwrap()
 }
 
 /// Judges a movie, and writes its line through a buffer. That the last write failed may show only as the buffer is emptied.
-fn judge<R: Read, W: Write + Drop>(alloc: Global, movie: &mut R, line: W) -> Result<Status, RunError> {
+fn judge<R: Read, W: Write + Drop>(
+    alloc: Global,
+    movie: &mut R,
+    line: W,
+) -> Result<Status, RunError> {
     let Ok(mut line) = io::BufWriter::new(alloc, line) else {
         return Err(RunError::NoMemory);
     };

@@ -1,11 +1,9 @@
 -- Known bytes, over several reads and writes.
-use Rattle.std.proofs.Common.{◌≡◌, ℕ, zero, suc, subst, get_or, drop-cons, ◌+◌, ◌<◌, List, [], ◌∷◌, ◌++◌, length, take, drop, Option, Some, None, refl, sym, ap, ◌∙◌, append_assoc, arith}
-use Rattle.std.proofs.lemmas.List.{append-nil, length-append, take-append-drop, flat_map_more, take_more}
+use Rattle.std.proofs.Common.{◌≡◌, ℕ, subst, ◌+◌, ◌<◌, List, [], ◌++◌, length, take, drop, Option, Some, None, refl, sym, ap, ◌∙◌, append_assoc, arith}
+use Rattle.std.proofs.lemmas.List.{append-nil, length-append, take-append-drop}
 use Rattle.std.proofs.Math.Seq.{take-add}
-use Rattle.std.proofs.lemmas.List.Concat.{flat_map-append, flat_map-cons}
-use Rattle.std.specs.List.{flat_map}
-use Rattle.std.specs.Io.KnownBytes.{Appends, Consumes, IsAtEnd, Keeps}
-use Rattle.vcs_engine.specs.Streams.{ReadsAll, AppendsFront, IsTooLong, input_limit}
+use Rattle.std.specs.Io.KnownBytes.{Appends, Consumes, Keeps}
+use Rattle.vcs_engine.specs.Streams.{AppendsFront, IsTooLong, input_limit}
 
 pub appends_nothing : (a : Option (List ℕ)) → Appends a a []
 appends_nothing None = tt
@@ -61,4 +59,3 @@ front_longer a b p q h = record { front = h.front; rest = h.rest ++ q; whole = a
 
 pub front_after : (a b c : Option (List ℕ)) (p q : List ℕ) → Appends a b p → AppendsFront b c q → AppendsFront a c (p ++ q)
 front_after a b c p q h k = record { front = p ++ k.front; rest = k.rest; whole = ap (λ (w : List ℕ). p ++ w) k.whole ∙ sym (append_assoc p k.front k.rest); written = appends_then a b c p k.front h k.written }
-

@@ -8,7 +8,6 @@ use Rattle.replay_segments.specs.declared.keep.Keep.{Keep}
 use Rattle.replay_segments.specs.declared.verdict.Verdict.{Verdict}
 use Rattle.replay_segments.specs.declared.verdict.Verdict.TheVariants.{Genuine, FalseCheckpoint, Fault}
 use Rattle.vcs_engine.specs.Lines.{line_bytes}
-use Rattle.vcs_engine.specs.declared.line.Line.{Line}
 use Rattle.vcs_engine.specs.declared.line.Line.TheVariants as lines
 use Rattle.vcs_engine.specs.declared.status.Status.{Status}
 use Rattle.vcs_engine.specs.declared.status.Status.TheVariants as statuses

@@ -4,14 +4,13 @@ ghost use Rattle.std.specs.Io.KnownBytes.{Appends, Keeps};
 ghost use Rattle.vcs_engine.specs.Outputs.{Told, Tells};
 ghost use Rattle.vcs_engine.specs.Streams.{ReadsAll, AppendsFront, IsTooLong};
 
-use std::alloc::Global;
-use std::io::{Read, Write};
-
 use crate::output::Output;
 use crate::plan::Plan;
 use crate::run_error::RunError;
 use crate::status::Status;
 use crate::streams::{read_all, write_bytes};
+use std::alloc::Global;
+use std::io::{Read, Write};
 
 /// Reads a movie, judges it, and writes its line, which ends with a line feed.
 ///

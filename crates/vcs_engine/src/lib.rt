@@ -13,4 +13,3 @@ pub use engine::run;
 pub use plan::{BadPlan, Plan};
 pub use run_error::RunError;
 pub use status::Status;
-

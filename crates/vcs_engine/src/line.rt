@@ -20,9 +20,10 @@ impl fmt::Display for Line {
 
     fn fmt<W: fmt::Write>(&self, f: &mut fmt::Formatter<W>) -> fmt::Result {
         match *self {
-            Line::Genuine { frames, checkpoints } => {
-                write!(f, "genuine: {frames} frames, {checkpoints} checkpoints")
-            }
+            Line::Genuine {
+                frames,
+                checkpoints,
+            } => { write!(f, "genuine: {frames} frames, {checkpoints} checkpoints") }
             Line::FalseCheckpoint { number, frame } => {
                 write!(f, "false checkpoint {number} at frame {frame}")
             }

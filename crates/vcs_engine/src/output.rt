@@ -6,13 +6,11 @@ ghost use Rattle.vcs_engine.specs.Outputs.{Tells, told_of, told_refused};
 ghost use Rattle.replay_segments.specs.Verdicts.{IsVerdict};
 ghost use Rattle.replay_segments.specs.declared.verdict.Verdict.{Verdict as VerdictOf};
 
-use std::alloc::{AllocError, Global};
-
-use movie_file::{Movie, MovieError, read_movie};
-use replay_segments::{Keep, Verdict, verify_one};
-
 use crate::line::Line;
 use crate::status::Status;
+use movie_file::{Movie, MovieError, read_movie};
+use replay_segments::{Keep, Verdict, verify_one};
+use std::alloc::{AllocError, Global};
 
 /// A status, and a line with its end.
 #[derive(Drop)]
@@ -37,12 +35,27 @@ impl Output {
             Verdict::Genuine { frames: _ } => {
                 let frames = movie.frames();
                 let checkpoints = movie.checkpoints();
-                Output::new(alloc, Status::Done, Line::Genuine { frames, checkpoints })
+                Output::new(
+                    alloc,
+                    Status::Done,
+                    Line::Genuine {
+                        frames,
+                        checkpoints,
+                    },
+                )
             }
             Verdict::FalseCheckpoint { number, frame } => {
-                Output::new(alloc, Status::False, Line::FalseCheckpoint { number, frame })
+                Output::new(
+                    alloc,
+                    Status::False,
+                    Line::FalseCheckpoint { number, frame },
+                )
             }
-            Verdict::Fault { frame, kind } => Output::new(alloc, Status::Fault, Line::Fault { frame, kind }),
+            Verdict::Fault { frame, kind } => Output::new(
+                alloc,
+                Status::Fault,
+                Line::Fault { frame, kind },
+            ),
         }
     }
 

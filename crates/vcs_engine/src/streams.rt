@@ -3,11 +3,10 @@ ghost use Rattle.std.specs.Prelude.{◌≡◌, ◌≢◌, ◌≤◌, OnOk, OnErr
 ghost use Rattle.std.specs.Io.KnownBytes.{Appends};
 ghost use Rattle.vcs_engine.specs.Streams.{ReadsAll, AppendsFront, IsTooLong, input_limit};
 
+use crate::run_error::RunError;
 use std::alloc::Global;
 use std::io::{Read, Write};
 use thiserror::Error;
-
-use crate::run_error::RunError;
 
 /// The most bytes of one input.
 const INPUT_LIMIT: usize = 16_777_216;
