@@ -358,6 +358,10 @@ length-checkpoints (c ∷ cs) last n each = ap length (flat_map-cons checkpoint_
 
 -- ---- all of it
 
+-- all of the bytes were taken
+no_rest : (bytes front rest : List ℕ) → bytes ≡ front ++ rest → rest ≡ [] → bytes ≡ front
+no_rest bytes front rest e nothing = e ∙ ap (λ (r : List ℕ). front ++ r) nothing ∙ append-nil front
+
 record BodyRead (h : Sizes) (bytes : List ℕ) (m : MovieData) : Type 0 where
   parts : bytes ≡ m.cart ++ record_of m.start ++ flat_map input_bytes m.inputs ++ flat_map checkpoint_bytes m.checkpoints
   version : m.version ≡ movie_version
@@ -384,13 +388,13 @@ body_takes h bytes m long fits e =
     let t1 : Takes b1 (record_of s.0) b2 = subst (λ (t : List ℕ). Takes b1 t b2) st.1 (front_takes state_length b1 t0.rest_fits) in
     let ti = inputs_take h.frames 1 b2 i.0 (omega (arith, length-drop state_length b1, length-drop h.cart bytes)) t1.rest_fits i.1 in
     let tc = checkpoints_take h.checkpoints 1 0 h.frames i.0.1 c.0 (omega (arith, ti.left, length-drop state_length b1, length-drop h.cart bytes)) ti.takes.rest_fits c.1 in
-    let nothing : c.0.1 ≡ [] = nil_from_length c.0.1 (eqb-true _ _ g.0) in
+    let nothing : c.0.1 ≡ [] = nil_from_length c.0.1 (eqb-true (length c.0.1) 0 g.0) in
     let a1 = Takes-then bytes (take h.cart bytes) b1 (record_of s.0) b2 t0 t1 in
     let a2 = Takes-then bytes (take h.cart bytes ++ record_of s.0) b2 (flat_map input_bytes i.0.0) i.0.1 a1 ti.takes in
     let a3 = Takes-then bytes (take h.cart bytes ++ record_of s.0 ++ flat_map input_bytes i.0.0) i.0.1 (flat_map checkpoint_bytes c.0.0) c.0.1 a2 tc.takes in
     let front = take h.cart bytes ++ record_of s.0 ++ flat_map input_bytes i.0.0 ++ flat_map checkpoint_bytes c.0.0 in
     subst (BodyRead h bytes) {x = made} g.1 (record {
-      parts = a3.parts ∙ ap (λ (r : List ℕ). front ++ r) nothing ∙ append-nil front;
+      parts = no_rest bytes front c.0.1 a3.parts nothing;
       version = refl;
       cart = omega (arith, length-take h.cart bytes);
       start = st.0;

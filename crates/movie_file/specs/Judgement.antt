@@ -21,7 +21,8 @@ AllSound m start from k = (i : ℕ) → i < k → IsSound m start from i
 -- frame k + 1 of the run faults
 abbrev pub FaultsAt : MovieData → StateFields → ℕ → ℕ → FaultKind → Type 0
 FaultsAt m start from k kind =
-    (state : StateFields) × (left : StateFields) × (run m start from k ≡ Some state) × (frame_after m (from + k) state ≡ Some (Failed kind left))
+    (state : StateFields) × (left : StateFields) × (run m start from k ≡ Some state)
+    × (frame_after m (from + k) state ≡ Some (Failed kind left))
 
 -- the checkpoint of this number, from 1, stands after frame k + 1 of the run and claims another state
 abbrev pub IsFalseAt : MovieData → StateFields → ℕ → ℕ → ℕ → Type 0

@@ -25,7 +25,9 @@ or_refuse None e = Err e
 
 -- a number and the bytes after it
 abbrev pub number_at : Width → List ℕ → Result (ℕ × List ℕ) MovieError
-number_at w bytes = if nat_lt (length bytes) (byte_len w) then Err Short else Ok (from_be_bytes w (take (byte_len w) bytes), drop (byte_len w) bytes)
+number_at w bytes =
+    if nat_lt (length bytes) (byte_len w) then Err Short
+    else Ok (from_be_bytes w (take (byte_len w) bytes), drop (byte_len w) bytes)
 
 unfoldable pub magic_at : List ℕ → Result (List ℕ) MovieError
 magic_at bytes = do

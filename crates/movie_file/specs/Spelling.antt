@@ -10,7 +10,9 @@ use Rattle.movie_file.specs.Record.{record_of}
 
 -- the magic, the version, the length of the cartridge, and the numbers of frames and checkpoints
 abbrev pub header_of : MovieData → List ℕ
-header_of m = magic ++ to_be_bytes w16 m.version ++ to_be_bytes w16 (length m.cart) ++ to_be_bytes w32 (length m.inputs) ++ to_be_bytes w16 (length m.checkpoints)
+header_of m =
+    magic ++ to_be_bytes w16 m.version ++ to_be_bytes w16 (length m.cart)
+    ++ to_be_bytes w32 (length m.inputs) ++ to_be_bytes w16 (length m.checkpoints)
 
 -- a frame number and a state
 abbrev pub checkpoint_bytes : Checkpoint → List ℕ
@@ -18,7 +20,8 @@ checkpoint_bytes c = to_be_bytes w32 c.frame ++ record_of c.state
 
 -- the header, the cartridge, the start state, the inputs and the checkpoints
 abbrev pub spelling : MovieData → List ℕ
-spelling m = header_of m ++ m.cart ++ record_of m.start ++ flat_map input_bytes m.inputs ++ flat_map checkpoint_bytes m.checkpoints
+spelling m =
+    header_of m ++ m.cart ++ record_of m.start ++ flat_map input_bytes m.inputs ++ flat_map checkpoint_bytes m.checkpoints
 
 -- the bytes spell the movie
 pub record Spells (bytes : List ℕ) (m : MovieData) : Type 0 where

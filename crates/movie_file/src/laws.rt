@@ -23,34 +23,46 @@ pub const fn law_of_one_movie()
 /// A law: reading with the first refusal finds exactly the movie that bytes spell.
 pub const fn law_of_reading()
     ensures found { (bytes : List ℕ) (m : MovieData) → Spells bytes m → movie_at bytes ≡ Ok m }
-    ensures spelled { (bytes : List ℕ) (m : MovieData) → ((i : ℕ) → get_or bytes i 0 < 256) → movie_at bytes ≡ Ok m → Spells bytes m }
+    ensures spelled { (bytes : List ℕ) (m : MovieData) → ((i : ℕ) → get_or bytes i 0 < 256)
+        → movie_at bytes ≡ Ok m → Spells bytes m }
 {}
 
 /// A law: the record of a state is read as that state, and bytes that are read as a state are its
 /// record.
 pub const fn law_of_records()
     ensures found { (f : StateFields) → IsState f → state_at (record_of f) ≡ Some f }
-    ensures written { (bytes : List ℕ) (f : StateFields) → ((i : ℕ) → get_or bytes i 0 < 256) → state_at bytes ≡ Some f → IsState f × (bytes ≡ record_of f) }
+    ensures written { (bytes : List ℕ) (f : StateFields) → ((i : ℕ) → get_or bytes i 0 < 256)
+        → state_at bytes ≡ Some f → IsState f × (bytes ≡ record_of f) }
 {}
 
 /// A law: checkpoints stand after frames of their movie, each after the one before it, and claim
 /// states.
 pub const fn law_of_checkpoints()
-    ensures range { (m : MovieData) (j : ℕ) (c : Checkpoint) → IsMovie m → slice_get m.checkpoints j ≡ Some c → (0 < c.frame) × (c.frame ≤ length m.inputs) × IsState c.state }
-    ensures rising { (m : MovieData) (i j : ℕ) (c d : Checkpoint) → IsMovie m → i < j → slice_get m.checkpoints i ≡ Some c → slice_get m.checkpoints j ≡ Some d → c.frame < d.frame }
+    ensures range { (m : MovieData) (j : ℕ) (c : Checkpoint) → IsMovie m
+        → slice_get m.checkpoints j ≡ Some c
+        → (0 < c.frame) × (c.frame ≤ length m.inputs) × IsState c.state }
+    ensures rising { (m : MovieData) (i j : ℕ) (c d : Checkpoint) → IsMovie m → i < j
+        → slice_get m.checkpoints i ≡ Some c → slice_get m.checkpoints j ≡ Some d
+        → c.frame < d.frame }
 {}
 
 /// A law: a run goes on, from where it stands, as a run from there.
 pub const fn law_of_runs()
-    ensures { (m : MovieData) (s t : StateFields) (from i j : ℕ) → run m s from i ≡ Some t → run m s from (i + j) ≡ run m t (from + i) j }
+    ensures { (m : MovieData) (s t : StateFields) (from i j : ℕ) → run m s from i ≡ Some t
+        → run m s from (i + j) ≡ run m t (from + i) j }
 {}
 
 /// A law: a frame of a run that is sound has no fault and no false checkpoint, one with a false
 /// checkpoint has no fault, and none has two faults or two false checkpoints.
 pub const fn law_of_judgements()
-    ensures no_fault { (m : MovieData) (s : StateFields) (from k : ℕ) (kind : FaultKind) → IsSound m s from k → FaultsAt m s from k kind → ⊥ }
-    ensures no_false { (m : MovieData) (s : StateFields) (from k number : ℕ) → IsSound m s from k → IsFalseAt m s from k number → ⊥ }
-    ensures not_both { (m : MovieData) (s : StateFields) (from k number : ℕ) (kind : FaultKind) → IsFalseAt m s from k number → FaultsAt m s from k kind → ⊥ }
-    ensures one_fault { (m : MovieData) (s : StateFields) (from k : ℕ) (kind other : FaultKind) → FaultsAt m s from k kind → FaultsAt m s from k other → kind ≡ other }
-    ensures one_false { (m : MovieData) (s : StateFields) (from k number other : ℕ) → IsMovie m → IsFalseAt m s from k number → IsFalseAt m s from k other → number ≡ other }
+    ensures no_fault { (m : MovieData) (s : StateFields) (from k : ℕ) (kind : FaultKind)
+        → IsSound m s from k → FaultsAt m s from k kind → ⊥ }
+    ensures no_false { (m : MovieData) (s : StateFields) (from k number : ℕ)
+        → IsSound m s from k → IsFalseAt m s from k number → ⊥ }
+    ensures not_both { (m : MovieData) (s : StateFields) (from k number : ℕ) (kind : FaultKind)
+        → IsFalseAt m s from k number → FaultsAt m s from k kind → ⊥ }
+    ensures one_fault { (m : MovieData) (s : StateFields) (from k : ℕ) (kind other : FaultKind)
+        → FaultsAt m s from k kind → FaultsAt m s from k other → kind ≡ other }
+    ensures one_false { (m : MovieData) (s : StateFields) (from k number other : ℕ) → IsMovie m
+        → IsFalseAt m s from k number → IsFalseAt m s from k other → number ≡ other }
 {}

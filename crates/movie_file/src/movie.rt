@@ -24,9 +24,21 @@ impl Model for Movie {
 
     ghost Value = { MovieData };
 
-    ghost view = { λ m. record { version = m.version; cart = m.cart; start = m.start; inputs = m.inputs.items; checkpoints = m.checkpoints.items } };
+    ghost view = { λ m. record {
+      version = m.version;
+      cart = m.cart;
+      start = m.start;
+      inputs = m.inputs.items;
+      checkpoints = m.checkpoints.items;
+    } };
 
-    ghost invariant = { λ m. IsMovie (record { version = m.version; cart = m.cart; start = m.start; inputs = m.inputs.items; checkpoints = m.checkpoints.items }) };
+    ghost invariant = { λ m. IsMovie (record {
+      version = m.version;
+      cart = m.cart;
+      start = m.start;
+      inputs = m.inputs.items;
+      checkpoints = m.checkpoints.items;
+    }) };
 }
 
 impl Movie {

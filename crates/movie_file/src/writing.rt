@@ -65,7 +65,8 @@ fn put_checkpoint(out: &mut Vec<u8>, checkpoint: &Checkpoint) -> Result<(), Allo
 /// Appends checkpoints.
 #[tactic(auto, using(crate::proofs::Fronts::front_then))]
 fn put_checkpoints(out: &mut Vec<u8>, checkpoints: &[Checkpoint]) -> Result<(), AllocError>
-    ensures ok { OnOk result (out.new.items ≡ out.old.items ++ flat_map checkpoint_bytes checkpoints.now) }
+    ensures ok { OnOk result
+        (out.new.items ≡ out.old.items ++ flat_map checkpoint_bytes checkpoints.now) }
     ensures front { StartsWith out.new.items out.old.items }
 {
     for checkpoint in checkpoints {

@@ -1,4 +1,6 @@
--- Why a frame did not end, and where.
+-- Why a frame did not end, where, and how it is shown.
+use Rattle.std.specs.Prelude.{ℕ, List, [], ◌∷◌, ◌++◌, ◌/◌, ◌%◌, codes, true}
+use Rattle.std.specs.Fmt.{digit_glyph}
 use Rattle.mos_cpu.specs.declared.fault.CpuFault.{CpuFault}
 use Rattle.mos_cpu.specs.declared.fault.CpuFault.TheVariants.{BadOpcode as BadOpcodeOfCpu, FetchOutside as FetchOutsideOfCpu}
 use Rattle.vcs_machine.specs.Frame.{Machine, Stop, Faulted, Overlong as Overlongs}
@@ -15,3 +17,16 @@ abbrev pub halted : {B : Type 0} → FaultKind → Machine B → Stop B
 halted (BadOpcode opcode at) m = Faulted (BadOpcodeOfCpu opcode at) m
 halted (FetchOutside at) m = Faulted (FetchOutsideOfCpu at) m
 halted Overlong m = Overlongs m
+
+-- Two and four capital hexadecimal digits.
+abbrev pub hex2 : ℕ → List ℕ
+hex2 n = digit_glyph true (n / 16) ∷ digit_glyph true (n % 16) ∷ []
+
+abbrev pub hex4 : ℕ → List ℕ
+hex4 n = hex2 (n / 256) ++ hex2 (n % 256)
+
+-- A fault in words.
+abbrev pub fault_text : FaultKind → List ℕ
+fault_text (BadOpcode opcode at) = codes "bad opcode " ++ (hex2 opcode ++ (codes " at " ++ hex4 at))
+fault_text (FetchOutside at) = codes "fetch outside at " ++ hex4 at
+fault_text Overlong = codes "overlong"

@@ -2,20 +2,65 @@
 ghost use Rattle.std.specs.Prelude.{◌≡◌, ◌↔◌, IsTrue};
 
 use mos_cpu::CpuFault;
+use std::fmt;
 use thiserror::Error;
 
-/// Why a frame did not end.
+/// Why a frame did not end. It is shown as the program prints it, as in `bad opcode 02 at F010`.
 #[derive(Clone, Copy, Debug, PartialEq, Eq, Error)]
 pub enum FaultKind {
     /// The byte at a 16-bit address is no documented opcode.
-    #[error("bad opcode {opcode:02X} at {at:04X}")]
     BadOpcode { opcode: u8, at: u16 },
     /// A byte of an instruction or a vector is at a register of the TIA or the RIOT.
-    #[error("fetch outside at {at:04X}")]
     FetchOutside { at: u16 },
     /// The frame has taken 24,320 cycles, which are 320 scanlines, and has not ended.
-    #[error("overlong")]
     Overlong,
+}
+
+/// A byte as two capital hexadecimal digits.
+#[derive(Clone, Copy)]
+struct Hex2(u8);
+
+impl fmt::Display for Hex2 {
+    ghost use Rattle.std.specs.Prelude.{Some};
+    ghost use Rattle.vcs_machine.specs.Faults.{hex2};
+
+    ghost output = { λ h. Some (hex2 h.0) };
+
+    fn fmt<W: fmt::Write>(&self, f: &mut fmt::Formatter<W>) -> fmt::Result {
+        let byte = self.0;
+        write!(f, "{byte:02X}")
+    }
+}
+
+/// An address as four capital hexadecimal digits.
+#[derive(Clone, Copy)]
+struct Hex4(u16);
+
+impl fmt::Display for Hex4 {
+    ghost use Rattle.std.specs.Prelude.{Some};
+    ghost use Rattle.vcs_machine.specs.Faults.{hex4};
+
+    ghost output = { λ h. Some (hex4 h.0) };
+
+    fn fmt<W: fmt::Write>(&self, f: &mut fmt::Formatter<W>) -> fmt::Result {
+        let [high, low] = self.0.to_be_bytes();
+        write!(f, "{}{}", Hex2(high), Hex2(low))
+    }
+}
+
+impl fmt::Display for FaultKind {
+    ghost use Rattle.std.specs.Prelude.{Some};
+    ghost use Rattle.vcs_machine.specs.Faults.{fault_text};
+
+    ghost output = { λ kind. Some (fault_text kind) };
+
+    fn fmt<W: fmt::Write>(&self, f: &mut fmt::Formatter<W>) -> fmt::Result {
+        match *self {
+            FaultKind::BadOpcode { opcode, at } => write!(f, "bad opcode {} at {}", Hex2(opcode), Hex4(at)),
+            FaultKind::FetchOutside { at } => write!(f, "fetch outside at {}", Hex4(at)),
+            FaultKind::Overlong => write!(f, "overlong"),
+        }
+    }
 }
 
 impl FaultKind {

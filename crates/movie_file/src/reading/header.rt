@@ -99,9 +99,11 @@ fn counts_in(bytes: &[u8]) -> Result<(u32, u16, &[u8]), MovieError>
 pub(super) fn sizes_in(bytes: &[u8]) -> Result<(Sizes, &[u8]), MovieError>
     ensures gives { Gives (λ x. (x.0, x.1.now)) result (sizes_at bytes.now) }
     ensures never { IfErr result (λ e. e ≢ MovieError.NoMemory) }
-    ensures long { IfOk result (λ x. body_length x.0.cart x.0.frames x.0.checkpoints ≤ length x.1.now) }
+    ensures long { IfOk result (λ x.
+        body_length x.0.cart x.0.frames x.0.checkpoints ≤ length x.1.now) }
     ensures cart { IfOk result (λ x. IsTrue (is_cart_length x.0.cart)) }
-    ensures few { IfOk result (λ x. (x.0.frames ≤ most_frames) × (x.0.checkpoints ≤ most_checkpoints)) }
+    ensures few { IfOk result (λ x.
+        (x.0.frames ≤ most_frames) × (x.0.checkpoints ≤ most_checkpoints)) }
 {
     let rest = magic_in(bytes)?;
     let rest = version_in(rest)?;

@@ -1,0 +1,61 @@
+-- Known bytes, over several reads and writes.
+use Rattle.std.proofs.Common.{◌≡◌, ℕ, subst, ◌+◌, ◌<◌, List, [], ◌++◌, length, take, drop, Option, Some, None, refl, sym, ap, ◌∙◌, append_assoc, arith}
+use Rattle.std.proofs.lemmas.List.{append-nil, length-append, take-append-drop}
+use Rattle.std.proofs.Math.Seq.{take-add}
+use Rattle.std.specs.Io.KnownBytes.{Appends, Consumes, Keeps}
+use Rattle.vcs_engine.specs.Streams.{AppendsFront, IsTooLong, input_limit}
+
+pub appends_nothing : (a : Option (List ℕ)) → Appends a a []
+appends_nothing None = tt
+appends_nothing (Some xs) = sym (append-nil xs)
+
+pub consumes_nothing : (a : Option (List ℕ)) → Consumes a a []
+consumes_nothing None = tt
+consumes_nothing (Some xs) = refl
+
+pub appends_kept : (a b c : Option (List ℕ)) (p : List ℕ) → Appends a b p → Keeps b c → Appends a c p
+appends_kept None b c p h k = tt
+appends_kept (Some xs) None c p h k = absurd h
+appends_kept (Some xs) (Some ys) None p h k = absurd k
+appends_kept (Some xs) (Some ys) (Some zs) p h k = k ∙ h
+
+pub appends_then : (a b c : Option (List ℕ)) (p q : List ℕ) → Appends a b p → Appends b c q → Appends a c (p ++ q)
+appends_then None b c p q h k = tt
+appends_then (Some xs) None c p q h k = absurd h
+appends_then (Some xs) (Some ys) None p q h k = absurd k
+appends_then (Some xs) (Some ys) (Some zs) p q h k = k ∙ ap (λ (w : List ℕ). w ++ q) h ∙ append_assoc xs p q
+
+pub consumes_then : (a b c : Option (List ℕ)) (p q : List ℕ) → Consumes a b p → Consumes b c q → Consumes a c (p ++ q)
+consumes_then None b c p q h k = tt
+consumes_then (Some xs) None c p q h k = absurd h
+consumes_then (Some xs) (Some ys) None p q h k = absurd k
+consumes_then (Some xs) (Some ys) (Some zs) p q h k = h ∙ ap (λ (w : List ℕ). p ++ w) k ∙ sym (append_assoc p q zs)
+
+-- what was read is no longer than what was there
+pub is_too_long : (a b : Option (List ℕ)) (p : List ℕ) → Consumes a b p → input_limit < length p → IsTooLong a
+is_too_long None b p h lt = tt
+is_too_long (Some xs) None p h lt = absurd h
+is_too_long (Some xs) (Some ys) p h lt = omega (arith, ap length h, length-append p ys)
+
+-- what a write took goes to the bytes before it
+pub appends_more : (a b c : Option (List ℕ)) (i n : ℕ) (bytes rest : List ℕ) → rest ≡ drop i bytes → Appends a b (take i bytes) → Appends b c (take n rest) → Appends a c (take (i + n) bytes)
+appends_more a b c i n bytes rest e h k =
+    subst (λ (w : List ℕ). Appends a c w) (sym (take-add i n bytes)) (appends_then a b c (take i bytes) (take n (drop i bytes)) h (subst (λ (w : List ℕ). Appends b c (take n w)) e k))
+
+pub keeps_same : (a : Option (List ℕ)) → Keeps a a
+keeps_same None = tt
+keeps_same (Some xs) = refl
+
+-- ---- fronts
+
+pub front_all : (a b : Option (List ℕ)) (p : List ℕ) → Appends a b p → AppendsFront a b p
+front_all a b p h = record { front = p; rest = []; whole = sym (append-nil p); written = h }
+
+pub front_kept : (a b c : Option (List ℕ)) (i : ℕ) (p : List ℕ) → Appends a b (take i p) → Keeps b c → AppendsFront a c p
+front_kept a b c i p h k = record { front = take i p; rest = drop i p; whole = sym (take-append-drop i p); written = appends_kept a b c (take i p) h k }
+
+pub front_longer : (a b : Option (List ℕ)) (p q : List ℕ) → AppendsFront a b p → AppendsFront a b (p ++ q)
+front_longer a b p q h = record { front = h.front; rest = h.rest ++ q; whole = ap (λ (w : List ℕ). w ++ q) h.whole ∙ append_assoc h.front h.rest q; written = h.written }
+
+pub front_after : (a b c : Option (List ℕ)) (p q : List ℕ) → Appends a b p → AppendsFront b c q → AppendsFront a c (p ++ q)
+front_after a b c p q h k = record { front = p ++ k.front; rest = k.rest; whole = ap (λ (w : List ℕ). p ++ w) k.whole ∙ sym (append_assoc p k.front k.rest); written = appends_then a b c p k.front h k.written }

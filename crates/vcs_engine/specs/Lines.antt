@@ -1,0 +1,18 @@
+-- The lines that a run writes. This project's own.
+use Rattle.std.specs.Prelude.{ℕ, List, [], ◌∷◌, ◌++◌, codes}
+use Rattle.std.specs.Fmt.{decimal}
+use Rattle.vcs_machine.specs.Faults.{fault_text}
+use Rattle.movie_file.specs.MovieError.{refusal_text}
+use Rattle.vcs_engine.specs.declared.line.Line.{Line}
+use Rattle.vcs_engine.specs.declared.line.Line.TheVariants.{Genuine, FalseCheckpoint, Fault, Refused}
+
+-- A line, without its end.
+abbrev pub line_text : Line → List ℕ
+line_text (Genuine frames checkpoints) = codes "genuine: " ++ (decimal frames ++ (codes " frames, " ++ (decimal checkpoints ++ codes " checkpoints")))
+line_text (FalseCheckpoint number frame) = codes "false checkpoint " ++ (decimal number ++ (codes " at frame " ++ decimal frame))
+line_text (Fault frame kind) = codes "fault at frame " ++ (decimal frame ++ (codes ": " ++ fault_text kind))
+line_text (Refused error) = codes "refused: " ++ refusal_text error
+
+-- With its end, a line feed.
+abbrev pub line_bytes : Line → List ℕ
+line_bytes line = line_text line ++ 10 ∷ []

@@ -1,0 +1,15 @@
+//! The engine of the verifier: from the bytes of a movie to the line and the status of its verdict.
+#![tactic(auto)]
+
+mod engine;
+mod line;
+mod output;
+mod plan;
+mod run_error;
+mod status;
+mod streams;
+
+pub use engine::run;
+pub use plan::{BadPlan, Plan};
+pub use run_error::RunError;
+pub use status::Status;

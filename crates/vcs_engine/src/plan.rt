@@ -1,0 +1,62 @@
+//! How a movie is to be judged.
+ghost use Rattle.std.specs.Prelude.{◌≡◌, ◌≢◌, ◌<◌, ◌≤◌, ◌↔◌, IsOk, IfOk};
+
+use replay_segments::Keep;
+use thiserror::Error;
+
+/// The most workers.
+pub const MOST_WORKERS: u8 = 64;
+
+/// How a movie is to be judged: by how many workers, 1 to 64, with a cut at each so many checkpoints, at least 1, and which
+/// frames' pictures are kept.
+///
+/// No output shows the workers and the cuts. For now one thread replays the movie whole.
+#[derive(Clone, Copy, Debug, PartialEq, Eq)]
+pub struct Plan {
+    workers: u8,
+    every: u16,
+    keep: Keep,
+    ghost some_workers: { 1 ≤ workers },
+    ghost few_workers: { workers ≤ 64 },
+    ghost some_every: { 0 < every },
+}
+
+/// Why there is no such plan.
+#[derive(Clone, Copy, Debug, PartialEq, Eq, Error)]
+pub enum BadPlan {
+    /// The workers are not 1 to 64.
+    #[error("the workers are not 1 to 64")]
+    Workers,
+    /// A cut at each 0 checkpoints.
+    #[error("a cut at each 0 checkpoints")]
+    Every,
+}
+
+impl Plan {
+    /// The plan of these numbers. The workers are looked at first.
+    pub fn new(workers: u8, every: u16, keep: Keep) -> Result<Plan, BadPlan>
+        ensures range { IsOk result ↔ ((1 ≤ workers) × (workers ≤ 64) × (0 < every)) }
+        ensures value { IfOk result (λ plan. (plan.workers ≡ workers) × (plan.every ≡ every) × (plan.keep ≡ keep)) }
+        ensures every { result ≡ Err BadPlan.Every → (1 ≤ workers) × (workers ≤ 64) }
+        ensures workers { result ≡ Err BadPlan.Workers → ¬ ((1 ≤ workers) × (workers ≤ 64)) }
+    {
+        if workers == 0 || workers > MOST_WORKERS {
+            return Err(BadPlan::Workers);
+        }
+        if every == 0 {
+            return Err(BadPlan::Every);
+        }
+        Ok(Plan {
+            workers,
+            every,
+            keep,
+        })
+    }
+
+    /// Which frames' pictures are kept.
+    pub fn keep(&self) -> Keep
+        ensures { result ≡ self.now.keep }
+    {
+        self.keep
+    }
+}

@@ -1,0 +1,31 @@
+//! How a run that reached its end ended.
+ghost use Rattle.std.specs.Prelude.{◌≡◌};
+
+/// How a run that reached its end ended.
+#[derive(Clone, Copy, Debug, PartialEq, Eq)]
+pub enum Status {
+    /// The movie is genuine.
+    Done,
+    /// A checkpoint is false.
+    False,
+    /// A frame faults.
+    Fault,
+    /// The bytes are no movie.
+    Refused,
+}
+
+impl Status {
+    ghost use Rattle.vcs_engine.specs.Status.{code_of};
+
+    /// The program's exit status, 0 to 3.
+    pub fn code(self) -> u8
+        ensures { result ≡ code_of self }
+    {
+        match self {
+            Status::Done => 0,
+            Status::False => 1,
+            Status::Fault => 2,
+            Status::Refused => 3,
+        }
+    }
+}

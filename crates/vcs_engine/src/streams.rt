@@ -1,0 +1,65 @@
+//! Reading an input to its end, and writing all of some bytes.
+ghost use Rattle.std.specs.Prelude.{◌≡◌, ◌≢◌, ◌≤◌, OnOk, OnErr, IfOk, length};
+ghost use Rattle.std.specs.Io.KnownBytes.{Appends};
+ghost use Rattle.vcs_engine.specs.Streams.{ReadsAll, AppendsFront, IsTooLong, input_limit};
+
+use crate::run_error::RunError;
+use std::alloc::Global;
+use std::io::{Read, Write};
+use thiserror::Error;
+
+/// The most bytes of one input.
+const INPUT_LIMIT: usize = 16_777_216;
+
+/// One read for each byte of the longest input, one past it, and one that finds the end.
+const MOST_READS: u32 = 16_777_218;
+
+/// All bytes of an input, in at most 16,777,218 reads. Any error of a read is the end.
+pub(crate) fn read_all<R: Read>(alloc: Global, reader: &mut R) -> Result<Vec<u8>, RunError>
+    ensures all { IfOk result (λ bytes. ReadsAll (R.remaining reader.old) (R.remaining reader.new) bytes.items) }
+    ensures few { IfOk result (λ bytes. length bytes.items ≤ input_limit) }
+    ensures too_long { result ≡ Err RunError.TooLong → IsTooLong (R.remaining reader.old) }
+    ensures no_write { result ≢ Err RunError.WriteFault }
+{
+    let mut bytes = Vec::new(alloc);
+    let mut chunk = [0; 4096];
+    for _ in 0..MOST_READS {
+        let n = match reader.read(&mut chunk) {
+            Ok(n) => n,
+            Err(_) => return Err(RunError::ReadFault),
+        };
+        if n == 0 {
+            return Ok(bytes);
+        }
+        if INPUT_LIMIT - bytes.len() < n {
+            return Err(RunError::TooLong);
+        }
+        match bytes.extend_from_slice(&chunk[..n]) {
+            Ok(()) => {}
+            Err(_) => return Err(RunError::NoMemory),
+        }
+    }
+    unreachable!()
+}
+
+/// A write answered an error, or took nothing.
+#[derive(Clone, Copy, Debug, PartialEq, Eq, Error)]
+#[error("write failed")]
+pub(crate) struct WriteFault;
+
+/// Writes all of some bytes, or with a fault a front of them.
+pub(crate) fn write_bytes<W: Write>(bytes: &[u8], writer: &mut W) -> Result<(), WriteFault>
+    ensures ok { OnOk result (Appends (W.contents writer.old) (W.contents writer.new) bytes.now) }
+    ensures err { OnErr result (AppendsFront (W.contents writer.old) (W.contents writer.new) bytes.now) }
+{
+    let mut at = 0;
+    while at < bytes.len() {
+        let (_, rest) = bytes.split_at(at);
+        match writer.write(rest) {
+            Ok(0) => return Err(WriteFault),
+            Ok(n) => at += n,
+            Err(_) => return Err(WriteFault),
+        }
+    }
+    Ok(())
+}

@@ -1,0 +1,66 @@
+//! Readers and writers that give and take little at a time, and fail.
+
+use std::io;
+use std::io::{Read, Write};
+
+/// A reader that gives zeros, one a read, and counts its reads.
+#[derive(Drop)]
+pub(crate) struct Zeros {
+    pub left: u64,
+    pub reads: u64,
+}
+
+impl Read for Zeros {
+    fn read(&mut self, buf: &mut [u8]) -> io::Result<usize> {
+        self.reads = self.reads.saturating_add(1);
+        if buf.is_empty() || self.left == 0 {
+            return Ok(0);
+        }
+        self.left -= 1;
+        buf[0] = 0;
+        Ok(1)
+    }
+}
+
+/// A reader that gives bytes, 500 a read, and whose read of a given number fails.
+#[derive(Drop)]
+pub(crate) struct FailingReader<'a> {
+    pub bytes: &'a [u8],
+    pub left: u64,
+}
+
+impl Read for FailingReader<'_> {
+    fn read(&mut self, buf: &mut [u8]) -> io::Result<usize> {
+        if self.left == 0 {
+            return Err(io::Error::from(io::ErrorKind::Other));
+        }
+        self.left -= 1;
+        let n = self.bytes.len().min(buf.len()).min(500);
+        let (front, rest) = self.bytes.split_at(n);
+        buf[..n].copy_from_slice(front);
+        self.bytes = rest;
+        Ok(n)
+    }
+}
+
+/// A writer that takes one byte a write, and whose write of a given number fails.
+#[derive(Drop)]
+pub(crate) struct FailingWriter {
+    pub taken: Vec<u8>,
+    pub left: u64,
+}
+
+impl Write for FailingWriter {
+    fn write(&mut self, buf: &[u8]) -> io::Result<usize> {
+        if self.left == 0 || buf.is_empty() {
+            return Err(io::Error::from(io::ErrorKind::Other));
+        }
+        self.left -= 1;
+        self.taken.extend_from_slice(&buf[..1])?;
+        Ok(1)
+    }
+
+    fn flush(&mut self) -> io::Result<()> {
+        Ok(())
+    }
+}

@@ -1,0 +1,11 @@
+//! Worked movies with their verdicts, as tests of the crates below.
+#![tactic(auto)]
+
+#[cfg(test)]
+mod devices;
+#[cfg(test)]
+mod engine;
+#[cfg(test)]
+mod movies;
+#[cfg(test)]
+mod verdicts;
