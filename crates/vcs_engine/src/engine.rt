@@ -16,7 +16,11 @@ use std::alloc::Global;
 use std::io::{Read, Write};
 
 /// Writes the line, then the pictures.
-fn deliver<W: Write, P: Write>(output: &Output, verdict: &mut W, pictures: &mut P) -> Result<(), WriteFault>
+fn deliver<W: Write, P: Write>(
+    output: &Output,
+    verdict: &mut W,
+    pictures: &mut P,
+) -> Result<(), WriteFault>
     ensures line { OnOk result (Appends (W.contents verdict.old) (W.contents verdict.new) (told_by output.now).line) }
     ensures pictures { OnOk result (Appends (P.contents pictures.old) (P.contents pictures.new) (pictures_bytes (told_by output.now).pictures)) }
     ensures err { OnErr result (WritesPart (W.contents verdict.old) (W.contents verdict.new) (told_by output.now).line
@@ -47,7 +51,7 @@ pub fn run<R: Read, W: Write, P: Write>(
         × Appends (P.contents pictures.old) (P.contents pictures.new) (pictures_bytes told.pictures)) }
     ensures write_fault { result ≡ Err RunError.WriteFault → (input : List ℕ) × (told : Told) × ReadsAll (R.remaining movie.old) (R.remaining movie.new) input
         × Tells plan.now.keep input told × WritesPart (W.contents verdict.old) (W.contents verdict.new) told.line
-            (P.contents pictures.old) (P.contents pictures.new) (pictures_bytes told.pictures) }
+        (P.contents pictures.old) (P.contents pictures.new) (pictures_bytes told.pictures) }
 
     // What was written after the other errors.
     ensures quiet_line { OnErr result (result ≢ Err RunError.WriteFault → Keeps (W.contents verdict.old) (W.contents verdict.new)) }

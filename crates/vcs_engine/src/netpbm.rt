@@ -5,13 +5,11 @@ ghost use Rattle.std.specs.Io.KnownBytes.{Appends};
 ghost use Rattle.vcs_engine.specs.PictureBytes.{header_bytes, picture_bytes, pictures_bytes, row_bytes};
 ghost use Rattle.vcs_engine.specs.Streams.{AppendsFront};
 
-use std::io::Write;
-
-use replay_segments::Frames;
-use vcs_machine::Picture;
-
 use crate::palette::rgb;
 use crate::streams::{WriteFault, write_bytes};
+use replay_segments::Frames;
+use std::io::Write;
+use vcs_machine::Picture;
 
 /// The decimal digits of a number, from a place on.
 fn digits(n: u16) -> ([u8; 3], usize)

@@ -21,7 +21,12 @@ pub(crate) struct Output {
 }
 
 impl Output {
-    fn new(alloc: Global, status: Status, line: Line, pictures: Option<Frames>) -> Result<Output, AllocError>
+    fn new(
+        alloc: Global,
+        status: Status,
+        line: Line,
+        pictures: Option<Frames>,
+    ) -> Result<Output, AllocError>
         ensures { IfOk result (λ output. told_by output
             ≡ record { status = status; line = line_bytes line; pictures = pictures_in pictures }) }
     {
@@ -48,7 +53,12 @@ impl Output {
                 Output::new(alloc, Status::Done, line, Some(pictures))
             }
             Verdict::FalseCheckpoint { number, frame } => {
-                Output::new(alloc, Status::False, Line::FalseCheckpoint { number, frame }, None)
+                Output::new(
+                    alloc,
+                    Status::False,
+                    Line::FalseCheckpoint { number, frame },
+                    None,
+                )
             }
             Verdict::Fault { frame, kind } => {
                 Output::new(alloc, Status::Fault, Line::Fault { frame, kind }, None)
