@@ -1,10 +1,9 @@
 //! A movie of two frames, read, written, judged and told, where one growth may be refused.
 
-use std::io;
-use std::test::Fail;
-
 use movie_file::{MovieError, read_movie, write_movie};
 use replay_segments::{Keep, Verdict, verify_one};
+use std::io;
+use std::test::Fail;
 use vcs_engine::{Plan, RunError, Status, run};
 
 /// The bytes of the movie, which take no memory: LDA #02, STA 80, STA VSYNC, LDA #00, STA VSYNC, JMP F000, from power-on, with
@@ -12,7 +11,9 @@ use vcs_engine::{Plan, RunError, Status, run};
 fn two_frames() -> [u8; 2446] {
     let mut bytes = [0; 2446];
     bytes[..14].copy_from_slice(&[0x41, 0x32, 0x36, 0x4D, 0, 1, 8, 0, 0, 0, 0, 2, 0, 1]);
-    bytes[14..27].copy_from_slice(&[0xA9, 2, 0x85, 0x80, 0x85, 0, 0xA9, 0, 0x85, 0, 0x4C, 0, 0xF0]);
+    bytes[14..27].copy_from_slice(&[
+        0xA9, 2, 0x85, 0x80, 0x85, 0, 0xA9, 0, 0x85, 0, 0x4C, 0, 0xF0,
+    ]);
     bytes[14 + 0x7FD] = 0xF0;
     bytes[2065..2068].copy_from_slice(&[0xFF, 0x04, 0xF0]);
     bytes[2203..2205].copy_from_slice(&[1, 3]);
@@ -31,7 +32,13 @@ fn verdict_or_want_of_memory(rt: HostRuntime) -> Result<(), Fail> {
     let plan = Plan::new(1, 1, Keep::new(1, 2)?)?;
     let mut line = [0u8; 64];
     let mut writer = line.as_mut_slice();
-    match run(rt.alloc(), &mut bytes.as_slice(), &plan, &mut writer, &mut io::sink()) {
+    match run(
+        rt.alloc(),
+        &mut bytes.as_slice(),
+        &plan,
+        &mut writer,
+        &mut io::sink(),
+    ) {
         Ok(status) => {
             assert_eq!(rt; status, Status::Done);
             assert_eq!(rt; writer.len(), 64 - 33);

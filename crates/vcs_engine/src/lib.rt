@@ -3,13 +3,18 @@
 
 mod engine;
 mod line;
+mod netpbm;
 mod output;
+mod palette;
 mod plan;
 mod run_error;
 mod status;
 mod streams;
 
 pub use engine::run;
+pub use netpbm::ppm;
+pub use palette::rgb;
 pub use plan::{BadPlan, Plan};
 pub use run_error::RunError;
 pub use status::Status;
+pub use streams::WriteFault;

@@ -45,7 +45,7 @@ pub(crate) fn read_all<R: Read>(alloc: Global, reader: &mut R) -> Result<Vec<u8>
 /// A write answered an error, or took nothing.
 #[derive(Clone, Copy, Debug, PartialEq, Eq, Error)]
 #[error("write failed")]
-pub(crate) struct WriteFault;
+pub struct WriteFault;
 
 /// Writes all of some bytes, or with a fault a front of them.
 pub(crate) fn write_bytes<W: Write>(bytes: &[u8], writer: &mut W) -> Result<(), WriteFault>
