@@ -23,8 +23,9 @@ pub record AtCut (m : MovieData) (cuts : List ℕ) (i n : ℕ) (c : Checkpoint) 
   pub positive : 0 < n
   pub checkpoint : slice_get m.checkpoints (n - 1) ≡ Some c
 
-pub AtCut-found : (m : MovieData) (cuts : List ℕ) (i n : ℕ) (c : Checkpoint) → Fits cuts m → slice_get cuts i ≡ Some n → slice_get m.checkpoints (n - 1) ≡ Some c → AtCut m cuts i n c
-AtCut-found m cuts i n c fits cut at = record { cut = cut; positive = (fits.range i n cut).0; checkpoint = at }
+-- A checkpoint is after a frame of its movie.
+pub checkpoint_within : (m : MovieData) (j : ℕ) (c : Checkpoint) → IsMovie m → slice_get m.checkpoints j ≡ Some c → c.frame ≤ length m.inputs
+checkpoint_within m j c movie at = (checkpoint_in_range m.checkpoints 0 (length m.inputs) j c movie.checkpoints at).1
 
 -- A cut's end and the next segment's beginning, by what look-ups found.
 pub end_of-found : (m : MovieData) (cuts : List ℕ) (i n : ℕ) (c : Checkpoint) → slice_get cuts i ≡ Some n → slice_get m.checkpoints (n - 1) ≡ Some c → end_of m cuts i ≡ c.frame
@@ -75,8 +76,7 @@ module _ (m : MovieData) (cuts : List ℕ) (movie : IsMovie m) (fits : Fits cuts
       by : (i < length cuts) ⊎ (length cuts ≤ i) → end_of m cuts i ≤ length m.inputs
       by (inl w) =
           let (n, c, at) = at_cut i w in
-          let h = checkpoint_in_range m.checkpoints 0 (length m.inputs) (n - 1) c movie.checkpoints at.checkpoint in
-          rw (end_of-cut m cuts i n c at) h.1
+          rw (end_of-cut m cuts i n c at) (checkpoint_within m (n - 1) c movie at.checkpoint)
       by (inr w) = rw (end_of-last m cuts i w) (omega arith)
 
   -- A segment that ends at a cut has a frame.
@@ -101,8 +101,21 @@ module _ (m : MovieData) (cuts : List ℕ) (movie : IsMovie m) (fits : Fits cuts
       by (inl w) = let h = from_of-below (suc i) w in omega (arith, h)
       by (inr w) = rw (end_of-last m cuts (suc i) w) (end_of-within i)
 
-  pub after_cut : (i n : ℕ) (c : Checkpoint) → AtCut m cuts i n c → c.frame ≤ end_of m cuts (i + 1)
+  after_cut : (i n : ℕ) (c : Checkpoint) → AtCut m cuts i n c → c.frame ≤ end_of m cuts (i + 1)
   after_cut i n c at = rw (← from_of-after m cuts i n c at) (from_of-le (i + 1))
+
+-- A replay from a cut to the end of the segment that begins there.
+pub record IsStretch (m : MovieData) (cuts : List ℕ) (i n : ℕ) (c : Checkpoint) (end : ℕ) : Type 0 where
+  pub at : AtCut m cuts i n c
+  pub le : c.frame ≤ end
+  pub ends : c.frame + (end - c.frame) ≡ end_of m cuts (i + 1)
+
+pub IsStretch-found : (m : MovieData) (cuts : List ℕ) (i n : ℕ) (c : Checkpoint) (end : ℕ) → IsMovie m → Fits cuts m → slice_get cuts i ≡ Some n → slice_get m.checkpoints (n - 1) ≡ Some c
+    → end ≡ end_of m cuts (i + 1) → IsStretch m cuts i n c end
+IsStretch-found m cuts i n c end movie fits cut here is =
+    let at : AtCut m cuts i n c = record { cut = cut; positive = (fits.range i n cut).0; checkpoint = here } in
+    let le = after_cut m cuts movie fits i n c at in
+    record { at = at; le = omega (arith, le, is); ends = omega (arith, le, is) }
 
 -- After the frame of a checkpoint its number is the index of the next one.
 pub IsNext-cut : (m : MovieData) (n : ℕ) (c : Checkpoint) → IsMovie m → 0 < n → slice_get m.checkpoints (n - 1) ≡ Some c → IsNext m n (c.frame + 1)
@@ -139,5 +152,3 @@ IfOk-follows P Q (Err e) f h = tt
 pub OnErr-follows : {X E : Type 0} (P Q : Type 0) (r : Result X E) → (P → Q) → OnErr r P → OnErr r Q
 OnErr-follows P Q (Ok x) f h = tt
 OnErr-follows P Q (Err e) f h = f h
-
-pub ruleset ends_within = end_of-within

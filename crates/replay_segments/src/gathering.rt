@@ -33,8 +33,10 @@ pub fn gather(alloc: Global, pieces: Vec<Piece>, n: u32) -> Result<Verdict, Gath
     requires { 0 < n }
     ensures verdict { IfOk result (λ verdict. (job : Job) → NamesAll job pieces.items
         → n ≡ segments_of job → IsVerdict job.movie job.keep verdict) }
-    ensures missing { (k : ℕ) → (result ≡ Err (GatherError.Missing k)) ↔ IsFirstMissing pieces.items n k }
-    ensures refused { (k : ℕ) → IsFirstRefused pieces.items n k → result ≡ Err GatherError.NoMemory }
+    ensures missing { (k : ℕ) → (result ≡ Err (GatherError.Missing k))
+        ↔ IsFirstMissing pieces.items n k }
+    ensures refused { (k : ℕ) → IsFirstRefused pieces.items n k
+        → result ≡ Err GatherError.NoMemory }
     ensures memory { result ≡ Err GatherError.NoMemory
         → ((k : ℕ) × IsFirstRefused pieces.items n k)
         ⊎ (PassedBelow pieces.items n × (0 < total pieces.items)) }

@@ -1,5 +1,5 @@
 //! Replays a segment.
-ghost use Rattle.std.specs.Prelude.{◌≡◌, ◌+◌, ◌<◌, length, IfOk, OnErr};
+ghost use Rattle.std.specs.Prelude.{◌≡◌, ◌+◌, ◌<◌, ◌≤◌, length, IfOk, OnErr};
 ghost use Rattle.replay_segments.specs.Cuts.{Fits};
 ghost use Rattle.replay_segments.specs.Pieces.{job_of, IsJob, IsOutcome, HasKept};
 ghost use Rattle.replay_segments.specs.Segments.{end_of, IsSegment};
@@ -15,13 +15,16 @@ use std::alloc::Global;
 use std::snapshot::Snapshot;
 
 /// The last frame of a segment.
+#[tactic(auto, using(crate::proofs::SegmentLemmas::checkpoint_within))]
 fn end(movie: &Movie, cuts: &Cuts, i: u32) -> u32
     requires fit { Fits cuts.now movie.now }
-    ensures { result ≡ end_of movie.now cuts.now i }
+    ensures value { result ≡ end_of movie.now cuts.now i }
+    ensures within { result ≤ length movie.now.inputs }
 {
+    let frames = movie.frames();
     match cuts.get(i) {
         Some(number) => movie.checkpoint(number).frame,
-        None => movie.frames(),
+        None => frames,
     }
 }
 
@@ -37,6 +40,7 @@ fn from_cut(
     requires fit { Fits cuts.now movie.now }
     requires number { i < length cuts.now }
     requires end { end ≡ end_of movie.now cuts.now (i + 1) }
+    requires within { end ≤ length movie.now.inputs }
     ensures judged { IfOk result (λ verdict. IsSegment movie.now cuts.now keep (i + 1) verdict) }
     ensures refused { OnErr result (HasKept (job_of movie.now cuts.now keep) (i + 1)) }
 {
@@ -50,13 +54,14 @@ fn from_cut(
 }
 
 /// The outcome of a segment.
-#[tactic(auto, using(crate::proofs::CheckpointLemmas::at_start, crate::proofs::SegmentLemmas::ends_within))]
+#[tactic(auto, using(crate::proofs::CheckpointLemmas::at_start))]
 fn outcome_of(alloc: Global, movie: &Movie, cuts: &Cuts, keep: Keep, number: u32) -> Outcome
     requires fit { Fits cuts.now movie.now }
     requires number { number < length cuts.now + 1 }
     ensures job { IsJob (job_of movie.now cuts.now keep) }
     ensures outcome { IsOutcome (job_of movie.now cuts.now keep) number result }
-    ensures memory { result ≡ Outcome.NoMemory → HasKept (job_of movie.now cuts.now keep) number }
+    ensures memory { result ≡ Outcome.NoMemory
+        → HasKept (job_of movie.now cuts.now keep) number }
 {
     let _ = movie.frames();
     let _ = cuts.segments();

@@ -4,7 +4,9 @@ use std::alloc::Global;
 use std::test::Fail;
 
 /// LDA #02, STA 80, STA VSYNC, LDA #00, STA VSYNC, JMP F000: a frame of 13 cycles, then frames of 16.
-pub(crate) const ENDLESS_FRAMES: [u8; 13] = [0xA9, 2, 0x85, 0x80, 0x85, 0, 0xA9, 0, 0x85, 0, 0x4C, 0, 0xF0];
+pub(crate) const ENDLESS_FRAMES: [u8; 13] = [
+    0xA9, 2, 0x85, 0x80, 0x85, 0, 0xA9, 0, 0x85, 0, 0x4C, 0, 0xF0,
+];
 
 /// INX, CPX #07, BEQ F010, LDA #02, STA VSYNC, LDA #00, STA VSYNC, JMP F000: byte 02 stands at F010.
 pub(crate) const SEVEN_FRAMES: [u8; 16] = [
@@ -36,7 +38,13 @@ pub(crate) fn after_frame(timer: u8, line_cycle: u8) -> [u8; 187] {
 }
 
 /// A movie of so many frames with idle inputs, and checkpoints after frames 1, 2, ...
-pub(crate) fn movie(alloc: Global, program: &[u8], start: &[u8; 187], frames: u8, checkpoints: &[[u8; 187]]) -> Result<Vec<u8>, Fail> {
+pub(crate) fn movie(
+    alloc: Global,
+    program: &[u8],
+    start: &[u8; 187],
+    frames: u8,
+    checkpoints: &[[u8; 187]],
+) -> Result<Vec<u8>, Fail> {
     let mut bytes = Vec::new(alloc);
     bytes.extend_from_slice(b"A26M")?;
     bytes.extend_from_slice(&[0, 1, 8, 0, 0, 0, 0, frames, 0, checkpoints.len() as u8])?;
@@ -62,5 +70,11 @@ pub(crate) fn movie(alloc: Global, program: &[u8], start: &[u8; 187], frames: u8
 
 /// Two genuine frames with a true checkpoint after the first.
 pub(crate) fn two_frames(alloc: Global) -> Result<Vec<u8>, Fail> {
-    movie(alloc, &ENDLESS_FRAMES, &power_on(), 2, &[after_frame(0xF3, 0x0D)])
+    movie(
+        alloc,
+        &ENDLESS_FRAMES,
+        &power_on(),
+        2,
+        &[after_frame(0xF3, 0x0D)],
+    )
 }
