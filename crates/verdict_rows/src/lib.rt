@@ -8,4 +8,6 @@ mod engine;
 #[cfg(test)]
 mod movies;
 #[cfg(test)]
+mod segments;
+#[cfg(test)]
 mod verdicts;
