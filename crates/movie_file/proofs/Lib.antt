@@ -5,3 +5,5 @@ pub mod MovieLaws
 pub mod Loops
 pub mod Orders
 pub mod Runs
+pub mod InputLists
+pub mod MakingRuns

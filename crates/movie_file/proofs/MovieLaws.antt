@@ -25,7 +25,7 @@ use Rattle.movie_file.specs.Reading.{◌>>=◌, or_refuse, number_at, magic_at, 
 use Rattle.movie_file.proofs.Cells.{IsBytes, IsBytes-take, IsBytes-drop, cells_is, and_true}
 use Rattle.movie_file.proofs.RecordLaws.{state_takes, state_again, length-record_of}
 
-bind_ok : {A B : Type 0} (r : Result A MovieError) (f : A → Result B MovieError) (y : B) → (r >>= f) ≡ Ok y → (x : A) × (r ≡ Ok x) × (f x ≡ Ok y)
+pub bind_ok : {A B : Type 0} (r : Result A MovieError) (f : A → Result B MovieError) (y : B) → (r >>= f) ≡ Ok y → (x : A) × (r ≡ Ok x) × (f x ≡ Ok y)
 bind_ok (Ok x) f y e = (x, refl, e)
 bind_ok (Err d) f y e = absurd cc
 
@@ -39,7 +39,7 @@ guard_fine true d x y e = (refl, cc)
 guard_fine false d x y e = absurd cc
 
 -- the same, where a further step follows
-guard_then : {A : Type 0} (b : Bool) (d : MovieError) (r : Result A MovieError) (y : A) → cond b r (Err d) ≡ Ok y → (b ≡ true) × (r ≡ Ok y)
+pub guard_then : {A : Type 0} (b : Bool) (d : MovieError) (r : Result A MovieError) (y : A) → cond b r (Err d) ≡ Ok y → (b ≡ true) × (r ≡ Ok y)
 guard_then true d r y e = (refl, e)
 guard_then false d r y e = absurd cc
 
@@ -54,9 +54,9 @@ ok_is : {A : Type 0} (x y : A) → done x ≡ done y → x ≡ y
 ok_is x y e = cc
 
 -- what was taken from the front
-record Takes (bytes text rest : List ℕ) : Type 0 where
-  parts : bytes ≡ text ++ rest
-  rest_fits : IsBytes rest
+pub record Takes (bytes text rest : List ℕ) : Type 0 where
+  pub parts : bytes ≡ text ++ rest
+  pub rest_fits : IsBytes rest
 
 Takes-then : (a x b y c : List ℕ) → Takes a x b → Takes b y c → Takes a (x ++ y) c
 Takes-then a x b y c p q = record { parts = p.parts ∙ ap (λ (t : List ℕ). x ++ t) q.parts ∙ sym (append_assoc x y c); rest_fits = q.rest_fits }
@@ -233,7 +233,7 @@ sizes_again h rest cart some few_frames few_checkpoints long =
 
 -- ---- inputs
 
-abbrev AreInputs : List Controls → Type 0
+abbrev pub AreInputs : List Controls → Type 0
 AreInputs xs = AllByRecursion (λ i. IsTrue (is_input i)) xs
 
 input_takes : (k : ℕ) (bytes : List ℕ) (i : Controls) → input_length ≤ length bytes → IsBytes bytes → input_at k bytes ≡ Ok i → Takes bytes (input_bytes i) (drop input_length bytes) × IsTrue (is_input i)
@@ -243,13 +243,13 @@ input_takes k bytes i long fits e =
     let taken : Takes bytes (input_bytes (controls_at bytes)) (drop input_length bytes) = subst (λ (t : List ℕ). Takes bytes t (drop input_length bytes)) (sym (cells_is 3 0 bytes long)) (front_takes 3 bytes fits) in
     subst (λ (x : Controls). Takes bytes (input_bytes x) (drop input_length bytes) × IsTrue (is_input x)) g.1 (taken, g.0)
 
-record InputsRead (n : ℕ) (bytes : List ℕ) (x : List Controls × List ℕ) : Type 0 where
-  takes : Takes bytes (flat_map input_bytes x.0) x.1
-  count : length x.0 ≡ n
-  each : AreInputs x.0
-  left : length x.1 + input_length * n ≡ length bytes
+pub record InputsRead (n : ℕ) (bytes : List ℕ) (x : List Controls × List ℕ) : Type 0 where
+  pub takes : Takes bytes (flat_map input_bytes x.0) x.1
+  pub count : length x.0 ≡ n
+  pub each : AreInputs x.0
+  pub left : length x.1 + input_length * n ≡ length bytes
 
-inputs_take : (n k : ℕ) (bytes : List ℕ) (x : List Controls × List ℕ) → input_length * n ≤ length bytes → IsBytes bytes → inputs_at n k bytes ≡ Ok x → InputsRead n bytes x
+pub inputs_take : (n k : ℕ) (bytes : List ℕ) (x : List Controls × List ℕ) → input_length * n ≤ length bytes → IsBytes bytes → inputs_at n k bytes ≡ Ok x → InputsRead n bytes x
 unfolding inputs_at
 inputs_take zero k bytes x long fits e = subst (InputsRead 0 bytes) (ok_is ([], bytes) x e) (record { takes = record { parts = refl; rest_fits = fits }; count = refl; each = tt; left = omega arith })
 inputs_take (suc n) k bytes x long fits e =
@@ -265,7 +265,7 @@ inputs_take (suc n) k bytes x long fits e =
       left = omega (arith, second.left, length-drop input_length bytes);
     })
 
-inputs_again : (xs : List Controls) (k : ℕ) (rest : List ℕ) → AreInputs xs → inputs_at (length xs) k (flat_map input_bytes xs ++ rest) ≡ Ok (xs, rest)
+pub inputs_again : (xs : List Controls) (k : ℕ) (rest : List ℕ) → AreInputs xs → inputs_at (length xs) k (flat_map input_bytes xs ++ rest) ≡ Ok (xs, rest)
 unfolding inputs_at input_at
 inputs_again [] k rest each = refl
 inputs_again (i ∷ xs) k rest each =
@@ -274,7 +274,7 @@ inputs_again (i ∷ xs) k rest each =
     ∙ ap (λ (b : Bool). cond b (done i) (Err (BadInput k)) >>= λ first. inputs_at (length xs) (suc k) (flat_map input_bytes xs ++ rest) >>= λ others. Ok (first ∷ others.0, others.1)) each.0
     ∙ ap (λ (r : Result (List Controls × List ℕ) MovieError). r >>= λ others. Ok (i ∷ others.0, others.1)) (inputs_again xs (suc k) rest each.1)
 
-length-inputs : (xs : List Controls) → length (flat_map input_bytes xs) ≡ input_length * length xs
+pub length-inputs : (xs : List Controls) → length (flat_map input_bytes xs) ≡ input_length * length xs
 length-inputs [] = refl
 length-inputs (i ∷ xs) = ap length (flat_map-cons input_bytes i xs) ∙ omega (arith, length-inputs xs)
 

@@ -7,3 +7,6 @@ pub mod MovieError
 pub mod Reading
 pub mod Run
 pub mod Judgement
+pub mod InputLists
+pub mod Making
+pub mod MakingSteps

@@ -5,6 +5,7 @@ ghost use Rattle.movie_file.specs.declared.error.MovieError.TheVariants.{NoMemor
 use std::alloc::{AllocError, AllocFailed};
 use std::fmt;
 use thiserror::Error;
+use vcs_machine::FaultKind;
 
 /// Why bytes are no movie, or no inputs: the first refusal in the order of reading.
 ///
@@ -69,6 +70,20 @@ impl<T: Drop> From<AllocFailed<T>> for MovieError {
     fn from(_e: AllocFailed<T>) -> MovieError {
         MovieError::NoMemory
     }
+}
+
+/// Why no movie was made.
+#[derive(Clone, Copy, Debug, PartialEq, Eq, Error)]
+pub enum MakeError {
+    /// The frame of this number, from 1, faults.
+    #[error("fault at frame {frame}: {kind}")]
+    Fault { frame: u32, kind: FaultKind },
+    /// No frame or too many, a checkpoint after each 0 frames, or too many checkpoints.
+    #[error("BadCounts")]
+    BadCounts,
+    /// A growth for the checkpoints was refused.
+    #[error("out of memory")]
+    NoMemory,
 }
 
 /// A growth was refused.

@@ -9,6 +9,7 @@ mod checkpoint;
 mod error;
 mod format;
 mod laws;
+mod making;
 mod movie;
 mod parts;
 mod reading;
@@ -16,13 +17,14 @@ mod record;
 mod writing;
 
 pub use checkpoint::Checkpoint;
-pub use error::{MovieError, NoMemory};
+pub use error::{MakeError, MovieError, NoMemory};
 pub use laws::{
     law_of_checkpoints, law_of_judgements, law_of_one_movie, law_of_one_spelling, law_of_reading,
     law_of_records, law_of_runs,
 };
+pub use making::make_movie;
 pub use movie::Movie;
-pub use reading::read_movie;
+pub use reading::{read_inputs, read_movie};
 pub use record::{read_state, write_state};
 pub use writing::write_movie;
 

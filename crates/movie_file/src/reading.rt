@@ -9,6 +9,7 @@ ghost use Rattle.movie_file.specs.Reading.{body_at, movie_at, sizes_at};
 ghost use Rattle.movie_file.specs.Spelling.{Spells};
 
 mod header;
+mod inputs;
 mod items;
 mod sizes;
 
@@ -18,6 +19,7 @@ use crate::movie::Movie;
 use crate::parts::MovieParts;
 use crate::record::read_state;
 use header::sizes_in;
+pub use inputs::read_inputs;
 use items::{checkpoints_in, inputs_in};
 use riot_map::Cart;
 use sizes::Sizes;

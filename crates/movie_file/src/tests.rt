@@ -1,13 +1,22 @@
-use crate::error::MovieError;
-use crate::reading::read_movie;
+use crate::error::{MakeError, MovieError};
+use crate::making::make_movie;
+use crate::reading::{read_inputs, read_movie};
 use crate::record::{read_state, write_state};
 use crate::writing::write_movie;
+use riot_map::Cart;
 use std::alloc::Global;
 use std::test::Fail;
+use vcs_machine::FaultKind;
 
 /// The cartridge of these files: LDA #02, STA 80, STA VSYNC, LDA #00, STA VSYNC, JMP F000.
 const PROGRAM: [u8; 13] = [
     0xA9, 0x02, 0x85, 0x80, 0x85, 0x00, 0xA9, 0x00, 0x85, 0x00, 0x4C, 0x00, 0xF0,
+];
+
+/// A program whose seventh frame faults: INX, CPX #07, BEQ F010, LDA #02, STA VSYNC, LDA #00,
+/// STA VSYNC, JMP F000; byte 02 stands at F010.
+const SEVEN_FRAMES: [u8; 16] = [
+    0xE8, 0xE0, 0x07, 0xF0, 0x0B, 0xA9, 0x02, 0x85, 0x00, 0xA9, 0x00, 0x85, 0x00, 0x4C, 0x00, 0xF0,
 ];
 
 /// The record of power-on: all 0 but S, P, PC, the timer's part and its interval.
@@ -32,6 +41,24 @@ fn state_after_frame_1() -> [u8; 187] {
     record[144] = 0x01;
     record[185] = 0x0D;
     record
+}
+
+/// The record after the second frame, of 16 cycles.
+fn state_after_frame_2() -> [u8; 187] {
+    let mut record = state_after_frame_1();
+    record[139] = 0xE3;
+    record[185] = 0x1D;
+    record
+}
+
+/// A cartridge with a program at F000, and byte 02 at F010.
+fn cart(alloc: Global, program: &[u8]) -> Result<Cart, Fail> {
+    let mut bytes = Vec::new(alloc);
+    bytes.extend_from_slice(program)?;
+    bytes.resize(2048, 0)?;
+    bytes[0x010] = 0x02;
+    bytes[0x7FD] = 0xF0;
+    Ok(Cart::new(bytes)?)
 }
 
 /// A movie of two frames with a checkpoint after the first: 2,446 bytes.
@@ -200,5 +227,74 @@ fn record_is_read_and_written(rt: HostRuntime) -> Result<(), Fail> {
     assert!(rt; read_state(front).is_none());
     assert_eq!(rt; state.fields().pc, 0xF00A);
     assert_eq!(rt; state.fields().timer, 0xF3);
+    Ok(())
+}
+
+#[test]
+fn inputs_are_read_or_refused(rt: HostRuntime) -> Result<(), Fail> {
+    let inputs = read_inputs(rt.alloc(), &[0xFF, 0x3F, 0x00, 0x7F, 0xBF, 0x03])?;
+    assert_eq!(rt; inputs.len(), 2);
+    assert_eq!(rt;
+        inputs.last().map(|input| input.bytes()),
+        Some([0x7F, 0xBF, 0x03])
+    );
+    assert!(rt; read_inputs(rt.alloc(), &[])?.is_empty());
+    let short = read_inputs(rt.alloc(), &[0xFF, 0x3F, 0x04, 0xFF]).err();
+    assert_eq!(rt; short, Some(MovieError::Short));
+    let spare_bit = read_inputs(rt.alloc(), &[0xFF, 0x3F, 0x00, 0xFF, 0x3F, 0x04]).err();
+    assert_eq!(rt; spare_bit, Some(MovieError::BadInput(2)));
+    Ok(())
+}
+
+#[test]
+fn movie_is_made_of_a_run(rt: HostRuntime) -> Result<(), Fail> {
+    let inputs = read_inputs(rt.alloc(), &[0xFF, 0x3F, 0x00, 0xFF, 0x3F, 0x00])?;
+    let movie = make_movie(rt.alloc(), cart(rt.alloc(), &PROGRAM)?, inputs, 2)?;
+    let mut wanted = changed(rt.alloc(), &file(rt.alloc())?, 2258, &[2])?;
+    wanted = changed(rt.alloc(), &wanted, 2259, &state_after_frame_2())?;
+    let mut written = Vec::new(rt.alloc());
+    write_movie(&movie, &mut written)?;
+    assert_eq!(rt; written.len(), 2446);
+    assert!(rt; written == wanted);
+    Ok(())
+}
+
+#[test]
+fn movies_are_not_made_of_bad_counts(rt: HostRuntime) -> Result<(), Fail> {
+    for (frames, every, made) in [
+        (2u32, 0u32, false),
+        (0, 1, false),
+        (65_536, 65_536, false),
+        (4_096, 1, false),
+        (4_096, 2, true),
+    ] {
+        let mut bytes = Vec::new(rt.alloc());
+        for _ in 0..frames {
+            bytes.extend_from_slice(&[0xFF, 0x3F, 0x00])?;
+        }
+        let inputs = read_inputs(rt.alloc(), &bytes)?;
+        let movie = make_movie(rt.alloc(), cart(rt.alloc(), &PROGRAM)?, inputs, every);
+        if made {
+            assert_eq!(rt; movie.ok().map(|movie| movie.checkpoints()), Some(2_048));
+        } else {
+            assert_eq!(rt; movie.err(), Some(MakeError::BadCounts));
+        }
+    }
+    Ok(())
+}
+
+#[test]
+fn first_fault_of_a_run_is_named(rt: HostRuntime) -> Result<(), Fail> {
+    let mut bytes = Vec::new(rt.alloc());
+    for _ in 0..7u8 {
+        bytes.extend_from_slice(&[0xFF, 0x3F, 0x00])?;
+    }
+    let inputs = read_inputs(rt.alloc(), &bytes)?;
+    let movie = make_movie(rt.alloc(), cart(rt.alloc(), &SEVEN_FRAMES)?, inputs, 1);
+    let kind = FaultKind::BadOpcode {
+        opcode: 0x02,
+        at: 0xF010,
+    };
+    assert_eq!(rt; movie.err(), Some(MakeError::Fault { frame: 7, kind }));
     Ok(())
 }

@@ -32,6 +32,7 @@ pub(super) fn inputs_in(
     requires long { input_length * count ≤ length bytes.now }
     ensures gives { Gives (λ x. (x.0.items, x.1.now)) result (inputs_at count 1 bytes.now) }
     ensures rest { IfOk result (λ x. length x.1.now + input_length * count ≡ length bytes.now) }
+    ensures memory { result ≡ Err MovieError.NoMemory → 0 < count }
 {
     let mut rest = bytes;
     for i in 0..count {

@@ -1,0 +1,59 @@
+-- Inputs by themselves: what is read is spelled so, and what is spelled so is read.
+use Rattle.std.proofs.Common.{◌≡◌, ℕ, ◌*◌, ◌/◌, ◌%◌, eqb, List, [], ◌++◌, length, Result, Ok, Err, refl, sym, ap, ◌∙◌, arith}
+use Rattle.std.specs.Prelude.{IfOk, IfErr, ◌≢◌}
+use Rattle.std.specs.List.{flat_map}
+use Rattle.std.proofs.lemmas.Bool.{eqb-true}
+use Rattle.std.proofs.lemmas.List.{append-nil, nil_from_length}
+use Rattle.vcs_machine.specs.Inputs.{Controls, input_bytes}
+use Rattle.movie_file.specs.Format.{input_length}
+use Rattle.movie_file.specs.InputLists.{SpellsInputs, all_inputs_at}
+use Rattle.movie_file.specs.MovieError.{Gives}
+use Rattle.movie_file.specs.Reading.{◌>>=◌, inputs_at}
+use Rattle.movie_file.specs.declared.error.MovieError.{MovieError}
+use Rattle.movie_file.specs.declared.error.MovieError.TheVariants.{Short, NoMemory}
+use Rattle.movie_file.proofs.Cells.{IsBytes}
+use Rattle.movie_file.proofs.Loops.{fails_is, fails_exact}
+use Rattle.movie_file.proofs.MovieLaws.{bind_ok, guard_then, inputs_take, inputs_again, length-inputs}
+
+abbrev first_of : List Controls × List ℕ → Result (List Controls) MovieError
+first_of read = Ok read.0
+
+pub inputs_are_spelled : (bytes : List ℕ) (inputs : List Controls) → IsBytes bytes → all_inputs_at bytes ≡ Ok inputs → SpellsInputs bytes inputs
+unfolding all_inputs_at
+inputs_are_spelled bytes inputs fits e =
+    let n = length bytes / input_length in
+    let whole = guard_then (eqb (length bytes % input_length) 0) Short (inputs_at n 1 bytes >>= first_of) inputs e in
+    let even = eqb-true _ _ whole.0 in
+    let read = bind_ok (inputs_at n 1 bytes) first_of inputs whole.1 in
+    let taken = inputs_take n 1 bytes read.0 (omega arith) fits read.1 in
+    let same : read.0.0 ≡ inputs = let out = read.2 in cc in
+    let none : read.0.1 ≡ [] = nil_from_length read.0.1 (omega (arith, taken.left, even)) in
+    rw (← same) (record {
+      lawful = taken.each;
+      spelled = taken.takes.parts ∙ ap (λ (rest : List ℕ). flat_map input_bytes read.0.0 ++ rest) none ∙ append-nil (flat_map input_bytes read.0.0);
+    })
+
+pub spelled_inputs_are_read : (bytes : List ℕ) (inputs : List Controls) → SpellsInputs bytes inputs → all_inputs_at bytes ≡ Ok inputs
+unfolding all_inputs_at
+spelled_inputs_are_read bytes inputs h =
+    let text = flat_map input_bytes inputs in
+    let long : length bytes ≡ input_length * length inputs = ap length h.spelled ∙ length-inputs inputs in
+    let even : length bytes % input_length ≡ 0 = omega (arith, long) in
+    let n : length bytes / input_length ≡ length inputs = omega (arith, long) in
+    let read : inputs_at (length inputs) 1 bytes ≡ Ok (inputs, []) = ap (inputs_at (length inputs) 1) (h.spelled ∙ sym (append-nil text)) ∙ inputs_again inputs 1 [] h.lawful in
+    rw (even, n, read) refl
+
+-- ---- what is said of an answer
+
+module _ {X : Type 0} (view : X → List Controls) (bytes : List ℕ) where
+  pub found_spelled : (r : Result X MovieError) → IsBytes bytes → Gives view r (all_inputs_at bytes) → IfOk r (λ x. SpellsInputs bytes (view x))
+  found_spelled (Ok x) fits h = inputs_are_spelled bytes (view x) fits h
+  found_spelled (Err e) fits h = tt
+
+  pub spelled_only : (r : Result X MovieError) (inputs : List Controls) → Gives view r (all_inputs_at bytes) → SpellsInputs bytes inputs → Gives view r (Ok inputs)
+  spelled_only (Ok x) inputs h spelled = sym (spelled_inputs_are_read bytes inputs spelled) ∙ h
+  spelled_only (Err e) inputs h spelled = fails_is e (all_inputs_at bytes) (Ok inputs) (spelled_inputs_are_read bytes inputs spelled) h
+
+  pub refused_exact : (r : Result X MovieError) → Gives view r (all_inputs_at bytes) → IfErr r (λ e. e ≢ NoMemory → all_inputs_at bytes ≡ Err e)
+  refused_exact (Ok x) h = tt
+  refused_exact (Err e) h = fails_exact e (all_inputs_at bytes) h

@@ -1,0 +1,196 @@
+-- A run frame by frame, and the checkpoints that are made of it.
+use Rattle.std.proofs.Common.{◌≡◌, ◌≢◌, ℕ, zero, suc, ◌+◌, ◌*◌, ◌/◌, ◌%◌, ◌<◌, ◌≤◌, Bool, true, false, eqb, cond, List, [], ◌∷◌, ◌++◌, length, Option, Some, None, refl, sym, ap, subst, ◌∙◌, arith, add-one, below_more, rules}
+use Rattle.std.specs.Prelude.{slice_get, option_and_then, IsTrue}
+use Rattle.std.proofs.lemmas.Bool.{eqb-true, eqb-false}
+use Rattle.std.proofs.lemmas.List.{append-nil, length-append}
+use Rattle.std.proofs.lemmas.Nat.{le-div, div_below}
+use Rattle.std.proofs.Math.Nat.{div-mul-le_self, add-mul, mul_comm}
+use Rattle.vcs_machine.specs.Inputs.{Controls}
+use Rattle.vcs_machine.specs.Outcomes.{Outcome, Played, Failed, frame_of}
+use Rattle.vcs_machine.specs.Pictures.{Rows}
+use Rattle.vcs_machine.specs.States.{power_on}
+use Rattle.vcs_machine.specs.declared.fault.FaultKind.{FaultKind}
+use Rattle.vcs_machine.specs.declared.fields.StateFields.{StateFields}
+use Rattle.movie_file.specs.declared.checkpoint.Checkpoint.{Checkpoint}
+use Rattle.movie_file.specs.declared.error.MakeError.{MakeError}
+use Rattle.movie_file.specs.declared.error.MakeError.TheVariants.{Fault, BadCounts, NoMemory}
+use Rattle.movie_file.specs.Format.{movie_version, most_frames, most_checkpoints}
+use Rattle.movie_file.specs.Judgement.{IsSound, AllSound, FaultsAt, IsGenuine}
+use Rattle.movie_file.specs.Making.{bare, counts_fit, Explains, IsMadeOf}
+use Rattle.movie_file.specs.MakingSteps.{checkpoint_if, Records, RunFails}
+use Rattle.movie_file.specs.Movie.{MovieData, IsState, AreCheckpoints}
+use Rattle.movie_file.specs.Run.{run, frame_after, state_after}
+
+-- ---- multiples
+
+next_multiple : (every k : ℕ) → 1 ≤ every → (k + 1) % every ≡ 0 → ((k + 1) / every ≡ k / every + 1) × (k + 1 ≡ every * (k / every + 1))
+next_multiple every k some h =
+    let p = (k + 1) / every in
+    let q = k / every in
+    let exact : k + 1 ≡ every * p = omega arith in
+    let turned : p * every ≡ every * p = mul_comm p every in
+    let one : (q + 1) * every ≡ every * q + every = add-mul q 1 every ∙ omega (arith, mul_comm q every) in
+    let two : (q + 2) * every ≡ every * q + 2 * every = add-mul q 2 every ∙ omega (arith, mul_comm q every) in
+    let more : q < p = div_below k every p (omega arith) (omega arith) in
+    let most : p < q + 2 = div_below (k + 1) every (q + 2) (omega arith) (omega arith) in
+    let is : p ≡ q + 1 = omega arith in
+    (is, exact ∙ ap (λ (n : ℕ). every * n) is)
+
+no_multiple : (every k : ℕ) → 1 ≤ every → (k + 1) % every ≢ 0 → (k + 1) / every ≡ k / every
+no_multiple every k some h =
+    let p = (k + 1) / every in
+    let turned : p * every ≡ every * p = mul_comm p every in
+    let one : (p + 1) * every ≡ every * p + every = add-mul p 1 every ∙ omega (arith, mul_comm p every) in
+    let low : p ≤ k / every = le-div p k every (omega arith) (omega arith) in
+    let high : k / every < p + 1 = div_below k every (p + 1) (omega arith) (omega arith) in
+    omega arith
+
+pub has_room : (every k n count capacity : ℕ) → 1 ≤ every → count ≡ k / every → k < n → n / every ≤ capacity → (k + 1) % every ≡ 0 → count < capacity
+has_room every k n count capacity some is less room h =
+    let next = (next_multiple every k some h).0 in
+    let more : (k + 1) / every ≤ n / every = le-div ((k + 1) / every) n every (omega arith) (omega (arith, div-mul-le_self (k + 1) every)) in
+    omega arith
+
+pub counts_are : (n every : ℕ) → IsTrue (counts_fit n every) → (1 ≤ n) × (n ≤ most_frames) × (1 ≤ every) × (n / every ≤ most_checkpoints)
+counts_are n every h = search rules
+
+-- ---- one checkpoint more
+
+abbrev found : Checkpoint → Option Checkpoint
+found c = Some c
+
+not_found : {P : Type 0} (c : Checkpoint) → None ≡ found c → P
+not_found c e = absurd cc
+
+-- what holds of each of a list and of one more holds of each of both
+each_more : (P : ℕ → Checkpoint → Type 0) (cs : List Checkpoint) (d : Checkpoint) → ((j : ℕ) (c : Checkpoint) → slice_get cs j ≡ Some c → P j c) → P (length cs) d
+    → (j : ℕ) (c : Checkpoint) → slice_get (cs ++ d ∷ []) j ≡ Some c → P j c
+each_more P [] d each here zero c e = let same : d ≡ c = cc in subst (P 0) same here
+each_more P [] d each here (suc j) c e = not_found c e
+each_more P (b ∷ cs) d each here zero c e = each zero c e
+each_more P (b ∷ cs) d each here (suc j) c e = each_more (λ (i : ℕ). P (suc i)) cs d (λ i x at. each (suc i) x at) here j c e
+
+-- ---- one frame more
+
+module _ (cart : List ℕ) (inputs : List Controls) (k : ℕ) (state : StateFields) (input : Controls)
+    (is : run (bare cart inputs) (power_on cart) 0 k ≡ Some state) (at : slice_get inputs k ≡ Some input) where
+  frame_is : (outcome : Outcome) → frame_of cart state input ≡ outcome → frame_after (bare cart inputs) (0 + k) state ≡ Some outcome
+  frame_is outcome e = let none : 0 + k ≡ k = omega arith in rw (none, at, e) refl
+
+  pub run_next : (new : StateFields) (rows : Rows) → frame_of cart state input ≡ Played new rows → run (bare cart inputs) (power_on cart) 0 (k + 1) ≡ Some new
+  run_next new rows ends = rw (add-one, is, frame_is (Played new rows) ends) refl
+
+  sound_next : (new : StateFields) (rows : Rows) → frame_of cart state input ≡ Played new rows → AllSound (bare cart inputs) (power_on cart) 0 k → AllSound (bare cart inputs) (power_on cart) 0 (k + 1)
+  sound_next new rows ends sound =
+      below_more (λ (i : ℕ). IsSound (bare cart inputs) (power_on cart) 0 i) k sound (new, run_next new rows ends, λ j c e here. not_found c e)
+
+  pub faults_here : (kind : FaultKind) (left : StateFields) → frame_of cart state input ≡ Failed kind left → FaultsAt (bare cart inputs) (power_on cart) 0 k kind
+  faults_here kind left fails = (state, left, is, frame_is (Failed kind left) fails)
+
+  pub Records-next : (every : ℕ) (cs ds : List Checkpoint) (new : StateFields) (rows : Rows) → 1 ≤ every → Records cart inputs every k cs → frame_of cart state input ≡ Played new rows
+      → ds ≡ cs ++ checkpoint_if every (k + 1) new → IsState new → Records cart inputs every (k + 1) ds
+  Records-next every cs ds new rows some far ends ds-is lawful = rw ds-is (by (eqb ((k + 1) % every) 0) refl)
+    where
+      by : (b : Bool) → eqb ((k + 1) % every) 0 ≡ b → Records cart inputs every (k + 1) (cs ++ cond {A = List Checkpoint} b (record { frame = k + 1; state = new } ∷ []) [])
+      by true e =
+          let m = next_multiple every k some (eqb-true _ _ e) in
+          let d : Checkpoint = record { frame = k + 1; state = new } in
+          let place : k + 1 ≡ every * (length cs + 1) = m.1 ∙ ap (λ (n : ℕ). every * (n + 1)) (sym far.count) in
+          record {
+            sound = sound_next new rows ends far.sound;
+            count = omega (arith, length-append cs (d ∷ []), far.count, m.0);
+            places = each_more (λ (j : ℕ) (c : Checkpoint). c.frame ≡ every * (j + 1)) cs d far.places place;
+            states = each_more (λ (j : ℕ) (c : Checkpoint). run (bare cart inputs) (power_on cart) 0 c.frame ≡ Some c.state) cs d far.states (run_next new rows ends);
+            lawful = each_more (λ (j : ℕ) (c : Checkpoint). IsState c.state) cs d far.lawful lawful;
+          }
+      by false e = rw (append-nil cs) (record {
+        sound = sound_next new rows ends far.sound;
+        count = far.count ∙ sym (no_multiple every k some (eqb-false _ _ e));
+        places = far.places;
+        states = far.states;
+        lawful = far.lawful;
+      })
+
+pub Records-none : (cart : List ℕ) (inputs : List Controls) (every : ℕ) → Records cart inputs every 0 []
+Records-none cart inputs every = record {
+  sound = λ i less. absurd (omega arith);
+  count = omega arith;
+  places = λ j c e. not_found c e;
+  states = λ j c e. not_found c e;
+  lawful = λ j c e. not_found c e;
+}
+
+-- ---- the movie
+
+abbrev pub with_checkpoints : List ℕ → List Controls → List Checkpoint → MovieData
+with_checkpoints cart inputs cs = record { version = movie_version; cart = cart; start = power_on cart; inputs = inputs; checkpoints = cs }
+
+-- a run knows nothing of checkpoints
+run_same : (cart : List ℕ) (inputs : List Controls) (cs : List Checkpoint) (k : ℕ) → run (bare cart inputs) (power_on cart) 0 k ≡ run (with_checkpoints cart inputs cs) (power_on cart) 0 k
+run_same cart inputs cs zero = refl
+run_same cart inputs cs (suc k) =
+    ap (λ (before : Option StateFields). option_and_then (λ state. state_after (frame_after (bare cart inputs) (0 + k) state)) before) (run_same cart inputs cs k)
+
+-- checkpoints at multiples rise
+rising : (every n b : ℕ) (cs : List Checkpoint) → 1 ≤ every → ((j : ℕ) (c : Checkpoint) → slice_get cs j ≡ Some c → c.frame ≡ every * (b + j + 1))
+    → ((j : ℕ) (c : Checkpoint) → slice_get cs j ≡ Some c → IsState c.state) → every * (b + length cs) ≤ n → AreCheckpoints (every * b) n cs
+rising every n b [] some places lawful fits = tt
+rising every n b (d ∷ cs) some places lawful fits =
+    let first : d.frame ≡ every * (b + 0 + 1) = places 0 d refl in
+    let next : every * (b + 1) ≡ d.frame = omega (arith, first) in
+    let later = rising every n (b + 1) cs some
+    (λ j c e. let at : b + suc j + 1 ≡ b + 1 + j + 1 = omega arith in places (suc j) c e ∙ ap (λ (i : ℕ). every * i) at)
+    (λ j c e. lawful (suc j) c e) (omega arith)
+    in
+    (omega arith, omega arith, lawful 0 d refl, subst (λ (f : ℕ). AreCheckpoints f n cs) next later)
+
+module _ (cart : List ℕ) (inputs : List Controls) (every : ℕ) (cs : List Checkpoint) (some : 1 ≤ every) (far : Records cart inputs every (length inputs) cs) where
+  pub IsMadeOf-run : IsMadeOf cart inputs every (with_checkpoints cart inputs cs)
+  IsMadeOf-run = record {
+    version = refl;
+    cart_is = refl;
+    start = refl;
+    inputs_are = refl;
+    count = far.count;
+    places = far.places;
+    states = λ j c e. sym (run_same cart inputs cs c.frame) ∙ far.states j c e;
+  }
+
+  pub IsGenuine-run : IsGenuine (with_checkpoints cart inputs cs)
+  IsGenuine-run i less =
+      let sound = far.sound i less in (
+        sound.0,
+        sym (run_same cart inputs cs (i + 1)) ∙ sound.1,
+        λ j c e here.
+            let at : c.frame ≡ i + 1 = omega arith in
+            let claimed = far.states j c e in
+            let ran = sound.1 in
+            let claimed-here = subst (λ (f : ℕ). run (bare cart inputs) (power_on cart) 0 f ≡ Some c.state) at claimed in cc,
+      )
+
+  pub AreCheckpoints-run : AreCheckpoints 0 (length inputs) cs
+  AreCheckpoints-run =
+      let none : every * 0 ≡ 0 = omega arith in
+      let most : every * (0 + length cs) ≡ every * (length inputs / every) = ap (λ (i : ℕ). every * i) (omega (arith, far.count)) in
+      let fits : every * (0 + length cs) ≤ length inputs = omega arith in
+      subst (λ (f : ℕ). AreCheckpoints f (length inputs) cs) none (rising every (length inputs) 0 cs some
+      (λ j c e. let at : j + 1 ≡ 0 + j + 1 = omega arith in far.places j c e ∙ ap (λ (i : ℕ). every * i) at) far.lawful fits)
+
+abbrev from_start : List ℕ → List Controls → List Checkpoint → StateFields → MovieData
+from_start cart inputs cs start = record { version = movie_version; cart = cart; start = start; inputs = inputs; checkpoints = cs }
+
+-- the movie of these parts is the made one
+pub made_of_parts : (cart : List ℕ) (inputs seen : List Controls) (every : ℕ) (cs : List Checkpoint) (start : StateFields) (m : MovieData)
+    → IsTrue (counts_fit (length inputs) every) → seen ≡ inputs → Records cart seen every (length seen) cs → start ≡ power_on cart → m ≡ from_start cart inputs cs start
+    → IsMadeOf cart inputs every m × IsGenuine m
+made_of_parts cart inputs seen every cs start m fit seen-is made start-is m-is =
+    let some = (counts_are (length inputs) every fit).2 in
+    let far = subst (λ (is : List Controls). Records cart is every (length is) cs) seen-is made in
+    let is = sym (m-is ∙ ap (from_start cart inputs cs) start-is) in
+    (subst (IsMadeOf cart inputs every) is (IsMadeOf-run cart inputs every cs some far), subst IsGenuine is (IsGenuine-run cart inputs every cs some far))
+
+-- why a run stopped is why no movie is made
+pub explains : (cart : List ℕ) (inputs seen : List Controls) (every : ℕ) (e : MakeError) → seen ≡ inputs → IsTrue (counts_fit (length inputs) every) → RunFails cart seen e → Explains cart inputs every e
+explains cart inputs seen every (Fault frame kind) is fit fails = (fit, rw is at fails)
+explains cart inputs seen every BadCounts is fit fails = absurd fails
+explains cart inputs seen every NoMemory is fit fails = absurd fails

@@ -1,0 +1,46 @@
+-- Making a movie: a run from power-on, with its state after each so many frames as a checkpoint. This project's own.
+use Rattle.std.specs.Prelude.{◌≡◌, ℕ, ◌+◌, ◌*◌, ◌/◌, ◌<◌, List, [], length, Bool, ◌&&◌, nat_le, IsTrue, Some, slice_get}
+use Rattle.vcs_machine.specs.Inputs.{Controls}
+use Rattle.vcs_machine.specs.States.{power_on}
+use Rattle.vcs_machine.specs.declared.fault.FaultKind.{FaultKind}
+use Rattle.movie_file.specs.declared.checkpoint.Checkpoint.{Checkpoint}
+use Rattle.movie_file.specs.declared.error.MakeError.{MakeError}
+use Rattle.movie_file.specs.declared.error.MakeError.TheVariants.{Fault, BadCounts, NoMemory}
+use Rattle.movie_file.specs.Format.{movie_version, most_frames, most_checkpoints}
+use Rattle.movie_file.specs.Judgement.{AllSound, FaultsAt}
+use Rattle.movie_file.specs.Movie.{MovieData}
+use Rattle.movie_file.specs.Run.{run}
+
+-- frames of which a movie can be made, with a checkpoint after each `every` of them
+abbrev pub counts_fit : ℕ → ℕ → Bool
+counts_fit frames every =
+    nat_le 1 frames && nat_le frames most_frames && nat_le 1 every && nat_le (frames / every) most_checkpoints
+
+-- The movie of a run from power-on. Checkpoint j + 1 claims the state of the run after frame every * (j + 1), and there
+-- is one for each multiple of `every` up to the last frame.
+pub record IsMadeOf (cart : List ℕ) (inputs : List Controls) (every : ℕ) (m : MovieData) : Type 0 where
+  pub version : m.version ≡ movie_version
+  pub cart_is : m.cart ≡ cart
+  pub start : m.start ≡ power_on cart
+  pub inputs_are : m.inputs ≡ inputs
+  pub count : length m.checkpoints ≡ length inputs / every
+  pub places : (j : ℕ) (c : Checkpoint) → slice_get m.checkpoints j ≡ Some c → c.frame ≡ every * (j + 1)
+  pub states : (j : ℕ) (c : Checkpoint) → slice_get m.checkpoints j ≡ Some c → run m m.start 0 c.frame ≡ Some c.state
+
+-- a movie that claims nothing
+abbrev pub bare : List ℕ → List Controls → MovieData
+bare cart inputs =
+    record { version = movie_version; cart = cart; start = power_on cart; inputs = inputs; checkpoints = [] }
+
+-- this frame of the run from power-on, counted from 1, faults, and each frame before it ends
+abbrev pub IsFirstFault : List ℕ → List Controls → ℕ → FaultKind → Type 0
+IsFirstFault cart inputs frame kind =
+    (k : ℕ) × (frame ≡ k + 1) × AllSound (bare cart inputs) (power_on cart) 0 k
+    × FaultsAt (bare cart inputs) (power_on cart) 0 k kind
+
+-- Why no movie is made. The counts are looked at first, and memory is taken before the run, where there is a checkpoint.
+abbrev pub Explains : List ℕ → List Controls → ℕ → MakeError → Type 0
+Explains cart inputs every (Fault frame kind) =
+    IsTrue (counts_fit (length inputs) every) × IsFirstFault cart inputs frame kind
+Explains cart inputs every BadCounts = ¬ IsTrue (counts_fit (length inputs) every)
+Explains cart inputs every NoMemory = IsTrue (counts_fit (length inputs) every) × (0 < length inputs / every)

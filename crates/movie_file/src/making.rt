@@ -1,0 +1,140 @@
+//! Making movies.
+ghost use Rattle.std.specs.Prelude.{◌≡◌, ◌↔◌, ◌%◌, ◌/◌, ◌≤◌, ◌<◌, ◌++◌, ◌==◌, List, [], ◌∷◌, length, vec_len, vec_capacity, if◌then◌else◌, IfOk, IfErr, OnOk, IsTrue};
+ghost use Rattle.std.specs.List.{AllByRecursion};
+ghost use Rattle.vcs_machine.specs.Inputs.{is_input};
+ghost use Rattle.vcs_machine.specs.Outcomes.{Played, Failed, frame_of};
+ghost use Rattle.vcs_machine.specs.Pictures.{Rows};
+ghost use Rattle.movie_file.specs.Judgement.{IsGenuine};
+ghost use Rattle.movie_file.specs.Making.{Explains, IsMadeOf, counts_fit};
+ghost use Rattle.movie_file.specs.MakingSteps.{Records, RunFails, checkpoint_if};
+ghost use Rattle.movie_file.specs.Movie.{IsState};
+
+use crate::checkpoint::Checkpoint;
+use crate::error::MakeError;
+use crate::format::{MOST_CHECKPOINTS, MOST_FRAMES};
+use crate::movie::Movie;
+use crate::parts::MovieParts;
+use riot_map::Cart;
+use std::alloc::Global;
+use vcs_machine::{FaultKind, FrameError, Input, State, frame};
+
+/// Whether a movie can have so many frames, and a checkpoint after each `every` of them.
+fn do_counts_fit(frames: usize, every: u32) -> bool
+    ensures { result ≡ counts_fit frames every }
+{
+    1 <= frames
+        && frames <= MOST_FRAMES as usize
+        && 1 <= every
+        && frames / every as usize <= MOST_CHECKPOINTS as usize
+}
+
+/// Reads a state, which says that it is one.
+fn look_at(state: &State)
+    ensures { IsState state.now }
+{
+    let _fields = state.fields();
+}
+
+/// Reads each input, which says that it is one.
+fn look_at_inputs(inputs: &[Input])
+    ensures { AllByRecursion (λ i. IsTrue (is_input i)) inputs.now }
+{
+    for input in inputs {
+        let _bytes = input.bytes();
+    }
+}
+
+/// One frame, whose picture is not kept.
+fn play(alloc: Global, cart: &Cart, state: &mut State, input: Input) -> Result<(), FaultKind>
+    ensures ok { OnOk result
+        ((rows : Rows) × (frame_of cart.now state.old input ≡ Played state.new rows)) }
+    ensures err { IfErr result (λ kind. frame_of cart.now state.old input ≡ Failed kind state.new) }
+{
+    match frame(alloc, cart, state, input, false) {
+        Ok(_) => Ok(()),
+        Err(FrameError::Fault(kind)) => Err(kind),
+        Err(FrameError::NoMemory) => unreachable!(),
+    }
+}
+
+/// Adds the checkpoint after a frame, where one stands there. It takes no memory.
+fn claim(checkpoints: &mut Vec<Checkpoint>, every: u32, frame: u32, state: &State)
+    requires every { 1 ≤ every }
+    requires room { frame % every ≡ 0
+        → vec_len checkpoints.old < vec_capacity checkpoints.old }
+    ensures items { checkpoints.new.items
+        ≡ checkpoints.old.items ++ checkpoint_if every frame state.now }
+    ensures lawful { IsState state.now }
+    ensures capacity { vec_capacity checkpoints.new ≡ vec_capacity checkpoints.old }
+{
+    look_at(state);
+    if frame % every == 0 {
+        let state = state.copy();
+        checkpoints.push_reserved(Checkpoint { frame, state });
+    }
+}
+
+/// The checkpoints of a run from power-on, put into an empty list that has room for them.
+fn checkpoints_of_run(
+    alloc: Global,
+    mut checkpoints: Vec<Checkpoint>,
+    cart: &Cart,
+    inputs: &[Input],
+    every: u32,
+) -> Result<Vec<Checkpoint>, MakeError>
+    requires empty { checkpoints.items ≡ [] }
+    requires counts { IsTrue (counts_fit (length inputs.now) every) }
+    requires room { length inputs.now / every ≤ vec_capacity checkpoints }
+    ensures ok { IfOk result (λ made.
+        Records cart.now inputs.now every (length inputs.now) made.items) }
+    ensures err { IfErr result (RunFails cart.now inputs.now) }
+{
+    let mut state = State::power_on(cart);
+    for i in 0..inputs.len() {
+        let frame = i as u32 + 1;
+        match play(alloc, cart, &mut state, inputs[i]) {
+            Ok(()) => claim(&mut checkpoints, every, frame, &state),
+            Err(kind) => return Err(MakeError::Fault { frame, kind }),
+        }
+    }
+    Ok(checkpoints)
+}
+
+/// The movie of a run from power-on on a cartridge, one frame for each input, with a checkpoint
+/// after each `every` frames.
+///
+/// `BadCounts` comes first: for no inputs, more than 65,535, `every` 0, or more than 4,095
+/// checkpoints. Then the memory of the checkpoints is taken, in one growth; where that is refused
+/// `NoMemory` comes before any frame. `Fault` names the first frame that faults.
+pub fn make_movie(
+    alloc: Global,
+    cart: Cart,
+    inputs: Vec<Input>,
+    every: u32,
+) -> Result<Movie, MakeError>
+    ensures made { IfOk result (λ movie. IsMadeOf cart inputs.items every movie) }
+    ensures genuine { IfOk result (λ movie. IsGenuine movie) }
+    ensures refused { IfErr result (Explains cart inputs.items every) }
+    ensures counts { IfOk result (λ movie. IsTrue (counts_fit (length inputs.items) every)) }
+{
+    if !do_counts_fit(inputs.len(), every) {
+        return Err(MakeError::BadCounts);
+    }
+    let Ok(checkpoints) = Vec::with_capacity(alloc, inputs.len() / every as usize) else {
+        return Err(MakeError::NoMemory);
+    };
+    let checkpoints = match checkpoints_of_run(alloc, checkpoints, &cart, &inputs, every) {
+        Ok(checkpoints) => checkpoints,
+        Err(e) => return Err(e),
+    };
+    let start = State::power_on(&cart);
+    let _bytes = cart.bytes();
+    look_at(&start);
+    look_at_inputs(&inputs);
+    Ok(Movie::from_parts(MovieParts {
+        cart,
+        start,
+        inputs,
+        checkpoints,
+    }))
+}
