@@ -1,5 +1,11 @@
 pub mod CheckpointLemmas
+pub mod Composition
+pub mod CutLemmas
+pub mod FindLemmas
+pub mod GatherLemmas
 pub mod KeepLemmas
 pub mod OneVerdict
 pub mod RunLemmas
+pub mod SegmentLemmas
 pub mod StepLemmas
+pub mod TakeLemmas

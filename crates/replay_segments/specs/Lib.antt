@@ -1,4 +1,9 @@
+pub mod Cuts
+pub mod Finding
+pub mod Gathering
 pub mod Keeping
 pub mod KeptPictures
+pub mod Pieces
+pub mod Segments
 pub mod Steps
 pub mod Verdicts

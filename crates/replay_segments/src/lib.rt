@@ -1,12 +1,28 @@
-//! The replay of movies, and the verdict of a movie: genuine, its first false checkpoint, or its fault.
+//! The replay of movies, and the verdict of a movie: genuine, its first false checkpoint, or its
+//! fault.
+//!
+//! A movie is replayed whole, or cut at checkpoints into segments that are replayed apart, each
+//! from the state that its first cut claims; the pieces then give the same verdict.
 #![tactic(auto)]
 
+mod cuts;
+mod finding;
+mod gathering;
+mod joining;
 mod judge;
 mod keep;
 mod laws;
+mod outcome;
+mod piece;
+mod segment;
 mod verdict;
 
+pub use cuts::{BadCuts, Cuts, CutsError};
+pub use gathering::{GatherError, gather};
 pub use judge::verify_one;
 pub use keep::{BadKeep, Keep};
-pub use laws::law_of_one_verdict;
+pub use laws::{law_of_one_outcome, law_of_one_verdict};
+pub use outcome::Outcome;
+pub use piece::Piece;
+pub use segment::replay;
 pub use verdict::{Frames, Verdict};

@@ -1,53 +1,96 @@
-//! Judges a movie on standard input: prints its verdict, and ends with its status.
+//! The program: judges movies, makes them, and says what they hold.
 //!
-//! Status 0: genuine; 1: a false checkpoint; 2: a fault; 3: no movie; 4: a word on the command line, which has no commands yet;
-//! 5: an error of reading, of writing or of memory, which is printed on standard error.
+//! Status 0: done; 1: a false checkpoint; 2: a fault; 3: refused; 4: no command; 5: an error of files, memory or devices, which is
+//! printed on standard error. Without words it judges the movie on standard input.
 #![tactic(auto)]
 
-use std::alloc::Global;
+mod commands;
+
+ghost use Rattle.command_line.specs.Ranges.{IsInRange};
+
 use std::env;
 use std::io;
-use std::io::{Read, Write};
+use std::io::{Eprint, Read, Write};
 use std::process::ExitCode;
+use std::rt::Files;
 
-use replay_segments::Keep;
-use vcs_engine::{Plan, RunError, Status, run};
+use command_line::{Command, LineFault, parse_line};
+use vcs_engine::{RunError, Status};
 
-/// The exit status of a command line that is no command.
+use commands::{Failure, info, judge, make, plan_of, verify, verify_with_pictures};
+
+/// The exit status of words that are no command.
 const USAGE: u8 = 4;
 
-/// The exit status of a run that did not reach its end.
+/// The exit status of a command that did not reach its end.
 const FAILED: u8 = 5;
 
-/// One worker, a cut at each checkpoint, and no picture.
-fn plan() -> Plan {
-    let keep = Keep::new(1, 0).unwrap();
-    Plan::new(1, 1, keep).unwrap()
-}
-
-/// Judges a movie, and writes its line through a buffer. That the last write failed may show only as the buffer is emptied.
-fn judge<R: Read, W: Write + Drop>(alloc: Global, movie: &mut R, line: W) -> Result<Status, RunError> {
-    let Ok(mut line) = io::BufWriter::new(alloc, line) else {
-        return Err(RunError::NoMemory);
-    };
-    let status = run(alloc, movie, &plan(), &mut line, &mut io::sink())?;
-    match line.flush() {
-        Ok(()) => Ok(status),
-        Err(_) => Err(RunError::WriteFault),
+/// Does what a command asks for.
+fn execute<R: Files + AllocGlobal, I: Read, W: Write>(
+    rt: &R,
+    input: &mut I,
+    line: &mut W,
+    command: &Command,
+) -> Result<Status, Failure>
+    requires { IsInRange command.now }
+{
+    match command {
+        Command::Stdin => judge(rt.alloc(), input, &plan_of(1, 1, 1, 0), line),
+        Command::Verify {
+            file,
+            workers,
+            every,
+            first,
+            count,
+            pictures,
+        } => {
+            let plan = plan_of(*workers, *every, *first, *count);
+            match pictures {
+                Some(pictures) => verify_with_pictures(rt, file, &plan, pictures, line),
+                None => verify(rt, file, &plan, line),
+            }
+        }
+        Command::Make {
+            rom,
+            inputs,
+            every,
+            out,
+        } => make(rt, rom, inputs, *every, out, line),
+        Command::Info { file } => info(rt, file, line),
     }
 }
 
+/// Prints help, or the version.
+fn help(rt: &impl Print, text: &str) -> Result<Status, Failure> {
+    match print!(rt; "{text}") {
+        Ok(()) => Ok(Status::Done),
+        Err(_) => Err(Failure::Run(RunError::WriteFault)),
+    }
+}
+
+/// Prints why a command did not reach its end.
+fn failed(rt: &impl Eprint, failure: Failure) -> ExitCode {
+    let _printed = eprintln!(rt; "error: {failure}");
+    ExitCode::from(FAILED)
+}
+
 fn main(rt: HostRuntime) -> ExitCode {
-    let judged = match env::args(&rt) {
-        Ok(words) if words.len() > 1 => return ExitCode::from(USAGE),
-        Ok(_) => judge(rt.alloc(), &mut rt.stdin(), io::writer(&rt)),
-        Err(_) => Err(RunError::NoMemory),
+    let words = match env::args(&rt) {
+        Ok(words) => words,
+        Err(error) if error.kind() == io::ErrorKind::OutOfMemory => return failed(&rt, Failure::Run(RunError::NoMemory)),
+        Err(_) => return ExitCode::from(USAGE),
     };
-    match judged {
-        Ok(status) => ExitCode::from(status.code()),
-        Err(error) => {
-            let _printed = eprintln!(rt; "error: {error}");
-            ExitCode::from(FAILED)
+    let done = match parse_line(rt.alloc(), words.as_slice()) {
+        Ok(command) => execute(&rt, &mut rt.stdin(), &mut io::writer(&rt), &command),
+        Err(LineFault::Help { text }) => help(&rt, &text),
+        Err(LineFault::Usage { text }) => {
+            let _printed = eprint!(rt; "{text}");
+            return ExitCode::from(USAGE);
         }
+        Err(LineFault::Memory) => Err(Failure::Run(RunError::NoMemory)),
+    };
+    match done {
+        Ok(status) => ExitCode::from(status.code()),
+        Err(failure) => failed(&rt, failure),
     }
 }

@@ -62,3 +62,25 @@ front_longer a b p q h = record { front = h.front; rest = h.rest ++ q; whole = a
 pub front_after : (a b c : Option (List ℕ)) (p q : List ℕ) → Appends a b p → AppendsFront b c q → AppendsFront a c (p ++ q)
 front_after a b c p q h k = record { front = p ++ k.front; rest = k.rest; whole = ap (λ (w : List ℕ). p ++ w) k.whole ∙ sym (append_assoc p k.front k.rest); written = appends_then a b c p k.front h k.written }
 
+-- the pieces of a list, up to one and from the next
+pieces_at : {X : Type 0} (f : X → List ℕ) (xs : List X) (i : ℕ) (d : X) → i < length xs → flat_map f xs ≡ flat_map f (take i xs) ++ (f (get_or xs i d) ++ flat_map f (drop (suc i) xs))
+pieces_at f xs i d lt =
+    ap (flat_map f) (sym (take-append-drop i xs)) ∙ flat_map-append f (take i xs) (drop i xs)
+    ∙ ap (λ (w : List _). flat_map f (take i xs) ++ flat_map f w) (drop-cons xs i d lt) ∙ ap (λ (w : List ℕ). flat_map f (take i xs) ++ w) (flat_map-cons f (get_or xs i d) (drop (suc i) xs))
+
+-- a front of one piece, behind a head and the pieces before it
+pub front_behind : {X : Type 0} (f : X → List ℕ) (h : List ℕ) (xs : List X) (i : ℕ) (d : X) (a b c : Option (List ℕ)) → i < length xs → Appends a b (h ++ flat_map f (take i xs)) → AppendsFront b c (f (get_or xs i d)) → AppendsFront a c (h ++ flat_map f xs)
+front_behind f h xs i d a b c lt before k =
+    let piece = f (get_or xs i d) in
+    let rest = flat_map f (drop (suc i) xs) in
+    let whole : h ++ flat_map f xs ≡ (h ++ flat_map f (take i xs)) ++ (piece ++ rest) = ap (λ (w : List ℕ). h ++ w) (pieces_at f xs i d lt) ∙ sym (append_assoc h (flat_map f (take i xs)) (piece ++ rest)) in
+    subst (AppendsFront a c) (sym whole) (front_after a b c (h ++ flat_map f (take i xs)) (piece ++ rest) before (front_longer b c piece rest k))
+
+pub front_in : {X : Type 0} (f : X → List ℕ) (xs : List X) (i : ℕ) (d : X) (a b c : Option (List ℕ)) → i < length xs → Appends a b (flat_map f (take i xs)) → AppendsFront b c (f (get_or xs i d)) → AppendsFront a c (flat_map f xs)
+front_in f xs i d a b c lt before k = front_behind f [] xs i d a b c lt before k
+
+pub appends_behind : {X : Type 0} (f : X → List ℕ) (h : List ℕ) (xs : List X) (i : ℕ) (d : X) (a b c : Option (List ℕ)) → i < length xs → Appends a b (h ++ flat_map f (take i xs)) → Appends b c (f (get_or xs i d)) → Appends a c (h ++ flat_map f (take (i + 1) xs))
+appends_behind f h xs i d a b c lt before k =
+    let piece = f (get_or xs i d) in
+    let whole : (h ++ flat_map f (take i xs)) ++ piece ≡ h ++ flat_map f (take (i + 1) xs) = flat_map_more f h (take i xs) (get_or xs i d) ∙ ap (λ (w : List _). h ++ flat_map f w) (sym (take_more xs i d lt)) in
+    subst (Appends a c) whole (appends_then a b c (h ++ flat_map f (take i xs)) piece before k)

@@ -1,1 +1,2 @@
+pub mod DecimalDigits
 pub mod KnownBytes

@@ -1,39 +1,61 @@
 //! From the bytes of a movie to its verdict.
-ghost use Rattle.std.specs.Prelude.{◌≡◌, ◌≢◌, List, ℕ, IfOk, OnErr};
+ghost use Rattle.std.specs.Prelude.{◌≡◌, ◌≢◌, List, ℕ, IfOk, OnOk, OnErr};
 ghost use Rattle.std.specs.Io.KnownBytes.{Appends, Keeps};
+ghost use Rattle.vcs_engine.specs.OutputViews.{told_by};
 ghost use Rattle.vcs_engine.specs.Outputs.{Told, Tells};
-ghost use Rattle.vcs_engine.specs.Streams.{ReadsAll, AppendsFront, IsTooLong};
+ghost use Rattle.vcs_engine.specs.PictureBytes.{pictures_bytes};
+ghost use Rattle.vcs_engine.specs.Streams.{ReadsAll, IsTooLong, WritesPart};
 
-use std::alloc::Global;
-use std::io::{Read, Write};
-
+use crate::netpbm::write_pictures;
 use crate::output::Output;
 use crate::plan::Plan;
 use crate::run_error::RunError;
 use crate::status::Status;
-use crate::streams::{read_all, write_bytes};
+use crate::streams::{WriteFault, read_all, write_bytes};
+use std::alloc::Global;
+use std::io::{Read, Write};
 
-/// Reads a movie, judges it, and writes its line, which ends with a line feed.
+/// Writes the line, then the pictures.
+fn deliver<W: Write, P: Write>(
+    output: &Output,
+    verdict: &mut W,
+    pictures: &mut P,
+) -> Result<(), WriteFault>
+    ensures line { OnOk result (Appends (W.contents verdict.old) (W.contents verdict.new) (told_by output.now).line) }
+    ensures pictures { OnOk result (Appends (P.contents pictures.old) (P.contents pictures.new) (pictures_bytes (told_by output.now).pictures)) }
+    ensures err { OnErr result (WritesPart (W.contents verdict.old) (W.contents verdict.new) (told_by output.now).line
+        (P.contents pictures.old) (P.contents pictures.new) (pictures_bytes (told_by output.now).pictures)) }
+{
+    write_bytes(output.line.as_bytes(), verdict)?;
+    match &output.pictures {
+        Some(frames) => write_pictures(frames, pictures),
+        None => Ok(()),
+    }
+}
+
+/// Reads a movie, judges it, and writes its line, which ends with a line feed, and then the kept pictures of a genuine movie.
 ///
-/// A movie that is refused is a line and `Status::Refused`. After ReadFault, TooLong and NoMemory nothing was written; after
-/// WriteFault the line's writer has got a front of the line. At most 16,777,218 reads are made. Nothing is written to the
-/// pictures' writer yet.
+/// A movie that is refused is a line and `Status::Refused`. After ReadFault, TooLong and NoMemory nothing was written. After
+/// WriteFault the line's writer has got a front of the line, or the whole line and the pictures' writer a front of the pictures.
+/// At most 16,777,218 reads are made.
 pub fn run<R: Read, W: Write, P: Write>(
     alloc: Global,
     movie: &mut R,
     plan: &Plan,
     verdict: &mut W,
-    _pictures: &mut P,
+    pictures: &mut P,
 ) -> Result<Status, RunError>
     // The output is that of the bytes read, and nothing else.
     ensures ok { IfOk result (λ status. (input : List ℕ) × (told : Told) × ReadsAll (R.remaining movie.old) (R.remaining movie.new) input
-        × Tells plan.now.keep input told × (status ≡ told.status) × Appends (W.contents verdict.old) (W.contents verdict.new) told.line) }
+        × Tells plan.now.keep input told × (status ≡ told.status) × Appends (W.contents verdict.old) (W.contents verdict.new) told.line
+        × Appends (P.contents pictures.old) (P.contents pictures.new) (pictures_bytes told.pictures)) }
     ensures write_fault { result ≡ Err RunError.WriteFault → (input : List ℕ) × (told : Told) × ReadsAll (R.remaining movie.old) (R.remaining movie.new) input
-        × Tells plan.now.keep input told × AppendsFront (W.contents verdict.old) (W.contents verdict.new) told.line }
+        × Tells plan.now.keep input told × WritesPart (W.contents verdict.old) (W.contents verdict.new) told.line
+        (P.contents pictures.old) (P.contents pictures.new) (pictures_bytes told.pictures) }
 
     // What was written after the other errors.
-    ensures quiet { OnErr result (result ≢ Err RunError.WriteFault → Keeps (W.contents verdict.old) (W.contents verdict.new)) }
-    ensures pictures { Keeps (P.contents _pictures.old) (P.contents _pictures.new) }
+    ensures quiet_line { OnErr result (result ≢ Err RunError.WriteFault → Keeps (W.contents verdict.old) (W.contents verdict.new)) }
+    ensures quiet_pictures { OnErr result (result ≢ Err RunError.WriteFault → Keeps (P.contents pictures.old) (P.contents pictures.new)) }
     ensures too_long { result ≡ Err RunError.TooLong → IsTooLong (R.remaining movie.old) }
 {
     let bytes = match read_all(alloc, movie) {
@@ -44,7 +66,7 @@ pub fn run<R: Read, W: Write, P: Write>(
         Ok(output) => output,
         Err(_) => return Err(RunError::NoMemory),
     };
-    match write_bytes(output.line.as_bytes(), verdict) {
+    match deliver(&output, verdict, pictures) {
         Ok(()) => Ok(output.status),
         Err(_) => Err(RunError::WriteFault),
     }

@@ -3,11 +3,10 @@ ghost use Rattle.std.specs.Prelude.{◌≡◌, ◌≢◌, ◌≤◌, OnOk, OnErr
 ghost use Rattle.std.specs.Io.KnownBytes.{Appends};
 ghost use Rattle.vcs_engine.specs.Streams.{ReadsAll, AppendsFront, IsTooLong, input_limit};
 
+use crate::run_error::RunError;
 use std::alloc::Global;
 use std::io::{Read, Write};
 use thiserror::Error;
-
-use crate::run_error::RunError;
 
 /// The most bytes of one input.
 const INPUT_LIMIT: usize = 16_777_216;
@@ -46,7 +45,7 @@ pub(crate) fn read_all<R: Read>(alloc: Global, reader: &mut R) -> Result<Vec<u8>
 /// A write answered an error, or took nothing.
 #[derive(Clone, Copy, Debug, PartialEq, Eq, Error)]
 #[error("write failed")]
-pub(crate) struct WriteFault;
+pub struct WriteFault;
 
 /// Writes all of some bytes, or with a fault a front of them.
 pub(crate) fn write_bytes<W: Write>(bytes: &[u8], writer: &mut W) -> Result<(), WriteFault>

@@ -56,7 +56,12 @@ impl fmt::Display for FaultKind {
 
     fn fmt<W: fmt::Write>(&self, f: &mut fmt::Formatter<W>) -> fmt::Result {
         match *self {
-            FaultKind::BadOpcode { opcode, at } => write!(f, "bad opcode {} at {}", Hex2(opcode), Hex4(at)),
+            FaultKind::BadOpcode { opcode, at } => write!(
+                f,
+                "bad opcode {} at {}",
+                Hex2(opcode),
+                Hex4(at)
+            ),
             FaultKind::FetchOutside { at } => write!(f, "fetch outside at {}", Hex4(at)),
             FaultKind::Overlong => write!(f, "overlong"),
         }
@@ -69,10 +74,15 @@ impl FaultKind {
         ensures { IsTrue result ↔ (self ≡ other) }
     {
         match (self, other) {
-            (FaultKind::BadOpcode { opcode, at }, FaultKind::BadOpcode { opcode: other_opcode, at: other_at }) => {
-                opcode == other_opcode && at == other_at
-            }
-            (FaultKind::FetchOutside { at }, FaultKind::FetchOutside { at: other_at }) => at == other_at,
+            (
+                FaultKind::BadOpcode { opcode, at },
+                FaultKind::BadOpcode {
+                    opcode: other_opcode,
+                    at: other_at,
+                },
+            ) => { opcode == other_opcode && at == other_at }
+            (FaultKind::FetchOutside { at }, FaultKind::FetchOutside { at: other_at }) => at
+                == other_at,
             (FaultKind::Overlong, FaultKind::Overlong) => true,
             _ => false,
         }

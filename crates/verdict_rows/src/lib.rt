@@ -10,4 +10,6 @@ mod making;
 #[cfg(test)]
 mod movies;
 #[cfg(test)]
+mod segments;
+#[cfg(test)]
 mod verdicts;

@@ -4,7 +4,9 @@ use std::alloc::Global;
 use std::test::Fail;
 
 /// LDA #02, STA 80, STA VSYNC, LDA #00, STA VSYNC, JMP F000: a frame of 13 cycles, then frames of 16.
-pub(crate) const ENDLESS_FRAMES: [u8; 13] = [0xA9, 2, 0x85, 0x80, 0x85, 0, 0xA9, 0, 0x85, 0, 0x4C, 0, 0xF0];
+pub(crate) const ENDLESS_FRAMES: [u8; 13] = [
+    0xA9, 2, 0x85, 0x80, 0x85, 0, 0xA9, 0, 0x85, 0, 0x4C, 0, 0xF0,
+];
 
 /// INX, CPX #07, BEQ F010, LDA #02, STA VSYNC, LDA #00, STA VSYNC, JMP F000: byte 02 stands at F010.
 pub(crate) const SEVEN_FRAMES: [u8; 16] = [
@@ -49,17 +51,26 @@ pub(crate) fn rom(program: &[u8]) -> [u8; 2048] {
 }
 
 /// A movie of so many frames with idle inputs, and checkpoints after frames 1, 2, ...
-pub(crate) fn movie(alloc: Global, program: &[u8], start: &[u8; 187], frames: u8, checkpoints: &[[u8; 187]]) -> Result<Vec<u8>, Fail> {
+pub(crate) fn movie(
+    alloc: Global,
+    program: &[u8],
+    start: &[u8; 187],
+    frames: u8,
+    checkpoints: &[[u8; 187]],
+) -> Result<Vec<u8>, Fail> {
+    let count = u8::try_from(checkpoints.len())?;
     let mut bytes = Vec::new(alloc);
     bytes.extend_from_slice(b"A26M")?;
-    bytes.extend_from_slice(&[0, 1, 8, 0, 0, 0, 0, frames, 0, checkpoints.len().min(255) as u8])?;
+    bytes.extend_from_slice(&[0, 1, 8, 0, 0, 0, 0, frames, 0, count])?;
     bytes.extend_from_slice(&rom(program))?;
     bytes.extend_from_slice(start)?;
     for _frame in 0..frames {
         bytes.extend_from_slice(&[0xFF, 0x3F, 0])?;
     }
-    for (i, record) in checkpoints.iter().enumerate() {
-        bytes.extend_from_slice(&(i as u32 % 1000 + 1).to_be_bytes())?;
+    let mut frame = 0u32;
+    for record in checkpoints {
+        frame = frame.saturating_add(1);
+        bytes.extend_from_slice(&frame.to_be_bytes())?;
         bytes.extend_from_slice(record)?;
     }
     Ok(bytes)
@@ -67,5 +78,11 @@ pub(crate) fn movie(alloc: Global, program: &[u8], start: &[u8; 187], frames: u8
 
 /// Two genuine frames with a true checkpoint after the first.
 pub(crate) fn two_frames(alloc: Global) -> Result<Vec<u8>, Fail> {
-    movie(alloc, &ENDLESS_FRAMES, &power_on(), 2, &[after_frame(0xF3, 0x0D)])
+    movie(
+        alloc,
+        &ENDLESS_FRAMES,
+        &power_on(),
+        2,
+        &[after_frame(0xF3, 0x0D)],
+    )
 }

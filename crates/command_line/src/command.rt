@@ -1,0 +1,57 @@
+//! What a command line asks for.
+
+use std::alloc::AllocError;
+use thiserror::Error;
+
+/// What a command line asks for.
+#[derive(Debug, Drop)]
+pub enum Command {
+    /// Judge the movie on standard input.
+    Stdin,
+    /// Judge a movie.
+    Verify {
+        file: String,
+        /// How many threads replay it, 1 to 64.
+        workers: u8,
+        /// A cut at each so many checkpoints, at least 1.
+        every: u16,
+        /// The first frame whose picture is kept, at least 1.
+        first: u32,
+        /// How many are kept, at most 600; 0 where no pictures are wanted.
+        count: u32,
+        /// The file that takes the pictures.
+        pictures: Option<String>,
+    },
+    /// Make a movie of a cartridge and the inputs of its frames.
+    Make {
+        rom: String,
+        inputs: String,
+        /// A checkpoint after each so many frames, at least 1.
+        every: u32,
+        out: String,
+    },
+    /// Say what a movie holds.
+    Info {
+        file: String,
+    },
+}
+
+/// Why there is no command.
+#[derive(Debug, Drop, Error)]
+pub enum LineFault {
+    /// The words are no command; the text says why.
+    #[error("{text}")]
+    Usage { text: String },
+    /// The words ask for help, or for the version; the text is that.
+    #[error("{text}")]
+    Help { text: String },
+    /// A growth of memory was refused.
+    #[error("out of memory")]
+    Memory,
+}
+
+impl From<AllocError> for LineFault {
+    fn from(_refused: AllocError) -> LineFault {
+        LineFault::Memory
+    }
+}

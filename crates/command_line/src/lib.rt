@@ -1,0 +1,12 @@
+//! The words of a command line, as a command of the program.
+#![tactic(auto)]
+
+mod command;
+mod line;
+mod parser;
+
+pub use command::{Command, LineFault};
+pub use line::parse_line;
+
+#[cfg(test)]
+mod tests;

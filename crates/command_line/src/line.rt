@@ -1,0 +1,103 @@
+//! From words to a command.
+ghost use Rattle.std.specs.Prelude.{IfOk, IfSome};
+ghost use Rattle.command_line.specs.Ranges.{IsInRange};
+
+use crate::command::{Command, LineFault};
+use crate::parser::program;
+use clap::ArgMatches;
+use std::alloc::{AllocError, Global};
+use std::convert::AsStr;
+
+fn text_of(alloc: Global, matches: &ArgMatches<'_>, name: &str) -> Result<String, AllocError> {
+    String::from_str(alloc, matches.get_str(name).unwrap_or(""))
+}
+
+/// The command `verify`, or None where a number is out of its range.
+fn verify_of(alloc: Global, matches: &ArgMatches<'_>) -> Result<Option<Command>, AllocError>
+    ensures { IfOk result (λ found. IfSome found IsInRange) }
+{
+    let file = text_of(alloc, matches, "file")?;
+    let workers = matches.get_one::<u8>("workers").unwrap_or(0);
+    let every = matches.get_one::<u16>("every").unwrap_or(0);
+    let first = matches.get_one::<u32>("first").unwrap_or(0);
+    let wanted = matches.get_one::<u32>("count").unwrap_or(601);
+    let pictures = match matches.get_str("pictures") {
+        Some(name) => Some(String::from_str(alloc, name)?),
+        None => None,
+    };
+    if workers < 1 || 64 < workers || every < 1 || first < 1 || 600 < wanted {
+        return Ok(None);
+    }
+    let count = if pictures.is_some() { wanted } else { 0 };
+    Ok(Some(Command::Verify {
+        file,
+        workers,
+        every,
+        first,
+        count,
+        pictures,
+    }))
+}
+
+/// The command `make`, or None where a number is out of its range.
+fn make_of(alloc: Global, matches: &ArgMatches<'_>) -> Result<Option<Command>, AllocError>
+    ensures { IfOk result (λ found. IfSome found IsInRange) }
+{
+    let rom = text_of(alloc, matches, "rom")?;
+    let inputs = text_of(alloc, matches, "inputs")?;
+    let out = text_of(alloc, matches, "out")?;
+    let every = matches.get_one::<u32>("every").unwrap_or(0);
+    if every < 1 {
+        return Ok(None);
+    }
+    Ok(Some(Command::Make {
+        rom,
+        inputs,
+        every,
+        out,
+    }))
+}
+
+/// What clap says of words that are no command, or that ask for help.
+fn fault_of(alloc: Global, error: &clap::Error) -> LineFault {
+    match error.to_string(alloc) {
+        Ok(text) if error.use_stderr() => LineFault::Usage { text },
+        Ok(text) => LineFault::Help { text },
+        Err(_) => LineFault::Memory,
+    }
+}
+
+fn usage(alloc: Global, text: &str) -> LineFault {
+    match String::from_str(alloc, text) {
+        Ok(text) => LineFault::Usage { text },
+        Err(_) => LineFault::Memory,
+    }
+}
+
+/// The command of some words, of which the first is the program's name.
+///
+/// No other word is `Command::Stdin`. Each number is tried by `clap`, and once more here, since its range is promised.
+pub fn parse_line<S: AsStr>(alloc: Global, words: &[S]) -> Result<Command, LineFault>
+    ensures { IfOk result IsInRange }
+{
+    if words.len() < 2 {
+        return Ok(Command::Stdin);
+    }
+    let program = program(alloc)?;
+    let matches = match program.try_get_matches_from(words) {
+        Ok(matches) => matches,
+        Err(error) => return Err(fault_of(alloc, &error)),
+    };
+    let found = match matches.subcommand() {
+        Some(("verify", inner)) => verify_of(alloc, inner)?,
+        Some(("make", inner)) => make_of(alloc, inner)?,
+        Some(("info", inner)) => Some(Command::Info {
+            file: text_of(alloc, inner, "file")?,
+        }),
+        _ => None,
+    };
+    match found {
+        Some(command) => Ok(command),
+        None => Err(usage(alloc, "error: a number is out of its range\n")),
+    }
+}

@@ -1,0 +1,93 @@
+//! A movie of two frames, read, written, judged and told, where one growth may be refused.
+
+use movie_file::{MovieError, read_movie, write_movie};
+use replay_segments::{Keep, Verdict, verify_one};
+use std::io;
+use std::test::Fail;
+use vcs_engine::{Plan, RunError, Status, run};
+
+/// The bytes of the movie, which take no memory: LDA #02, STA 80, STA VSYNC, LDA #00, STA VSYNC, JMP F000, from power-on, with
+/// a checkpoint after the first frame.
+fn two_frames() -> [u8; 2446] {
+    let mut bytes = [0; 2446];
+    bytes[..14].copy_from_slice(&[0x41, 0x32, 0x36, 0x4D, 0, 1, 8, 0, 0, 0, 0, 2, 0, 1]);
+    bytes[14..27].copy_from_slice(&[
+        0xA9, 2, 0x85, 0x80, 0x85, 0, 0xA9, 0, 0x85, 0, 0x4C, 0, 0xF0,
+    ]);
+    bytes[14 + 0x7FD] = 0xF0;
+    bytes[2065..2068].copy_from_slice(&[0xFF, 0x04, 0xF0]);
+    bytes[2203..2205].copy_from_slice(&[1, 3]);
+    bytes[2249..2255].copy_from_slice(&[0xFF, 0x3F, 0, 0xFF, 0x3F, 0]);
+    bytes[2258] = 1;
+    bytes[2262..2267].copy_from_slice(&[0xFF, 0x06, 0xF0, 0x0A, 2]);
+    bytes[2398] = 0xF3;
+    bytes[2400..2404].copy_from_slice(&[1, 3, 1, 1]);
+    bytes[2444] = 0x0D;
+    bytes
+}
+
+#[test]
+fn verdict_or_want_of_memory(rt: HostRuntime) -> Result<(), Fail> {
+    let bytes = two_frames();
+    let plan = Plan::new(1, 1, Keep::new(1, 2)?)?;
+    let mut line = [0u8; 64];
+    let mut writer = line.as_mut_slice();
+    match run(
+        rt.alloc(),
+        &mut bytes.as_slice(),
+        &plan,
+        &mut writer,
+        &mut io::sink(),
+    ) {
+        Ok(status) => {
+            assert_eq!(rt; status, Status::Done);
+            assert_eq!(rt; writer.len(), 64 - 33);
+        }
+        Err(error) => {
+            assert_eq!(rt; error, RunError::NoMemory);
+            assert_eq!(rt; writer.len(), 64);
+        }
+    }
+    Ok(())
+}
+
+#[test]
+fn pictures_or_want_of_memory(rt: HostRuntime) -> Result<(), Fail> {
+    let movie = match read_movie(rt.alloc(), &two_frames()) {
+        Ok(movie) => movie,
+        Err(error) => {
+            assert_eq!(rt; error, MovieError::NoMemory);
+            return Ok(());
+        }
+    };
+    if let Ok(verdict) = verify_one(rt.alloc(), &movie, Keep::new(1, 2)?) {
+        match verdict {
+            Verdict::Genuine { frames } => assert_eq!(rt; frames.len(), 2),
+            _ => assert!(rt; false, "the movie is genuine"),
+        }
+    }
+    Ok(())
+}
+
+#[test]
+fn whole_spelling_or_nothing(rt: HostRuntime) -> Result<(), Fail> {
+    let bytes = two_frames();
+    let Ok(movie) = read_movie(rt.alloc(), &bytes) else {
+        return Ok(());
+    };
+    let mut out = Vec::new(rt.alloc());
+    match write_movie(&movie, &mut out) {
+        Ok(()) => assert!(rt; out.as_slice() == bytes.as_slice()),
+        Err(_) => assert!(rt; out.is_empty()),
+    }
+    Ok(())
+}
+
+#[test]
+fn no_kept_frame_takes_no_memory_for_its_verdict(rt: HostRuntime) -> Result<(), Fail> {
+    let Ok(movie) = read_movie(rt.alloc(), &two_frames()) else {
+        return Ok(());
+    };
+    assert!(rt; verify_one(rt.alloc(), &movie, Keep::new(1, 0)?).is_ok());
+    Ok(())
+}

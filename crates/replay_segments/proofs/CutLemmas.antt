@@ -1,0 +1,152 @@
+-- Cuts as lists of numbers.
+use Rattle.std.proofs.Common.{◌≡◌, ℕ, zero, suc, ◌+◌, ◌-◌, ◌*◌, ◌/◌, ◌%◌, ◌<◌, ◌≤◌, List, length, Some, slice_get, refl, sym, ap, ◌∙◌, arith, ◌⊎◌, inl, inr}
+use Rattle.std.proofs.Math.Nat.{le-div_iff_mul-le, mul-le-mul_right, mul-mod_left, zero-mul}
+use Rattle.std.proofs.lemmas.Bool.{cases_lt}
+use Rattle.std.proofs.lemmas.Option.{slice_get_cases, slice_get_within, slice_get_read, get_or_from_slice_get}
+use Rattle.std.proofs.lemmas.Nat.{div-add-mod'}
+use Rattle.std.specs.List.{Contains}
+use Rattle.replay_segments.specs.Cuts.{AreCuts, IsEvery}
+
+pub slice_get-below : {X : Type 0} (xs : List X) (i : ℕ) → i < length xs → (x : X) × (slice_get xs i ≡ Some x)
+slice_get-below xs i less =
+    elim (slice_get_cases xs i).1 [ inl w ↦ (w.0, w.2) | inr w ↦ absurd (let h = w.0 in omega arith) ]
+
+pub AreCuts-more : (most more : ℕ) (cuts : List ℕ) → most ≤ more → AreCuts most cuts → AreCuts more cuts
+AreCuts-more most more cuts le are = record {
+  range = λ i n at. let h = are.range i n at in (h.0, omega (arith, h.1));
+  rising = are.rising;
+}
+
+-- Rising numbers from 1 on are above their indices.
+index-below : (most : ℕ) (cuts : List ℕ) → AreCuts most cuts → (i n : ℕ) → slice_get cuts i ≡ Some n → i < n
+index-below most cuts are zero n at = (are.range 0 n at).0
+index-below most cuts are (suc i) n at =
+    let within = slice_get_within cuts (suc i) n at in
+    let (p, before) = slice_get-below cuts i (omega arith) in
+    let low = index-below most cuts are i p before in
+    let rises = are.rising i (suc i) p n (omega arith) before at in omega (arith, low, rises)
+
+pub few : (most : ℕ) (cuts : List ℕ) → AreCuts most cuts → length cuts ≤ most
+few most cuts are = by (cases_lt 0 (length cuts))
+  where
+    by : (0 < length cuts) ⊎ (length cuts ≤ 0) → length cuts ≤ most
+    by (inl some) =
+        let (n, at) = slice_get-below cuts (length cuts - 1) (omega arith) in
+        let low = index-below most cuts are (length cuts - 1) n at in
+        let high = (are.range (length cuts - 1) n at).1 in omega (arith, low, high)
+    by (inr none) = omega arith
+
+-- The first i numbers are cuts, and `last` is the last of them, or 0 where there is none.
+pub record AreCutsBelow (most : ℕ) (numbers : List ℕ) (i last : ℕ) : Type 0 where
+  pub within : last ≤ most
+  pub none : i ≡ 0 → last ≡ 0
+  pub last_is : 0 < i → slice_get numbers (i - 1) ≡ Some last
+  pub range : (j n : ℕ) → j < i → slice_get numbers j ≡ Some n → (0 < n) × (n ≤ last)
+  pub rising : (j k n p : ℕ) → j < k → k < i → slice_get numbers j ≡ Some n → slice_get numbers k ≡ Some p → n < p
+
+pub AreCutsBelow-start : (most : ℕ) (numbers : List ℕ) → AreCutsBelow most numbers 0 0
+AreCutsBelow-start most numbers = record {
+  within = omega arith;
+  none = λ e. refl;
+  last_is = λ less. absurd (omega arith);
+  range = λ j n less. absurd (omega arith);
+  rising = λ j k n p low less. absurd (omega arith);
+}
+
+pub AreCutsBelow-whole : (most : ℕ) (numbers : List ℕ) (i last : ℕ) → length numbers ≤ i → AreCutsBelow most numbers i last → AreCuts most numbers
+AreCutsBelow-whole most numbers i last past below = record {
+  range = λ j n at.
+      let within = slice_get_within numbers j n at in
+      let h = below.range j n (omega arith) at in
+      let top = below.within in (h.0, omega (arith, h.1, top));
+  rising = λ j k n p less at there. below.rising j k n p less (let within = slice_get_within numbers k p there in omega arith) at there;
+}
+
+module _ (most : ℕ) (numbers : List ℕ) (i last number : ℕ) (at : slice_get numbers i ≡ Some number) (below : AreCutsBelow most numbers i last) where
+  -- A number that is not above the last one, or is no checkpoint.
+  pub AreCutsBelow-not : (number ≤ last) ⊎ (most < number) → AreCuts most numbers → ⊥
+  AreCutsBelow-not (inr above) are = let h = (are.range i number at).1 in omega (arith, h)
+  AreCutsBelow-not (inl low) are = by (cases_lt 0 i)
+    where
+      by : (0 < i) ⊎ (i ≤ 0) → ⊥
+      by (inl some) = let rises = are.rising (i - 1) i last number (omega arith) (below.last_is some) at in omega (arith, rises)
+      by (inr none) =
+          let first = below.none (omega arith) in
+          let positive = (are.range i number at).0 in omega (arith, first, positive)
+
+  pub AreCutsBelow-next : last < number → number ≤ most → AreCutsBelow most numbers (i + 1) number
+  AreCutsBelow-next above le = record {
+    within = le;
+    none = λ e. absurd (omega arith);
+    last_is = λ less. let same : i + 1 - 1 ≡ i = omega arith in rw same at;
+    range = range;
+    rising = λ j k n p low less here there. rising j k n p low less here there (cases_lt k i);
+  }
+    where
+      same : (j n : ℕ) → j ≡ i → slice_get numbers j ≡ Some n → n ≡ number
+      same j n is here = let both : Some n ≡ Some number = sym here ∙ (ap (λ (k : ℕ). slice_get numbers k) is ∙ at) in cc
+
+      range : (j n : ℕ) → j < i + 1 → slice_get numbers j ≡ Some n → (0 < n) × (n ≤ number)
+      range j n less here = by (cases_lt j i)
+        where
+          by : (j < i) ⊎ (i ≤ j) → (0 < n) × (n ≤ number)
+          by (inl low) = let h = below.range j n low here in (h.0, omega (arith, h.1))
+          by (inr high) = let e = same j n (omega arith) here in (omega (arith, e), omega (arith, e))
+
+      rising : (j k n p : ℕ) → j < k → k < i + 1 → slice_get numbers j ≡ Some n → slice_get numbers k ≡ Some p → (k < i) ⊎ (i ≤ k) → n < p
+      rising j k n p low less here there (inl before) = below.rising j k n p low before here there
+      rising j k n p low less here there (inr high) =
+          let e = same k p (omega arith) there in
+          let h = (below.range j n (omega arith) here).1 in omega (arith, e, h)
+
+-- The multiples of k, one after another, up to a number.
+module _ (k most : ℕ) (numbers : List ℕ) (positive : 0 < k) (count : length numbers ≡ most / k)
+    (each : (j n : ℕ) → slice_get numbers j ≡ Some n → n ≡ (j + 1) * k) where
+  above : (j : ℕ) → 0 < (j + 1) * k
+  above j = let h = mul-le-mul_right {m = 1} {n = j + 1} k (omega arith) in omega (arith, h)
+
+  within : (j : ℕ) → j < length numbers → (j + 1) * k ≤ most
+  within j less = (le-div_iff_mul-le {k = k} {x = j + 1} {y = most} positive).0 (omega (arith, count))
+
+  rises : (i j : ℕ) → i < j → (i + 1) * k < (j + 1) * k
+  rises i j less = let h = mul-le-mul_right {m = i + 1 + 1} {n = j + 1} k (omega arith) in omega (arith, h)
+
+  pub AreCuts-every : AreCuts most numbers
+  AreCuts-every = record {
+    range = λ j n at.
+        let e = each j n at in
+        let low = above j in
+        let high = within j (slice_get_within numbers j n at) in (omega (arith, e, low), omega (arith, e, high));
+    rising = λ i j n p less at there.
+        let e = each i n at in
+        let f = each j p there in
+        let h = rises i j less in omega (arith, e, f, h);
+  }
+
+  pub IsEvery-each : IsEvery k most numbers
+  IsEvery-each n = (found, place)
+    where
+      found : Contains numbers n → (0 < n) × (n ≤ most) × (n % k ≡ 0)
+      found (j, less, is) =
+          let at : slice_get numbers j ≡ Some n = slice_get_read numbers (length numbers) j n refl less (sym is) in
+          let e = each j n at in
+          let low = above j in
+          let high = within j less in (omega (arith, e, low), omega (arith, e, high), rw e (mul-mod_left (j + 1) k))
+
+      place : (0 < n) × (n ≤ most) × (n % k ≡ 0) → Contains numbers n
+      place (some, le, whole) =
+          let split = div-add-mod' n k in
+          let q : 0 < n / k = by (cases_lt 0 (n / k)) in
+          let j : n / k - 1 + 1 ≡ n / k = omega (arith, q) in
+          let less : n / k ≤ most / k = (le-div_iff_mul-le {k = k} {x = n / k} {y = most} positive).1 (omega (arith, split, whole)) in
+          let low : n / k - 1 < length numbers = omega (arith, q, less, count) in
+          let (p, at) = slice_get-below numbers (n / k - 1) low in
+          let e : p ≡ n = rw (each (n / k - 1) p at, j) (omega (arith, split, whole)) in
+          (n / k - 1, low, get_or_from_slice_get numbers (n / k - 1) p n at ∙ e)
+        where
+          by : (0 < n / k) ⊎ (n / k ≤ 0) → 0 < n / k
+          by (inl w) = w
+          by (inr w) =
+              let none : n / k ≡ 0 = omega arith in
+              let split : n / k * k + n % k ≡ n = div-add-mod' n k in
+              let zeros : n / k * k ≡ 0 = rw none (zero-mul k) in omega (arith, split, zeros, whole, some)

@@ -1,0 +1,74 @@
+-- Pieces that are looked for one after another.
+use Rattle.std.proofs.Common.{◌≡◌, ◌≢◌, ℕ, ◌+◌, ◌<◌, ◌≤◌, List, length, Option, Some, None, Err, true, IfSome, slice_get, refl, arith, ap, ◌∙◌, subst, sym, ◌⊎◌, inl, inr}
+use Rattle.std.specs.Option.{is_some}
+use Rattle.std.proofs.lemmas.Bool.{cases_lt}
+use Rattle.std.proofs.lemmas.Option.{slice_get_within}
+use Rattle.replay_segments.specs.declared.gathering.GatherError.{GatherError}
+use Rattle.replay_segments.specs.declared.gathering.GatherError.TheVariants.{Missing, NoMemory}
+use Rattle.replay_segments.specs.declared.outcome.Outcome.{Outcome}
+use Rattle.replay_segments.specs.declared.outcome.Outcome.TheVariants.{Judged, NoMemory as NoMemoryOutcome}
+use Rattle.replay_segments.specs.declared.verdict.Verdict.TheVariants.{Genuine, FalseCheckpoint, Fault}
+use Rattle.replay_segments.specs.Finding.{MayPass, IsAnswer}
+use Rattle.replay_segments.specs.Gathering.{HasNumber, HasPassed}
+use Rattle.replay_segments.specs.Pieces.{PieceData, IsPassed}
+
+-- Two reads at one place are of one value.
+pub same_at : {X : Type 0} (xs : List X) (i n : ℕ) (p q : X) → i ≡ n → slice_get xs i ≡ Some p → slice_get xs n ≡ Some q → p ≡ q
+same_at xs i n p q is one two = let both : Some p ≡ Some q = sym one ∙ (ap (λ (k : ℕ). slice_get xs k) is ∙ two) in cc
+
+-- What holds of the first n and of the next holds of the first n + 1.
+pub each-below : {X : Type 0} (P : X → Type 0) (xs : List X) (n : ℕ) (q : X) → slice_get xs n ≡ Some q → P q
+    → ((k : ℕ) (p : X) → k < n → slice_get xs k ≡ Some p → P p) → (k : ℕ) (p : X) → k < n + 1 → slice_get xs k ≡ Some p → P p
+each-below P xs n q at here below k p less there = by (cases_lt k n)
+  where
+    by : (k < n) ⊎ (n ≤ k) → P p
+    by (inl low) = below k p low there
+    by (inr high) = subst P (sym (same_at xs k n p q (omega arith) there at)) here
+
+-- What is no None is found.
+pub found : (P : ℕ → Type 0) (o : Option ℕ) → is_some o ≡ true → IfSome o P → (i : ℕ) × P i
+found P (Some i) is holds = (i, holds)
+found P None is holds = absurd cc
+
+-- What is answered where only the first n pieces are looked at, of which none was judged bad.
+abbrev pub IsAnswerBelow : List PieceData → ℕ → ℕ → GatherError → Type 0
+IsAnswerBelow pieces number n (Missing k) =
+    (k ≡ number) × ((i : ℕ) (p : PieceData) → i < n → slice_get pieces i ≡ Some p → p.number ≢ number)
+IsAnswerBelow pieces number n NoMemory =
+    HasNumber pieces number × ((i : ℕ) (p : PieceData) → i < n → slice_get pieces i ≡ Some p → p.number ≡ number → MayPass p.outcome)
+
+-- The next piece has another number.
+pub IsAnswerBelow-other : (pieces : List PieceData) (number n : ℕ) (answer : GatherError) (q : PieceData) → IsAnswerBelow pieces number n answer
+    → slice_get pieces n ≡ Some q → q.number ≢ number → IsAnswerBelow pieces number (n + 1) answer
+IsAnswerBelow-other pieces number n (Missing k) q below at other =
+    (below.0, each-below (λ (p : PieceData). p.number ≢ number) pieces n q at other below.1)
+IsAnswerBelow-other pieces number n NoMemory q below at other =
+    (below.0, each-below (λ (p : PieceData). p.number ≡ number → MayPass p.outcome) pieces n q at (λ is. absurd (other is)) below.1)
+
+-- The next piece has this number, and was not judged bad.
+pub IsAnswerBelow-may : (pieces : List PieceData) (number n : ℕ) (answer : GatherError) (q : PieceData) → IsAnswerBelow pieces number n answer
+    → slice_get pieces n ≡ Some q → q.number ≡ number → MayPass q.outcome → IsAnswerBelow pieces number (n + 1) NoMemory
+IsAnswerBelow-may pieces number n answer q below at is may =
+    ((n, q, at, is), each-below (λ (p : PieceData). p.number ≡ number → MayPass p.outcome) pieces n q at (λ _. may) (old answer below))
+  where
+    old : (a : GatherError) → IsAnswerBelow pieces number n a → (i : ℕ) (p : PieceData) → i < n → slice_get pieces i ≡ Some p → p.number ≡ number → MayPass p.outcome
+    old (Missing k) b = λ i p low here same. absurd (b.1 i p low here same)
+    old NoMemory b = b.1
+
+-- What may have passed and did not is without memory.
+unpassed : (o : Outcome) → MayPass o → (IsPassed o → ⊥) → o ≡ NoMemoryOutcome
+unpassed (Judged (Genuine frames)) may not = absurd (not tt)
+unpassed (Judged (FalseCheckpoint number frame)) may not = absurd may
+unpassed (Judged (Fault frame kind)) may not = absurd may
+unpassed NoMemoryOutcome may not = refl
+
+pub IsAnswer-whole : (pieces : List PieceData) (number n : ℕ) (answer : GatherError) → length pieces ≤ n → (HasPassed pieces number → ⊥)
+    → IsAnswerBelow pieces number n answer → IsAnswer pieces number (Err answer)
+IsAnswer-whole pieces number n (Missing k) past none below =
+    (below.0, λ i p here. below.1 i p (let w = slice_get_within pieces i p here in omega arith) here)
+IsAnswer-whole pieces number n NoMemory past none below = (
+  below.0,
+  λ i p here is.
+      let may = below.1 i p (let w = slice_get_within pieces i p here in omega arith) here is in
+      unpassed p.outcome may (λ passed. none (i, p, here, is, passed)),
+)

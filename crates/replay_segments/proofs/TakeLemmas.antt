@@ -1,0 +1,67 @@
+-- The pictures of a piece are taken.
+use Rattle.std.proofs.Common.{◌≡◌, ◌≢◌, ℕ, ◌<◌, List, length, Some, refl, slice_get, slice_set, length-set, get_or, All, arith, ap, ◌∙◌, subst, sym}
+use Rattle.std.proofs.lemmas.List.{get_or-set_other}
+use Rattle.std.proofs.lemmas.List.Elements.{All-set}
+use Rattle.std.proofs.lemmas.List.Sums.{sum_by-set}
+use Rattle.std.proofs.lemmas.Option.{slice_get_within, get_or_from_slice_get, slice_get-get_or}
+use Rattle.vcs_machine.specs.Pictures.{Rows}
+use Rattle.replay_segments.specs.declared.outcome.Outcome.{Outcome}
+use Rattle.replay_segments.specs.declared.outcome.Outcome.TheVariants.{Judged, NoMemory}
+use Rattle.replay_segments.specs.declared.verdict.Verdict.{Verdict}
+use Rattle.replay_segments.specs.declared.verdict.Verdict.TheVariants.{Genuine}
+use Rattle.replay_segments.specs.Finding.{IsPassedAt, IsTaken}
+use Rattle.replay_segments.specs.Gathering.{NamesAll, HasPassed}
+use Rattle.replay_segments.specs.Pieces.{PieceData, IsPiece, IsOutcome, Job, IsJob, segments_of, frames_in}
+use Rattle.replay_segments.specs.Segments.{IsSegment}
+use Rattle.replay_segments.proofs.FindLemmas.{same_at}
+
+pub All-at : {X : Type 0} (P : X → Type 0) (xs : List X) (i : ℕ) (x : X) → slice_get xs i ≡ Some x → All P xs → P x
+All-at P xs i x at all = subst P (get_or_from_slice_get xs i x x at) (all i x (slice_get_within xs i x at))
+
+-- What a judged piece says of the job that all pieces name.
+pub of_job : (job : Job) (pieces : List PieceData) (i : ℕ) (p : PieceData) (number : ℕ) (v : Verdict) → NamesAll job pieces → slice_get pieces i ≡ Some p
+    → p.number ≡ number → p.outcome ≡ Judged v → IsPiece p → IsJob job × (number < segments_of job) × IsSegment job.movie job.cuts job.keep number v
+of_job job pieces i p number v names at is judged lawful =
+    let same : p.job ≡ job = All-at (λ (q : PieceData). q.job ≡ job) pieces i p at names in
+    let one : IsOutcome job p.number p.outcome = subst (λ (j : Job). IsOutcome j p.number p.outcome) same lawful.outcome in
+    let two : IsOutcome job number p.outcome = subst (λ (n : ℕ). IsOutcome job n p.outcome) is one in
+    let three : IsOutcome job number (Judged v) = subst (λ (o : Outcome). IsOutcome job number o) judged two in
+    let four : number < segments_of job = subst (λ (j : Job). number < segments_of j) same (subst (λ (n : ℕ). n < segments_of p.job) is lawful.number) in
+    (subst (λ (j : Job). IsJob j) same lawful.job, four, three)
+
+-- An element at another place stays.
+slice_get-set_other : {X : Type 0} (xs : List X) (i j : ℕ) (x y : X) → j ≢ i → slice_get xs j ≡ Some y → slice_get (slice_set xs i x) j ≡ Some y
+slice_get-set_other xs i j x y other at =
+    let within = slice_get_within xs j y at in
+    let len : length (slice_set xs i x) ≡ length xs = length-set xs i x in
+    let low : j < length (slice_set xs i x) = omega arith in
+    slice_get-get_or (slice_set xs i x) j y low ∙ ap (λ (z : _). Some z) (get_or-set_other xs i j x y other ∙ get_or_from_slice_get xs j y y at)
+
+pub IsTaken-set : (old : List PieceData) (number i : ℕ) (q x : PieceData) (frames : List Rows) → IsPassedAt old number i → slice_get old i ≡ Some q
+    → q.outcome ≡ Judged (Genuine frames) → x ≡ record { number = q.number; outcome = NoMemory; job = q.job } → IsPiece q
+    → IsTaken old number frames (slice_set old i x)
+IsTaken-set old number i q x frames (p, at, is, passed, _) here genuine new lawful =
+    let same = same_at old i i q p refl here at in
+    let number_is : q.number ≡ number = ap (λ (y : PieceData). y.number) same ∙ is in
+    let within = slice_get_within old i q here in
+    let sums = sum_by-set (λ (y : PieceData). frames_in y.outcome) old i x q within in
+    let there = get_or_from_slice_get old i q q here in
+    let had : frames_in (get_or old i q).outcome ≡ length frames = ap (λ (y : PieceData). frames_in y.outcome) there ∙ ap frames_in genuine in
+    let has : frames_in x.outcome ≡ 0 = ap (λ (y : PieceData). frames_in y.outcome) new in
+    record {
+      of = λ job names. of_job job old i q number (Genuine frames) names here number_is genuine lawful;
+      names = λ job names.
+          let q_is : q.job ≡ job = All-at (λ (y : PieceData). y.job ≡ job) old i q here names in
+          All-set (λ (y : PieceData). y.job ≡ job) old i x (ap (λ (y : PieceData). y.job) new ∙ q_is) names;
+      others = λ k other has_passed. others k other has_passed;
+      rest = omega (arith, sums, had, has);
+    }
+  where
+    others : (k : ℕ) → k ≢ number → HasPassed old k → HasPassed (slice_set old i x) k
+    others k other (j, y, y_at, y_is, ok) = (
+      j,
+      y,
+      slice_get-set_other old i j x y (λ eq. other (sym y_is ∙ (ap (λ (z : PieceData). z.number) (same_at old j i y p eq y_at at) ∙ is))) y_at,
+      y_is,
+      ok,
+    )

@@ -1,0 +1,70 @@
+-- What a piece is to contracts. This project's own.
+use Rattle.std.specs.Prelude.{ℕ, ◌+◌, ◌<◌, ◌≤◌, ◌≡◌, true, List, length}
+use Rattle.movie_file.specs.Movie.{MovieData, IsMovie}
+use Rattle.replay_segments.specs.declared.keep.Keep.{Keep}
+use Rattle.replay_segments.specs.declared.outcome.Outcome.{Outcome}
+use Rattle.replay_segments.specs.declared.outcome.Outcome.TheVariants.{Judged, NoMemory}
+use Rattle.replay_segments.specs.declared.verdict.Verdict.{Verdict}
+use Rattle.replay_segments.specs.declared.verdict.Verdict.TheVariants.{Genuine, FalseCheckpoint, Fault}
+use Rattle.replay_segments.specs.Cuts.{Fits}
+use Rattle.replay_segments.specs.Keeping.{is_kept}
+use Rattle.replay_segments.specs.Segments.{IsSegment, from_of, end_of}
+
+-- What a piece is a piece of: a movie, its cuts, and which frames are kept.
+pub record Job : Type 0 where
+  pub movie : MovieData
+  pub cuts : List ℕ
+  pub keep : Keep
+
+abbrev pub job_of : MovieData → List ℕ → Keep → Job
+job_of m cuts keep = record { movie = m; cuts = cuts; keep = keep }
+
+-- How many segments it has: one more than cuts.
+abbrev pub segments_of : Job → ℕ
+segments_of job = length job.cuts + 1
+
+pub record IsJob (job : Job) : Type 0 where
+  pub movie : IsMovie job.movie
+  pub cuts : Fits job.cuts job.movie
+
+pub record PieceData : Type 0 where
+  pub number : ℕ
+  pub outcome : Outcome
+  pub job : Job
+
+-- The outcome is that of the segment, or want of memory.
+abbrev pub IsOutcome : Job → ℕ → Outcome → Type 0
+IsOutcome job number (Judged verdict) = IsSegment job.movie job.cuts job.keep number verdict
+IsOutcome job number NoMemory = Unit {0}
+
+-- What a piece keeps to.
+pub record IsPiece (p : PieceData) : Type 0 where
+  pub job : IsJob p.job
+  pub number : p.number < segments_of p.job
+  pub outcome : IsOutcome p.job p.number p.outcome
+
+-- The segment passed.
+abbrev pub IsPassed : Outcome → Type 0
+IsPassed (Judged (Genuine frames)) = Unit {0}
+IsPassed (Judged (FalseCheckpoint number frame)) = ⊥
+IsPassed (Judged (Fault frame kind)) = ⊥
+IsPassed NoMemory = ⊥
+
+-- A verdict that is not genuine.
+abbrev pub IsBad : Verdict → Type 0
+IsBad (Genuine frames) = ⊥
+IsBad (FalseCheckpoint number frame) = Unit {0}
+IsBad (Fault frame kind) = Unit {0}
+
+-- Some frame of the segment is kept.
+abbrev pub HasKept : Job → ℕ → Type 0
+HasKept job number =
+    (frame : ℕ) × (from_of job.movie job.cuts number < frame) × (frame ≤ end_of job.movie job.cuts number)
+    × (is_kept job.keep frame ≡ true)
+
+-- How many pictures an outcome has.
+abbrev pub frames_in : Outcome → ℕ
+frames_in (Judged (Genuine frames)) = length frames
+frames_in (Judged (FalseCheckpoint number frame)) = 0
+frames_in (Judged (Fault frame kind)) = 0
+frames_in NoMemory = 0

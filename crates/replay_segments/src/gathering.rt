@@ -1,0 +1,52 @@
+//! The verdict of pieces.
+ghost use Rattle.std.specs.Prelude.{◌≡◌, ◌<◌, ◌⊎◌, ◌↔◌, ℕ, Err, IfOk};
+ghost use Rattle.replay_segments.specs.Gathering.{NamesAll, PassedBelow, IsFirstMissing, IsFirstRefused, total};
+ghost use Rattle.replay_segments.specs.Pieces.{Job, segments_of};
+ghost use Rattle.replay_segments.specs.Verdicts.{IsVerdict};
+
+use crate::finding::{answer_of, first_unpassed};
+use crate::joining::joined;
+use crate::piece::Piece;
+use crate::verdict::Verdict;
+use movie_file::NoMemory;
+use std::alloc::Global;
+use thiserror::Error;
+
+/// Why pieces give no verdict.
+#[derive(Clone, Copy, Debug, PartialEq, Eq, Error)]
+pub enum GatherError {
+    /// The first segment without a piece that passed has pieces, all of them without memory; or the
+    /// growth of the list of all pictures was refused.
+    #[error("out of memory")]
+    NoMemory,
+    /// The first segment without a piece that passed, which is named, has no piece.
+    #[error("no piece of segment {0}")]
+    Missing(u32),
+}
+
+/// The verdict of the movie whose pieces these are, which has `n` segments. They come in any order,
+/// and a segment may have more than one.
+///
+/// It is that of the first segment that did not pass, or genuine where each has a piece that did.
+/// Where no piece has a picture no memory is taken; else there is one growth, for all pictures.
+pub fn gather(alloc: Global, pieces: Vec<Piece>, n: u32) -> Result<Verdict, GatherError>
+    requires { 0 < n }
+    ensures verdict { IfOk result (λ verdict. (job : Job) → NamesAll job pieces.items
+        → n ≡ segments_of job → IsVerdict job.movie job.keep verdict) }
+    ensures missing { (k : ℕ) → (result ≡ Err (GatherError.Missing k))
+        ↔ IsFirstMissing pieces.items n k }
+    ensures refused { (k : ℕ) → IsFirstRefused pieces.items n k
+        → result ≡ Err GatherError.NoMemory }
+    ensures memory { result ≡ Err GatherError.NoMemory
+        → ((k : ℕ) × IsFirstRefused pieces.items n k)
+        ⊎ (PassedBelow pieces.items n × (0 < total pieces.items)) }
+{
+    let arrived = pieces.as_slice();
+    if let Some(number) = first_unpassed(arrived, n) {
+        return answer_of(arrived, number);
+    }
+    match joined(alloc, pieces, n) {
+        Ok(frames) => Ok(Verdict::Genuine { frames }),
+        Err(NoMemory) => Err(GatherError::NoMemory),
+    }
+}

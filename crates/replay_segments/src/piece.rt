@@ -1,0 +1,106 @@
+//! Pieces: segments with their outcomes.
+ghost use Rattle.std.specs.Prelude.{◌≡◌, ◌↔◌, IsTrue, IfSome, IfNone};
+
+use crate::cuts::Cuts;
+use crate::keep::Keep;
+use crate::outcome::Outcome;
+use crate::verdict::{Frames, Verdict};
+use movie_file::Movie;
+use std::marker::Model;
+use std::mem;
+use std::snapshot::Snapshot;
+
+/// The outcome of one segment, right by its type: it is what the rule says of that segment, or
+/// that memory was wanted. For contracts alone a piece names its movie, its cuts and which frames
+/// are kept.
+#[derive(Drop)]
+pub struct Piece {
+    pub(crate) number: u32,
+    pub(crate) outcome: Outcome,
+    pub(crate) movie: Snapshot<Movie>,
+    pub(crate) cuts: Snapshot<Cuts>,
+    pub(crate) keep: Keep,
+}
+
+impl Model for Piece {
+    ghost use Rattle.replay_segments.specs.Pieces.{PieceData, IsPiece};
+
+    ghost Value = { PieceData };
+
+    ghost view = { λ p. record {
+      number = p.number;
+      outcome = p.outcome;
+      job = record { movie = p.movie.value; cuts = p.cuts.value; keep = p.keep };
+    } };
+
+    ghost invariant = { λ p. IsPiece (record {
+      number = p.number;
+      outcome = p.outcome;
+      job = record { movie = p.movie.value; cuts = p.cuts.value; keep = p.keep };
+    }) };
+}
+
+impl Piece {
+    ghost use Rattle.replay_segments.specs.Pieces.{IsPiece, IsPassed, IsBad, frames_in};
+    ghost use Rattle.replay_segments.specs.Finding.{MayPass};
+
+    /// The number of its segment, from 0.
+    pub fn number(&self) -> u32
+        ensures value { result ≡ self.now.number }
+        ensures lawful { IsPiece self.now }
+    {
+        self.number
+    }
+
+    /// Whether the segment passed.
+    pub fn passed(&self) -> bool
+        ensures { IsTrue result ↔ IsPassed self.now.outcome }
+    {
+        matches!(self.outcome, Outcome::Judged(Verdict::Genuine { .. }))
+    }
+
+    /// The verdict of a segment that did not pass.
+    pub(crate) fn bad(&self) -> Option<Verdict>
+        ensures bad { IfSome result (λ v. (self.now.outcome ≡ Outcome.Judged v) × IsBad v) }
+        ensures good { IfNone result (MayPass self.now.outcome) }
+        ensures lawful { IsPiece self.now }
+    {
+        match &self.outcome {
+            Outcome::Judged(Verdict::FalseCheckpoint { number, frame }) => {
+                Some(Verdict::FalseCheckpoint {
+                    number: *number,
+                    frame: *frame,
+                })
+            }
+            Outcome::Judged(Verdict::Fault { frame, kind }) => Some(Verdict::Fault {
+                frame: *frame,
+                kind: *kind,
+            }),
+            Outcome::Judged(Verdict::Genuine { .. }) => None,
+            Outcome::NoMemory => None,
+        }
+    }
+
+    /// How many pictures it has.
+    pub(crate) fn frames_len(&self) -> usize
+        ensures { result ≡ frames_in self.now.outcome }
+    {
+        match &self.outcome {
+            Outcome::Judged(Verdict::Genuine { frames }) => frames.len(),
+            _ => 0,
+        }
+    }
+
+    /// Takes the pictures of a segment that passed.
+    pub(crate) fn take_frames(&mut self) -> Frames
+        requires { IsPassed self.old.outcome }
+        ensures frames { self.old.outcome ≡ Outcome.Judged (Verdict.Genuine result) }
+        ensures rest { self.new ≡ record self.old { outcome = Outcome.NoMemory } }
+        ensures lawful { IsPiece self.old }
+    {
+        match mem::replace(&mut self.outcome, Outcome::NoMemory) {
+            Outcome::Judged(Verdict::Genuine { frames }) => frames,
+            _ => unreachable!(),
+        }
+    }
+}

@@ -1,0 +1,100 @@
+//! Replays a segment.
+ghost use Rattle.std.specs.Prelude.{◌≡◌, ◌+◌, ◌<◌, ◌≤◌, length, IfOk, OnErr};
+ghost use Rattle.replay_segments.specs.Cuts.{Fits};
+ghost use Rattle.replay_segments.specs.Pieces.{job_of, IsJob, IsOutcome, HasKept};
+ghost use Rattle.replay_segments.specs.Segments.{end_of, IsSegment};
+
+use crate::cuts::Cuts;
+use crate::judge::judge;
+use crate::keep::Keep;
+use crate::outcome::Outcome;
+use crate::piece::Piece;
+use crate::verdict::Verdict;
+use movie_file::{Movie, NoMemory};
+use std::alloc::Global;
+use std::snapshot::Snapshot;
+
+/// The last frame of a segment.
+#[tactic(auto, using(crate::proofs::SegmentLemmas::checkpoint_within))]
+fn end(movie: &Movie, cuts: &Cuts, i: u32) -> u32
+    requires fit { Fits cuts.now movie.now }
+    ensures value { result ≡ end_of movie.now cuts.now i }
+    ensures within { result ≤ length movie.now.inputs }
+{
+    let frames = movie.frames();
+    match cuts.get(i) {
+        Some(number) => movie.checkpoint(number).frame,
+        None => frames,
+    }
+}
+
+/// Replays the segment that begins at cut `i`, counted from 0.
+fn from_cut(
+    alloc: Global,
+    movie: &Movie,
+    cuts: &Cuts,
+    keep: Keep,
+    i: u32,
+    end: u32,
+) -> Result<Verdict, NoMemory>
+    requires fit { Fits cuts.now movie.now }
+    requires number { i < length cuts.now }
+    requires end { end ≡ end_of movie.now cuts.now (i + 1) }
+    requires within { end ≤ length movie.now.inputs }
+    ensures judged { IfOk result (λ verdict. IsSegment movie.now cuts.now keep (i + 1) verdict) }
+    ensures refused { OnErr result (HasKept (job_of movie.now cuts.now keep) (i + 1)) }
+{
+    let _ = movie.frames();
+    let Some(cut) = cuts.get(i) else {
+        unreachable!()
+    };
+    let checkpoint = movie.checkpoint(cut);
+    let from = checkpoint.frame;
+    judge(alloc, movie, keep, &checkpoint.state, from, end - from, cut)
+}
+
+/// The outcome of a segment.
+#[tactic(auto, using(crate::proofs::CheckpointLemmas::at_start))]
+fn outcome_of(alloc: Global, movie: &Movie, cuts: &Cuts, keep: Keep, number: u32) -> Outcome
+    requires fit { Fits cuts.now movie.now }
+    requires number { number < length cuts.now + 1 }
+    ensures job { IsJob (job_of movie.now cuts.now keep) }
+    ensures outcome { IsOutcome (job_of movie.now cuts.now keep) number result }
+    ensures memory { result ≡ Outcome.NoMemory
+        → HasKept (job_of movie.now cuts.now keep) number }
+{
+    let _ = movie.frames();
+    let _ = cuts.segments();
+    let end = end(movie, cuts, number);
+    let judged = if number == 0 {
+        judge(alloc, movie, keep, movie.start(), 0, end, 0)
+    } else {
+        from_cut(alloc, movie, cuts, keep, number - 1, end)
+    };
+    match judged {
+        Ok(verdict) => Outcome::Judged(verdict),
+        Err(NoMemory) => Outcome::NoMemory,
+    }
+}
+
+/// Replays a segment, from 0, on the calling thread. The cuts fit the movie, and have that segment.
+///
+/// NoMemory comes only where a growth was refused, for a kept picture or for their list; where no
+/// frame of the segment is kept none is taken.
+pub fn replay(alloc: Global, movie: &Movie, cuts: &Cuts, keep: Keep, number: u32) -> Piece
+    requires fit { Fits cuts.now movie.now }
+    requires number { number < length cuts.now + 1 }
+    ensures number { result.number ≡ number }
+    ensures job { result.job ≡ job_of movie.now cuts.now keep }
+    ensures memory { result.outcome ≡ Outcome.NoMemory
+        → HasKept (job_of movie.now cuts.now keep) number }
+{
+    let outcome = outcome_of(alloc, movie, cuts, keep, number);
+    Piece {
+        number,
+        outcome,
+        movie: Snapshot::of(movie),
+        cuts: Snapshot::of(cuts),
+        keep,
+    }
+}

@@ -1,0 +1,119 @@
+//! What each command does with files.
+ghost use Rattle.std.specs.Prelude.{◌≡◌, ◌≤◌};
+
+use std::alloc::Global;
+use std::fs;
+use std::io;
+use std::io::{BufWriter, Read, Write};
+use std::rt::Files;
+
+use replay_segments::Keep;
+use thiserror::Error;
+use vcs_engine::{Plan, RunError, Status, run, run_info, run_make};
+
+/// Why a command did not reach its end, as the program prints it after `error: `.
+#[derive(Clone, Copy, Debug, PartialEq, Eq, Error)]
+pub enum Failure {
+    /// A file can't be opened, or can't be created.
+    #[error("cannot open")]
+    Open,
+    #[error("{0}")]
+    Run(RunError),
+}
+
+impl From<RunError> for Failure {
+    fn from(error: RunError) -> Failure {
+        Failure::Run(error)
+    }
+}
+
+fn open<R: Files>(rt: &R, name: &str) -> Result<R::File, Failure> {
+    match fs::open(rt, name) {
+        Ok(file) => Ok(file),
+        Err(_) => Err(Failure::Open),
+    }
+}
+
+fn create<R: Files>(rt: &R, name: &str) -> Result<R::File, Failure> {
+    match fs::create(rt, name) {
+        Ok(file) => Ok(file),
+        Err(_) => Err(Failure::Open),
+    }
+}
+
+/// A writer that gathers small writes.
+fn buffered<W: Write + Drop>(alloc: Global, writer: W) -> Result<BufWriter<W>, Failure> {
+    match BufWriter::new(alloc, writer) {
+        Ok(writer) => Ok(writer),
+        Err(_) => Err(Failure::Run(RunError::NoMemory)),
+    }
+}
+
+/// Empties a buffer. That its last write failed shows only here.
+fn flushed<W: Write>(writer: &mut W) -> Result<(), Failure> {
+    match writer.flush() {
+        Ok(()) => Ok(()),
+        Err(_) => Err(Failure::Run(RunError::WriteFault)),
+    }
+}
+
+/// The plan of a command, whose numbers are in their ranges.
+pub fn plan_of(workers: u8, every: u16, first: u32, count: u32) -> Plan
+    requires some_workers { 1 ≤ workers }
+    requires few_workers { workers ≤ 64 }
+    requires every { 1 ≤ every }
+    requires first { 1 ≤ first }
+    requires count { count ≤ 600 }
+    ensures workers { result.workers ≡ workers }
+    ensures every { result.every ≡ every }
+    ensures first { result.keep.first ≡ first }
+    ensures count { result.keep.count ≡ count }
+{
+    let keep = Keep::new(first, count).unwrap();
+    Plan::new(workers, every, keep).unwrap()
+}
+
+/// Judges a movie without pictures.
+pub fn judge<R: Read, W: Write>(alloc: Global, movie: &mut R, plan: &Plan, line: &mut W) -> Result<Status, Failure> {
+    Ok(run(alloc, movie, plan, line, &mut io::sink())?)
+}
+
+/// Judges the movie of a file without pictures.
+pub fn verify<R: Files + AllocGlobal, W: Write>(rt: &R, file: &str, plan: &Plan, line: &mut W) -> Result<Status, Failure> {
+    judge(rt.alloc(), &mut open(rt, file)?, plan, line)
+}
+
+/// Judges the movie of a file, and writes its kept pictures to another.
+pub fn verify_with_pictures<R: Files + AllocGlobal, W: Write>(
+    rt: &R,
+    file: &str,
+    plan: &Plan,
+    pictures: &str,
+    line: &mut W,
+) -> Result<Status, Failure> {
+    let mut movie = open(rt, file)?;
+    let mut pictures = buffered(rt.alloc(), create(rt, pictures)?)?;
+    let status = run(rt.alloc(), &mut movie, plan, line, &mut pictures)?;
+    flushed(&mut pictures)?;
+    Ok(status)
+}
+
+/// Makes a movie of the files of a cartridge and of inputs.
+pub fn make<R: Files + AllocGlobal, W: Write>(
+    rt: &R,
+    rom: &str,
+    inputs: &str,
+    every: u32,
+    out: &str,
+    line: &mut W,
+) -> Result<Status, Failure> {
+    let mut rom = open(rt, rom)?;
+    let mut inputs = open(rt, inputs)?;
+    let mut movie = create(rt, out)?;
+    Ok(run_make(rt.alloc(), &mut rom, &mut inputs, every, &mut movie, line)?)
+}
+
+/// Says what the movie of a file holds.
+pub fn info<R: Files + AllocGlobal, W: Write>(rt: &R, file: &str, line: &mut W) -> Result<Status, Failure> {
+    Ok(run_info(rt.alloc(), &mut open(rt, file)?, line)?)
+}

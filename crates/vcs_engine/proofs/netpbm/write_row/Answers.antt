@@ -1,0 +1,12 @@
+use Rattle.std.proofs.lemmas.Result.{err_from_is_err_and}
+use Rattle.std.proofs.Common.{subst, List, ℕ}
+use Rattle.vcs_engine.specs.Streams.{AppendsFront}
+use Rattle.vcs_engine.specs.Palette.{rgb_of}
+use Rattle.vcs_engine.proofs.KnownBytes.{front_in}
+use Rattle.vcs_engine.proofs.netpbm.write_row.Goals as goal
+
+pub returns-in_err-write_bytes-clause-err : goal.returns-in_err-write_bytes-clause-err
+returns-in_err-write_bytes-clause-err g c =
+    let p = err_from_is_err_and c.from_residual.result c.from_residual.ensures.1 in
+    rw p.1 (front_in rgb_of c.args.row.now c.loop-colour.colour-index 0 (g.W.Write.contents c.args.writer.now) (g.W.Write.contents c.loop-colour.writer) (g.W.Write.contents c.write_bytes.new.writer) c.loop-colour-test.true c.loop-colour.invariant
+    (subst (λ (w : List ℕ). AppendsFront (g.W.Write.contents c.loop-colour.writer) (g.W.Write.contents c.write_bytes.new.writer) w) c.rgb.ensures c.in_err-write_bytes.ensures.err))

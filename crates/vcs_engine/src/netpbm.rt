@@ -1,0 +1,86 @@
+//! Pictures as Netpbm files.
+ghost use Rattle.std.specs.Prelude.{◌≡◌, ◌≤◌, ◌<◌, OnOk, OnErr, drop};
+ghost use Rattle.std.specs.Fmt.{decimal};
+ghost use Rattle.std.specs.Io.KnownBytes.{Appends};
+ghost use Rattle.vcs_engine.specs.PictureBytes.{header_bytes, picture_bytes, pictures_bytes, row_bytes};
+ghost use Rattle.vcs_engine.specs.Streams.{AppendsFront};
+
+use crate::palette::rgb;
+use crate::streams::{WriteFault, write_bytes};
+use replay_segments::Frames;
+use std::io::Write;
+use vcs_machine::Picture;
+
+/// The decimal digits of a number, from a place on.
+fn digits(n: u16) -> ([u8; 3], usize)
+    requires { n < 1000 }
+    ensures from { result.1 ≤ 3 }
+    ensures text { drop result.1 result.0 ≡ decimal n }
+{
+    let bytes = [
+        b'0' + (n / 100) as u8,
+        b'0' + (n / 10 % 10) as u8,
+        b'0' + (n % 10) as u8,
+    ];
+    if n < 10 {
+        (bytes, 2)
+    } else if n < 100 {
+        (bytes, 1)
+    } else {
+        (bytes, 0)
+    }
+}
+
+fn write_number<W: Write>(n: u16, writer: &mut W) -> Result<(), WriteFault>
+    requires { n < 1000 }
+    ensures ok { OnOk result (Appends (W.contents writer.old) (W.contents writer.new) (decimal n)) }
+    ensures err { OnErr result (AppendsFront (W.contents writer.old) (W.contents writer.new) (decimal n)) }
+{
+    let (bytes, from) = digits(n);
+    let (_, text) = bytes.split_at(from);
+    write_bytes(text, writer)
+}
+
+fn write_header<W: Write>(rows: u16, writer: &mut W) -> Result<(), WriteFault>
+    requires { rows < 1000 }
+    ensures ok { OnOk result (Appends (W.contents writer.old) (W.contents writer.new) (header_bytes rows)) }
+    ensures err { OnErr result (AppendsFront (W.contents writer.old) (W.contents writer.new) (header_bytes rows)) }
+{
+    write_bytes(b"P6\n160 ", writer)?;
+    write_number(rows, writer)?;
+    write_bytes(b"\n255\n", writer)?;
+    Ok(())
+}
+
+fn write_row<W: Write>(row: &[u8], writer: &mut W) -> Result<(), WriteFault>
+    ensures ok { OnOk result (Appends (W.contents writer.old) (W.contents writer.new) (row_bytes row.now)) }
+    ensures err { OnErr result (AppendsFront (W.contents writer.old) (W.contents writer.new) (row_bytes row.now)) }
+{
+    for colour in row {
+        write_bytes(&rgb(*colour), writer)?;
+    }
+    Ok(())
+}
+
+/// Writes a picture as a portable pixmap (P6) of 160 columns, or with a fault a front of it. It takes no memory.
+pub fn ppm<W: Write>(picture: &Picture, writer: &mut W) -> Result<(), WriteFault>
+    ensures ok { OnOk result (Appends (W.contents writer.old) (W.contents writer.new) (picture_bytes picture.now)) }
+    ensures err { OnErr result (AppendsFront (W.contents writer.old) (W.contents writer.new) (picture_bytes picture.now)) }
+{
+    write_header(picture.rows(), writer)?;
+    for y in 0..picture.rows() {
+        write_row(picture.row(y), writer)?;
+    }
+    Ok(())
+}
+
+/// Writes pictures one after another, or with a fault a front of them.
+pub(crate) fn write_pictures<W: Write>(frames: &Frames, writer: &mut W) -> Result<(), WriteFault>
+    ensures ok { OnOk result (Appends (W.contents writer.old) (W.contents writer.new) (pictures_bytes frames.now)) }
+    ensures err { OnErr result (AppendsFront (W.contents writer.old) (W.contents writer.new) (pictures_bytes frames.now)) }
+{
+    for i in 0..frames.len() {
+        ppm(frames.at(i), writer)?;
+    }
+    Ok(())
+}
