@@ -1,13 +1,11 @@
 //! What each command does with files.
 ghost use Rattle.std.specs.Prelude.{◌≡◌, ◌≤◌};
 
+use replay_segments::Keep;
 use std::alloc::Global;
-use std::fs;
-use std::io;
 use std::io::{BufWriter, Read, Write};
 use std::rt::Files;
-
-use replay_segments::Keep;
+use std::{fs, io};
 use thiserror::Error;
 use vcs_engine::{Plan, RunError, Status, run, run_info, run_make};
 
@@ -74,12 +72,22 @@ pub fn plan_of(workers: u8, every: u16, first: u32, count: u32) -> Plan
 }
 
 /// Judges a movie without pictures.
-pub fn judge<R: Read, W: Write>(alloc: Global, movie: &mut R, plan: &Plan, line: &mut W) -> Result<Status, Failure> {
+pub fn judge<R: Read, W: Write>(
+    alloc: Global,
+    movie: &mut R,
+    plan: &Plan,
+    line: &mut W,
+) -> Result<Status, Failure> {
     Ok(run(alloc, movie, plan, line, &mut io::sink())?)
 }
 
 /// Judges the movie of a file without pictures.
-pub fn verify<R: Files + AllocGlobal, W: Write>(rt: &R, file: &str, plan: &Plan, line: &mut W) -> Result<Status, Failure> {
+pub fn verify<R: Files + AllocGlobal, W: Write>(
+    rt: &R,
+    file: &str,
+    plan: &Plan,
+    line: &mut W,
+) -> Result<Status, Failure> {
     judge(rt.alloc(), &mut open(rt, file)?, plan, line)
 }
 
@@ -114,6 +122,10 @@ pub fn make<R: Files + AllocGlobal, W: Write>(
 }
 
 /// Says what the movie of a file holds.
-pub fn info<R: Files + AllocGlobal, W: Write>(rt: &R, file: &str, line: &mut W) -> Result<Status, Failure> {
+pub fn info<R: Files + AllocGlobal, W: Write>(
+    rt: &R,
+    file: &str,
+    line: &mut W,
+) -> Result<Status, Failure> {
     Ok(run_info(rt.alloc(), &mut open(rt, file)?, line)?)
 }

@@ -8,16 +8,14 @@ mod commands;
 
 ghost use Rattle.command_line.specs.Ranges.{IsInRange};
 
-use std::env;
-use std::io;
+use command_line::{Command, LineFault, parse_line};
+use commands::{Failure, info, judge, make, plan_of, verify, verify_with_pictures};
+use std::alloc::AllocError;
 use std::io::{Eprint, Read, Write};
 use std::process::ExitCode;
 use std::rt::Files;
-
-use command_line::{Command, LineFault, parse_line};
+use std::{env, io};
 use vcs_engine::{RunError, Status};
-
-use commands::{Failure, info, judge, make, plan_of, verify, verify_with_pictures};
 
 /// The exit status of words that are no command.
 const USAGE: u8 = 4;
@@ -77,10 +75,17 @@ fn failed(rt: &impl Eprint, failure: Failure) -> ExitCode {
 fn main(rt: HostRuntime) -> ExitCode {
     let words = match env::args(&rt) {
         Ok(words) => words,
-        Err(error) if error.kind() == io::ErrorKind::OutOfMemory => return failed(&rt, Failure::Run(RunError::NoMemory)),
+        Err(error) if error.kind() == io::ErrorKind::OutOfMemory => return failed(
+            &rt,
+            Failure::Run(RunError::NoMemory),
+        ),
         Err(_) => return ExitCode::from(USAGE),
     };
-    let done = match parse_line(rt.alloc(), words.as_slice()) {
+    let words: Result<Vec<String>, AllocError> = words.collect(rt.alloc());
+    let Ok(words) = words else {
+        return failed(&rt, Failure::Run(RunError::NoMemory));
+    };
+    let done = match parse_line(rt.alloc(), &words) {
         Ok(command) => execute(&rt, &mut rt.stdin(), &mut io::writer(&rt), &command),
         Err(LineFault::Help { text }) => help(&rt, &text),
         Err(LineFault::Usage { text }) => {
