@@ -7,3 +7,4 @@ pub mod Orders
 pub mod Runs
 pub mod InputLists
 pub mod MakingRuns
+pub mod OneMaking

@@ -126,7 +126,7 @@ abbrev pub with_checkpoints : List ℕ → List Controls → List Checkpoint →
 with_checkpoints cart inputs cs = record { version = movie_version; cart = cart; start = power_on cart; inputs = inputs; checkpoints = cs }
 
 -- a run knows nothing of checkpoints
-run_same : (cart : List ℕ) (inputs : List Controls) (cs : List Checkpoint) (k : ℕ) → run (bare cart inputs) (power_on cart) 0 k ≡ run (with_checkpoints cart inputs cs) (power_on cart) 0 k
+pub run_same : (cart : List ℕ) (inputs : List Controls) (cs : List Checkpoint) (k : ℕ) → run (bare cart inputs) (power_on cart) 0 k ≡ run (with_checkpoints cart inputs cs) (power_on cart) 0 k
 run_same cart inputs cs zero = refl
 run_same cart inputs cs (suc k) =
     ap (λ (before : Option StateFields). option_and_then (λ state. state_after (frame_after (bare cart inputs) (0 + k) state)) before) (run_same cart inputs cs k)

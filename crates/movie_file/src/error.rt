@@ -79,7 +79,7 @@ pub enum MakeError {
     #[error("fault at frame {frame}: {kind}")]
     Fault { frame: u32, kind: FaultKind },
     /// No frame or too many, a checkpoint after each 0 frames, or too many checkpoints.
-    #[error("BadCounts")]
+    #[error("no movie has these counts")]
     BadCounts,
     /// A growth for the checkpoints was refused.
     #[error("out of memory")]

@@ -1,12 +1,15 @@
 //! Laws about the definitions.
 ghost use Rattle.std.specs.Prelude.{◌≡◌, ◌+◌, ◌<◌, ◌≤◌, List, ℕ, length, Ok, Some, get_or, slice_get};
-ghost use Rattle.movie_file.specs.Judgement.{IsSound, FaultsAt, IsFalseAt};
+ghost use Rattle.movie_file.specs.InputLists.{SpellsInputs, all_inputs_at};
+ghost use Rattle.movie_file.specs.Judgement.{IsSound, FaultsAt, IsFalseAt, IsGenuine};
+ghost use Rattle.movie_file.specs.Making.{IsFirstFault, IsMadeOf};
 ghost use Rattle.movie_file.specs.Movie.{MovieData, IsMovie, IsState};
 ghost use Rattle.movie_file.specs.Reading.{movie_at};
 ghost use Rattle.movie_file.specs.Record.{record_of, state_at};
 ghost use Rattle.movie_file.specs.Run.{run};
 ghost use Rattle.movie_file.specs.Spelling.{Spells};
 ghost use Rattle.movie_file.specs.declared.checkpoint.Checkpoint.{Checkpoint};
+ghost use Rattle.vcs_machine.specs.Inputs.{Controls};
 ghost use Rattle.vcs_machine.specs.declared.fault.FaultKind.{FaultKind};
 ghost use Rattle.vcs_machine.specs.declared.fields.StateFields.{StateFields};
 
@@ -25,6 +28,28 @@ pub const fn law_of_reading()
     ensures found { (bytes : List ℕ) (m : MovieData) → Spells bytes m → movie_at bytes ≡ Ok m }
     ensures spelled { (bytes : List ℕ) (m : MovieData) → ((i : ℕ) → get_or bytes i 0 < 256)
         → movie_at bytes ≡ Ok m → Spells bytes m }
+{}
+
+/// A law: reading inputs with the first refusal finds exactly the inputs that bytes spell.
+pub const fn law_of_inputs()
+    ensures found { (bytes : List ℕ) (inputs : List Controls) → SpellsInputs bytes inputs
+        → all_inputs_at bytes ≡ Ok inputs }
+    ensures spelled { (bytes : List ℕ) (inputs : List Controls)
+        → ((i : ℕ) → get_or bytes i 0 < 256)
+        → all_inputs_at bytes ≡ Ok inputs → SpellsInputs bytes inputs }
+{}
+
+/// A law: of a cartridge and inputs one movie can be made at most, their run has one first fault at
+/// most, and not both are there.
+pub const fn law_of_making()
+    ensures one_movie { (cart : List ℕ) (inputs : List Controls) (every : ℕ) (m n : MovieData)
+        → IsMadeOf cart inputs every m → IsMadeOf cart inputs every n → m ≡ n }
+    ensures one_fault { (cart : List ℕ) (inputs : List Controls) (frame other : ℕ)
+        (kind other_kind : FaultKind) → IsFirstFault cart inputs frame kind
+        → IsFirstFault cart inputs other other_kind → (frame ≡ other) × (kind ≡ other_kind) }
+    ensures not_both { (cart : List ℕ) (inputs : List Controls) (every frame : ℕ)
+        (kind : FaultKind) (m : MovieData) → IsMadeOf cart inputs every m → IsGenuine m
+        → IsFirstFault cart inputs frame kind → ⊥ }
 {}
 
 /// A law: the record of a state is read as that state, and bytes that are read as a state are its

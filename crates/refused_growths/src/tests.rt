@@ -4,7 +4,7 @@ use movie_file::{MovieError, read_movie, write_movie};
 use replay_segments::{Keep, Verdict, verify_one};
 use std::io;
 use std::test::Fail;
-use vcs_engine::{Plan, RunError, Status, run};
+use vcs_engine::{Plan, RunError, Status, run, run_make};
 
 /// Puts values from a place on.
 fn put(bytes: &mut [u8; 2446], from: usize, values: &[u8]) {
@@ -107,4 +107,36 @@ fn no_kept_frame_takes_no_memory_for_its_verdict(rt: HostRuntime) -> Result<(), 
     };
     assert!(rt; verify_one(rt.alloc(), &movie, Keep::new(1, 0)?).is_ok());
     Ok(())
+}
+
+#[test]
+fn made_movie_or_want_of_memory(rt: HostRuntime) {
+    let mut wanted = two_frames();
+    wanted[2258] = 2;
+    wanted[2398] = 0xE3;
+    wanted[2444] = 0x1D;
+    let mut movie = [0u8; 2446];
+    let mut line = [0u8; 64];
+    let mut movie_writer = movie.as_mut_slice();
+    let mut line_writer = line.as_mut_slice();
+    let made = run_make(
+        rt.alloc(),
+        &mut &wanted[14..2062],
+        &mut &wanted[2249..2255],
+        2,
+        &mut movie_writer,
+        &mut line_writer,
+    );
+    match made {
+        Ok(status) => {
+            assert_eq!(rt; status, Status::Done);
+            assert_eq!(rt; line_writer.len(), 64 - 30);
+            assert!(rt; movie_writer.is_empty() && movie == wanted);
+        }
+        Err(error) => {
+            assert_eq!(rt; error, RunError::NoMemory);
+            assert_eq!(rt; line_writer.len(), 64);
+            assert_eq!(rt; movie_writer.len(), 2446);
+        }
+    }
 }

@@ -1,4 +1,5 @@
-//! The engine of the verifier: from the bytes of a movie to the line and the status of its verdict.
+//! The engines of the verifier: from the bytes of a movie to its verdict or to what is in it, and from those of a ROM and of inputs to
+//! a movie.
 #![tactic(auto)]
 
 mod engine;

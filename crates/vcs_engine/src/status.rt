@@ -4,13 +4,13 @@ ghost use Rattle.std.specs.Prelude.{◌≡◌};
 /// How a run that reached its end ended.
 #[derive(Clone, Copy, Debug, PartialEq, Eq)]
 pub enum Status {
-    /// The movie is genuine.
+    /// The movie is genuine; or one was made, or told about.
     Done,
     /// A checkpoint is false.
     False,
     /// A frame faults.
     Fault,
-    /// The bytes are no movie.
+    /// The bytes are no movie, or no movie can be made of them.
     Refused,
 }
 
