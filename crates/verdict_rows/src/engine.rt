@@ -71,7 +71,7 @@ fn false_checkpoints(rt: HostRuntime) -> Result<(), Fail> {
 fn fault_comes_before_the_checkpoint_of_its_frame(rt: HostRuntime) -> Result<(), Fail> {
     let mut bytes = movie(rt.alloc(), &SEVEN_FRAMES, &power_on(), 7, &[power_on()])?;
     let checkpoint = 14 + 2048 + 187 + 3 * 7;
-    bytes[checkpoint + 3] = 7;
+    *bytes.get_mut(checkpoint + 3).ok_or("a checkpoint's frame")? = 7;
     let (status, line) = told(rt.alloc(), &bytes);
     assert_eq!(rt; status, Ok(Status::Fault));
     assert!(rt; line.as_slice() == b"fault at frame 7: bad opcode 02 at F010\n".as_slice());

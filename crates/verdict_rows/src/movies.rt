@@ -37,17 +37,8 @@ pub(crate) fn after_frame(timer: u8, line_cycle: u8) -> [u8; 187] {
     record
 }
 
-/// A movie of so many frames with idle inputs, and checkpoints after frames 1, 2, ...
-pub(crate) fn movie(
-    alloc: Global,
-    program: &[u8],
-    start: &[u8; 187],
-    frames: u8,
-    checkpoints: &[[u8; 187]],
-) -> Result<Vec<u8>, Fail> {
-    let mut bytes = Vec::new(alloc);
-    bytes.extend_from_slice(b"A26M")?;
-    bytes.extend_from_slice(&[0, 1, 8, 0, 0, 0, 0, frames, 0, checkpoints.len() as u8])?;
+/// The 2048 bytes of a cartridge with a program at F000.
+pub(crate) fn rom(program: &[u8]) -> [u8; 2048] {
     let mut cart = [0; 2048];
     for (i, byte) in program.iter().enumerate() {
         if i < 2048 {
@@ -56,13 +47,30 @@ pub(crate) fn movie(
     }
     cart[0x010] = 0x02;
     cart[0x7FD] = 0xF0;
-    bytes.extend_from_slice(&cart)?;
+    cart
+}
+
+/// A movie of so many frames with idle inputs, and checkpoints after frames 1, 2, ...
+pub(crate) fn movie(
+    alloc: Global,
+    program: &[u8],
+    start: &[u8; 187],
+    frames: u8,
+    checkpoints: &[[u8; 187]],
+) -> Result<Vec<u8>, Fail> {
+    let count = u8::try_from(checkpoints.len())?;
+    let mut bytes = Vec::new(alloc);
+    bytes.extend_from_slice(b"A26M")?;
+    bytes.extend_from_slice(&[0, 1, 8, 0, 0, 0, 0, frames, 0, count])?;
+    bytes.extend_from_slice(&rom(program))?;
     bytes.extend_from_slice(start)?;
     for _frame in 0..frames {
         bytes.extend_from_slice(&[0xFF, 0x3F, 0])?;
     }
-    for (i, record) in checkpoints.iter().enumerate() {
-        bytes.extend_from_slice(&(i as u32 % 1000 + 1).to_be_bytes())?;
+    let mut frame = 0u32;
+    for record in checkpoints {
+        frame = frame.saturating_add(1);
+        bytes.extend_from_slice(&frame.to_be_bytes())?;
         bytes.extend_from_slice(record)?;
     }
     Ok(bytes)
