@@ -117,7 +117,7 @@ fn segment_after_the_last_checkpoint_has_no_frames(rt: HostRuntime) -> Result<()
         &[after_frame(0xE3, 0x1D)],
     )?;
     let checkpoint = 14 + 2048 + 187 + 3 * 2;
-    bytes[checkpoint + 3] = 2;
+    *bytes.get_mut(checkpoint + 3).ok_or("a checkpoint's frame")? = 2;
     let genuine = read(rt.alloc(), &bytes)?;
     let cuts = cuts_at(rt.alloc(), &genuine, &[1])??;
     let keep = Keep::new(1, 2)?;
