@@ -1,15 +1,12 @@
 -- Cuts as lists of numbers.
-use Rattle.std.proofs.Common.{◌≡◌, ℕ, zero, suc, ◌+◌, ◌-◌, ◌*◌, ◌/◌, ◌%◌, ◌<◌, ◌≤◌, List, length, Some, slice_get, refl, sym, ap, ◌∙◌, arith, ◌⊎◌, inl, inr}
+use Rattle.std.proofs.Common.{◌≡◌, ℕ, zero, suc, ◌+◌, ◌-◌, ◌*◌, ◌/◌, ◌%◌, ◌<◌, ◌≤◌, List, length, Some, slice_get, refl, sym, ◌∙◌, arith, ◌⊎◌, inl, inr}
 use Rattle.std.proofs.Math.Nat.{le-div_iff_mul-le, mul-le-mul_right, mul-mod_left, zero-mul}
 use Rattle.std.proofs.lemmas.Bool.{cases_lt}
-use Rattle.std.proofs.lemmas.Option.{slice_get_cases, slice_get_within, slice_get_read, get_or_from_slice_get}
+use Rattle.std.proofs.lemmas.Option.{slice_get_within, slice_get_read, get_or_from_slice_get}
 use Rattle.std.proofs.lemmas.Nat.{div-add-mod'}
 use Rattle.std.specs.List.{Contains}
 use Rattle.replay_segments.specs.Cuts.{AreCuts, IsEvery}
-
-pub slice_get-below : {X : Type 0} (xs : List X) (i : ℕ) → i < length xs → (x : X) × (slice_get xs i ≡ Some x)
-slice_get-below xs i less =
-    elim (slice_get_cases xs i).1 [ inl w ↦ (w.0, w.2) | inr w ↦ absurd (let h = w.0 in omega arith) ]
+use Rattle.replay_segments.proofs.Places.{slice_get-below, same_at}
 
 pub AreCuts-more : (most more : ℕ) (cuts : List ℕ) → most ≤ more → AreCuts most cuts → AreCuts more cuts
 AreCuts-more most more cuts le are = record {
@@ -84,7 +81,7 @@ module _ (most : ℕ) (numbers : List ℕ) (i last number : ℕ) (at : slice_get
   }
     where
       same : (j n : ℕ) → j ≡ i → slice_get numbers j ≡ Some n → n ≡ number
-      same j n is here = let both : Some n ≡ Some number = sym here ∙ (ap (λ (k : ℕ). slice_get numbers k) is ∙ at) in cc
+      same j n is here = same_at numbers j i n number is here at
 
       range : (j n : ℕ) → j < i + 1 → slice_get numbers j ≡ Some n → (0 < n) × (n ≤ number)
       range j n less here = by (cases_lt j i)

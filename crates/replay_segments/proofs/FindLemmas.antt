@@ -1,7 +1,6 @@
 -- Pieces that are looked for one after another.
-use Rattle.std.proofs.Common.{◌≡◌, ◌≢◌, ℕ, ◌+◌, ◌<◌, ◌≤◌, List, length, Option, Some, None, Err, true, IfSome, slice_get, refl, arith, ap, ◌∙◌, subst, sym, ◌⊎◌, inl, inr}
+use Rattle.std.proofs.Common.{◌≡◌, ◌≢◌, ℕ, ◌+◌, ◌<◌, ◌≤◌, List, length, Option, Some, None, Err, true, IfSome, slice_get, refl, arith}
 use Rattle.std.specs.Option.{is_some}
-use Rattle.std.proofs.lemmas.Bool.{cases_lt}
 use Rattle.std.proofs.lemmas.Option.{slice_get_within}
 use Rattle.replay_segments.specs.declared.gathering.GatherError.{GatherError}
 use Rattle.replay_segments.specs.declared.gathering.GatherError.TheVariants.{Missing, NoMemory}
@@ -11,19 +10,7 @@ use Rattle.replay_segments.specs.declared.verdict.Verdict.TheVariants.{Genuine, 
 use Rattle.replay_segments.specs.Finding.{MayPass, IsAnswer}
 use Rattle.replay_segments.specs.Gathering.{HasNumber, HasPassed}
 use Rattle.replay_segments.specs.Pieces.{PieceData, IsPassed}
-
--- Two reads at one place are of one value.
-pub same_at : {X : Type 0} (xs : List X) (i n : ℕ) (p q : X) → i ≡ n → slice_get xs i ≡ Some p → slice_get xs n ≡ Some q → p ≡ q
-same_at xs i n p q is one two = let both : Some p ≡ Some q = sym one ∙ (ap (λ (k : ℕ). slice_get xs k) is ∙ two) in cc
-
--- What holds of the first n and of the next holds of the first n + 1.
-pub each-below : {X : Type 0} (P : X → Type 0) (xs : List X) (n : ℕ) (q : X) → slice_get xs n ≡ Some q → P q
-    → ((k : ℕ) (p : X) → k < n → slice_get xs k ≡ Some p → P p) → (k : ℕ) (p : X) → k < n + 1 → slice_get xs k ≡ Some p → P p
-each-below P xs n q at here below k p less there = by (cases_lt k n)
-  where
-    by : (k < n) ⊎ (n ≤ k) → P p
-    by (inl low) = below k p low there
-    by (inr high) = subst P (sym (same_at xs k n p q (omega arith) there at)) here
+use Rattle.replay_segments.proofs.Places.{each-below}
 
 -- What is no None is found.
 pub found : (P : ℕ → Type 0) (o : Option ℕ) → is_some o ≡ true → IfSome o P → (i : ℕ) × P i

@@ -5,6 +5,7 @@ pub mod FindLemmas
 pub mod GatherLemmas
 pub mod KeepLemmas
 pub mod OneVerdict
+pub mod Places
 pub mod RunLemmas
 pub mod SegmentLemmas
 pub mod StepLemmas

@@ -1,5 +1,5 @@
 -- Where segments begin and end.
-use Rattle.std.proofs.Common.{◌≡◌, ℕ, zero, suc, ◌+◌, ◌-◌, ◌<◌, ◌≤◌, List, length, Some, None, Result, Ok, Err, IfOk, OnErr, true, max, slice_get, refl, arith, ap, ◌∙◌, subst, sym, add-one, ◌⊎◌, inl, inr}
+use Rattle.std.proofs.Common.{◌≡◌, ℕ, zero, suc, ◌+◌, ◌-◌, ◌<◌, ◌≤◌, List, length, Some, Result, Ok, Err, IfOk, OnErr, true, max, slice_get, refl, arith, ap, ◌∙◌, subst, sym, add-one, ◌⊎◌, inl, inr}
 use Rattle.std.proofs.lemmas.Bool.{cases_lt}
 use Rattle.std.proofs.lemmas.Bool.Decides.{nat_tests}
 use Rattle.std.proofs.lemmas.Option.{slice_get_past, slice_get_within}
@@ -15,7 +15,7 @@ use Rattle.replay_segments.specs.Pieces.{Job, HasKept}
 use Rattle.replay_segments.specs.Segments.{end_of, from_of, start_of, IsSegment}
 use Rattle.replay_segments.specs.Steps.{IsNext}
 use Rattle.replay_segments.specs.Verdicts.{IsJudged}
-use Rattle.replay_segments.proofs.CutLemmas.{slice_get-below}
+use Rattle.replay_segments.proofs.Places.{slice_get-below, same_at}
 
 -- The i-th cut is at this checkpoint, of number n.
 pub record AtCut (m : MovieData) (cuts : List ℕ) (i n : ℕ) (c : Checkpoint) : Type 0 where
@@ -26,13 +26,6 @@ pub record AtCut (m : MovieData) (cuts : List ℕ) (i n : ℕ) (c : Checkpoint) 
 -- A checkpoint is after a frame of its movie.
 pub checkpoint_within : (m : MovieData) (j : ℕ) (c : Checkpoint) → IsMovie m → slice_get m.checkpoints j ≡ Some c → c.frame ≤ length m.inputs
 checkpoint_within m j c movie at = (checkpoint_in_range m.checkpoints 0 (length m.inputs) j c movie.checkpoints at).1
-
--- A cut's end and the next segment's beginning, by what look-ups found.
-pub end_of-found : (m : MovieData) (cuts : List ℕ) (i n : ℕ) (c : Checkpoint) → slice_get cuts i ≡ Some n → slice_get m.checkpoints (n - 1) ≡ Some c → end_of m cuts i ≡ c.frame
-end_of-found m cuts i n c cut at = rw (cut, at) refl
-
-pub end_of-none : (m : MovieData) (cuts : List ℕ) (i : ℕ) → slice_get cuts i ≡ None → end_of m cuts i ≡ length m.inputs
-end_of-none m cuts i none = rw none refl
 
 -- The last segment ends with the movie.
 pub end_of-last : (m : MovieData) (cuts : List ℕ) (i : ℕ) → length cuts ≤ i → end_of m cuts i ≡ length m.inputs
@@ -130,9 +123,7 @@ IsNext-cut m n c movie positive at =
     before : (j : ℕ) (d : Checkpoint) → slice_get m.checkpoints j ≡ Some d → j < n → (j < n - 1) ⊎ (n - 1 ≤ j) → d.frame < c.frame + 1
     before j d here less (inl low) = let h = checkpoints_rise m.checkpoints 0 (length m.inputs) j (n - 1) d c movie.checkpoints low here at in omega (arith, h)
     before j d here less (inr high) =
-        let same : n - 1 ≡ j = omega arith in
-        let there : Some d ≡ Some c = sym here ∙ (ap (λ (k : ℕ). slice_get m.checkpoints k) (sym same) ∙ at) in
-        let equal : d ≡ c = cc in
+        let equal = same_at m.checkpoints j (n - 1) d c (omega arith) here at in
         let frames : d.frame ≡ c.frame = ap (λ (x : Checkpoint). x.frame) equal in omega arith
 
 -- Where some are kept, one is.

@@ -1,9 +1,8 @@
 -- The pictures of a piece are taken.
-use Rattle.std.proofs.Common.{◌≡◌, ◌≢◌, ℕ, ◌<◌, List, length, Some, refl, slice_get, slice_set, length-set, get_or, All, arith, ap, ◌∙◌, subst, sym}
-use Rattle.std.proofs.lemmas.List.{get_or-set_other}
+use Rattle.std.proofs.Common.{◌≡◌, ◌≢◌, ℕ, ◌<◌, List, length, Some, refl, slice_get, slice_set, get_or, arith, ap, ◌∙◌, subst, sym}
 use Rattle.std.proofs.lemmas.List.Elements.{All-set}
 use Rattle.std.proofs.lemmas.List.Sums.{sum_by-set}
-use Rattle.std.proofs.lemmas.Option.{slice_get_within, get_or_from_slice_get, slice_get-get_or}
+use Rattle.std.proofs.lemmas.Option.{slice_get_within, get_or_from_slice_get}
 use Rattle.vcs_machine.specs.Pictures.{Rows}
 use Rattle.replay_segments.specs.declared.outcome.Outcome.{Outcome}
 use Rattle.replay_segments.specs.declared.outcome.Outcome.TheVariants.{Judged, NoMemory}
@@ -13,10 +12,7 @@ use Rattle.replay_segments.specs.Finding.{IsPassedAt, IsTaken}
 use Rattle.replay_segments.specs.Gathering.{NamesAll, HasPassed}
 use Rattle.replay_segments.specs.Pieces.{PieceData, IsPiece, IsOutcome, Job, IsJob, segments_of, frames_in}
 use Rattle.replay_segments.specs.Segments.{IsSegment}
-use Rattle.replay_segments.proofs.FindLemmas.{same_at}
-
-pub All-at : {X : Type 0} (P : X → Type 0) (xs : List X) (i : ℕ) (x : X) → slice_get xs i ≡ Some x → All P xs → P x
-All-at P xs i x at all = subst P (get_or_from_slice_get xs i x x at) (all i x (slice_get_within xs i x at))
+use Rattle.replay_segments.proofs.Places.{same_at, All-at, slice_get-set_other}
 
 -- What a judged piece says of the job that all pieces name.
 pub of_job : (job : Job) (pieces : List PieceData) (i : ℕ) (p : PieceData) (number : ℕ) (v : Verdict) → NamesAll job pieces → slice_get pieces i ≡ Some p
@@ -28,14 +24,6 @@ of_job job pieces i p number v names at is judged lawful =
     let three : IsOutcome job number (Judged v) = subst (λ (o : Outcome). IsOutcome job number o) judged two in
     let four : number < segments_of job = subst (λ (j : Job). number < segments_of j) same (subst (λ (n : ℕ). n < segments_of p.job) is lawful.number) in
     (subst (λ (j : Job). IsJob j) same lawful.job, four, three)
-
--- An element at another place stays.
-slice_get-set_other : {X : Type 0} (xs : List X) (i j : ℕ) (x y : X) → j ≢ i → slice_get xs j ≡ Some y → slice_get (slice_set xs i x) j ≡ Some y
-slice_get-set_other xs i j x y other at =
-    let within = slice_get_within xs j y at in
-    let len : length (slice_set xs i x) ≡ length xs = length-set xs i x in
-    let low : j < length (slice_set xs i x) = omega arith in
-    slice_get-get_or (slice_set xs i x) j y low ∙ ap (λ (z : _). Some z) (get_or-set_other xs i j x y other ∙ get_or_from_slice_get xs j y y at)
 
 pub IsTaken-set : (old : List PieceData) (number i : ℕ) (q x : PieceData) (frames : List Rows) → IsPassedAt old number i → slice_get old i ≡ Some q
     → q.outcome ≡ Judged (Genuine frames) → x ≡ record { number = q.number; outcome = NoMemory; job = q.job } → IsPiece q

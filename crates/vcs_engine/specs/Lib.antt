@@ -1,4 +1,7 @@
+pub mod Information
 pub mod Lines
+pub mod Makings
+pub mod MakingViews
 pub mod Palette
 pub mod PictureBytes
 pub mod OutputViews

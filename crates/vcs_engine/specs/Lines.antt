@@ -4,14 +4,25 @@ use Rattle.std.specs.Fmt.{decimal}
 use Rattle.vcs_machine.specs.Faults.{fault_text}
 use Rattle.movie_file.specs.MovieError.{refusal_text}
 use Rattle.vcs_engine.specs.declared.line.Line.{Line}
-use Rattle.vcs_engine.specs.declared.line.Line.TheVariants.{Genuine, FalseCheckpoint, Fault, Refused}
+use Rattle.vcs_engine.specs.declared.line.Line.TheVariants.{Genuine, FalseCheckpoint, Fault, Refused, Made, Movie}
+
+-- How many frames and checkpoints a movie has.
+abbrev pub counts_text : ℕ → ℕ → List ℕ
+counts_text frames checkpoints = decimal frames ++ (codes " frames, " ++ (decimal checkpoints ++ codes " checkpoints"))
+
+-- The bytes of a cartridge, and the counts.
+abbrev pub contents_text : ℕ → ℕ → ℕ → List ℕ
+contents_text cartridge frames checkpoints = codes "cartridge " ++ (decimal cartridge ++ (codes ", " ++ counts_text frames checkpoints))
 
 -- A line, without its end.
 abbrev pub line_text : Line → List ℕ
-line_text (Genuine frames checkpoints) = codes "genuine: " ++ (decimal frames ++ (codes " frames, " ++ (decimal checkpoints ++ codes " checkpoints")))
+line_text (Genuine frames checkpoints) = codes "genuine: " ++ counts_text frames checkpoints
 line_text (FalseCheckpoint number frame) = codes "false checkpoint " ++ (decimal number ++ (codes " at frame " ++ decimal frame))
 line_text (Fault frame kind) = codes "fault at frame " ++ (decimal frame ++ (codes ": " ++ fault_text kind))
 line_text (Refused error) = codes "refused: " ++ refusal_text error
+line_text (Made frames checkpoints) = codes "made: " ++ counts_text frames checkpoints
+line_text (Movie version cartridge frames checkpoints) =
+    codes "movie: version " ++ (decimal version ++ (codes ", " ++ contents_text cartridge frames checkpoints))
 
 -- With its end, a line feed.
 abbrev pub line_bytes : Line → List ℕ

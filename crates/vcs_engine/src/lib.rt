@@ -2,7 +2,9 @@
 #![tactic(auto)]
 
 mod engine;
+mod information;
 mod line;
+mod making;
 mod netpbm;
 mod output;
 mod palette;
@@ -12,6 +14,8 @@ mod status;
 mod streams;
 
 pub use engine::run;
+pub use information::run_info;
+pub use making::run_make;
 pub use netpbm::ppm;
 pub use palette::rgb;
 pub use plan::{BadPlan, Plan};

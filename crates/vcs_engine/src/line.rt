@@ -1,15 +1,79 @@
 //! The lines that a run writes.
+ghost use Rattle.std.specs.Prelude.{◌≡◌, IfOk, string_bytes};
+ghost use Rattle.vcs_engine.specs.Lines.{line_bytes};
+
 use movie_file::MovieError;
+use std::alloc::{AllocError, Global};
 use std::fmt;
 use vcs_machine::FaultKind;
 
 /// A line of output, without its end.
 #[derive(Clone, Copy, Debug, PartialEq, Eq)]
 pub enum Line {
-    Genuine { frames: u32, checkpoints: u16 },
-    FalseCheckpoint { number: u16, frame: u32 },
-    Fault { frame: u32, kind: FaultKind },
+    Genuine {
+        frames: u32,
+        checkpoints: u16,
+    },
+    FalseCheckpoint {
+        number: u16,
+        frame: u32,
+    },
+    Fault {
+        frame: u32,
+        kind: FaultKind,
+    },
     Refused(MovieError),
+    Made {
+        frames: u32,
+        checkpoints: u16,
+    },
+    Movie {
+        version: u16,
+        cartridge: u16,
+        frames: u32,
+        checkpoints: u16,
+    },
+}
+
+/// How many frames and checkpoints a movie has, in words.
+#[derive(Clone, Copy)]
+struct Counts(u32, u16);
+
+impl fmt::Display for Counts {
+    ghost use Rattle.std.specs.Prelude.{Some};
+    ghost use Rattle.vcs_engine.specs.Lines.{counts_text};
+
+    ghost output = { λ c. Some (counts_text c.0 c.1) };
+
+    fn fmt<W: fmt::Write>(&self, f: &mut fmt::Formatter<W>) -> fmt::Result {
+        let Counts(frames, checkpoints) = *self;
+        write!(f, "{frames} frames, {checkpoints} checkpoints")
+    }
+}
+
+/// The bytes of a movie's cartridge and its counts, in words.
+#[derive(Clone, Copy)]
+struct Contents(u16, Counts);
+
+impl fmt::Display for Contents {
+    ghost use Rattle.std.specs.Prelude.{Some};
+    ghost use Rattle.vcs_engine.specs.Lines.{contents_text};
+
+    ghost output = { λ c. Some (contents_text c.0 c.1.0 c.1.1) };
+
+    fn fmt<W: fmt::Write>(&self, f: &mut fmt::Formatter<W>) -> fmt::Result {
+        let Contents(cartridge, counts) = *self;
+        write!(f, "cartridge {cartridge}, {counts}")
+    }
+}
+
+impl Line {
+    /// Its text with its end.
+    pub(crate) fn text(self, alloc: Global) -> Result<String, AllocError>
+        ensures { IfOk result (λ text. string_bytes text ≡ line_bytes self) }
+    {
+        format!(in alloc; "{self}\n")
+    }
 }
 
 impl fmt::Display for Line {
@@ -23,12 +87,25 @@ impl fmt::Display for Line {
             Line::Genuine {
                 frames,
                 checkpoints,
-            } => { write!(f, "genuine: {frames} frames, {checkpoints} checkpoints") }
+            } => write!(f, "genuine: {}", Counts(frames, checkpoints)),
             Line::FalseCheckpoint { number, frame } => {
                 write!(f, "false checkpoint {number} at frame {frame}")
             }
             Line::Fault { frame, kind } => write!(f, "fault at frame {frame}: {kind}"),
             Line::Refused(error) => write!(f, "refused: {error}"),
+            Line::Made {
+                frames,
+                checkpoints,
+            } => write!(f, "made: {}", Counts(frames, checkpoints)),
+            Line::Movie {
+                version,
+                cartridge,
+                frames,
+                checkpoints,
+            } => {
+                let contents = Contents(cartridge, Counts(frames, checkpoints));
+                write!(f, "movie: version {version}, {contents}")
+            }
         }
     }
 }

@@ -6,6 +6,8 @@ mod devices;
 #[cfg(test)]
 mod engine;
 #[cfg(test)]
+mod making;
+#[cfg(test)]
 mod movies;
 #[cfg(test)]
 mod segments;

@@ -37,6 +37,19 @@ pub(crate) fn after_frame(timer: u8, line_cycle: u8) -> [u8; 187] {
     record
 }
 
+/// The 2048 bytes of a cartridge with a program at F000.
+pub(crate) fn rom(program: &[u8]) -> [u8; 2048] {
+    let mut cart = [0; 2048];
+    for (i, byte) in program.iter().enumerate() {
+        if i < 2048 {
+            cart[i] = *byte;
+        }
+    }
+    cart[0x010] = 0x02;
+    cart[0x7FD] = 0xF0;
+    cart
+}
+
 /// A movie of so many frames with idle inputs, and checkpoints after frames 1, 2, ...
 pub(crate) fn movie(
     alloc: Global,
@@ -49,15 +62,7 @@ pub(crate) fn movie(
     let mut bytes = Vec::new(alloc);
     bytes.extend_from_slice(b"A26M")?;
     bytes.extend_from_slice(&[0, 1, 8, 0, 0, 0, 0, frames, 0, count])?;
-    let mut cart = [0; 2048];
-    for (i, byte) in program.iter().enumerate() {
-        if i < 2048 {
-            cart[i] = *byte;
-        }
-    }
-    cart[0x010] = 0x02;
-    cart[0x7FD] = 0xF0;
-    bytes.extend_from_slice(&cart)?;
+    bytes.extend_from_slice(&rom(program))?;
     bytes.extend_from_slice(start)?;
     for _frame in 0..frames {
         bytes.extend_from_slice(&[0xFF, 0x3F, 0])?;

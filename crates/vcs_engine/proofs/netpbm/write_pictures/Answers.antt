@@ -1,5 +1,5 @@
 use Rattle.std.proofs.lemmas.Result.{err_from_is_err_and}
-use Rattle.std.proofs.Common.{◌≡◌, ◌<◌, List, ℕ, length, subst, arith, rules}
+use Rattle.std.proofs.Common.{List, ℕ, subst, rules}
 use Rattle.vcs_engine.specs.Streams.{AppendsFront}
 use Rattle.vcs_engine.specs.PictureBytes.{picture_bytes}
 use Rattle.vcs_engine.proofs.KnownBytes.{front_in}

@@ -1,5 +1,5 @@
 use Rattle.std.proofs.lemmas.Result.{err_from_is_err_and}
-use Rattle.std.proofs.Common.{arith, rules, subst, sym, List, ℕ}
+use Rattle.std.proofs.Common.{subst, List, ℕ}
 use Rattle.vcs_engine.specs.Streams.{AppendsFront}
 use Rattle.vcs_engine.specs.Palette.{rgb_of}
 use Rattle.vcs_engine.proofs.KnownBytes.{front_in}

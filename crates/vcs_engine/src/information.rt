@@ -1,0 +1,77 @@
+//! From the bytes of a movie to what is in it.
+ghost use Rattle.std.specs.Prelude.{◌≡◌, ◌≢◌, List, ℕ, IfOk, OnErr};
+ghost use Rattle.std.specs.Io.KnownBytes.{Appends, Keeps};
+ghost use Rattle.movie_file.specs.Reading.{movie_at};
+ghost use Rattle.vcs_engine.specs.Information.{information_of};
+ghost use Rattle.vcs_engine.specs.Lines.{line_bytes};
+ghost use Rattle.vcs_engine.specs.Streams.{ReadsAll, AppendsFront, IsTooLong};
+
+use crate::line::Line;
+use crate::run_error::RunError;
+use crate::status::Status;
+use crate::streams::{read_all, write_bytes};
+use movie_file::{MovieError, read_movie};
+use std::alloc::{AllocError, Global};
+use std::io::{Read, Write};
+
+/// What is told about the bytes of an input.
+fn told(alloc: Global, bytes: &[u8]) -> Result<(Status, Line), AllocError>
+    ensures { IfOk result (λ told. information_of (movie_at bytes.now) ≡ record { status = told.0; line = line_bytes told.1 }) }
+{
+    match read_movie(alloc, bytes) {
+        Ok(movie) => {
+            let version = movie.version();
+            let cartridge = movie.cart().len();
+            let frames = movie.frames();
+            let checkpoints = movie.checkpoints();
+            Ok((
+                Status::Done,
+                Line::Movie {
+                    version,
+                    cartridge,
+                    frames,
+                    checkpoints,
+                },
+            ))
+        }
+        Err(MovieError::NoMemory) => Err(AllocError),
+        Err(error) => Ok((Status::Refused, Line::Refused(error))),
+    }
+}
+
+/// Reads a movie, and writes a line about it, which ends with a line feed. The movie is not replayed.
+///
+/// A movie that is refused is a line and `Status::Refused`. After ReadFault, TooLong and NoMemory nothing was written; after
+/// WriteFault the line's writer has got a front of the line. At most 16,777,218 reads are made.
+pub fn run_info<R: Read, W: Write>(
+    alloc: Global,
+    movie: &mut R,
+    line: &mut W,
+) -> Result<Status, RunError>
+    // The output is that of the bytes read, and nothing else.
+    ensures ok { IfOk result (λ status. (input : List ℕ) × ReadsAll (R.remaining movie.old) (R.remaining movie.new) input
+        × (status ≡ (information_of (movie_at input)).status) × Appends (W.contents line.old) (W.contents line.new) (information_of (movie_at input)).line) }
+    ensures write_fault { result ≡ Err RunError.WriteFault → (input : List ℕ) × ReadsAll (R.remaining movie.old) (R.remaining movie.new) input
+        × AppendsFront (W.contents line.old) (W.contents line.new) (information_of (movie_at input)).line }
+
+    // What was written after the other errors.
+    ensures quiet { OnErr result (result ≢ Err RunError.WriteFault → Keeps (W.contents line.old) (W.contents line.new)) }
+    ensures too_long { result ≡ Err RunError.TooLong → IsTooLong (R.remaining movie.old) }
+{
+    let bytes = match read_all(alloc, movie) {
+        Ok(bytes) => bytes,
+        Err(error) => return Err(error),
+    };
+    let (status, told_line) = match told(alloc, &bytes) {
+        Ok(told) => told,
+        Err(_) => return Err(RunError::NoMemory),
+    };
+    let text = match told_line.text(alloc) {
+        Ok(text) => text,
+        Err(_) => return Err(RunError::NoMemory),
+    };
+    match write_bytes(text.as_bytes(), line) {
+        Ok(()) => Ok(status),
+        Err(_) => Err(RunError::WriteFault),
+    }
+}

@@ -1,0 +1,149 @@
+//! The engines that make movies and tell about them, over memory and over devices that fail.
+
+use std::alloc::Global;
+use std::io;
+use std::test::Fail;
+
+use replay_segments::Keep;
+use vcs_engine::{Plan, RunError, Status, run, run_info, run_make};
+
+use crate::devices::{FailingReader, FailingWriter, Zeros};
+use crate::movies::{ENDLESS_FRAMES, SEVEN_FRAMES, after_frame, movie, power_on, rom};
+
+/// Two idle inputs.
+const TWO_INPUTS: [u8; 6] = [0xFF, 0x3F, 0, 0xFF, 0x3F, 0];
+
+/// Seven idle inputs.
+const SEVEN_INPUTS: [u8; 21] = [
+    0xFF, 0x3F, 0, 0xFF, 0x3F, 0, 0xFF, 0x3F, 0, 0xFF, 0x3F, 0, 0xFF, 0x3F, 0, 0xFF, 0x3F, 0, 0xFF, 0x3F, 0,
+];
+
+/// What a making over memory answers, its movie and its line.
+fn made(alloc: Global, mut rom: &[u8], mut inputs: &[u8], every: u32) -> (Result<Status, RunError>, Vec<u8>, Vec<u8>) {
+    let mut movie = Vec::new(alloc);
+    let mut line = Vec::new(alloc);
+    let status = run_make(alloc, &mut rom, &mut inputs, every, &mut movie, &mut line);
+    (status, movie, line)
+}
+
+/// The movie of two endless frames with a checkpoint after the second.
+fn two_made_frames(alloc: Global) -> Result<Vec<u8>, Fail> {
+    let mut wanted = movie(alloc, &ENDLESS_FRAMES, &power_on(), 2, &[after_frame(0xE3, 0x1D)])?;
+    let checkpoint = 14 + 2048 + 187 + 3 * 2;
+    wanted[checkpoint + 3] = 2;
+    Ok(wanted)
+}
+
+#[test]
+fn made_movie_is_genuine(rt: HostRuntime) -> Result<(), Fail> {
+    let (status, movie, line) = made(rt.alloc(), &rom(&ENDLESS_FRAMES), &TWO_INPUTS, 2);
+    assert_eq!(rt; status, Ok(Status::Done));
+    assert_eq!(rt; movie.len(), 2446);
+    assert!(rt; movie == two_made_frames(rt.alloc())?);
+    assert!(rt; line.as_slice() == b"made: 2 frames, 1 checkpoints\n".as_slice());
+    let mut information = Vec::new(rt.alloc());
+    let status = run_info(rt.alloc(), &mut movie.as_slice(), &mut information);
+    assert_eq!(rt; status, Ok(Status::Done));
+    assert!(rt; information.as_slice() == b"movie: version 1, cartridge 2048, 2 frames, 1 checkpoints\n".as_slice());
+    let plan = Plan::new(1, 1, Keep::new(1, 0)?)?;
+    let mut verdict = Vec::new(rt.alloc());
+    let status = run(rt.alloc(), &mut movie.as_slice(), &plan, &mut verdict, &mut io::sink());
+    assert_eq!(rt; status, Ok(Status::Done));
+    assert!(rt; verdict.as_slice() == b"genuine: 2 frames, 1 checkpoints\n".as_slice());
+    Ok(())
+}
+
+#[test]
+fn refused_makings_write_no_movie(rt: HostRuntime) {
+    let endless = rom(&ENDLESS_FRAMES);
+    for (rom, inputs, every, wanted) in [
+        (endless.as_slice(), TWO_INPUTS.as_slice(), 0u32, b"refused: BadCounts\n".as_slice()),
+        (endless.as_slice(), [].as_slice(), 1, b"refused: BadCounts\n".as_slice()),
+        (endless.as_slice(), [0xFF, 0x3F, 0, 0xFF].as_slice(), 1, b"refused: Short\n".as_slice()),
+        (endless.as_slice(), [0xFF, 0x3F, 0, 0xFF, 0x3F, 4].as_slice(), 1, b"refused: BadInput 2\n".as_slice()),
+        ([0; 4097].as_slice(), [0xFF].as_slice(), 0, b"refused: BadCartSize\n".as_slice()),
+    ] {
+        let (status, movie, line) = made(rt.alloc(), rom, inputs, every);
+        assert_eq!(rt; status, Ok(Status::Refused));
+        assert!(rt; movie.is_empty());
+        assert!(rt; line.as_slice() == wanted);
+    }
+}
+
+#[test]
+fn faulty_run_makes_no_movie(rt: HostRuntime) {
+    let (status, movie, line) = made(rt.alloc(), &rom(&SEVEN_FRAMES), &SEVEN_INPUTS, 1);
+    assert_eq!(rt; status, Ok(Status::Fault));
+    assert!(rt; movie.is_empty());
+    assert!(rt; line.as_slice() == b"fault at frame 7: bad opcode 02 at F010\n".as_slice());
+}
+
+#[test]
+fn information_of_refused_bytes(rt: HostRuntime) -> Result<(), Fail> {
+    let mut bytes = two_made_frames(rt.alloc())?;
+    bytes.push(0)?;
+    let mut line = Vec::new(rt.alloc());
+    let status = run_info(rt.alloc(), &mut bytes.as_slice(), &mut line);
+    assert_eq!(rt; status, Ok(Status::Refused));
+    assert!(rt; line.as_slice() == b"refused: Trailing\n".as_slice());
+    Ok(())
+}
+
+#[test]
+fn inputs_of_a_bad_rom_are_not_read(rt: HostRuntime) {
+    let mut inputs = FailingReader { bytes: &TWO_INPUTS, left: 0 };
+    let mut line = Vec::new(rt.alloc());
+    let status = run_make(rt.alloc(), &mut [0; 2047].as_slice(), &mut inputs, 1, &mut io::sink(), &mut line);
+    assert_eq!(rt; status, Ok(Status::Refused));
+    assert!(rt; line.as_slice() == b"refused: BadCartSize\n".as_slice());
+}
+
+#[test]
+fn making_with_a_failed_read_writes_nothing(rt: HostRuntime) {
+    let endless = rom(&ENDLESS_FRAMES);
+    for (rom_reads, input_reads) in [(0u64, 9u64), (5, 9), (9, 0), (9, 1)] {
+        let mut rom = FailingReader { bytes: &endless, left: rom_reads };
+        let mut inputs = FailingReader { bytes: &TWO_INPUTS, left: input_reads };
+        let mut movie = Vec::new(rt.alloc());
+        let mut line = Vec::new(rt.alloc());
+        let status = run_make(rt.alloc(), &mut rom, &mut inputs, 1, &mut movie, &mut line);
+        assert_eq!(rt; status, Err(RunError::ReadFault));
+        assert!(rt; movie.is_empty() && line.is_empty());
+    }
+}
+
+#[test]
+fn making_of_endless_inputs_is_too_long(rt: HostRuntime) {
+    let mut inputs = Zeros { left: u64::MAX, reads: 0 };
+    let mut movie = Vec::new(rt.alloc());
+    let mut line = Vec::new(rt.alloc());
+    let endless = rom(&ENDLESS_FRAMES);
+    let status = run_make(rt.alloc(), &mut endless.as_slice(), &mut inputs, 1, &mut movie, &mut line);
+    assert_eq!(rt; status, Err(RunError::TooLong));
+    assert!(rt; movie.is_empty() && line.is_empty());
+    assert!(rt; inputs.reads <= 16_777_218, "{} reads", inputs.reads);
+}
+
+#[test]
+fn failed_write_leaves_a_front_of_the_movie(rt: HostRuntime) -> Result<(), Fail> {
+    let wanted = two_made_frames(rt.alloc())?;
+    let wanted_line = b"made: 2 frames, 1 checkpoints\n".as_slice();
+    let endless = rom(&ENDLESS_FRAMES);
+    for (movie_writes, line_writes) in [(0usize, 30usize), (1, 30), (2445, 30), (2446, 0), (2446, 29)] {
+        let mut movie = FailingWriter { taken: Vec::new(rt.alloc()), left: movie_writes as u64 };
+        let mut line = FailingWriter { taken: Vec::new(rt.alloc()), left: line_writes as u64 };
+        let status = run_make(rt.alloc(), &mut endless.as_slice(), &mut TWO_INPUTS.as_slice(), 2, &mut movie, &mut line);
+        assert_eq!(rt; status, Err(RunError::WriteFault));
+        assert!(rt; movie.taken.as_slice() == &wanted[..movie_writes]);
+        if movie_writes < 2446 {
+            assert!(rt; line.taken.is_empty());
+        } else {
+            assert!(rt; line.taken.as_slice() == &wanted_line[..line_writes]);
+        }
+    }
+    let mut line = FailingWriter { taken: Vec::new(rt.alloc()), left: 29 };
+    let status = run_info(rt.alloc(), &mut wanted.as_slice(), &mut line);
+    assert_eq!(rt; status, Err(RunError::WriteFault));
+    assert!(rt; line.taken.as_slice() == b"movie: version 1, cartridge 2".as_slice());
+    Ok(())
+}
