@@ -5,6 +5,7 @@ ghost use Rattle.command_line.specs.Ranges.{IsInRange};
 use crate::command::{Command, LineFault};
 use crate::parser::program;
 use clap::ArgMatches;
+use clap::error::ErrorKind;
 use std::alloc::{AllocError, Global};
 use std::convert::AsStr;
 
@@ -60,6 +61,9 @@ fn make_of(alloc: Global, matches: &ArgMatches<'_>) -> Result<Option<Command>, A
 
 /// What clap says of words that are no command, or that ask for help.
 fn fault_of(alloc: Global, error: &clap::Error) -> LineFault {
+    if error.kind() == ErrorKind::OutOfMemory {
+        return LineFault::Memory;
+    }
     match error.to_string(alloc) {
         Ok(text) if error.use_stderr() => LineFault::Usage { text },
         Ok(text) => LineFault::Help { text },

@@ -79,7 +79,10 @@ fn main(rt: HostRuntime) -> ExitCode {
             &rt,
             Failure::Run(RunError::NoMemory),
         ),
-        Err(_) => return ExitCode::from(USAGE),
+        Err(_) => {
+            let _printed = eprintln!(rt; "error: a word is not UTF-8");
+            return ExitCode::from(USAGE);
+        }
     };
     let words: Result<Vec<String>, AllocError> = words.collect(rt.alloc());
     let Ok(words) = words else {

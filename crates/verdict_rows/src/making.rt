@@ -40,7 +40,7 @@ fn two_made_frames(alloc: Global) -> Result<Vec<u8>, Fail> {
         &[after_frame(0xE3, 0x1D)],
     )?;
     let checkpoint = 14 + 2048 + 187 + 3 * 2;
-    wanted[checkpoint + 3] = 2;
+    *wanted.get_mut(checkpoint + 3).ok_or("a checkpoint's frame")? = 2;
     Ok(wanted)
 }
 
