@@ -40,7 +40,9 @@ fn two_made_frames(alloc: Global) -> Result<Vec<u8>, Fail> {
         &[after_frame(0xE3, 0x1D)],
     )?;
     let checkpoint = 14 + 2048 + 187 + 3 * 2;
-    *wanted.get_mut(checkpoint + 3).ok_or("a checkpoint's frame")? = 2;
+    *wanted
+        .get_mut(checkpoint + 3)
+        .ok_or("a checkpoint's frame")? = 2;
     Ok(wanted)
 }
 
@@ -223,11 +225,13 @@ fn failed_write_leaves_a_front_of_the_movie(rt: HostRuntime) -> Result<(), Fail>
             &mut line,
         );
         assert_eq!(rt; status, Err(RunError::WriteFault));
-        assert!(rt; movie.taken.as_slice() == &wanted[..movie_writes]);
+        assert_eq!(rt; movie.taken.len(), movie_writes);
+        assert!(rt; wanted.starts_with(&movie.taken));
         if movie_writes < 2446 {
             assert!(rt; line.taken.is_empty());
         } else {
-            assert!(rt; line.taken.as_slice() == &wanted_line[..line_writes]);
+            assert_eq!(rt; line.taken.len(), line_writes);
+            assert!(rt; wanted_line.starts_with(&line.taken));
         }
     }
     let mut line = FailingWriter {
