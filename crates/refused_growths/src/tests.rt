@@ -6,23 +6,40 @@ use std::io;
 use std::test::Fail;
 use vcs_engine::{Plan, RunError, Status, run};
 
+/// Puts values from a place on.
+fn put(bytes: &mut [u8; 2446], from: usize, values: &[u8]) {
+    for (byte, value) in bytes.iter_mut().skip(from).zip(values) {
+        *byte = *value;
+    }
+}
+
 /// The bytes of the movie, which take no memory: LDA #02, STA 80, STA VSYNC, LDA #00, STA VSYNC, JMP F000, from power-on, with
 /// a checkpoint after the first frame.
 fn two_frames() -> [u8; 2446] {
     let mut bytes = [0; 2446];
-    bytes[..14].copy_from_slice(&[0x41, 0x32, 0x36, 0x4D, 0, 1, 8, 0, 0, 0, 0, 2, 0, 1]);
-    bytes[14..27].copy_from_slice(&[
-        0xA9, 2, 0x85, 0x80, 0x85, 0, 0xA9, 0, 0x85, 0, 0x4C, 0, 0xF0,
-    ]);
-    bytes[14 + 0x7FD] = 0xF0;
-    bytes[2065..2068].copy_from_slice(&[0xFF, 0x04, 0xF0]);
-    bytes[2203..2205].copy_from_slice(&[1, 3]);
-    bytes[2249..2255].copy_from_slice(&[0xFF, 0x3F, 0, 0xFF, 0x3F, 0]);
-    bytes[2258] = 1;
-    bytes[2262..2267].copy_from_slice(&[0xFF, 0x06, 0xF0, 0x0A, 2]);
-    bytes[2398] = 0xF3;
-    bytes[2400..2404].copy_from_slice(&[1, 3, 1, 1]);
-    bytes[2444] = 0x0D;
+    put(&mut bytes, 0, b"A26M");
+    put(&mut bytes, 4, &[0, 1, 8, 0, 0, 0, 0, 2, 0, 1]);
+    put(
+        &mut bytes,
+        14,
+        &[
+            0xA9, 2, 0x85, 0x80, 0x85, 0, 0xA9, 0, 0x85, 0, 0x4C, 0, 0xF0,
+        ],
+    );
+    put(&mut bytes, 14 + 0x7FD, &[0xF0]);
+    // The start: S, P, PC, and the timer's part.
+    put(&mut bytes, 2065, &[0xFF, 0x04, 0xF0]);
+    put(&mut bytes, 2203, &[1, 3]);
+    // The inputs of two frames, and the frame of the checkpoint.
+    put(
+        &mut bytes,
+        2249,
+        &[0xFF, 0x3F, 0, 0xFF, 0x3F, 0, 0, 0, 0, 1],
+    );
+    // The claimed state: S, P, PC, A, the byte at 80, the timer, and the cycle of the line.
+    put(&mut bytes, 2262, &[0xFF, 0x06, 0xF0, 0x0A, 2]);
+    put(&mut bytes, 2398, &[0xF3, 0, 1, 3, 1, 1]);
+    put(&mut bytes, 2444, &[0x0D]);
     bytes
 }
 
