@@ -75,7 +75,7 @@ fn info<'a>(alloc: Global) -> Result<Command<'a>, AllocError> {
 }
 
 /// The program with all of its commands.
-pub fn program<'a>(alloc: Global) -> Result<Command<'a>, AllocError> {
+pub(crate) fn program<'a>(alloc: Global) -> Result<Command<'a>, AllocError> {
     Command::new(alloc, "vcs_check")
         .version("1.0.0")
         .about("Judge movies of the Atari 2600. Without words: the movie on standard input")

@@ -1,10 +1,11 @@
 //! A movie of two frames, read, written, judged and told, where one growth may be refused.
 
 use movie_file::{MovieError, read_movie, write_movie};
-use replay_segments::{Keep, Verdict, verify_one};
+use replay_segments::{Cuts, CutsError, GatherError, Keep, Verdict, gather, replay, verify_one};
 use std::io;
 use std::test::Fail;
 use vcs_engine::{Plan, RunError, Status, run, run_make};
+use verify_pool::{Desk, NoGate, NoMemory, VerifyError, verify};
 
 /// Puts values from a place on.
 fn put(bytes: &mut [u8; 2446], from: usize, values: &[u8]) {
@@ -50,6 +51,7 @@ fn verdict_or_want_of_memory(rt: HostRuntime) -> Result<(), Fail> {
     let mut line = [0u8; 64];
     let mut writer = line.as_mut_slice();
     match run(
+        &rt,
         rt.alloc(),
         &mut bytes.as_slice(),
         &plan,
@@ -139,4 +141,61 @@ fn made_movie_or_want_of_memory(rt: HostRuntime) {
             assert_eq!(rt; movie_writer.len(), 2446);
         }
     }
+}
+
+#[test]
+fn gathered_verdict_or_want_of_memory(rt: HostRuntime) -> Result<(), Fail> {
+    let Ok(movie) = read_movie(rt.alloc(), &two_frames()) else {
+        return Ok(());
+    };
+    let cuts = match Cuts::every(rt.alloc(), &movie, 1) {
+        Ok(cuts) => cuts,
+        Err(error) => {
+            assert_eq!(rt; error, CutsError::NoMemory);
+            return Ok(());
+        }
+    };
+    let keep = Keep::new(1, 2)?;
+    let mut pieces = Vec::new(rt.alloc());
+    for number in 0..cuts.segments() {
+        let piece = replay(rt.alloc(), &movie, &cuts, keep, number);
+        if pieces.push(piece).is_err() {
+            return Ok(());
+        }
+    }
+    match gather(rt.alloc(), pieces, cuts.segments()) {
+        Ok(Verdict::Genuine { frames }) => assert_eq!(rt; frames.len(), 2),
+        Ok(_) => assert!(rt; false, "the movie is genuine"),
+        Err(error) => assert_eq!(rt; error, GatherError::NoMemory),
+    }
+    Ok(())
+}
+
+#[test]
+fn desk_or_want_of_memory(rt: HostRuntime) -> Result<(), Fail> {
+    match Desk::new(rt.alloc(), 2, 3) {
+        Ok((desk, mut tickets)) => {
+            assert_eq!(rt; tickets.len(), 3);
+            let mut ticket = tickets.pop().ok_or("a ticket")?;
+            assert_eq!(rt; desk.draw(&mut ticket), Some(0));
+        }
+        Err(NoMemory) => {}
+    }
+    Ok(())
+}
+
+#[test]
+fn verdict_of_two_workers_or_want_of_memory(rt: HostRuntime) -> Result<(), Fail> {
+    let Ok(movie) = read_movie(rt.alloc(), &two_frames()) else {
+        return Ok(());
+    };
+    let Ok(cuts) = Cuts::every(rt.alloc(), &movie, 1) else {
+        return Ok(());
+    };
+    match verify(&rt, rt.alloc(), &movie, &cuts, 2, Keep::new(1, 2)?, &NoGate) {
+        Ok(Verdict::Genuine { frames }) => assert_eq!(rt; frames.len(), 2),
+        Ok(_) => assert!(rt; false, "the movie is genuine"),
+        Err(error) => assert!(rt; matches!(error, VerifyError::NoMemory | VerifyError::NoThread)),
+    }
+    Ok(())
 }

@@ -5,13 +5,15 @@ use replay_segments::Keep;
 use std::alloc::Global;
 use std::io::{BufWriter, Read, Write};
 use std::rt::Files;
+use std::sync::Wait;
+use std::thread::Threads;
 use std::{fs, io};
 use thiserror::Error;
 use vcs_engine::{Plan, RunError, Status, run, run_info, run_make};
 
 /// Why a command did not reach its end, as the program prints it after `error: `.
 #[derive(Clone, Copy, Debug, PartialEq, Eq, Error)]
-pub enum Failure {
+pub(crate) enum Failure {
     /// A file can't be opened, or can't be created.
     #[error("cannot open")]
     Open,
@@ -56,7 +58,7 @@ fn flushed<W: Write>(writer: &mut W) -> Result<(), Failure> {
 }
 
 /// The plan of a command, whose numbers are in their ranges.
-pub fn plan_of(workers: u8, every: u16, first: u32, count: u32) -> Plan
+pub(crate) fn plan_of(workers: u8, every: u16, first: u32, count: u32) -> Plan
     requires some_workers { 1 ≤ workers }
     requires few_workers { workers ≤ 64 }
     requires every { 1 ≤ every }
@@ -72,27 +74,27 @@ pub fn plan_of(workers: u8, every: u16, first: u32, count: u32) -> Plan
 }
 
 /// Judges a movie without pictures.
-pub fn judge<R: Read, W: Write>(
-    alloc: Global,
+pub(crate) fn judge<T: Threads + Wait + Sync + AllocGlobal, R: Read, W: Write>(
+    rt: &T,
     movie: &mut R,
     plan: &Plan,
     line: &mut W,
 ) -> Result<Status, Failure> {
-    Ok(run(alloc, movie, plan, line, &mut io::sink())?)
+    Ok(run(rt, rt.alloc(), movie, plan, line, &mut io::sink())?)
 }
 
 /// Judges the movie of a file without pictures.
-pub fn verify<R: Files + AllocGlobal, W: Write>(
+pub(crate) fn verify<R: Files + Threads + Wait + Sync + AllocGlobal, W: Write>(
     rt: &R,
     file: &str,
     plan: &Plan,
     line: &mut W,
 ) -> Result<Status, Failure> {
-    judge(rt.alloc(), &mut open(rt, file)?, plan, line)
+    judge(rt, &mut open(rt, file)?, plan, line)
 }
 
 /// Judges the movie of a file, and writes its kept pictures to another.
-pub fn verify_with_pictures<R: Files + AllocGlobal, W: Write>(
+pub(crate) fn verify_with_pictures<R: Files + Threads + Wait + Sync + AllocGlobal, W: Write>(
     rt: &R,
     file: &str,
     plan: &Plan,
@@ -101,13 +103,13 @@ pub fn verify_with_pictures<R: Files + AllocGlobal, W: Write>(
 ) -> Result<Status, Failure> {
     let mut movie = open(rt, file)?;
     let mut pictures = buffered(rt.alloc(), create(rt, pictures)?)?;
-    let status = run(rt.alloc(), &mut movie, plan, line, &mut pictures)?;
+    let status = run(rt, rt.alloc(), &mut movie, plan, line, &mut pictures)?;
     flushed(&mut pictures)?;
     Ok(status)
 }
 
 /// Makes a movie of the files of a cartridge and of inputs.
-pub fn make<R: Files + AllocGlobal, W: Write>(
+pub(crate) fn make<R: Files + AllocGlobal, W: Write>(
     rt: &R,
     rom: &str,
     inputs: &str,
@@ -122,7 +124,7 @@ pub fn make<R: Files + AllocGlobal, W: Write>(
 }
 
 /// Says what the movie of a file holds.
-pub fn info<R: Files + AllocGlobal, W: Write>(
+pub(crate) fn info<R: Files + AllocGlobal, W: Write>(
     rt: &R,
     file: &str,
     line: &mut W,

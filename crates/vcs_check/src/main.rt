@@ -14,6 +14,8 @@ use std::alloc::AllocError;
 use std::io::{Eprint, Read, Write};
 use std::process::ExitCode;
 use std::rt::Files;
+use std::sync::Wait;
+use std::thread::Threads;
 use std::{env, io};
 use vcs_engine::{RunError, Status};
 
@@ -24,7 +26,7 @@ const USAGE: u8 = 4;
 const FAILED: u8 = 5;
 
 /// Does what a command asks for.
-fn execute<R: Files + AllocGlobal, I: Read, W: Write>(
+fn execute<R: Files + Threads + Wait + Sync + AllocGlobal, I: Read, W: Write>(
     rt: &R,
     input: &mut I,
     line: &mut W,
@@ -33,7 +35,7 @@ fn execute<R: Files + AllocGlobal, I: Read, W: Write>(
     requires { IsInRange command.now }
 {
     match command {
-        Command::Stdin => judge(rt.alloc(), input, &plan_of(1, 1, 1, 0), line),
+        Command::Stdin => judge(rt, input, &plan_of(1, 1, 1, 0), line),
         Command::Verify {
             file,
             workers,

@@ -1,5 +1,5 @@
 //! From the bytes of a movie to its verdict.
-ghost use Rattle.std.specs.Prelude.{◌≡◌, ◌≢◌, List, ℕ, IfOk, OnOk, OnErr};
+ghost use Rattle.std.specs.Prelude.{◌≡◌, ◌≢◌, ◌≤◌, List, ℕ, IfOk, OnOk, OnErr};
 ghost use Rattle.std.specs.Io.KnownBytes.{Appends, Keeps};
 ghost use Rattle.vcs_engine.specs.OutputViews.{told_by};
 ghost use Rattle.vcs_engine.specs.Outputs.{Told, Tells};
@@ -14,6 +14,8 @@ use crate::status::Status;
 use crate::streams::{WriteFault, read_all, write_bytes};
 use std::alloc::Global;
 use std::io::{Read, Write};
+use std::sync::Wait;
+use std::thread::Threads;
 
 /// Writes the line, then the pictures.
 fn deliver<W: Write, P: Write>(
@@ -33,12 +35,14 @@ fn deliver<W: Write, P: Write>(
     }
 }
 
-/// Reads a movie, judges it, and writes its line, which ends with a line feed, and then the kept pictures of a genuine movie.
+/// Reads a movie, judges it by the plan's workers, and writes its line, which ends with a line feed, and then the kept pictures of
+/// a genuine movie.
 ///
-/// A movie that is refused is a line and `Status::Refused`. After ReadFault, TooLong and NoMemory nothing was written. After
-/// WriteFault the line's writer has got a front of the line, or the whole line and the pictures' writer a front of the pictures.
-/// At most 16,777,218 reads are made.
-pub fn run<R: Read, W: Write, P: Write>(
+/// A movie that is refused is a line and `Status::Refused`. After ReadFault, TooLong, NoMemory and NoThread nothing was written.
+/// After WriteFault the line's writer has got a front of the line, or the whole line and the pictures' writer a front of the
+/// pictures. At most 16,777,218 reads are made. With more than one worker it joins the threads that it starts.
+pub fn run<T: Threads + Wait + Sync, R: Read, W: Write, P: Write>(
+    rt: &T,
     alloc: Global,
     movie: &mut R,
     plan: &Plan,
@@ -57,14 +61,15 @@ pub fn run<R: Read, W: Write, P: Write>(
     ensures quiet_line { OnErr result (result ≢ Err RunError.WriteFault → Keeps (W.contents verdict.old) (W.contents verdict.new)) }
     ensures quiet_pictures { OnErr result (result ≢ Err RunError.WriteFault → Keeps (P.contents pictures.old) (P.contents pictures.new)) }
     ensures too_long { result ≡ Err RunError.TooLong → IsTooLong (R.remaining movie.old) }
+    ensures no_thread { result ≡ Err RunError.NoThread → 2 ≤ plan.now.workers }
 {
     let bytes = match read_all(alloc, movie) {
         Ok(bytes) => bytes,
         Err(error) => return Err(error),
     };
-    let output = match Output::of_bytes(alloc, &bytes, plan.keep()) {
+    let output = match Output::of_bytes(rt, alloc, &bytes, plan) {
         Ok(output) => output,
-        Err(_) => return Err(RunError::NoMemory),
+        Err(refused) => return Err(refused),
     };
     match deliver(&output, verdict, pictures) {
         Ok(()) => Ok(output.status),

@@ -57,6 +57,7 @@ pub fn run_info<R: Read, W: Write>(
     // What was written after the other errors.
     ensures quiet { OnErr result (result ≢ Err RunError.WriteFault → Keeps (W.contents line.old) (W.contents line.new)) }
     ensures too_long { result ≡ Err RunError.TooLong → IsTooLong (R.remaining movie.old) }
+    ensures no_thread { result ≢ Err RunError.NoThread }
 {
     let bytes = match read_all(alloc, movie) {
         Ok(bytes) => bytes,

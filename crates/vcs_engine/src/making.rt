@@ -96,6 +96,7 @@ impl Making {
     ) -> Result<Making, RunError>
         ensures makes { IfOk result (λ making. Makes rom.items (S.remaining inputs.old) (S.remaining inputs.new) every (made_by making)) }
         ensures too_long { result ≡ Err RunError.TooLong → IsTooLong (S.remaining inputs.old) }
+        ensures no_thread { result ≢ Err RunError.NoThread }
         ensures no_write { result ≢ Err RunError.WriteFault }
     {
         let Ok(cart) = Cart::new(rom) else {
@@ -124,7 +125,8 @@ impl Making {
             (L.contents line.old) (L.contents line.new) (made_by self.now).line }
         ensures quiet { OnErr result (result ≢ Err RunError.WriteFault
             → Keeps (W.contents movie.old) (W.contents movie.new) × Keeps (L.contents line.old) (L.contents line.new)) }
-        ensures never { result ≢ Err RunError.TooLong }
+        ensures no_read { result ≢ Err RunError.TooLong }
+        ensures no_thread { result ≢ Err RunError.NoThread }
     {
         let text = match self.line.text(alloc) {
             Ok(text) => text,
@@ -167,6 +169,7 @@ pub fn run_make<R: Read, S: Read, W: Write, L: Write>(
     ensures quiet { OnErr result (result ≢ Err RunError.WriteFault
         → Keeps (W.contents movie.old) (W.contents movie.new) × Keeps (L.contents line.old) (L.contents line.new)) }
     ensures too_long { result ≡ Err RunError.TooLong → IsTooLong (R.remaining rom.old) ⊎ IsTooLong (S.remaining inputs.old) }
+    ensures no_thread { result ≢ Err RunError.NoThread }
 {
     let bytes = match read_all(alloc, rom) {
         Ok(bytes) => bytes,

@@ -1,5 +1,5 @@
 //! What a run writes for the bytes of a movie.
-ghost use Rattle.std.specs.Prelude.{◌≡◌, IfOk, string_bytes};
+ghost use Rattle.std.specs.Prelude.{◌≡◌, ◌≢◌, ◌≤◌, Err, IfOk, string_bytes};
 ghost use Rattle.vcs_engine.specs.Lines.{line_bytes};
 ghost use Rattle.vcs_engine.specs.OutputViews.{pictures_in, told_by};
 ghost use Rattle.vcs_engine.specs.Outputs.{Tells, told_of, told_refused};
@@ -7,10 +7,15 @@ ghost use Rattle.replay_segments.specs.Verdicts.{IsVerdict};
 ghost use Rattle.replay_segments.specs.declared.verdict.Verdict.{Verdict as VerdictOf};
 
 use crate::line::Line;
+use crate::plan::Plan;
+use crate::run_error::RunError;
 use crate::status::Status;
 use movie_file::{Movie, MovieError, read_movie};
-use replay_segments::{Frames, Keep, Verdict, verify_one};
+use replay_segments::{Cuts, CutsError, Frames, Verdict};
 use std::alloc::{AllocError, Global};
+use std::sync::Wait;
+use std::thread::Threads;
+use verify_pool::{NoGate, VerifyError, verify};
 
 /// A status, a line with its end, and the kept pictures of a genuine movie.
 #[derive(Drop)]
@@ -66,24 +71,79 @@ impl Output {
         }
     }
 
-    /// What is told of a movie, by one unbroken replay.
-    fn of_movie(alloc: Global, movie: &Movie, keep: Keep) -> Result<Output, AllocError>
-        ensures { IfOk result (λ output. (verdict : VerdictOf) × IsVerdict movie.now keep verdict × (told_by output ≡ told_of movie.now verdict)) }
+    /// The verdict of a movie, by the workers of a plan.
+    fn verdict_of<T: Threads + Wait + Sync>(
+        rt: &T,
+        alloc: Global,
+        movie: &Movie,
+        plan: &Plan,
+    ) -> Result<Verdict, RunError>
+        ensures verdict { IfOk result (λ verdict. IsVerdict movie.now plan.now.keep verdict) }
+        ensures no_thread { result ≡ Err RunError.NoThread → 2 ≤ plan.now.workers }
+        ensures no_read { result ≢ Err RunError.TooLong }
+        ensures no_write { result ≢ Err RunError.WriteFault }
     {
-        let Ok(verdict) = verify_one(alloc, movie, keep) else {
-            return Err(AllocError);
+        let cuts = match Cuts::every(alloc, movie, plan.every()) {
+            Ok(cuts) => cuts,
+            Err(CutsError::NoMemory) => return Err(RunError::NoMemory),
+            Err(CutsError::BadCuts) => unreachable!(),
         };
-        Output::of_verdict(alloc, movie, verdict)
+        match verify(
+            rt,
+            alloc,
+            movie,
+            &cuts,
+            plan.workers(),
+            plan.keep(),
+            &NoGate,
+        ) {
+            Ok(verdict) => Ok(verdict),
+            Err(VerifyError::NoMemory) => Err(RunError::NoMemory),
+            Err(VerifyError::NoThread) => Err(RunError::NoThread),
+            Err(VerifyError::BadWorkers) => unreachable!(),
+        }
+    }
+
+    /// What is told of a movie.
+    fn of_movie<T: Threads + Wait + Sync>(
+        rt: &T,
+        alloc: Global,
+        movie: &Movie,
+        plan: &Plan,
+    ) -> Result<Output, RunError>
+        ensures told { IfOk result (λ output. (verdict : VerdictOf) × IsVerdict movie.now plan.now.keep verdict × (told_by output ≡ told_of movie.now verdict)) }
+        ensures no_thread { result ≡ Err RunError.NoThread → 2 ≤ plan.now.workers }
+        ensures no_read { result ≢ Err RunError.TooLong }
+        ensures no_write { result ≢ Err RunError.WriteFault }
+    {
+        match Output::verdict_of(rt, alloc, movie, plan) {
+            Ok(verdict) => match Output::of_verdict(alloc, movie, verdict) {
+                Ok(output) => Ok(output),
+                Err(_) => Err(RunError::NoMemory),
+            },
+            Err(error) => Err(error),
+        }
     }
 
     /// What is told of the bytes of an input.
-    pub fn of_bytes(alloc: Global, bytes: &[u8], keep: Keep) -> Result<Output, AllocError>
-        ensures { IfOk result (λ output. Tells keep bytes.now (told_by output)) }
+    pub fn of_bytes<T: Threads + Wait + Sync>(
+        rt: &T,
+        alloc: Global,
+        bytes: &[u8],
+        plan: &Plan,
+    ) -> Result<Output, RunError>
+        ensures told { IfOk result (λ output. Tells plan.now.keep bytes.now (told_by output)) }
+        ensures no_thread { result ≡ Err RunError.NoThread → 2 ≤ plan.now.workers }
+        ensures no_read { result ≢ Err RunError.TooLong }
+        ensures no_write { result ≢ Err RunError.WriteFault }
     {
         match read_movie(alloc, bytes) {
-            Ok(movie) => Output::of_movie(alloc, &movie, keep),
-            Err(MovieError::NoMemory) => Err(AllocError),
-            Err(error) => Output::new(alloc, Status::Refused, Line::Refused(error), None),
+            Ok(movie) => Output::of_movie(rt, alloc, &movie, plan),
+            Err(MovieError::NoMemory) => Err(RunError::NoMemory),
+            Err(error) => match Output::new(alloc, Status::Refused, Line::Refused(error), None) {
+                Ok(output) => Ok(output),
+                Err(_) => Err(RunError::NoMemory),
+            },
         }
     }
 }

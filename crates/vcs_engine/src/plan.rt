@@ -3,14 +3,12 @@ ghost use Rattle.std.specs.Prelude.{◌≡◌, ◌≢◌, ◌<◌, ◌≤◌, �
 
 use replay_segments::Keep;
 use thiserror::Error;
-
-/// The most workers.
-pub const MOST_WORKERS: u8 = 64;
+use verify_pool::MOST_WORKERS;
 
 /// How a movie is to be judged: by how many workers, 1 to 64, with a cut at each so many checkpoints, at least 1, and which
 /// frames' pictures are kept.
 ///
-/// No output shows the workers and the cuts. For now one thread replays the movie whole.
+/// No output shows the workers and the cuts.
 #[derive(Clone, Copy, Debug, PartialEq, Eq)]
 pub struct Plan {
     workers: u8,
@@ -51,6 +49,22 @@ impl Plan {
             every,
             keep,
         })
+    }
+
+    /// How many workers judge it.
+    pub fn workers(&self) -> u8
+        ensures value { result ≡ self.now.workers }
+        ensures range { (1 ≤ result) × (result ≤ 64) }
+    {
+        self.workers
+    }
+
+    /// At each how many checkpoints the movie is cut.
+    pub fn every(&self) -> u16
+        ensures value { result ≡ self.now.every }
+        ensures range { 1 ≤ result }
+    {
+        self.every
     }
 
     /// Which frames' pictures are kept.

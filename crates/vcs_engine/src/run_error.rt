@@ -16,6 +16,9 @@ pub enum RunError {
     /// A growth was refused.
     #[error("out of memory")]
     NoMemory,
+    /// The start of a thread was refused.
+    #[error("no thread")]
+    NoThread,
     /// A write answered an error, or took nothing.
     #[error("write failed")]
     WriteFault,

@@ -19,6 +19,7 @@ pub(crate) fn read_all<R: Read>(alloc: Global, reader: &mut R) -> Result<Vec<u8>
     ensures all { IfOk result (λ bytes. ReadsAll (R.remaining reader.old) (R.remaining reader.new) bytes.items) }
     ensures few { IfOk result (λ bytes. length bytes.items ≤ input_limit) }
     ensures too_long { result ≡ Err RunError.TooLong → IsTooLong (R.remaining reader.old) }
+    ensures no_thread { result ≢ Err RunError.NoThread }
     ensures no_write { result ≢ Err RunError.WriteFault }
 {
     let mut bytes = Vec::new(alloc);

@@ -5,28 +5,41 @@ use crate::movies::{ENDLESS_FRAMES, SEVEN_FRAMES, after_frame, movie, power_on, 
 use replay_segments::Keep;
 use std::alloc::Global;
 use std::io;
+use std::sync::Wait;
 use std::test::Fail;
+use std::thread::Threads;
 use vcs_engine::{BadPlan, Plan, RunError, Status, rgb, run};
 
+/// Two workers, and a cut at each checkpoint.
 fn plan() -> Plan {
     let keep = Keep::new(1, 600).unwrap();
-    Plan::new(1, 1, keep).unwrap()
+    Plan::new(2, 1, keep).unwrap()
 }
 
 /// What a run over memory answers, and its line.
-fn told(alloc: Global, mut bytes: &[u8]) -> (Result<Status, RunError>, Vec<u8>) {
-    let mut line = Vec::new(alloc);
-    let status = run(alloc, &mut bytes, &plan(), &mut line, &mut io::sink());
+fn told<T: Threads + Wait + Sync + AllocGlobal>(
+    rt: &T,
+    mut bytes: &[u8],
+) -> (Result<Status, RunError>, Vec<u8>) {
+    let mut line = Vec::new(rt.alloc());
+    let status = run(
+        rt,
+        rt.alloc(),
+        &mut bytes,
+        &plan(),
+        &mut line,
+        &mut io::sink(),
+    );
     (status, line)
 }
 
 #[test]
 fn genuine_movies(rt: HostRuntime) -> Result<(), Fail> {
-    let (status, line) = told(rt.alloc(), &two_frames(rt.alloc())?);
+    let (status, line) = told(&rt, &two_frames(rt.alloc())?);
     assert_eq!(rt; status, Ok(Status::Done));
     assert!(rt; line.as_slice() == b"genuine: 2 frames, 1 checkpoints\n".as_slice());
     let (status, line) = told(
-        rt.alloc(),
+        &rt,
         &movie(rt.alloc(), &ENDLESS_FRAMES, &power_on(), 1, &[])?,
     );
     assert_eq!(rt; status, Ok(Status::Done));
@@ -54,13 +67,13 @@ fn false_checkpoints(rt: HostRuntime) -> Result<(), Fail> {
     off_by_one[144] = 0;
     let part = movie(rt.alloc(), &ENDLESS_FRAMES, &start, 1, &[off_by_one])?;
     for bytes in [first.as_slice(), part.as_slice()] {
-        let (status, line) = told(rt.alloc(), bytes);
+        let (status, line) = told(&rt, bytes);
         assert_eq!(rt; status, Ok(Status::False));
         assert!(rt; line.as_slice() == b"false checkpoint 1 at frame 1\n".as_slice());
     }
     off_by_one[141] = 87;
     let (status, _line) = told(
-        rt.alloc(),
+        &rt,
         &movie(rt.alloc(), &ENDLESS_FRAMES, &start, 1, &[off_by_one])?,
     );
     assert_eq!(rt; status, Ok(Status::Done));
@@ -72,7 +85,7 @@ fn fault_comes_before_the_checkpoint_of_its_frame(rt: HostRuntime) -> Result<(),
     let mut bytes = movie(rt.alloc(), &SEVEN_FRAMES, &power_on(), 7, &[power_on()])?;
     let checkpoint = 14 + 2048 + 187 + 3 * 7;
     *bytes.get_mut(checkpoint + 3).ok_or("a checkpoint's frame")? = 7;
-    let (status, line) = told(rt.alloc(), &bytes);
+    let (status, line) = told(&rt, &bytes);
     assert_eq!(rt; status, Ok(Status::Fault));
     assert!(rt; line.as_slice() == b"fault at frame 7: bad opcode 02 at F010\n".as_slice());
     for (program, wanted) in [
@@ -85,10 +98,7 @@ fn fault_comes_before_the_checkpoint_of_its_frame(rt: HostRuntime) -> Result<(),
             b"fault at frame 1: fetch outside at 0280\n".as_slice(),
         ),
     ] {
-        let (status, line) = told(
-            rt.alloc(),
-            &movie(rt.alloc(), &program, &power_on(), 1, &[])?,
-        );
+        let (status, line) = told(&rt, &movie(rt.alloc(), &program, &power_on(), 1, &[])?);
         assert_eq!(rt; status, Ok(Status::Fault));
         assert!(rt; line.as_slice() == wanted);
     }
@@ -97,7 +107,7 @@ fn fault_comes_before_the_checkpoint_of_its_frame(rt: HostRuntime) -> Result<(),
 
 #[test]
 fn refused_inputs(rt: HostRuntime) {
-    let (status, line) = told(rt.alloc(), &[]);
+    let (status, line) = told(&rt, &[]);
     assert_eq!(rt; status, Ok(Status::Refused));
     assert!(rt; line.as_slice() == b"refused: Short\n".as_slice());
     let mut line = Vec::new(rt.alloc());
@@ -106,6 +116,7 @@ fn refused_inputs(rt: HostRuntime) {
         reads: 0,
     };
     let status = run(
+        &rt,
         rt.alloc(),
         &mut longest,
         &plan(),
@@ -123,7 +134,14 @@ fn endless_input_is_too_long(rt: HostRuntime) {
         reads: 0,
     };
     let mut line = Vec::new(rt.alloc());
-    let status = run(rt.alloc(), &mut zeros, &plan(), &mut line, &mut io::sink());
+    let status = run(
+        &rt,
+        rt.alloc(),
+        &mut zeros,
+        &plan(),
+        &mut line,
+        &mut io::sink(),
+    );
     assert_eq!(rt; status, Err(RunError::TooLong));
     assert!(rt; line.is_empty());
     assert!(rt; zeros.reads <= 16_777_218, "{} reads", zeros.reads);
@@ -138,7 +156,14 @@ fn failed_read_writes_nothing(rt: HostRuntime) -> Result<(), Fail> {
             left,
         };
         let mut line = Vec::new(rt.alloc());
-        let status = run(rt.alloc(), &mut reader, &plan(), &mut line, &mut io::sink());
+        let status = run(
+            &rt,
+            rt.alloc(),
+            &mut reader,
+            &plan(),
+            &mut line,
+            &mut io::sink(),
+        );
         assert_eq!(rt; status, Err(RunError::ReadFault));
         assert!(rt; line.is_empty());
     }
@@ -147,6 +172,7 @@ fn failed_read_writes_nothing(rt: HostRuntime) -> Result<(), Fail> {
         left: 6,
     };
     let status = run(
+        &rt,
         rt.alloc(),
         &mut reader,
         &plan(),
@@ -167,6 +193,7 @@ fn failed_write_leaves_a_front_of_the_line(rt: HostRuntime) -> Result<(), Fail> 
             left: left as u64,
         };
         let status = run(
+            &rt,
             rt.alloc(),
             &mut bytes.as_slice(),
             &plan(),
@@ -181,6 +208,7 @@ fn failed_write_leaves_a_front_of_the_line(rt: HostRuntime) -> Result<(), Fail> 
         left: 33,
     };
     let status = run(
+        &rt,
         rt.alloc(),
         &mut bytes.as_slice(),
         &plan(),
@@ -227,6 +255,7 @@ fn kept_pictures_follow_the_line(rt: HostRuntime) -> Result<(), Fail> {
     let mut line = Vec::new(rt.alloc());
     let mut pictures = Vec::new(rt.alloc());
     let status = run(
+        &rt,
         rt.alloc(),
         &mut bytes.as_slice(),
         &plan(),
@@ -242,6 +271,7 @@ fn kept_pictures_follow_the_line(rt: HostRuntime) -> Result<(), Fail> {
             left,
         };
         let status = run(
+            &rt,
             rt.alloc(),
             &mut bytes.as_slice(),
             &plan(),

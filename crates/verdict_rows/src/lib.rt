@@ -6,6 +6,8 @@ mod devices;
 #[cfg(test)]
 mod engine;
 #[cfg(test)]
+mod gates;
+#[cfg(test)]
 mod making;
 #[cfg(test)]
 mod movies;
@@ -13,3 +15,5 @@ mod movies;
 mod segments;
 #[cfg(test)]
 mod verdicts;
+#[cfg(test)]
+mod workers;

@@ -63,6 +63,7 @@ fn made_movie_is_genuine(rt: HostRuntime) -> Result<(), Fail> {
     let plan = Plan::new(1, 1, Keep::new(1, 0)?)?;
     let mut verdict = Vec::new(rt.alloc());
     let status = run(
+        &rt,
         rt.alloc(),
         &mut movie.as_slice(),
         &plan,

@@ -1,0 +1,132 @@
+//! Gates that note which segments are replayed, and hold workers for a while.
+
+use std::sync::atomic::{AtomicU64, Ordering};
+use verify_pool::Gate;
+
+/// How often a gate looks before it gives up.
+const LOOKS: u32 = 100_000_000;
+
+/// Looks until a counter is not 0. False where it stays 0.
+fn comes(counter: &AtomicU64) -> bool {
+    for _look in 0..LOOKS {
+        if counter.load(Ordering::SeqCst) != 0 {
+            return true;
+        }
+    }
+    false
+}
+
+/// A gate that counts how often each of the first three segments was entered and left, and how
+/// often a further one was.
+#[derive(Drop)]
+pub(crate) struct Counts {
+    pub entered: [AtomicU64; 4],
+    pub left: [AtomicU64; 4],
+}
+
+impl Counts {
+    pub(crate) fn new() -> Counts {
+        Counts {
+            entered: [
+                AtomicU64::new(0),
+                AtomicU64::new(0),
+                AtomicU64::new(0),
+                AtomicU64::new(0),
+            ],
+            left: [
+                AtomicU64::new(0),
+                AtomicU64::new(0),
+                AtomicU64::new(0),
+                AtomicU64::new(0),
+            ],
+        }
+    }
+
+    /// How often segments 0, 1, 2 and further ones were entered.
+    pub(crate) fn entries(&self) -> [u64; 4] {
+        [
+            self.entered[0].load(Ordering::SeqCst),
+            self.entered[1].load(Ordering::SeqCst),
+            self.entered[2].load(Ordering::SeqCst),
+            self.entered[3].load(Ordering::SeqCst),
+        ]
+    }
+
+    /// How often they were left.
+    pub(crate) fn leaves(&self) -> [u64; 4] {
+        [
+            self.left[0].load(Ordering::SeqCst),
+            self.left[1].load(Ordering::SeqCst),
+            self.left[2].load(Ordering::SeqCst),
+            self.left[3].load(Ordering::SeqCst),
+        ]
+    }
+}
+
+impl Gate for Counts {
+    fn enter(&self, segment: u32) {
+        self.entered[segment.min(3) as usize].fetch_add(1, Ordering::SeqCst);
+    }
+
+    fn leave(&self, segment: u32) {
+        self.left[segment.min(3) as usize].fetch_add(1, Ordering::SeqCst);
+    }
+}
+
+/// A gate that holds segment 0 until segment 1 has been left.
+#[derive(Drop)]
+pub(crate) struct SecondFirst {
+    pub left: AtomicU64,
+    pub missed: AtomicU64,
+}
+
+impl SecondFirst {
+    pub(crate) fn new() -> SecondFirst {
+        SecondFirst {
+            left: AtomicU64::new(0),
+            missed: AtomicU64::new(0),
+        }
+    }
+}
+
+impl Gate for SecondFirst {
+    fn enter(&self, segment: u32) {
+        if segment == 0 && !comes(&self.left) {
+            self.missed.store(1, Ordering::SeqCst);
+        }
+    }
+
+    fn leave(&self, segment: u32) {
+        if segment == 1 {
+            self.left.store(1, Ordering::SeqCst);
+        }
+    }
+}
+
+/// A gate where each of two segments, once entered, waits for the entry of the other.
+#[derive(Drop)]
+pub(crate) struct Meeting {
+    pub entered: [AtomicU64; 2],
+    pub missed: AtomicU64,
+}
+
+impl Meeting {
+    pub(crate) fn new() -> Meeting {
+        Meeting {
+            entered: [AtomicU64::new(0), AtomicU64::new(0)],
+            missed: AtomicU64::new(0),
+        }
+    }
+}
+
+impl Gate for Meeting {
+    fn enter(&self, segment: u32) {
+        let here = (segment % 2) as usize;
+        self.entered[here].store(1, Ordering::SeqCst);
+        if !comes(&self.entered[1 - here]) {
+            self.missed.store(1, Ordering::SeqCst);
+        }
+    }
+
+    fn leave(&self, _segment: u32) {}
+}

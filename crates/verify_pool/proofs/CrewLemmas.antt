@@ -1,0 +1,81 @@
+-- Hands of a crew, and one more.
+use Rattle.std.proofs.Common.{◌≡◌, ℕ, ◌+◌, ◌*◌, ◌<◌, ◌≤◌, ◌||◌, List, [], ◌∷◌, ◌++◌, length, length-append, refl, ap, sym, subst, ◌∙◌, arith, Some, vec_len, vec_capacity}
+use Rattle.std.proofs.lemmas.List.Elements.{All-pop}
+use Rattle.movie_file.specs.Movie.{MovieData}
+use Rattle.replay_segments.specs.Pieces.{Job, job_of}
+use Rattle.replay_segments.specs.declared.keep.Keep.{Keep}
+use Rattle.verify_pool.specs.declared.hand.Hand.{Hand}
+use Rattle.verify_pool.specs.declared.workers.WorkerPromise.{WorkerPromise}
+use Rattle.verify_pool.specs.Crew.{IsReady, AreReady, IsWorked, first_room, shares}
+use Rattle.verify_pool.specs.Desk.{with_handed_in}
+use Rattle.verify_pool.specs.Kept.{IsKnown}
+use Rattle.verify_pool.specs.Views.{DeskView, IsOf}
+use Rattle.verify_pool.specs.declared.part.Part.{Part}
+use Rattle.verify_pool.proofs.ExactLemmas.{exact_handed}
+use Rattle.verify_pool.proofs.Sums.{total-append}
+
+pub shares-append : (hands : List Hand) (hand : Hand) → shares (hands ++ hand ∷ []) ≡ shares hands + hand.ticket.part.share
+shares-append hands hand = omega (arith, total-append (λ (h : Hand). h.ticket.part.share) hands (hand ∷ []))
+
+pub first_room-append : (hands : List Hand) (hand : Hand) → 0 < length hands → first_room (hands ++ hand ∷ []) ≡ first_room hands
+first_room-append [] hand some = absurd (omega arith)
+first_room-append (first ∷ hands) hand some = refl
+
+-- Without their last one hands are ready, where others are left.
+pub ready-pop : (desk : DeskView) (all rest : List Hand) (last : Hand) → all ≡ rest ++ last ∷ [] → 0 < length rest → AreReady desk all → AreReady desk rest
+ready-pop desk all rest last is some ready =
+    let each = All-pop (IsReady desk) all rest (Some last) is ready.each in
+    let whole : length all ≡ length rest + 1 = ap length is ∙ length-append rest (last ∷ []) in
+    let first : desk.segments * length all ≤ first_room rest = rw (← first_room-append rest last some, ← is) ready.first in
+    record { some = some; each = each.0; first = omega (arith, first, ap (λ n. desk.segments * n) whole) }
+
+pub ready-last : (desk : DeskView) (all rest : List Hand) (last : Hand) → all ≡ rest ++ last ∷ [] → AreReady desk all → IsReady desk last
+ready-last desk all rest last is ready = (All-pop (IsReady desk) all rest (Some last) is ready.each).1
+
+pub worked_united : (desk : DeskView) (job : Job) (a b : ℕ) (first second hand : Hand) → IsOf desk hand.ticket → IsKnown hand.ticket.part
+    → hand.ticket.part ≡ with_handed_in first.ticket.part second.ticket.part → hand.pieces.items ≡ first.pieces.items ++ second.pieces.items
+    → IsWorked desk job a first → IsWorked desk job b second → IsWorked desk job (a + b) hand
+worked_united desk job a b first second hand own known part items one two = record {
+  own = own;
+  known = known;
+  ended = ap (λ (v : Part). v.ended) part ∙ ap (λ e. e || second.ticket.part.ended) one.ended;
+  share_is = omega (arith, ap (λ (v : Part). v.share) part, one.share_is, two.share_is);
+  exact = exact_handed job first.pieces.items second.pieces.items hand.pieces.items first.ticket.part second.ticket.part hand.ticket.part items part one.exact two.exact;
+}
+
+-- What a worker promised, at the values that the promise was made of.
+pub promised : (m : MovieData) (cuts : List ℕ) (keep : Keep) (desk : DeskView) (given : Hand) (a b : WorkerPromise)
+    → a ≡ b → b.movie.value ≡ m → b.cuts.value ≡ cuts → b.keep ≡ keep → b.desk.value ≡ desk → b.hand.value ≡ given
+    → (hand : Hand) → IsWorked a.desk.value (job_of a.movie.value a.cuts.value a.keep) a.hand.value.ticket.part.share hand × (vec_len hand.pieces ≤ a.desk.value.segments)
+    → IsWorked desk (job_of m cuts keep) given.ticket.part.share hand × (vec_len hand.pieces ≤ desk.segments)
+promised m cuts keep desk given a b is of_movie of_cuts of_keep of_desk of_hand hand kept =
+    let P : MovieData → List ℕ → Keep → DeskView → Hand → Type 0 = λ m c k d h. IsWorked d (job_of m c k) h.ticket.part.share hand × (vec_len hand.pieces ≤ d.segments) in
+    let at_b : P b.movie.value b.cuts.value b.keep b.desk.value b.hand.value = subst (λ (p : WorkerPromise). P p.movie.value p.cuts.value p.keep p.desk.value p.hand.value) is kept in
+    let one : P m b.cuts.value b.keep b.desk.value b.hand.value = subst (λ (x : MovieData). P x b.cuts.value b.keep b.desk.value b.hand.value) of_movie at_b in
+    let two : P m cuts b.keep b.desk.value b.hand.value = subst (λ (x : List ℕ). P m x b.keep b.desk.value b.hand.value) of_cuts one in
+    let three : P m cuts keep b.desk.value b.hand.value = subst (λ (x : Keep). P m cuts x b.desk.value b.hand.value) of_keep two in
+    let four : P m cuts keep desk b.hand.value = subst (λ (x : DeskView). P m cuts keep x b.hand.value) of_desk three in
+    subst (λ (x : Hand). P m cuts keep desk x) of_hand four
+
+module _ (desk : DeskView) (all rest : List Hand) (last : Hand) (is : all ≡ rest ++ last ∷ []) (some : 0 < length rest) where
+  more : desk.segments * length all ≡ desk.segments * length rest + desk.segments
+  more = omega (arith, ap (λ n. desk.segments * n) (ap length is ∙ length-append rest (last ∷ [])))
+
+  -- The pieces of the last hand fit behind those of the rest.
+  pub pieces_fit : (theirs others room : ℕ) → AreReady desk all → first_room rest ≤ room → theirs ≤ desk.segments * length rest → others ≤ desk.segments → theirs + others ≤ room
+  pieces_fit theirs others room ready le few one =
+      let first : desk.segments * length all ≤ first_room rest = rw (← first_room-append rest last some, ← is) ready.first in omega (arith, first, more)
+
+  pub pieces_few : (theirs others len : ℕ) → theirs ≤ desk.segments * length rest → others ≤ desk.segments → len ≡ theirs + others → len ≤ desk.segments * length all
+  pieces_few theirs others len few one sum = omega (arith, more)
+
+  pub room_stays : (room after : ℕ) → first_room rest ≤ room → room ≤ after → first_room all ≤ after
+  room_stays room after le more_room = rw (is, first_room-append rest last some) (omega arith)
+
+  pub worked_all : (job : Job) (hand : Hand) → IsWorked desk job (shares rest + last.ticket.part.share) hand → IsWorked desk job (shares all) hand
+  worked_all job hand worked = subst (λ n. IsWorked desk job n hand) (sym (ap shares is ∙ shares-append rest last)) worked
+
+-- A hand behind others is the first only where there is no other.
+pub first_room-more : (need : ℕ) (hands : List Hand) (hand : Hand) → (length hands ≡ 0 → need ≤ vec_capacity hand.pieces) → (0 < length hands → need ≤ first_room hands) → need ≤ first_room (hands ++ hand ∷ [])
+first_room-more need [] hand alone others = alone refl
+first_room-more need (first ∷ hands) hand alone others = others (omega arith)

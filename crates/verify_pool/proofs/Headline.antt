@@ -1,0 +1,57 @@
+-- The pieces of a hand that stands for all tickets and has ended miss no number up to the first bad one.
+use Rattle.std.proofs.Common.{◌≡◌, ℕ, zero, suc, ◌<◌, ◌≤◌, List, [], ◌∷◌, Some, slice_get, refl, ap, sym, ◌∙◌, arith}
+use Rattle.replay_segments.specs.declared.outcome.Outcome.{Outcome}
+use Rattle.replay_segments.specs.declared.outcome.Outcome.TheVariants.{Judged, NoMemory}
+use Rattle.replay_segments.specs.declared.verdict.Verdict.TheVariants.{Genuine, FalseCheckpoint, Fault}
+use Rattle.replay_segments.specs.Gathering.{IsMissing, IsFirstMissing}
+use Rattle.replay_segments.specs.Pieces.{PieceData, Job, IsPassed}
+use Rattle.verify_pool.specs.declared.hand.Hand.{Hand}
+use Rattle.verify_pool.specs.Crew.{IsWorked}
+use Rattle.verify_pool.specs.Desk.{times}
+use Rattle.verify_pool.specs.Exact.{numbers, if_bad, bad_numbers}
+use Rattle.verify_pool.specs.Views.{DeskView}
+use Rattle.verify_pool.proofs.Sums.{times-append, times-same, times-other}
+
+missing-none : (k : ℕ) (ps : List PieceData) → IsMissing ps k → times k (numbers ps) ≡ 0
+missing-none k [] missing = refl
+missing-none k (p ∷ ps) missing = omega (arith, times-other k p.number (missing 0 p refl), missing-none k ps (λ i q at. missing (suc i) q at))
+
+bad_one : (k number : ℕ) (o : Outcome) → times k (if_bad number o) ≤ times k (number ∷ [])
+bad_one k number (Judged (Genuine frames)) = omega arith
+bad_one k number (Judged (FalseCheckpoint n frame)) = omega arith
+bad_one k number (Judged (Fault frame kind)) = omega arith
+bad_one k number NoMemory = omega arith
+
+passed_one : (k number : ℕ) (o : Outcome) → IsPassed o → times k (if_bad number o) ≡ 0
+passed_one k number (Judged (Genuine frames)) good = refl
+passed_one k number (Judged (FalseCheckpoint n frame)) good = absurd good
+passed_one k number (Judged (Fault frame kind)) good = absurd good
+passed_one k number NoMemory good = absurd good
+
+bad-le : (k : ℕ) (ps : List PieceData) → times k (bad_numbers ps) ≤ times k (numbers ps)
+bad-le k [] = omega arith
+bad-le k (p ∷ ps) = omega (arith, bad-le k ps, bad_one k p.number p.outcome, times-append k (if_bad p.number p.outcome) (bad_numbers ps))
+
+-- A number with a piece that passed has fewer bad pieces than pieces.
+passed-less : (k : ℕ) (ps : List PieceData) (i : ℕ) (p : PieceData) → slice_get ps i ≡ Some p → p.number ≡ k → IsPassed p.outcome → times k (bad_numbers ps) < times k (numbers ps)
+passed-less k [] i p at is good = absurd cc
+passed-less k (q ∷ ps) zero p at is good = let same : q ≡ p = cc in
+    let here : times k (q.number ∷ []) ≡ 1 = ap (λ (n : ℕ). times k (n ∷ [])) (ap (λ (x : PieceData). x.number) same ∙ is) ∙ times-same k k refl in
+    let none : times k (if_bad q.number q.outcome) ≡ 0 = ap (λ (x : PieceData). times k (if_bad x.number x.outcome)) same ∙ passed_one k p.number p.outcome good in
+    omega (arith, bad-le k ps, here, none, times-append k (if_bad q.number q.outcome) (bad_numbers ps))
+passed-less k (q ∷ ps) (suc i) p at is good =
+    omega (arith, passed-less k ps i p at is good, bad_one k q.number q.outcome, times-append k (if_bad q.number q.outcome) (bad_numbers ps))
+
+-- No piece is missing whose segment would have to be known.
+pub none_missing : (desk : DeskView) (job : Job) (hand : Hand) (k : ℕ) → IsWorked desk job desk.workers hand → IsFirstMissing hand.pieces.items desk.segments k → ⊥
+none_missing desk job hand k worked (less, missing, below) =
+    let v = hand.ticket.part in
+    let pieces = hand.pieces.items in
+    let whole = worked.known.whole worked.ended (worked.share_is ∙ sym worked.own.2) in
+    let segments = worked.own.1 in
+    let one : times k v.drawn ≡ 1 = whole.all_drawn k (omega arith) in
+    let over : 0 < times k v.passed_over = omega (arith, worked.exact.pieces_of k, missing-none k pieces missing) in
+    let first = whole.none_missed k over in
+    let has = below first.0 first.1 in
+    let fewer = passed-less first.0 pieces has.0 has.1 has.2 has.3 has.4 in
+    omega (arith, fewer, first.2, worked.exact.reports_of first.0, worked.exact.pieces_of first.0, worked.known.apart first.0)

@@ -1,0 +1,46 @@
+-- The pieces of a worker, beside what its ticket drew, passed over and reported. This project's own.
+use Rattle.std.specs.Prelude.{ℕ, ◌+◌, ◌≡◌, List, [], ◌∷◌, ◌++◌, All}
+use Rattle.replay_segments.specs.declared.outcome.Outcome.{Outcome}
+use Rattle.replay_segments.specs.declared.outcome.Outcome.TheVariants.{Judged, NoMemory}
+use Rattle.replay_segments.specs.declared.verdict.Verdict.TheVariants.{Genuine, FalseCheckpoint, Fault}
+use Rattle.replay_segments.specs.Gathering.{NamesAll}
+use Rattle.replay_segments.specs.Pieces.{PieceData, Job, HasKept}
+use Rattle.verify_pool.specs.declared.part.Part.{Part}
+use Rattle.verify_pool.specs.Desk.{times, report_at}
+
+-- The numbers of pieces.
+abbrev pub numbers : List PieceData → List ℕ
+numbers [] = []
+numbers (p ∷ ps) = p.number ∷ numbers ps
+
+-- A number is bad unless its segment passed: want of memory is bad too.
+abbrev pub if_bad : ℕ → Outcome → List ℕ
+if_bad number (Judged (Genuine frames)) = []
+if_bad number (Judged (FalseCheckpoint checkpoint frame)) = number ∷ []
+if_bad number (Judged (Fault frame kind)) = number ∷ []
+if_bad number NoMemory = number ∷ []
+
+-- The numbers of the pieces that did not pass.
+abbrev pub bad_numbers : List PieceData → List ℕ
+bad_numbers [] = []
+bad_numbers (p ∷ ps) = if_bad p.number p.outcome ++ bad_numbers ps
+
+-- A piece wants memory only where its segment has a kept frame.
+abbrev pub WantsMemoryForPictures : PieceData → Type 0
+WantsMemoryForPictures p = p.outcome ≡ NoMemory → HasKept p.job p.number
+
+-- The pieces of one job, beside the part of the desk's history of the ticket that drew their numbers.
+pub record IsExact (job : Job) (v : Part) (pieces : List PieceData) : Type 0 where
+  pub names : NamesAll job pieces
+  -- One piece for each number that was drawn and not passed over, and no other.
+  pub pieces_of : (k : ℕ) → times k (numbers pieces) + times k v.passed_over ≡ times k v.drawn
+  -- Such a number is reported exactly where its piece did not pass.
+  pub reports_of : (k : ℕ) → times k (bad_numbers pieces) ≡ times k v.reported
+  pub memory : All WantsMemoryForPictures pieces
+
+-- What a ticket knows after a replay of the number that it drew last: that is reported unless it passed.
+abbrev pub IsReplayed : Outcome → ℕ → Part → Part → Type 0
+IsReplayed (Judged (Genuine frames)) number old new = new ≡ old
+IsReplayed (Judged (FalseCheckpoint checkpoint frame)) number old new = (x : ℕ) × (new ≡ report_at x number old)
+IsReplayed (Judged (Fault frame kind)) number old new = (x : ℕ) × (new ≡ report_at x number old)
+IsReplayed NoMemory number old new = (x : ℕ) × (new ≡ report_at x number old)

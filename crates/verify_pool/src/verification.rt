@@ -1,0 +1,105 @@
+//! The verdict of a movie, by workers.
+ghost use Rattle.std.specs.Prelude.{◌≡◌, ℕ, ◌+◌, ◌<◌, ◌≤◌, ◌↔◌, ◌⊎◌, length, replicate, Err, IfOk};
+ghost use Rattle.replay_segments.specs.Cuts.{Fits};
+ghost use Rattle.replay_segments.specs.Verdicts.{IsVerdict};
+ghost use Rattle.verify_pool.specs.Crew.{AreReady, shares};
+ghost use Rattle.verify_pool.specs.Views.{first_ticket};
+
+use crate::desk::Desk;
+use crate::gate::Gate;
+use crate::hand::Hand;
+use crate::ticket::Ticket;
+use crate::workers::crew;
+use movie_file::Movie;
+use replay_segments::{Cuts, GatherError, Keep, Verdict, gather};
+use std::alloc::{AllocError, Global};
+use std::sync::Wait;
+use std::thread::Threads;
+use thiserror::Error;
+
+/// The most workers.
+pub const MOST_WORKERS: u8 = 64;
+
+/// Why a movie gets no verdict.
+#[derive(Clone, Copy, Debug, PartialEq, Eq, Error)]
+pub enum VerifyError {
+    /// No worker, or more than 64.
+    #[error("not 1 to 64 workers")]
+    BadWorkers,
+    /// The start of a thread was refused.
+    #[error("no thread could be started")]
+    NoThread,
+    /// A growth was refused: for the desk, for the lists of pieces, or for pictures.
+    #[error("out of memory")]
+    NoMemory,
+}
+
+/// A hand for each ticket of a new desk: each has room for a piece of each segment, and the first
+/// has room for those of all.
+fn hands_of(
+    alloc: Global,
+    desk: &Desk,
+    segments: u32,
+    mut tickets: Vec<Ticket>,
+) -> Result<Vec<Hand>, AllocError>
+    requires segments { segments ≡ desk.now.segments }
+    requires workers { (0 < desk.now.workers) × (desk.now.workers < 256) }
+    requires tickets { tickets.items ≡ replicate desk.now.workers (first_ticket desk.now) }
+    ensures ready { IfOk result (λ hands. AreReady desk.now hands.items) }
+    ensures shares { IfOk result (λ hands. shares hands.items ≡ desk.now.workers) }
+    ensures len { IfOk result (λ hands. length hands.items ≡ desk.now.workers) }
+{
+    let workers = tickets.len();
+    let mut hands = Vec::with_capacity(alloc, workers)?;
+    let mut room = segments as usize * workers;
+    while let Some(ticket) = tickets.pop() {
+        let pieces = Vec::with_capacity(alloc, room)?;
+        hands.push_reserved(Hand { ticket, pieces });
+        room = segments as usize;
+    }
+    Ok(hands)
+}
+
+/// The verdict of a movie, which is that of one unbroken run from its start state, by 1 to 64
+/// workers, each in a thread of its own, who replay the segments between the cuts. The cuts fit the
+/// movie. Where there is one worker, or one segment, no thread is started.
+///
+/// It joins its threads, so it returns where each of them does. It is refused in this order:
+/// BadWorkers; NoMemory for the desk or the lists of pieces; NoThread; and NoMemory, where that was
+/// the outcome of the first segment that did not pass, or for the list of all pictures.
+pub fn verify<G: Gate + Sync, R: Threads + Wait + Sync>(
+    rt: &R,
+    alloc: Global,
+    movie: &Movie,
+    cuts: &Cuts,
+    workers: u8,
+    keep: Keep,
+    gate: &G,
+) -> Result<Verdict, VerifyError>
+    requires fit { Fits cuts.now movie.now }
+    ensures verdict { IfOk result (λ verdict. IsVerdict movie.now keep verdict) }
+    ensures workers { (result ≡ Err VerifyError.BadWorkers) ↔ ((workers ≡ 0) ⊎ (64 < workers)) }
+    ensures no_thread { result ≡ Err VerifyError.NoThread → (2 ≤ workers) × (2 ≤ length cuts.now + 1) }
+{
+    if workers == 0 || workers > MOST_WORKERS {
+        return Err(VerifyError::BadWorkers);
+    }
+    let segments = cuts.segments();
+    let workers = u32::from(workers).min(segments) as u8;
+    let Ok((desk, tickets)) = Desk::new(alloc, segments, workers) else {
+        return Err(VerifyError::NoMemory);
+    };
+    let Ok(hands) = hands_of(alloc, &desk, segments, tickets) else {
+        return Err(VerifyError::NoMemory);
+    };
+    let Ok(hand) = crew(rt, alloc, movie, cuts, keep, &desk, hands, gate) else {
+        return Err(VerifyError::NoThread);
+    };
+    let Hand { ticket, pieces } = hand;
+    drop(ticket);
+    match gather(alloc, pieces, segments) {
+        Ok(verdict) => Ok(verdict),
+        Err(GatherError::NoMemory) => Err(VerifyError::NoMemory),
+        Err(GatherError::Missing(_)) => unreachable!(),
+    }
+}

@@ -1,0 +1,131 @@
+//! One worker, which draws segments and replays them.
+ghost use Rattle.std.specs.Prelude.{◌≡◌, ◌+◌, ◌<◌, ◌≤◌, length, true, false, Some, vec_len, vec_capacity};
+ghost use Rattle.replay_segments.specs.Cuts.{Fits};
+ghost use Rattle.replay_segments.specs.Pieces.{job_of, HasKept};
+ghost use Rattle.replay_segments.specs.declared.outcome.Outcome.{Outcome};
+ghost use Rattle.verify_pool.specs.Crew.{IsReady, IsWorked};
+ghost use Rattle.verify_pool.specs.Desk.{times, left_of};
+ghost use Rattle.verify_pool.specs.Exact.{IsExact, IsReplayed};
+ghost use Rattle.verify_pool.specs.Kept.{IsKnown};
+ghost use Rattle.verify_pool.specs.Views.{IsOf};
+
+use crate::desk::Desk;
+use crate::gate::Gate;
+use crate::hand::Hand;
+use crate::ticket::Ticket;
+use movie_file::Movie;
+use replay_segments::{Cuts, Keep, Piece, replay};
+use std::alloc::Global;
+
+/// Whether a ticket has ended. Contracts learn from it what every ticket knows.
+fn has_ended(ticket: &Ticket) -> bool
+    ensures value { result ≡ ticket.now.part.ended }
+    ensures known { IsKnown ticket.now.part }
+{
+    ticket.ended
+}
+
+/// Replays the segment that the ticket drew last, and reports it unless it passes.
+fn replay_drawn<G: Gate>(
+    alloc: Global,
+    movie: &Movie,
+    cuts: &Cuts,
+    keep: Keep,
+    desk: &Desk,
+    gate: &G,
+    ticket: &mut Ticket,
+    number: u32,
+) -> Piece
+    requires fit { Fits cuts.now movie.now }
+    requires number { number < length cuts.now + 1 }
+    requires own { IsOf desk.now ticket.old }
+    requires last { (ticket.old.part.last ≡ Some number) × (times number ticket.old.part.passed_over ≡ 0) }
+    ensures own { IsOf desk.now ticket.new }
+    ensures known { IsKnown ticket.old.part → IsKnown ticket.new.part }
+    ensures number { result.number ≡ number }
+    ensures job { result.job ≡ job_of movie.now cuts.now keep }
+    ensures memory { result.outcome ≡ Outcome.NoMemory → HasKept (job_of movie.now cuts.now keep) number }
+    ensures replayed { IsReplayed result.outcome number ticket.old.part ticket.new.part }
+{
+    gate.enter(number);
+    let piece = replay(alloc, movie, cuts, keep, number);
+    if !piece.passed() {
+        desk.report_bad(ticket, number);
+    }
+    gate.leave(number);
+    piece
+}
+
+/// Draws a segment and replays it, unless a smaller one is known not to have passed. False where
+/// none is left.
+fn work_once<G: Gate>(
+    alloc: Global,
+    movie: &Movie,
+    cuts: &Cuts,
+    keep: Keep,
+    desk: &Desk,
+    gate: &G,
+    ticket: &mut Ticket,
+    pieces: &mut Vec<Piece>,
+) -> bool
+    requires fit { Fits cuts.now movie.now }
+    requires desk { desk.now.segments ≡ length cuts.now + 1 }
+    requires own { IsOf desk.now ticket.old }
+    requires known { IsKnown ticket.old.part }
+    requires exact { IsExact (job_of movie.now cuts.now keep) ticket.old.part pieces.old.items }
+    requires left { vec_len pieces.old + left_of ticket.old.part ≤ desk.now.segments + 1 }
+    requires room { desk.now.segments ≤ vec_capacity pieces.old }
+    ensures own { IsOf desk.now ticket.new }
+    ensures known { IsKnown ticket.new.part }
+    ensures exact { IsExact (job_of movie.now cuts.now keep) ticket.new.part pieces.new.items }
+    ensures share { ticket.new.part.share ≡ ticket.old.part.share }
+    ensures capacity { vec_capacity pieces.new ≡ vec_capacity pieces.old }
+    ensures left { vec_len pieces.new + left_of ticket.new.part ≤ desk.now.segments + 1 }
+    ensures fewer { result ≡ true → left_of ticket.new.part < left_of ticket.old.part }
+    ensures ended { result ≡ false → ticket.new.part.ended ≡ true }
+{
+    let Some(number) = desk.draw(ticket) else {
+        return false;
+    };
+    if desk.least_bad(ticket) < number {
+        return true;
+    }
+    let piece = replay_drawn(alloc, movie, cuts, keep, desk, gate, ticket, number);
+    pieces.push_reserved(piece);
+    true
+}
+
+/// Works on a hand until its ticket has ended, and gives it back.
+pub(crate) fn work<G: Gate>(
+    alloc: Global,
+    movie: &Movie,
+    cuts: &Cuts,
+    keep: Keep,
+    desk: &Desk,
+    gate: &G,
+    hand: Hand,
+) -> Hand
+    requires fit { Fits cuts.now movie.now }
+    requires desk { desk.now.segments ≡ length cuts.now + 1 }
+    requires ready { IsReady desk.now hand }
+    ensures worked { IsWorked desk.now (job_of movie.now cuts.now keep) hand.ticket.part.share result }
+    ensures few { vec_len result.pieces ≤ desk.now.segments }
+    ensures room { vec_capacity hand.pieces ≤ vec_capacity result.pieces }
+{
+    let Hand {
+        mut ticket,
+        mut pieces,
+    } = hand;
+    let _ = has_ended(&ticket);
+    while work_once(
+        alloc,
+        movie,
+        cuts,
+        keep,
+        desk,
+        gate,
+        &mut ticket,
+        &mut pieces,
+    ) {}
+    Hand { ticket, pieces }
+}
