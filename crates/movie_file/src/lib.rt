@@ -27,6 +27,3 @@ pub use movie::Movie;
 pub use reading::{read_inputs, read_movie};
 pub use record::{read_state, write_state};
 pub use writing::write_movie;
-
-#[cfg(test)]
-mod tests;

@@ -22,6 +22,3 @@ pub use fields::RiotFields;
 pub use laws::{fields_come_back, riots_come_back, riots_stay_lawful};
 pub use places::Place;
 pub use riot::Riot;
-
-#[cfg(test)]
-mod tests;

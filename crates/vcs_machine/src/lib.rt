@@ -21,6 +21,3 @@ pub use input::Input;
 pub use laws::{law_of_frame_lengths, law_of_one_stop, law_of_waits};
 pub use picture::{MOST_ROWS, Picture};
 pub use state::State;
-
-#[cfg(test)]
-mod tests;

@@ -136,29 +136,41 @@ fn segment_after_the_last_checkpoint_has_no_frames(rt: HostRuntime) -> Result<()
 #[test]
 fn cuts_are_rising_numbers_of_checkpoints(rt: HostRuntime) -> Result<(), Fail> {
     let genuine = read(rt.alloc(), &two_frames(rt.alloc())?)?;
-    for numbers in [
-        [2u16].as_slice(),
-        [0].as_slice(),
-        [1, 1].as_slice(),
-        [1, 2].as_slice(),
+    for (numbers, segments) in [
+        ([].as_slice(), Ok(1)),
+        ([1u16].as_slice(), Ok(2)),
+        ([2].as_slice(), Err(BadCuts)),
+        ([0].as_slice(), Err(BadCuts)),
+        ([1, 1].as_slice(), Err(BadCuts)),
+        ([1, 2].as_slice(), Err(BadCuts)),
     ] {
-        assert!(rt; matches!(cuts_at(rt.alloc(), &genuine, numbers)?, Err(BadCuts)));
+        let cuts = cuts_at(rt.alloc(), &genuine, numbers)?;
+        assert_eq!(rt; cuts.map(|cuts| cuts.segments()), segments);
     }
-    assert_eq!(rt; cuts_at(rt.alloc(), &genuine, &[])??.segments(), 1);
-    assert_eq!(rt; cuts_at(rt.alloc(), &genuine, &[1])??.segments(), 2);
-    assert!(rt;
-        matches!(
-            Cuts::every(rt.alloc(), &genuine, 0),
-            Err(CutsError::BadCuts)
-        )
-    );
-    assert_eq!(rt; Cuts::every(rt.alloc(), &genuine, 1)?.segments(), 2);
-    assert_eq!(rt; Cuts::every(rt.alloc(), &genuine, 2)?.segments(), 1);
+    Ok(())
+}
+
+#[test]
+fn cuts_are_at_each_so_many_checkpoints(rt: HostRuntime) -> Result<(), Fail> {
+    let genuine = read(rt.alloc(), &two_frames(rt.alloc())?)?;
+    for (every, segments) in [(0, Err(CutsError::BadCuts)), (1, Ok(2)), (2, Ok(1))] {
+        let cuts = Cuts::every(rt.alloc(), &genuine, every);
+        assert_eq!(rt; cuts.map(|cuts| cuts.segments()), segments);
+    }
+    Ok(())
+}
+
+#[test]
+fn cuts_fit_a_movie_with_their_checkpoints(rt: HostRuntime) -> Result<(), Fail> {
+    let genuine = read(rt.alloc(), &two_frames(rt.alloc())?)?;
     let uncut = read(
         rt.alloc(),
         &movie(rt.alloc(), &ENDLESS_FRAMES, &power_on(), 1, &[])?,
     )?;
-    assert!(rt; !Cuts::every(rt.alloc(), &genuine, 1)?.fits(&uncut));
-    assert!(rt; Cuts::every(rt.alloc(), &genuine, 2)?.fits(&uncut));
+    for (every, fits) in [(1, false), (2, true)] {
+        let cuts = Cuts::every(rt.alloc(), &genuine, every)?;
+        assert!(rt; cuts.fits(&genuine));
+        assert_eq!(rt; cuts.fits(&uncut), fits);
+    }
     Ok(())
 }

@@ -7,12 +7,12 @@ use Rattle.replay_segments.specs.declared.keep.Keep.{Keep}
 use Rattle.verify_pool.specs.declared.hand.Hand.{Hand}
 use Rattle.verify_pool.specs.declared.workers.WorkerPromise.{WorkerPromise}
 use Rattle.verify_pool.specs.Crew.{IsReady, AreReady, IsWorked, first_room, shares}
-use Rattle.verify_pool.specs.Desk.{with_handed_in}
-use Rattle.verify_pool.specs.Kept.{IsKnown}
-use Rattle.verify_pool.specs.Views.{DeskView, IsOf}
-use Rattle.verify_pool.specs.declared.part.Part.{Part}
+use Rattle.segment_desk.specs.Desk.{with_handed_in}
+use Rattle.segment_desk.specs.Kept.{IsKnown}
+use Rattle.segment_desk.specs.Views.{DeskView, IsOf}
+use Rattle.segment_desk.specs.declared.part.Part.{Part}
 use Rattle.verify_pool.proofs.ExactLemmas.{exact_handed}
-use Rattle.verify_pool.proofs.Sums.{total-append}
+use Rattle.segment_desk.proofs.Sums.{total-append}
 
 pub shares-append : (hands : List Hand) (hand : Hand) → shares (hands ++ hand ∷ []) ≡ shares hands + hand.ticket.part.share
 shares-append hands hand = omega (arith, total-append (λ (h : Hand). h.ticket.part.share) hands (hand ∷ []))

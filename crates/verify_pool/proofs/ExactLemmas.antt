@@ -7,12 +7,12 @@ use Rattle.replay_segments.specs.declared.outcome.Outcome.{Outcome}
 use Rattle.replay_segments.specs.declared.outcome.Outcome.TheVariants.{Judged, NoMemory}
 use Rattle.replay_segments.specs.declared.verdict.Verdict.TheVariants.{Genuine, FalseCheckpoint, Fault}
 use Rattle.replay_segments.specs.Pieces.{PieceData, Job, IsPassed, HasKept}
-use Rattle.verify_pool.specs.declared.part.Part.{Part}
-use Rattle.verify_pool.specs.Desk.{times, with_number, with_drawn, at_end, look_at, report_at, with_handed_in, to_draw, left_of}
+use Rattle.segment_desk.specs.declared.part.Part.{Part}
+use Rattle.segment_desk.specs.Desk.{times, with_number, with_drawn, at_end, look_at, report_at, with_handed_in, to_draw, left_of}
 use Rattle.verify_pool.specs.Exact.{numbers, if_bad, bad_numbers, IsExact, IsReplayed, WantsMemoryForPictures}
-use Rattle.verify_pool.specs.Kept.{IsKnown}
-use Rattle.verify_pool.proofs.Parts.{tested}
-use Rattle.verify_pool.proofs.Sums.{times-append}
+use Rattle.segment_desk.specs.Kept.{IsKnown}
+use Rattle.segment_desk.proofs.Parts.{tested}
+use Rattle.segment_desk.proofs.Sums.{times-append}
 
 times-numbers : (k : ℕ) (ps qs : List PieceData) → times k (numbers (ps ++ qs)) ≡ times k (numbers ps) + times k (numbers qs)
 times-numbers k [] qs = omega arith

@@ -7,10 +7,10 @@ use Rattle.replay_segments.specs.Gathering.{IsMissing, IsFirstMissing}
 use Rattle.replay_segments.specs.Pieces.{PieceData, Job, IsPassed}
 use Rattle.verify_pool.specs.declared.hand.Hand.{Hand}
 use Rattle.verify_pool.specs.Crew.{IsWorked}
-use Rattle.verify_pool.specs.Desk.{times}
+use Rattle.segment_desk.specs.Desk.{times}
 use Rattle.verify_pool.specs.Exact.{numbers, if_bad, bad_numbers}
-use Rattle.verify_pool.specs.Views.{DeskView}
-use Rattle.verify_pool.proofs.Sums.{times-append, times-same, times-other}
+use Rattle.segment_desk.specs.Views.{DeskView}
+use Rattle.segment_desk.proofs.Sums.{times-append, times-same, times-other}
 
 missing-none : (k : ℕ) (ps : List PieceData) → IsMissing ps k → times k (numbers ps) ≡ 0
 missing-none k [] missing = refl

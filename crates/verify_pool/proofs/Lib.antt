@@ -1,10 +1,4 @@
 pub mod CrewLemmas
 pub mod ExactLemmas
 pub mod Headline
-pub mod Invariant
-pub mod Lawful
-pub mod Moves
-pub mod Parts
-pub mod Reach
 pub mod Sent
-pub mod Sums

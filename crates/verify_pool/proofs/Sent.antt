@@ -10,7 +10,7 @@ use Rattle.replay_segments.specs.contracts.piece.Piece as Piece
 use Rattle.replay_segments.specs.contracts.piece.Piece.TheInside as inside
 use Rattle.replay_segments.proofs.outcome.Outcome.TheSendSync as outcome
 use Rattle.replay_segments.proofs.keep.Keep.TheSendSync as keep
-use Rattle.verify_pool.proofs.ticket.Ticket.TheSendSync as ticket
+use Rattle.segment_desk.proofs.ticket.Ticket.TheSendSync as ticket
 use Rattle.verify_pool.specs.contracts.hand.Hand as Hand
 
 fields_send : IsSend inside.the_row

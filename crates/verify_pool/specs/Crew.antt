@@ -2,10 +2,10 @@
 use Rattle.std.specs.Prelude.{ℕ, ◌*◌, ◌<◌, ◌≤◌, ◌≡◌, true, List, [], ◌∷◌, All, length, vec_capacity}
 use Rattle.replay_segments.specs.Pieces.{Job}
 use Rattle.verify_pool.specs.declared.hand.Hand.{Hand}
-use Rattle.verify_pool.specs.Desk.{total}
+use Rattle.segment_desk.specs.Desk.{total}
 use Rattle.verify_pool.specs.Exact.{IsExact}
-use Rattle.verify_pool.specs.Kept.{IsKnown}
-use Rattle.verify_pool.specs.Views.{DeskView, IsOf}
+use Rattle.segment_desk.specs.Kept.{IsKnown}
+use Rattle.segment_desk.specs.Views.{DeskView, IsOf}
 
 -- A hand that has drawn nothing, with room for a piece of each segment.
 pub record IsReady (desk : DeskView) (hand : Hand) : Type 0 where

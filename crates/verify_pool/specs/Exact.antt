@@ -5,8 +5,8 @@ use Rattle.replay_segments.specs.declared.outcome.Outcome.TheVariants.{Judged, N
 use Rattle.replay_segments.specs.declared.verdict.Verdict.TheVariants.{Genuine, FalseCheckpoint, Fault}
 use Rattle.replay_segments.specs.Gathering.{NamesAll}
 use Rattle.replay_segments.specs.Pieces.{PieceData, Job, HasKept}
-use Rattle.verify_pool.specs.declared.part.Part.{Part}
-use Rattle.verify_pool.specs.Desk.{times, report_at}
+use Rattle.segment_desk.specs.declared.part.Part.{Part}
+use Rattle.segment_desk.specs.Desk.{times, report_at}
 
 -- The numbers of pieces.
 abbrev pub numbers : List PieceData → List ℕ

@@ -1,6 +1,5 @@
 pub mod Crew
-pub mod Desk
 pub mod Exact
-pub mod Kept
-pub mod Plays
-pub mod Views
+pub use Rattle.segment_desk.specs.Desk
+pub use Rattle.segment_desk.specs.Kept
+pub use Rattle.segment_desk.specs.Views

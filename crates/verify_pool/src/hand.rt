@@ -1,6 +1,6 @@
 //! What one worker has.
-use crate::ticket::Ticket;
 use replay_segments::Piece;
+use segment_desk::Ticket;
 
 /// What one worker has: its ticket, and the pieces that it has replayed.
 #[derive(Drop)]

@@ -3,15 +3,14 @@ ghost use Rattle.std.specs.Prelude.{◌≡◌, ℕ, ◌+◌, ◌<◌, ◌≤◌,
 ghost use Rattle.replay_segments.specs.Cuts.{Fits};
 ghost use Rattle.replay_segments.specs.Verdicts.{IsVerdict};
 ghost use Rattle.verify_pool.specs.Crew.{AreReady, shares};
-ghost use Rattle.verify_pool.specs.Views.{first_ticket};
+ghost use Rattle.segment_desk.specs.Views.{first_ticket};
 
-use crate::desk::Desk;
 use crate::gate::Gate;
 use crate::hand::Hand;
-use crate::ticket::Ticket;
 use crate::workers::crew;
 use movie_file::Movie;
 use replay_segments::{Cuts, GatherError, Keep, Verdict, gather};
+use segment_desk::{Desk, Ticket};
 use std::alloc::{AllocError, Global};
 use std::sync::Wait;
 use std::thread::Threads;

@@ -4,26 +4,17 @@ ghost use Rattle.replay_segments.specs.Cuts.{Fits};
 ghost use Rattle.replay_segments.specs.Pieces.{job_of, HasKept};
 ghost use Rattle.replay_segments.specs.declared.outcome.Outcome.{Outcome};
 ghost use Rattle.verify_pool.specs.Crew.{IsReady, IsWorked};
-ghost use Rattle.verify_pool.specs.Desk.{times, left_of};
+ghost use Rattle.segment_desk.specs.Desk.{times, left_of};
 ghost use Rattle.verify_pool.specs.Exact.{IsExact, IsReplayed};
-ghost use Rattle.verify_pool.specs.Kept.{IsKnown};
-ghost use Rattle.verify_pool.specs.Views.{IsOf};
+ghost use Rattle.segment_desk.specs.Kept.{IsKnown};
+ghost use Rattle.segment_desk.specs.Views.{IsOf};
 
-use crate::desk::Desk;
 use crate::gate::Gate;
 use crate::hand::Hand;
-use crate::ticket::Ticket;
 use movie_file::Movie;
 use replay_segments::{Cuts, Keep, Piece, replay};
+use segment_desk::{Desk, Ticket};
 use std::alloc::Global;
-
-/// Whether a ticket has ended. Contracts learn from it what every ticket knows.
-fn has_ended(ticket: &Ticket) -> bool
-    ensures value { result ≡ ticket.now.part.ended }
-    ensures known { IsKnown ticket.now.part }
-{
-    ticket.ended
-}
 
 /// Replays the segment that the ticket drew last, and reports it unless it passes.
 fn replay_drawn<G: Gate>(
@@ -116,7 +107,7 @@ pub(crate) fn work<G: Gate>(
         mut ticket,
         mut pieces,
     } = hand;
-    let _ = has_ended(&ticket);
+    let _ = ticket.has_ended();
     while work_once(
         alloc,
         movie,

@@ -3,14 +3,14 @@ ghost use Rattle.std.specs.Prelude.{◌≡◌, ℕ, ◌+◌, ◌*◌, ◌≤◌,
 ghost use Rattle.replay_segments.specs.Cuts.{Fits};
 ghost use Rattle.replay_segments.specs.Pieces.{Job, job_of};
 ghost use Rattle.verify_pool.specs.Crew.{AreReady, IsWorked, first_room, shares};
-ghost use Rattle.verify_pool.specs.Views.{IsOf};
+ghost use Rattle.segment_desk.specs.Views.{IsOf};
 
-use crate::desk::Desk;
 use crate::gate::Gate;
 use crate::hand::Hand;
 use crate::worker::work;
 use movie_file::Movie;
 use replay_segments::{Cuts, Keep};
+use segment_desk::Desk;
 use std::alloc::Global;
 use std::snapshot::Snapshot;
 use std::sync::Wait;

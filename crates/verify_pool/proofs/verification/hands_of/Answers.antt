@@ -3,7 +3,7 @@ use Rattle.std.proofs.lemmas.List.{take-replicate, get_or-replicate}
 use Rattle.std.proofs.lemmas.List.Elements.{All-push}
 use Rattle.verify_pool.specs.declared.hand.Hand.{Hand}
 use Rattle.verify_pool.specs.Crew.{IsReady, shares, first_room}
-use Rattle.verify_pool.specs.Views.{TicketView, IsOf, first_ticket}
+use Rattle.segment_desk.specs.Views.{TicketView, IsOf, first_ticket}
 use Rattle.verify_pool.proofs.CrewLemmas.{shares-append, first_room-more}
 use Rattle.verify_pool.proofs.verification.hands_of.Goals as goal
 

@@ -1,6 +1,6 @@
 use Rattle.std.proofs.Common.{◌≡◌, ◌+◌, ◌*◌, ◌<◌, ◌≤◌, All, replicate, vec_len, vec_capacity}
 use Rattle.verify_pool.specs.Crew.{IsReady, shares, first_room}
-use Rattle.verify_pool.specs.Views.{first_ticket}
+use Rattle.segment_desk.specs.Views.{first_ticket}
 use Rattle.verify_pool.proofs.verification.hands_of.Given as goal
 
 abbrev pub invariant-loop-ticket : goal.invariant-loop-ticket

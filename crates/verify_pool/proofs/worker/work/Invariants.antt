@@ -1,9 +1,9 @@
 use Rattle.std.proofs.Common.{◌≡◌, ◌+◌, ◌≤◌, vec_len, vec_capacity}
 use Rattle.replay_segments.specs.Pieces.{job_of}
-use Rattle.verify_pool.specs.Desk.{left_of}
+use Rattle.segment_desk.specs.Desk.{left_of}
 use Rattle.verify_pool.specs.Exact.{IsExact}
-use Rattle.verify_pool.specs.Kept.{IsKnown}
-use Rattle.verify_pool.specs.Views.{IsOf}
+use Rattle.segment_desk.specs.Kept.{IsKnown}
+use Rattle.segment_desk.specs.Views.{IsOf}
 use Rattle.verify_pool.proofs.worker.work.Given as goal
 
 abbrev pub invariant-loop-alloc : goal.invariant-loop-alloc

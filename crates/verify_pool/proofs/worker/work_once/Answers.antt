@@ -1,6 +1,6 @@
 use Rattle.std.proofs.Common.{ap, sym, subst, ◌∙◌, List}
 use Rattle.replay_segments.specs.Pieces.{PieceData, job_of}
-use Rattle.verify_pool.specs.Desk.{look_at}
+use Rattle.segment_desk.specs.Desk.{look_at}
 use Rattle.verify_pool.specs.Exact.{IsExact}
 use Rattle.verify_pool.proofs.ExactLemmas.{exact_over, exact_more}
 use Rattle.verify_pool.proofs.worker.work_once.Goals as goal

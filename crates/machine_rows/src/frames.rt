@@ -1,0 +1,243 @@
+//! Frames of small cartridges, whose states are known to the number.
+
+use riot_map::Cart;
+use std::alloc::Global;
+use std::process::Abort;
+use vcs_machine::{FaultKind, FrameError, Input, Picture, State, StateFields, frame};
+
+/// A cartridge of 2048 bytes that begins at F000: some bytes at its start, some at an offset, and 0 elsewhere.
+fn cart_of(rt: &impl Abort, alloc: Global, start: &[u8], offset: usize, more: &[u8]) -> Cart {
+    let mut bytes = Vec::with_capacity(alloc, 2048).expect(rt, "memory for a cartridge");
+    for i in 0..2048usize {
+        let byte = if i < start.len() {
+            start[i]
+        } else if i >= offset && i - offset < more.len() {
+            more[i - offset]
+        } else if i == 0x7FD {
+            0xF0
+        } else {
+            0
+        };
+        bytes.push(byte).expect(rt, "room for a byte");
+    }
+    Cart::new(bytes).expect(rt, "2048 bytes are a cartridge")
+}
+
+/// Stores 2 in memory, then raises and lowers VSYNC, for ever.
+fn endless_frames(rt: &impl Abort, alloc: Global) -> Cart {
+    let program = [
+        0xA9, 2, 0x85, 0x80, 0x85, 0, 0xA9, 0, 0x85, 0, 0x4C, 0, 0xF0,
+    ];
+    cart_of(rt, alloc, &program, 0x10, &[2])
+}
+
+/// The state of these numbers.
+fn lawful(rt: &impl Abort, fields: StateFields) -> State {
+    State::from_fields(fields).expect(rt, "lawful numbers")
+}
+
+/// An input in which no stick or switch is touched.
+fn idle(rt: &impl Abort, buttons: u8) -> Input {
+    Input::new(0xFF, 0x3F, buttons).expect(rt, "an input")
+}
+
+/// The fault of one frame, if it has one.
+fn fault_of(rt: &impl Abort, alloc: Global, cart: &Cart, state: &mut State) -> Option<FaultKind> {
+    match frame(alloc, cart, state, idle(rt, 0), false) {
+        Err(FrameError::Fault(kind)) => Some(kind),
+        _ => None,
+    }
+}
+
+/// The picture of a frame that ends.
+fn picture_of(
+    rt: &impl Abort,
+    alloc: Global,
+    cart: &Cart,
+    state: &mut State,
+    buttons: u8,
+) -> Picture {
+    let played = frame(alloc, cart, state, idle(rt, buttons), true).expect(rt, "a frame that ends");
+    played.expect(rt, "a picture that is kept")
+}
+
+#[test]
+fn counts_the_cycles_of_each_frame(rt: HostRuntime) {
+    let cart = endless_frames(&rt, rt.alloc());
+    let start = State::power_on(&cart);
+    let mut state = start.copy();
+    for (timer, line_cycle) in [(0xF3, 0x0D), (0xE3, 0x1D), (0xD3, 0x2D)] {
+        assert_eq!(rt; fault_of(&rt, rt.alloc(), &cart, &mut state), None);
+        let mut wanted = start.fields();
+        wanted.p = 0x06;
+        wanted.pc = 0xF00A;
+        wanted.ram[0] = 2;
+        wanted.timer = timer;
+        wanted.past_zero = 1;
+        wanted.flag = 1;
+        wanted.line_cycle = line_cycle;
+        assert!(rt; state.equals(&lawful(&rt, wanted)));
+        assert!(rt; !state.equals(&start));
+    }
+}
+
+#[test]
+fn frame_ends_after_the_wait_of_its_last_write(rt: HostRuntime) {
+    let cart = cart_of(&rt, rt.alloc(), &[0], 0x7FE, &[0, 0xF0]);
+    let mut fields = State::power_on(&cart).fields();
+    fields.s = 2;
+    fields.vsync = 2;
+    let mut state = lawful(&rt, fields);
+    let picture = picture_of(&rt, rt.alloc(), &cart, &mut state, 0);
+    assert_eq!(rt; picture.rows(), 1);
+    assert_eq!(rt; *picture.row(0), [0; 160]);
+    fields.s = 0xFF;
+    fields.vblank = 2;
+    fields.vsync = 0;
+    fields.timer = 0xB4;
+    fields.past_zero = 1;
+    fields.flag = 1;
+    assert!(rt; state.equals(&lawful(&rt, fields)));
+}
+
+#[test]
+fn wait_ends_where_a_scanline_begins(rt: HostRuntime) {
+    let program = [0x85, 2, 0xA9, 2, 0x85, 0, 0xA9, 0, 0x85, 0];
+    let cart = cart_of(&rt, rt.alloc(), &program, 0x800, &[]);
+    for (line_cycle, timer) in [(0, 0xAA), (73, 0xF3)] {
+        let mut fields = State::power_on(&cart).fields();
+        fields.line_cycle = line_cycle;
+        let mut state = lawful(&rt, fields);
+        let picture = picture_of(&rt, rt.alloc(), &cart, &mut state, 0);
+        assert_eq!(rt; picture.rows(), 2);
+        assert_eq!(rt; state.fields().timer, timer);
+        assert_eq!(rt; state.fields().line_cycle, 10);
+    }
+}
+
+#[test]
+fn buttons_are_read_through_their_latches(rt: HostRuntime) {
+    let program = [
+        0xA5, 0x0C, 0x85, 0x80, 0xA9, 2, 0x85, 0, 0xA9, 0, 0x85, 0, 0x4C, 0, 0xF0,
+    ];
+    let cart = cart_of(&rt, rt.alloc(), &program, 0x800, &[]);
+    for (vblank, released, latches) in [(0x40, 0, 1), (0, 0x80, 0)] {
+        let mut fields = State::power_on(&cart).fields();
+        fields.vblank = vblank;
+        let mut state = lawful(&rt, fields);
+        for (buttons, seen) in [(1, 0), (0, released)] {
+            let _picture = picture_of(&rt, rt.alloc(), &cart, &mut state, buttons);
+            assert_eq!(rt; state.fields().ram[0], seen);
+            assert_eq!(rt; state.fields().latches, latches);
+        }
+    }
+}
+
+#[test]
+fn each_button_has_a_register(rt: HostRuntime) {
+    for (register, buttons, seen) in [
+        (0x0C, 1, 0),
+        (0x0C, 2, 0x80),
+        (0x0D, 2, 0),
+        (0x0D, 1, 0x80),
+    ] {
+        let program = [
+            0xA5, register, 0x85, 0x80, 0xA9, 2, 0x85, 0, 0xA9, 0, 0x85, 0, 0x4C, 0, 0xF0,
+        ];
+        let cart = cart_of(&rt, rt.alloc(), &program, 0x800, &[]);
+        let mut state = State::power_on(&cart);
+        let _picture = picture_of(&rt, rt.alloc(), &cart, &mut state, buttons);
+        assert_eq!(rt; state.fields().ram[0], seen);
+    }
+}
+
+#[test]
+fn picture_has_the_colours_put_and_else_0(rt: HostRuntime) {
+    let program = [
+        0xA9, 0x0E, 0x85, 9, 0x85, 2, 0x85, 2, 0xA9, 2, 0x85, 0, 0xA9, 0, 0x85, 0,
+    ];
+    let cart = cart_of(&rt, rt.alloc(), &program, 0x800, &[]);
+    let mut state = State::power_on(&cart);
+    let picture = picture_of(&rt, rt.alloc(), &cart, &mut state, 0);
+    assert_eq!(rt; picture.rows(), 3);
+    assert_eq!(rt; *picture.row(0), [0x0E; 160]);
+    assert_eq!(rt; picture.at(1, 159), 0x0E);
+    assert_eq!(rt; *picture.row(2), [0; 160]);
+    let mut again = State::power_on(&cart);
+    assert!(rt; picture.equals(&picture_of(&rt, rt.alloc(), &cart, &mut again, 0)));
+    assert!(rt;
+        !picture.equals(&picture_of(
+            &rt,
+            rt.alloc(),
+            &endless_frames(&rt, rt.alloc()),
+            &mut State::power_on(&cart),
+            0
+        ))
+    );
+}
+
+#[test]
+fn fault_leaves_the_state_before_its_instruction(rt: HostRuntime) {
+    let program = [
+        0xE8, 0xE0, 7, 0xF0, 0x0B, 0xA9, 2, 0x85, 0, 0xA9, 0, 0x85, 0, 0x4C, 0, 0xF0,
+    ];
+    let cart = cart_of(&rt, rt.alloc(), &program, 0x10, &[2]);
+    let mut state = State::power_on(&cart);
+    for number in 1..7u8 {
+        assert_eq!(rt; fault_of(&rt, rt.alloc(), &cart, &mut state), None);
+        assert_eq!(rt; state.fields().x, number);
+    }
+    let bad = FaultKind::BadOpcode {
+        opcode: 2,
+        at: 0xF010,
+    };
+    assert_eq!(rt; fault_of(&rt, rt.alloc(), &cart, &mut state), Some(bad));
+    assert_eq!(rt; state.fields().x, 7);
+    assert_eq!(rt; state.fields().pc, 0xF010);
+}
+
+#[test]
+fn fetch_outside_names_its_address(rt: HostRuntime) {
+    let jump = cart_of(&rt, rt.alloc(), &[0x4C, 0x80, 2], 0x7FF, &[0xA9]);
+    let mut fields = State::power_on(&jump).fields();
+    for (pc, at) in [(0xF000, 0x0280), (0x0000, 0x0000), (0xFFFF, 0x0000)] {
+        fields.pc = pc;
+        let outside = FaultKind::FetchOutside { at };
+        assert_eq!(rt;
+            fault_of(&rt, rt.alloc(), &jump, &mut lawful(&rt, fields)),
+            Some(outside)
+        );
+    }
+}
+
+#[test]
+fn frame_without_an_end_is_too_long(rt: HostRuntime) {
+    let jump = cart_of(&rt, rt.alloc(), &[0x4C, 0, 0xF0], 0x800, &[]);
+    let mut state = State::power_on(&jump);
+    assert_eq!(rt;
+        fault_of(&rt, rt.alloc(), &jump, &mut state),
+        Some(FaultKind::Overlong)
+    );
+    assert_eq!(rt; state.fields().line_cycle, 1);
+    let mut fields = State::power_on(&jump).fields();
+    fields.pc = 0x80;
+    fields.ram[0] = 0x4C;
+    fields.ram[1] = 0x80;
+    fields.line_cycle = 75;
+    assert_eq!(rt;
+        fault_of(&rt, rt.alloc(), &jump, &mut lawful(&rt, fields)),
+        Some(FaultKind::Overlong)
+    );
+}
+
+#[test]
+fn numbers_and_inputs_are_tested(rt: HostRuntime) {
+    let mut fields = State::power_on(&endless_frames(&rt, rt.alloc())).fields();
+    assert!(rt; State::from_fields(fields).is_some());
+    fields.position_p0 = 160;
+    assert!(rt; State::from_fields(fields).is_none());
+    let input = idle(&rt, 2);
+    assert_eq!(rt; input.bytes(), [0xFF, 0x3F, 2]);
+    assert!(rt; Input::new(0xFF, 0x3F, 4).is_none());
+    assert!(rt; Input::new(0xFF, 0x1F, 0).is_none());
+}

@@ -1,0 +1,9 @@
+//! Worked rows of the TIA, the RIOT, the address map and whole frames, as tests of the crates below.
+#![tactic(auto)]
+
+#[cfg(test)]
+mod frames;
+#[cfg(test)]
+mod riot;
+#[cfg(test)]
+mod tia;

@@ -1,0 +1,141 @@
+//! Worked examples of the ports, the timer, the address map and cartridges.
+
+use riot_map::{BadCartSize, Cart, Place, Riot, RiotFields, place};
+use std::test::Fail;
+
+// Registers of the ports and the timer, by address lines A0 to A4.
+const SWCHA: u8 = 0x00;
+
+const SWACNT: u8 = 0x01;
+
+const SWCHB: u8 = 0x02;
+
+const SWBCNT: u8 = 0x03;
+
+const INTIM: u8 = 0x04;
+
+const FLAG: u8 = 0x05;
+
+const TIM1T: u8 = 0x14;
+
+const TIM64T: u8 = 0x16;
+
+#[test]
+fn timer_holds_zero_for_one_interval(rt: HostRuntime) {
+    let mut riot = Riot::power_on();
+    riot.write(TIM64T, 1);
+    riot.cycles(1);
+    assert_eq!(rt; riot.read(INTIM), 0x00);
+    riot.cycles(63);
+    assert_eq!(rt; riot.read(INTIM), 0x00);
+    riot.cycles(1);
+    assert_eq!(rt; riot.read(INTIM), 0xFF);
+}
+
+#[test]
+fn timer_from_zero_is_past_it_after_one_cycle(rt: HostRuntime) {
+    let mut riot = Riot::power_on();
+    riot.write(TIM1T, 0);
+    riot.cycles(1);
+    assert_eq!(rt; riot.read(INTIM), 0xFF);
+}
+
+#[test]
+fn flag_is_set_past_zero_and_cleared_by_a_read(rt: HostRuntime) {
+    let mut riot = Riot::power_on();
+    riot.write(TIM1T, 2);
+    riot.cycles(2);
+    assert_eq!(rt; riot.read(FLAG), 0x00);
+    riot.cycles(1);
+    assert_eq!(rt; riot.read(FLAG), 0x80);
+    assert_eq!(rt; riot.read(INTIM), 0xFF);
+    assert_eq!(rt; riot.read(FLAG), 0x00);
+}
+
+#[test]
+fn timer_comes_round_after_256_cycles(rt: HostRuntime) {
+    let mut riot = Riot::power_on();
+    riot.write(TIM1T, 0);
+    riot.cycles(255);
+    riot.cycles(1);
+    assert_eq!(rt; riot.read(INTIM), 0x00);
+    riot.cycles(1);
+    assert_eq!(rt; riot.read(INTIM), 0xFF);
+}
+
+#[test]
+fn ports_mix_pins_and_outputs(rt: HostRuntime) {
+    let mut riot = Riot::power_on();
+    riot.set_pins(0x3C, 0x3C);
+    riot.write(SWACNT, 0xF0);
+    riot.write(SWCHA, 0xA5);
+    riot.write(SWBCNT, 0xF0);
+    riot.write(SWCHB, 0xA5);
+    assert_eq!(rt; riot.read(SWCHA), 0x2C);
+    assert_eq!(rt; riot.read(SWCHB), 0xAC);
+    assert_eq!(rt; riot.read(SWACNT), 0xF0);
+    assert_eq!(rt; riot.read(SWBCNT), 0xF0);
+}
+
+#[test]
+fn cartridges_have_2048_or_4096_bytes(rt: HostRuntime) -> Result<(), Fail> {
+    for (length, fits) in [(0usize, false), (2048, true), (4096, true), (4097, false)] {
+        let bytes = vec![in rt.alloc(); 0u8; length]?;
+        match Cart::new(bytes) {
+            Ok(cart) => {
+                assert!(rt; fits);
+                assert_eq!(rt; cart.len() as usize, length);
+                assert_eq!(rt; cart.bytes().len(), length);
+            }
+            Err(refusal) => {
+                assert!(rt; !fits);
+                assert_eq!(rt; refusal, BadCartSize);
+            }
+        }
+    }
+    Ok(())
+}
+
+#[test]
+fn small_cartridge_stands_at_each_2048_addresses(rt: HostRuntime) -> Result<(), Fail> {
+    let mut bytes = vec![in rt.alloc(); 0u8; 2048]?;
+    bytes[0x000] = 1;
+    bytes[0x7FC] = 2;
+    bytes[0x7FD] = 3;
+    let cart = Cart::new(bytes).ok().ok_or("2048 bytes")?;
+    for (address, byte) in [(0x1000u16, 1u8), (0x1800, 1), (0xFFFC, 2), (0xFFFD, 3)] {
+        assert_eq!(rt; place(address), Place::Cart(address));
+        assert_eq!(rt; cart.at(address), byte);
+    }
+    let other = Cart::new(vec![in rt.alloc(); 0u8; 2048]?)
+        .ok()
+        .ok_or("2048 bytes")?;
+    assert!(rt; cart == cart);
+    assert!(rt; cart != other);
+    Ok(())
+}
+
+#[test]
+fn places_by_address_lines(rt: HostRuntime) {
+    assert_eq!(rt; place(0x0002), Place::Tia(0x02));
+    assert_eq!(rt; place(0x0180), Place::Ram(0x00));
+    assert_eq!(rt; place(0x0296), Place::Io(0x16));
+    assert_eq!(rt; place(0x2280), Place::Io(0x00));
+}
+
+#[test]
+fn numbers_come_back(rt: HostRuntime) -> Result<(), Fail> {
+    let mut riot = Riot::power_on();
+    riot.set_ram(5, 9);
+    riot.write(TIM64T, 2);
+    riot.cycles(1);
+    let fields = riot.fields();
+    assert_eq!(rt; fields.timer, 1);
+    assert_eq!(rt; fields.part, 64);
+    assert_eq!(rt; fields.interval, 2);
+    let back = Riot::from_fields(fields).ok_or("lawful")?;
+    assert_eq!(rt; back.ram(5), 9);
+    let refused = RiotFields { part: 65, ..fields };
+    assert!(rt; Riot::from_fields(refused).is_none());
+    Ok(())
+}

@@ -1,0 +1,9 @@
+use Rattle.segment_desk.specs.Plays.{desk_of}
+use Rattle.segment_desk.proofs.Reach.{kept}
+use Rattle.segment_desk.proofs.law.holds_between_steps.Goals as goal
+
+pub returns : goal.returns
+returns c = record {
+  events = kept;
+  table = λ n w s is. kept n w (desk_of s) is.1;
+}

@@ -1,0 +1,9 @@
+use Rattle.segment_desk.specs.Desk.{left_of}
+use Rattle.segment_desk.specs.Views.{IsOf}
+use Rattle.segment_desk.proofs.tests.draw_all.Given as goal
+
+abbrev pub invariant-draws : goal.invariant-draws
+invariant-draws l = IsOf l.desk l.ticket
+
+abbrev pub decreases-draws : goal.decreases-draws
+decreases-draws l = left_of l.ticket.part

@@ -1,0 +1,20 @@
+//! A desk that gives out the numbers of segments, each once, and keeps the least that was reported
+//! bad. Threads share it, and none of its calls waits.
+#![tactic(auto)]
+
+mod desk;
+mod error;
+mod law;
+mod part;
+mod rule;
+mod steps;
+mod ticket;
+
+pub use desk::Desk;
+pub use error::NoMemory;
+pub use law::holds_between_steps;
+pub use part::Part;
+pub use ticket::Ticket;
+
+#[cfg(test)]
+mod tests;
