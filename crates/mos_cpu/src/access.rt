@@ -4,7 +4,7 @@ ghost use Rattle.std.specs.Prelude.{◌≡◌, ◌≤◌, ◌+◌};
 ghost use Rattle.mos_cpu.specs.Accesses.{push, pull};
 
 /// What an access writes.
-#[derive(Clone, Copy, Debug, PartialEq, Eq)]
+#[derive(Clone, Copy)]
 pub enum Source {
     Byte(u8),
     /// The byte that was read.
@@ -13,7 +13,7 @@ pub enum Source {
     Changed,
 }
 
-#[derive(Clone, Copy, Debug, Default, PartialEq, Eq)]
+#[derive(Clone, Copy, Default)]
 pub enum Transfer {
     #[default]
     Read,
@@ -21,7 +21,7 @@ pub enum Transfer {
 }
 
 /// A data access, in a cycle of its instruction, counted from 1.
-#[derive(Clone, Copy, Debug, Default, PartialEq, Eq)]
+#[derive(Clone, Copy, Default)]
 pub struct Access {
     pub cycle: u8,
     pub address: u16,

@@ -5,7 +5,7 @@ ghost use Rattle.mos_cpu.specs.Registers.{IsStatus};
 ghost use Rattle.mos_cpu.specs.Status.{weight, has_flag, put_flag, with_nz, pushed_of, pulled_of};
 
 /// A flag of the status register.
-#[derive(Clone, Copy, Debug, PartialEq, Eq)]
+#[derive(Clone, Copy)]
 pub enum Flag {
     Carry,
     Zero,

@@ -1,7 +1,8 @@
 //! Worked movie files, records and inputs, and movies that are made.
 
 use movie_file::{
-    MakeError, MovieError, make_movie, read_inputs, read_movie, read_state, write_movie, write_state,
+    MakeError, MovieError, make_movie, read_inputs, read_movie, read_state, write_movie,
+    write_state,
 };
 use riot_map::Cart;
 use std::alloc::Global;

@@ -1,7 +1,7 @@
 //! The objects that cover a pixel.
 ghost use Rattle.std.specs.Prelude.{◌≡◌, ◌<◌, ◌^◌};
 ghost use Rattle.tia_core.specs.Collision.{pairs_of};
-ghost use Rattle.tia_core.specs.Objects.{objects_at, size_of};
+ghost use Rattle.tia_core.specs.Objects.{ball_at, missile_at, objects_at, shown_of, size_of};
 ghost use Rattle.tia_core.specs.TiaState.{IsLawful};
 
 use crate::bits::bit;
@@ -30,31 +30,15 @@ impl Objects {
         requires range { x < 160 }
         ensures { result ≡ objects_at t.now x }
     {
-        let graphic0 = if bit(t.vdelp0, 0) {
-            t.grp0_old
-        } else {
-            t.grp0_new
-        };
-        let graphic1 = if bit(t.vdelp1, 0) {
-            t.grp1_old
-        } else {
-            t.grp1_new
-        };
-        let enabl = if bit(t.vdelbl, 0) {
-            t.enabl_old
-        } else {
-            t.enabl_new
-        };
+        let graphic0 = shown(t.vdelp0, t.grp0_old, t.grp0_new);
+        let graphic1 = shown(t.vdelp1, t.grp1_old, t.grp1_new);
+        let enabl = shown(t.vdelbl, t.enabl_old, t.enabl_new);
         Objects {
             player0: player_covers(t.nusiz0 % 8, bit(t.refp0, 3), graphic0, t.position_p0, x),
             player1: player_covers(t.nusiz1 % 8, bit(t.refp1, 3), graphic1, t.position_p1, x),
-            missile0: bit(t.enam0, 1)
-                && !bit(t.resmp0, 1)
-                && missile_covers(t.nusiz0 % 8, size(t.nusiz0), t.position_m0, x),
-            missile1: bit(t.enam1, 1)
-                && !bit(t.resmp1, 1)
-                && missile_covers(t.nusiz1 % 8, size(t.nusiz1), t.position_m1, x),
-            ball: bit(enabl, 1) && ball_covers(size(t.ctrlpf), t.position_bl, x),
+            missile0: missile(t.enam0, t.resmp0, t.nusiz0, t.position_m0, x),
+            missile1: missile(t.enam1, t.resmp1, t.nusiz1, t.position_m1, x),
+            ball: ball(enabl, t.ctrlpf, t.position_bl, x),
             playfield: playfield_bit(t.pf0, t.pf1, t.pf2, playfield_index(bit(t.ctrlpf, 0), x)),
         }
     }
@@ -85,6 +69,32 @@ impl Objects {
         ];
         number_of(&pairs)
     }
+}
+
+/// What is shown of a register that may be delayed: its old value where bit 0 of `delay` is set.
+#[inline]
+fn shown(delay: u8, old: u8, new: u8) -> u8
+    ensures { result ≡ shown_of delay old new }
+{
+    if bit(delay, 0) { old } else { new }
+}
+
+/// Whether a missile covers pixel `x`: it is enabled, not locked to its player, and one of its copies is there.
+#[inline]
+fn missile(enam: u8, resmp: u8, nusiz: u8, position: u8, x: u8) -> bool
+    requires { position < 160 }
+    ensures { result ≡ missile_at enam resmp nusiz position x }
+{
+    bit(enam, 1) && !bit(resmp, 1) && missile_covers(nusiz % 8, size(nusiz), position, x)
+}
+
+/// Whether a ball covers pixel `x`: it is enabled and there.
+#[inline]
+fn ball(enabl: u8, ctrlpf: u8, position: u8, x: u8) -> bool
+    requires { position < 160 }
+    ensures { result ≡ ball_at enabl ctrlpf position x }
+{
+    bit(enabl, 1) && ball_covers(size(ctrlpf), position, x)
 }
 
 /// The size of a missile or ball, by bits 5 and 4 of a register.

@@ -1,2 +1,1 @@
-pub mod DecimalDigits
-pub mod KnownBytes
+pub mod BytesRead

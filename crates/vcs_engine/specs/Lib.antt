@@ -2,8 +2,6 @@ pub mod Information
 pub mod Lines
 pub mod Makings
 pub mod MakingViews
-pub mod Palette
-pub mod PictureBytes
 pub mod OutputViews
 pub mod Outputs
 pub mod Status

@@ -1,39 +1,19 @@
 //! From the bytes of a movie to its verdict.
-ghost use Rattle.std.specs.Prelude.{◌≡◌, ◌≢◌, ◌≤◌, List, ℕ, IfOk, OnOk, OnErr};
+ghost use Rattle.std.specs.Prelude.{◌≡◌, ◌≢◌, ◌≤◌, List, ℕ, IfOk, OnErr};
 ghost use Rattle.std.specs.Io.KnownBytes.{Appends, Keeps};
-ghost use Rattle.vcs_engine.specs.OutputViews.{told_by};
+ghost use Rattle.picture_file.specs.PictureBytes.{pictures_bytes};
 ghost use Rattle.vcs_engine.specs.Outputs.{Told, Tells};
-ghost use Rattle.vcs_engine.specs.PictureBytes.{pictures_bytes};
 ghost use Rattle.vcs_engine.specs.Streams.{ReadsAll, IsTooLong, WritesPart};
 
-use crate::netpbm::write_pictures;
 use crate::output::Output;
 use crate::plan::Plan;
 use crate::run_error::RunError;
 use crate::status::Status;
-use crate::streams::{WriteFault, read_all, write_bytes};
+use crate::streams::read_all;
 use std::alloc::Global;
 use std::io::{Read, Write};
 use std::sync::Wait;
 use std::thread::Threads;
-
-/// Writes the line, then the pictures.
-fn deliver<W: Write, P: Write>(
-    output: &Output,
-    verdict: &mut W,
-    pictures: &mut P,
-) -> Result<(), WriteFault>
-    ensures line { OnOk result (Appends (W.contents verdict.old) (W.contents verdict.new) (told_by output.now).line) }
-    ensures pictures { OnOk result (Appends (P.contents pictures.old) (P.contents pictures.new) (pictures_bytes (told_by output.now).pictures)) }
-    ensures err { OnErr result (WritesPart (W.contents verdict.old) (W.contents verdict.new) (told_by output.now).line
-        (P.contents pictures.old) (P.contents pictures.new) (pictures_bytes (told_by output.now).pictures)) }
-{
-    write_bytes(output.line.as_bytes(), verdict)?;
-    match &output.pictures {
-        Some(frames) => write_pictures(frames, pictures),
-        None => Ok(()),
-    }
-}
 
 /// Reads a movie, judges it by the plan's workers, and writes its line, which ends with a line feed, and then the kept pictures of
 /// a genuine movie.
@@ -67,12 +47,8 @@ pub fn run<T: Threads + Wait + Sync, R: Read, W: Write, P: Write>(
         Ok(bytes) => bytes,
         Err(error) => return Err(error),
     };
-    let output = match Output::of_bytes(rt, alloc, &bytes, plan) {
-        Ok(output) => output,
-        Err(refused) => return Err(refused),
-    };
-    match deliver(&output, verdict, pictures) {
-        Ok(()) => Ok(output.status),
-        Err(_) => Err(RunError::WriteFault),
+    match Output::of_bytes(rt, alloc, &bytes, plan) {
+        Ok(output) => output.write(verdict, pictures),
+        Err(error) => Err(error),
     }
 }

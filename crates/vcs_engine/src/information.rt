@@ -2,15 +2,17 @@
 ghost use Rattle.std.specs.Prelude.{◌≡◌, ◌≢◌, List, ℕ, IfOk, OnErr};
 ghost use Rattle.std.specs.Io.KnownBytes.{Appends, Keeps};
 ghost use Rattle.movie_file.specs.Reading.{movie_at};
+ghost use Rattle.picture_file.specs.Fronts.{AppendsFront};
 ghost use Rattle.vcs_engine.specs.Information.{information_of};
 ghost use Rattle.vcs_engine.specs.Lines.{line_bytes};
-ghost use Rattle.vcs_engine.specs.Streams.{ReadsAll, AppendsFront, IsTooLong};
+ghost use Rattle.vcs_engine.specs.Streams.{ReadsAll, IsTooLong};
 
 use crate::line::Line;
 use crate::run_error::RunError;
 use crate::status::Status;
-use crate::streams::{read_all, write_bytes};
+use crate::streams::read_all;
 use movie_file::{MovieError, read_movie};
+use picture_file::write_bytes;
 use std::alloc::{AllocError, Global};
 use std::io::{Read, Write};
 

@@ -8,7 +8,7 @@ use std::fmt;
 use vcs_machine::FaultKind;
 
 /// A line of output, without its end.
-#[derive(Clone, Copy, Debug, PartialEq, Eq)]
+#[derive(Clone, Copy)]
 pub enum Line {
     Genuine {
         frames: u32,

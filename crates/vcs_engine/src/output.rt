@@ -1,8 +1,11 @@
 //! What a run writes for the bytes of a movie.
-ghost use Rattle.std.specs.Prelude.{◌≡◌, ◌≢◌, ◌≤◌, Err, IfOk, string_bytes};
+ghost use Rattle.std.specs.Prelude.{◌≡◌, ◌≢◌, ◌≤◌, Err, IfOk, OnErr, string_bytes};
+ghost use Rattle.std.specs.Io.KnownBytes.{Appends};
+ghost use Rattle.picture_file.specs.PictureBytes.{pictures_bytes};
 ghost use Rattle.vcs_engine.specs.Lines.{line_bytes};
 ghost use Rattle.vcs_engine.specs.OutputViews.{pictures_in, told_by};
 ghost use Rattle.vcs_engine.specs.Outputs.{Tells, told_of, told_refused};
+ghost use Rattle.vcs_engine.specs.Streams.{WritesPart};
 ghost use Rattle.replay_segments.specs.Verdicts.{IsVerdict};
 ghost use Rattle.replay_segments.specs.declared.verdict.Verdict.{Verdict as VerdictOf};
 
@@ -11,8 +14,10 @@ use crate::plan::Plan;
 use crate::run_error::RunError;
 use crate::status::Status;
 use movie_file::{Movie, MovieError, read_movie};
+use picture_file::{write_bytes, write_pictures};
 use replay_segments::{Cuts, CutsError, Frames, Verdict};
 use std::alloc::{AllocError, Global};
+use std::io::Write;
 use std::sync::Wait;
 use std::thread::Threads;
 use verify_pool::{NoGate, VerifyError, verify};
@@ -144,6 +149,30 @@ impl Output {
                 Ok(output) => Ok(output),
                 Err(_) => Err(RunError::NoMemory),
             },
+        }
+    }
+
+    /// Writes the line, then the pictures.
+    pub fn write<W: Write, P: Write>(
+        &self,
+        verdict: &mut W,
+        pictures: &mut P,
+    ) -> Result<Status, RunError>
+        ensures ok { IfOk result (λ status. (status ≡ self.now.status) × Appends (W.contents verdict.old) (W.contents verdict.new) (told_by self.now).line
+            × Appends (P.contents pictures.old) (P.contents pictures.new) (pictures_bytes (told_by self.now).pictures)) }
+        ensures write_fault { OnErr result ((result ≡ Err RunError.WriteFault) × WritesPart (W.contents verdict.old) (W.contents verdict.new) (told_by self.now).line
+            (P.contents pictures.old) (P.contents pictures.new) (pictures_bytes (told_by self.now).pictures)) }
+    {
+        if write_bytes(self.line.as_bytes(), verdict).is_err() {
+            return Err(RunError::WriteFault);
+        }
+        let written = match &self.pictures {
+            Some(frames) => write_pictures(frames, pictures),
+            None => Ok(()),
+        };
+        match written {
+            Ok(()) => Ok(self.status),
+            Err(_) => Err(RunError::WriteFault),
         }
     }
 }

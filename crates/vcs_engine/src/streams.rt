@@ -1,12 +1,10 @@
-//! Reading an input to its end, and writing all of some bytes.
-ghost use Rattle.std.specs.Prelude.{◌≡◌, ◌≢◌, ◌≤◌, OnOk, OnErr, IfOk, length};
-ghost use Rattle.std.specs.Io.KnownBytes.{Appends};
-ghost use Rattle.vcs_engine.specs.Streams.{ReadsAll, AppendsFront, IsTooLong, input_limit};
+//! Reading an input to its end.
+ghost use Rattle.std.specs.Prelude.{◌≡◌, ◌≢◌, ◌≤◌, IfOk, length};
+ghost use Rattle.vcs_engine.specs.Streams.{ReadsAll, IsTooLong, input_limit};
 
 use crate::run_error::RunError;
 use std::alloc::Global;
-use std::io::{Read, Write};
-use thiserror::Error;
+use std::io::Read;
 
 /// The most bytes of one input.
 const INPUT_LIMIT: usize = 16_777_216;
@@ -41,26 +39,4 @@ pub(crate) fn read_all<R: Read>(alloc: Global, reader: &mut R) -> Result<Vec<u8>
         }
     }
     unreachable!()
-}
-
-/// A write answered an error, or took nothing.
-#[derive(Clone, Copy, Debug, PartialEq, Eq, Error)]
-#[error("write failed")]
-pub struct WriteFault;
-
-/// Writes all of some bytes, or with a fault a front of them.
-pub(crate) fn write_bytes<W: Write>(bytes: &[u8], writer: &mut W) -> Result<(), WriteFault>
-    ensures ok { OnOk result (Appends (W.contents writer.old) (W.contents writer.new) bytes.now) }
-    ensures err { OnErr result (AppendsFront (W.contents writer.old) (W.contents writer.new) bytes.now) }
-{
-    let mut at = 0;
-    while at < bytes.len() {
-        let (_, rest) = bytes.split_at(at);
-        match writer.write(rest) {
-            Ok(0) => return Err(WriteFault),
-            Ok(n) => at += n,
-            Err(_) => return Err(WriteFault),
-        }
-    }
-    Ok(())
 }

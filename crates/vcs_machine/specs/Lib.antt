@@ -4,4 +4,5 @@ pub mod Frame
 pub mod Inputs
 pub mod Outcomes
 pub mod Pictures
+pub mod SameStates
 pub mod States

@@ -197,49 +197,65 @@ fn making_of_endless_inputs_is_too_long(rt: HostRuntime) {
     assert!(rt; inputs.reads <= 16_777_218, "{} reads", inputs.reads);
 }
 
+/// What a making answers over writers that take so many bytes, and what they took.
+fn written(
+    alloc: Global,
+    movie_writes: u64,
+    line_writes: u64,
+) -> (Result<Status, RunError>, Vec<u8>, Vec<u8>) {
+    let mut movie = FailingWriter {
+        taken: Vec::new(alloc),
+        left: movie_writes,
+    };
+    let mut line = FailingWriter {
+        taken: Vec::new(alloc),
+        left: line_writes,
+    };
+    let status = run_make(
+        alloc,
+        &mut rom(&ENDLESS_FRAMES).as_slice(),
+        &mut TWO_INPUTS.as_slice(),
+        2,
+        &mut movie,
+        &mut line,
+    );
+    (status, movie.taken, line.taken)
+}
+
 #[test]
 fn failed_write_leaves_a_front_of_the_movie(rt: HostRuntime) -> Result<(), Fail> {
     let wanted = two_made_frames(rt.alloc())?;
-    let wanted_line = b"made: 2 frames, 1 checkpoints\n".as_slice();
-    let endless = rom(&ENDLESS_FRAMES);
-    for (movie_writes, line_writes) in [
-        (0usize, 30usize),
-        (1, 30),
-        (2445, 30),
-        (2446, 0),
-        (2446, 29),
-    ] {
-        let mut movie = FailingWriter {
-            taken: Vec::new(rt.alloc()),
-            left: movie_writes as u64,
-        };
-        let mut line = FailingWriter {
-            taken: Vec::new(rt.alloc()),
-            left: line_writes as u64,
-        };
-        let status = run_make(
-            rt.alloc(),
-            &mut endless.as_slice(),
-            &mut TWO_INPUTS.as_slice(),
-            2,
-            &mut movie,
-            &mut line,
-        );
+    for movie_writes in [0usize, 1, 2445] {
+        let (status, movie, line) = written(rt.alloc(), movie_writes as u64, 30);
         assert_eq!(rt; status, Err(RunError::WriteFault));
-        assert_eq!(rt; movie.taken.len(), movie_writes);
-        assert!(rt; wanted.starts_with(&movie.taken));
-        if movie_writes < 2446 {
-            assert!(rt; line.taken.is_empty());
-        } else {
-            assert_eq!(rt; line.taken.len(), line_writes);
-            assert!(rt; wanted_line.starts_with(&line.taken));
-        }
+        assert_eq!(rt; movie.len(), movie_writes);
+        assert!(rt; wanted.starts_with(&movie) && line.is_empty());
     }
+    Ok(())
+}
+
+#[test]
+fn failed_write_leaves_the_movie_and_a_front_of_its_line(rt: HostRuntime) -> Result<(), Fail> {
+    let wanted = two_made_frames(rt.alloc())?;
+    let wanted_line = b"made: 2 frames, 1 checkpoints\n".as_slice();
+    for line_writes in [0usize, 29] {
+        let (status, movie, line) = written(rt.alloc(), 2446, line_writes as u64);
+        assert_eq!(rt; status, Err(RunError::WriteFault));
+        assert!(rt; movie == wanted);
+        assert_eq!(rt; line.len(), line_writes);
+        assert!(rt; wanted_line.starts_with(&line));
+    }
+    Ok(())
+}
+
+#[test]
+fn failed_write_leaves_a_front_of_the_information(rt: HostRuntime) -> Result<(), Fail> {
+    let movie = two_made_frames(rt.alloc())?;
     let mut line = FailingWriter {
         taken: Vec::new(rt.alloc()),
         left: 29,
     };
-    let status = run_info(rt.alloc(), &mut wanted.as_slice(), &mut line);
+    let status = run_info(rt.alloc(), &mut movie.as_slice(), &mut line);
     assert_eq!(rt; status, Err(RunError::WriteFault));
     assert!(rt; line.taken.as_slice() == b"movie: version 1, cartridge 2".as_slice());
     Ok(())

@@ -1,6 +1,6 @@
 //! The colours of a picture.
 ghost use Rattle.std.specs.Prelude.{◌≡◌};
-ghost use Rattle.vcs_engine.specs.Palette.{rgb_of};
+ghost use Rattle.picture_file.specs.Palette.{rgb_of};
 
 /// The red, green and blue of each hue at luminance 0.
 const HUES: [[u8; 3]; 16] = [

@@ -3,7 +3,7 @@ use Rattle.std.specs.Prelude.{ℕ, List, [], ◌∷◌, ◌++◌, length, codes}
 use Rattle.std.specs.List.{flat_map}
 use Rattle.std.specs.Fmt.{decimal}
 use Rattle.vcs_machine.specs.Pictures.{Rows}
-use Rattle.vcs_engine.specs.Palette.{rgb_of}
+use Rattle.picture_file.specs.Palette.{rgb_of}
 
 -- Three bytes for each pixel, from the left.
 abbrev pub row_bytes : List ℕ → List ℕ

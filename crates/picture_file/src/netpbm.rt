@@ -2,11 +2,11 @@
 ghost use Rattle.std.specs.Prelude.{◌≡◌, ◌≤◌, ◌<◌, OnOk, OnErr, drop};
 ghost use Rattle.std.specs.Fmt.{decimal};
 ghost use Rattle.std.specs.Io.KnownBytes.{Appends};
-ghost use Rattle.vcs_engine.specs.PictureBytes.{header_bytes, picture_bytes, pictures_bytes, row_bytes};
-ghost use Rattle.vcs_engine.specs.Streams.{AppendsFront};
+ghost use Rattle.picture_file.specs.PictureBytes.{header_bytes, picture_bytes, pictures_bytes, row_bytes};
+ghost use Rattle.picture_file.specs.Fronts.{AppendsFront};
 
+use crate::bytes::{WriteFault, write_bytes};
 use crate::palette::rgb;
-use crate::streams::{WriteFault, write_bytes};
 use replay_segments::Frames;
 use std::io::Write;
 use vcs_machine::Picture;
@@ -75,7 +75,7 @@ pub fn ppm<W: Write>(picture: &Picture, writer: &mut W) -> Result<(), WriteFault
 }
 
 /// Writes pictures one after another, or with a fault a front of them.
-pub(crate) fn write_pictures<W: Write>(frames: &Frames, writer: &mut W) -> Result<(), WriteFault>
+pub fn write_pictures<W: Write>(frames: &Frames, writer: &mut W) -> Result<(), WriteFault>
     ensures ok { OnOk result (Appends (W.contents writer.old) (W.contents writer.new) (pictures_bytes frames.now)) }
     ensures err { OnErr result (AppendsFront (W.contents writer.old) (W.contents writer.new) (pictures_bytes frames.now)) }
 {

@@ -2,10 +2,10 @@ use Rattle.std.proofs.lemmas.Result.{err_from_is_err_and}
 use Rattle.std.proofs.Common.{List, [], ℕ, length, subst, rules}
 use Rattle.std.specs.List.{flat_map}
 use Rattle.std.specs.Io.KnownBytes.{Appends}
-use Rattle.vcs_engine.specs.Streams.{AppendsFront}
-use Rattle.vcs_engine.specs.PictureBytes.{header_bytes, row_bytes}
-use Rattle.vcs_engine.proofs.KnownBytes.{front_longer, front_behind, appends_behind}
-use Rattle.vcs_engine.proofs.netpbm.ppm.Goals as goal
+use Rattle.picture_file.specs.Fronts.{AppendsFront}
+use Rattle.picture_file.specs.PictureBytes.{header_bytes, row_bytes}
+use Rattle.picture_file.proofs.BytesWritten.{front_longer, front_behind, appends_behind}
+use Rattle.picture_file.proofs.netpbm.ppm.Goals as goal
 
 pub returns-in_err-write_header-clause-err : goal.returns-in_err-write_header-clause-err
 returns-in_err-write_header-clause-err g c =

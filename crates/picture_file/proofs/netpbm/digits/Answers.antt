@@ -1,6 +1,6 @@
 use Rattle.std.proofs.Common.{sym, arith}
-use Rattle.vcs_engine.proofs.DecimalDigits.{one_digit, two_digits, three_digits}
-use Rattle.vcs_engine.proofs.netpbm.digits.Goals as goal
+use Rattle.picture_file.proofs.DecimalDigits.{one_digit, two_digits, three_digits}
+use Rattle.picture_file.proofs.netpbm.digits.Goals as goal
 
 pub returns-then-n-lt10-clause-text : goal.returns-then-n-lt10-clause-text
 returns-then-n-lt10-clause-text c = sym (one_digit c.args.n (omega arith))

@@ -1,9 +1,9 @@
 use Rattle.std.proofs.lemmas.Result.{err_from_is_err_and}
 use Rattle.std.proofs.Common.{subst, List, ℕ}
-use Rattle.vcs_engine.specs.Streams.{AppendsFront}
-use Rattle.vcs_engine.specs.Palette.{rgb_of}
-use Rattle.vcs_engine.proofs.KnownBytes.{front_in}
-use Rattle.vcs_engine.proofs.netpbm.write_row.Goals as goal
+use Rattle.picture_file.specs.Fronts.{AppendsFront}
+use Rattle.picture_file.specs.Palette.{rgb_of}
+use Rattle.picture_file.proofs.BytesWritten.{front_in}
+use Rattle.picture_file.proofs.netpbm.write_row.Goals as goal
 
 pub returns-in_err-write_bytes-clause-err : goal.returns-in_err-write_bytes-clause-err
 returns-in_err-write_bytes-clause-err g c =

@@ -1,9 +1,9 @@
 use Rattle.std.proofs.lemmas.Result.{err_from_is_err_and}
 use Rattle.std.proofs.Common.{List, ℕ, subst, rules}
-use Rattle.vcs_engine.specs.Streams.{AppendsFront}
-use Rattle.vcs_engine.specs.PictureBytes.{picture_bytes}
-use Rattle.vcs_engine.proofs.KnownBytes.{front_in}
-use Rattle.vcs_engine.proofs.netpbm.write_pictures.Goals as goal
+use Rattle.picture_file.specs.Fronts.{AppendsFront}
+use Rattle.picture_file.specs.PictureBytes.{picture_bytes}
+use Rattle.picture_file.proofs.BytesWritten.{front_in}
+use Rattle.picture_file.proofs.netpbm.write_pictures.Goals as goal
 
 pub returns-in_err-ppm-clause-err : goal.returns-in_err-ppm-clause-err
 returns-in_err-ppm-clause-err g c =

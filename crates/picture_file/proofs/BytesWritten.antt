@@ -1,19 +1,15 @@
--- Known bytes, over several reads and writes.
-use Rattle.std.proofs.Common.{◌≡◌, ℕ, suc, subst, get_or, drop-cons, ◌+◌, ◌<◌, List, [], ◌++◌, length, take, drop, Option, Some, None, refl, sym, ap, ◌∙◌, append_assoc, arith}
-use Rattle.std.proofs.lemmas.List.{append-nil, length-append, take-append-drop, flat_map_more, take_more}
+-- What is written, over several writes.
+use Rattle.std.proofs.Common.{◌≡◌, ℕ, suc, subst, get_or, drop-cons, ◌+◌, ◌<◌, List, [], ◌++◌, length, take, drop, Option, Some, None, refl, sym, ap, ◌∙◌, append_assoc}
+use Rattle.std.proofs.lemmas.List.{append-nil, take-append-drop, flat_map_more, take_more}
 use Rattle.std.proofs.Math.Seq.{take-add}
 use Rattle.std.proofs.lemmas.List.Concat.{flat_map-append, flat_map-cons}
 use Rattle.std.specs.List.{flat_map}
-use Rattle.std.specs.Io.KnownBytes.{Appends, Consumes, Keeps}
-use Rattle.vcs_engine.specs.Streams.{AppendsFront, IsTooLong, input_limit}
+use Rattle.std.specs.Io.KnownBytes.{Appends, Keeps}
+use Rattle.picture_file.specs.Fronts.{AppendsFront}
 
 pub appends_nothing : (a : Option (List ℕ)) → Appends a a []
 appends_nothing None = tt
 appends_nothing (Some xs) = sym (append-nil xs)
-
-pub consumes_nothing : (a : Option (List ℕ)) → Consumes a a []
-consumes_nothing None = tt
-consumes_nothing (Some xs) = refl
 
 pub appends_kept : (a b c : Option (List ℕ)) (p : List ℕ) → Appends a b p → Keeps b c → Appends a c p
 appends_kept None b c p h k = tt
@@ -26,18 +22,6 @@ appends_then None b c p q h k = tt
 appends_then (Some xs) None c p q h k = absurd h
 appends_then (Some xs) (Some ys) None p q h k = absurd k
 appends_then (Some xs) (Some ys) (Some zs) p q h k = k ∙ ap (λ (w : List ℕ). w ++ q) h ∙ append_assoc xs p q
-
-pub consumes_then : (a b c : Option (List ℕ)) (p q : List ℕ) → Consumes a b p → Consumes b c q → Consumes a c (p ++ q)
-consumes_then None b c p q h k = tt
-consumes_then (Some xs) None c p q h k = absurd h
-consumes_then (Some xs) (Some ys) None p q h k = absurd k
-consumes_then (Some xs) (Some ys) (Some zs) p q h k = h ∙ ap (λ (w : List ℕ). p ++ w) k ∙ sym (append_assoc p q zs)
-
--- what was read is no longer than what was there
-pub is_too_long : (a b : Option (List ℕ)) (p : List ℕ) → Consumes a b p → input_limit < length p → IsTooLong a
-is_too_long None b p h lt = tt
-is_too_long (Some xs) None p h lt = absurd h
-is_too_long (Some xs) (Some ys) p h lt = omega (arith, ap length h, length-append p ys)
 
 -- what a write took goes to the bytes before it
 pub appends_more : (a b c : Option (List ℕ)) (i n : ℕ) (bytes rest : List ℕ) → rest ≡ drop i bytes → Appends a b (take i bytes) → Appends b c (take n rest) → Appends a c (take (i + n) bytes)

@@ -2,8 +2,8 @@ use Rattle.std.proofs.lemmas.Result.{err_from_is_err_and}
 use Rattle.std.proofs.Common.{List, ℕ, [], ◌∷◌, ◌++◌}
 use Rattle.std.specs.Prelude.{codes}
 use Rattle.std.specs.Fmt.{decimal}
-use Rattle.vcs_engine.proofs.KnownBytes.{front_longer, front_after}
-use Rattle.vcs_engine.proofs.netpbm.write_header.Goals as goal
+use Rattle.picture_file.proofs.BytesWritten.{front_longer, front_after}
+use Rattle.picture_file.proofs.netpbm.write_header.Goals as goal
 
 abbrev first : List ℕ
 first = codes "P6" ++ 10 ∷ codes "160 "

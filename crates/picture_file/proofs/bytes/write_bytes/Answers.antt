@@ -1,6 +1,6 @@
 use Rattle.std.proofs.Common.{rules}
-use Rattle.vcs_engine.proofs.KnownBytes.{appends_more}
-use Rattle.vcs_engine.proofs.streams.write_bytes.Goals as goal
+use Rattle.picture_file.proofs.BytesWritten.{appends_more}
+use Rattle.picture_file.proofs.bytes.write_bytes.Goals as goal
 
 pub loop-at-preserved : goal.loop-at-preserved
 loop-at-preserved g c = record {

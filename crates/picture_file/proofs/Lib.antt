@@ -1,0 +1,2 @@
+pub mod BytesWritten
+pub mod DecimalDigits

@@ -1,0 +1,3 @@
+pub mod Fronts
+pub mod Palette
+pub mod PictureBytes
