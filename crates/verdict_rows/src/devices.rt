@@ -35,11 +35,8 @@ impl Read for FailingReader<'_> {
             return Err(io::Error::from(io::ErrorKind::Other));
         }
         self.left -= 1;
-        let n = self.bytes.len().min(buf.len()).min(500);
-        let (front, rest) = self.bytes.split_at(n);
-        buf[..n].copy_from_slice(front);
-        self.bytes = rest;
-        Ok(n)
+        let n = buf.len().min(500);
+        self.bytes.read(&mut buf[..n])
     }
 }
 

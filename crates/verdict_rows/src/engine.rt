@@ -1,7 +1,9 @@
 //! The engine over memory, and over devices that fail.
 
 use crate::devices::{FailingReader, FailingWriter, Zeros};
-use crate::movies::{ENDLESS_FRAMES, SEVEN_FRAMES, after_frame, movie, power_on, two_frames};
+use crate::movies::{
+    ENDLESS_FRAMES, SEVEN_FRAMES, first_of_two_false, movie, power_on, timer_part_left, two_frames,
+};
 use replay_segments::Keep;
 use std::alloc::Global;
 use std::io;
@@ -35,59 +37,47 @@ fn told<T: Threads + Wait + Sync + AllocGlobal>(
 
 #[test]
 fn genuine_movies(rt: HostRuntime) -> Result<(), Fail> {
-    let (status, line) = told(&rt, &two_frames(rt.alloc())?);
-    assert_eq!(rt; status, Ok(Status::Done));
-    assert!(rt; line.as_slice() == b"genuine: 2 frames, 1 checkpoints\n".as_slice());
-    let (status, line) = told(
-        &rt,
-        &movie(rt.alloc(), &ENDLESS_FRAMES, &power_on(), 1, &[])?,
-    );
-    assert_eq!(rt; status, Ok(Status::Done));
-    assert!(rt; line.as_slice() == b"genuine: 1 frames, 0 checkpoints\n".as_slice());
+    let uncut = movie(rt.alloc(), &ENDLESS_FRAMES, &power_on(), 1, 1, &[])?;
+    for (bytes, wanted) in [
+        (
+            two_frames(rt.alloc())?,
+            b"genuine: 2 frames, 1 checkpoints\n".as_slice(),
+        ),
+        (uncut, b"genuine: 1 frames, 0 checkpoints\n".as_slice()),
+    ] {
+        let (status, line) = told(&rt, &bytes);
+        assert_eq!(rt; status, Ok(Status::Done));
+        assert!(rt; line.as_slice() == wanted);
+    }
     Ok(())
 }
 
 #[test]
 fn false_checkpoints(rt: HostRuntime) -> Result<(), Fail> {
-    let mut wrong = after_frame(0xF3, 0x0D);
-    wrong[7] = 7;
-    let first = movie(
-        rt.alloc(),
-        &ENDLESS_FRAMES,
-        &power_on(),
-        3,
-        &[wrong, after_frame(0xE3, 0x1D)],
-    )?;
-    let mut start = power_on();
-    start[139] = 5;
-    start[141] = 100;
-    let mut off_by_one = after_frame(5, 0x0D);
-    off_by_one[141] = 88;
-    off_by_one[143] = 0;
-    off_by_one[144] = 0;
-    let part = movie(rt.alloc(), &ENDLESS_FRAMES, &start, 1, &[off_by_one])?;
-    for bytes in [first.as_slice(), part.as_slice()] {
-        let (status, line) = told(&rt, bytes);
+    for bytes in [
+        first_of_two_false(rt.alloc())?,
+        timer_part_left(rt.alloc(), 88)?,
+    ] {
+        let (status, line) = told(&rt, &bytes);
         assert_eq!(rt; status, Ok(Status::False));
         assert!(rt; line.as_slice() == b"false checkpoint 1 at frame 1\n".as_slice());
     }
-    off_by_one[141] = 87;
-    let (status, _line) = told(
-        &rt,
-        &movie(rt.alloc(), &ENDLESS_FRAMES, &start, 1, &[off_by_one])?,
-    );
+    let (status, _line) = told(&rt, &timer_part_left(rt.alloc(), 87)?);
     assert_eq!(rt; status, Ok(Status::Done));
     Ok(())
 }
 
 #[test]
 fn fault_comes_before_the_checkpoint_of_its_frame(rt: HostRuntime) -> Result<(), Fail> {
-    let mut bytes = movie(rt.alloc(), &SEVEN_FRAMES, &power_on(), 7, &[power_on()])?;
-    let checkpoint = 14 + 2048 + 187 + 3 * 7;
-    *bytes.get_mut(checkpoint + 3).ok_or("a checkpoint's frame")? = 7;
+    let bytes = movie(rt.alloc(), &SEVEN_FRAMES, &power_on(), 7, 7, &[power_on()])?;
     let (status, line) = told(&rt, &bytes);
     assert_eq!(rt; status, Ok(Status::Fault));
     assert!(rt; line.as_slice() == b"fault at frame 7: bad opcode 02 at F010\n".as_slice());
+    Ok(())
+}
+
+#[test]
+fn faults_of_a_first_frame(rt: HostRuntime) -> Result<(), Fail> {
     for (program, wanted) in [
         (
             [0x4C, 0x00, 0xF0],
@@ -98,7 +88,8 @@ fn fault_comes_before_the_checkpoint_of_its_frame(rt: HostRuntime) -> Result<(),
             b"fault at frame 1: fetch outside at 0280\n".as_slice(),
         ),
     ] {
-        let (status, line) = told(&rt, &movie(rt.alloc(), &program, &power_on(), 1, &[])?);
+        let bytes = movie(rt.alloc(), &program, &power_on(), 1, 1, &[])?;
+        let (status, line) = told(&rt, &bytes);
         assert_eq!(rt; status, Ok(Status::Fault));
         assert!(rt; line.as_slice() == wanted);
     }
@@ -106,79 +97,73 @@ fn fault_comes_before_the_checkpoint_of_its_frame(rt: HostRuntime) -> Result<(),
 }
 
 #[test]
-fn refused_inputs(rt: HostRuntime) {
+fn empty_input_is_refused(rt: HostRuntime) {
     let (status, line) = told(&rt, &[]);
     assert_eq!(rt; status, Ok(Status::Refused));
     assert!(rt; line.as_slice() == b"refused: Short\n".as_slice());
-    let mut line = Vec::new(rt.alloc());
-    let mut longest = Zeros {
-        left: 16_777_216,
-        reads: 0,
-    };
-    let status = run(
-        &rt,
-        rt.alloc(),
-        &mut longest,
-        &plan(),
-        &mut line,
-        &mut io::sink(),
-    );
-    assert_eq!(rt; status, Ok(Status::Refused));
-    assert!(rt; line.as_slice() == b"refused: BadMagic\n".as_slice());
 }
 
-#[test]
-fn endless_input_is_too_long(rt: HostRuntime) {
-    let mut zeros = Zeros {
-        left: u64::MAX,
-        reads: 0,
-    };
+/// What a run over so many zeros answers, its line, and how many reads it made.
+fn told_of_zeros<T: Threads + Wait + Sync + AllocGlobal>(
+    rt: &T,
+    left: u64,
+) -> (Result<Status, RunError>, Vec<u8>, u64) {
+    let mut zeros = Zeros { left, reads: 0 };
     let mut line = Vec::new(rt.alloc());
     let status = run(
-        &rt,
+        rt,
         rt.alloc(),
         &mut zeros,
         &plan(),
         &mut line,
         &mut io::sink(),
     );
+    (status, line, zeros.reads)
+}
+
+#[test]
+fn longest_input_is_read(rt: HostRuntime) {
+    let (status, line, _reads) = told_of_zeros(&rt, 16_777_216);
+    assert_eq!(rt; status, Ok(Status::Refused));
+    assert!(rt; line.as_slice() == b"refused: BadMagic\n".as_slice());
+}
+
+#[test]
+fn endless_input_is_too_long(rt: HostRuntime) {
+    let (status, line, reads) = told_of_zeros(&rt, u64::MAX);
     assert_eq!(rt; status, Err(RunError::TooLong));
     assert!(rt; line.is_empty());
-    assert!(rt; zeros.reads <= 16_777_218, "{} reads", zeros.reads);
+    assert!(rt; reads <= 16_777_218, "{} reads", reads);
+}
+
+/// What a run answers over a reader whose read of a given number fails, and its line.
+fn told_in_parts<T: Threads + Wait + Sync + AllocGlobal>(
+    rt: &T,
+    bytes: &[u8],
+    left: u64,
+) -> (Result<Status, RunError>, Vec<u8>) {
+    let mut reader = FailingReader { bytes, left };
+    let mut line = Vec::new(rt.alloc());
+    let status = run(
+        rt,
+        rt.alloc(),
+        &mut reader,
+        &plan(),
+        &mut line,
+        &mut io::sink(),
+    );
+    (status, line)
 }
 
 #[test]
 fn failed_read_writes_nothing(rt: HostRuntime) -> Result<(), Fail> {
     let bytes = two_frames(rt.alloc())?;
     for left in 0..6u64 {
-        let mut reader = FailingReader {
-            bytes: &bytes,
-            left,
-        };
-        let mut line = Vec::new(rt.alloc());
-        let status = run(
-            &rt,
-            rt.alloc(),
-            &mut reader,
-            &plan(),
-            &mut line,
-            &mut io::sink(),
-        );
+        let (status, line) = told_in_parts(&rt, &bytes, left);
         assert_eq!(rt; status, Err(RunError::ReadFault));
         assert!(rt; line.is_empty());
     }
-    let mut reader = FailingReader {
-        bytes: &bytes,
-        left: 6,
-    };
-    let status = run(
-        &rt,
-        rt.alloc(),
-        &mut reader,
-        &plan(),
-        &mut io::sink(),
-        &mut io::sink(),
-    );
+    let (status, _line) = told_in_parts(&rt, &bytes, 6);
     assert_eq!(rt; status, Ok(Status::Done));
     Ok(())
 }

@@ -1,7 +1,7 @@
 //! The engines that make movies and tell about them, over memory and over devices that fail.
 
 use crate::devices::{FailingReader, FailingWriter, Zeros};
-use crate::movies::{ENDLESS_FRAMES, SEVEN_FRAMES, after_frame, movie, power_on, rom};
+use crate::movies::{ENDLESS_FRAMES, SEVEN_FRAMES, rom, two_frames_with_a_last_checkpoint};
 use replay_segments::Keep;
 use std::alloc::Global;
 use std::io;
@@ -30,48 +30,41 @@ fn made(
     (status, movie, line)
 }
 
-/// The movie of two endless frames with a checkpoint after the second.
-fn two_made_frames(alloc: Global) -> Result<Vec<u8>, Fail> {
-    let mut wanted = movie(
-        alloc,
-        &ENDLESS_FRAMES,
-        &power_on(),
-        2,
-        &[after_frame(0xE3, 0x1D)],
-    )?;
-    let checkpoint = 14 + 2048 + 187 + 3 * 2;
-    *wanted
-        .get_mut(checkpoint + 3)
-        .ok_or("a checkpoint's frame")? = 2;
-    Ok(wanted)
+#[test]
+fn movie_is_made(rt: HostRuntime) -> Result<(), Fail> {
+    let (status, movie, line) = made(rt.alloc(), &rom(&ENDLESS_FRAMES), &TWO_INPUTS, 2);
+    assert_eq!(rt; status, Ok(Status::Done));
+    assert_eq!(rt; movie.len(), 2446);
+    assert!(rt; movie == two_frames_with_a_last_checkpoint(rt.alloc())?);
+    assert!(rt; line.as_slice() == b"made: 2 frames, 1 checkpoints\n".as_slice());
+    Ok(())
+}
+
+#[test]
+fn made_movie_is_told(rt: HostRuntime) {
+    let (_, movie, _) = made(rt.alloc(), &rom(&ENDLESS_FRAMES), &TWO_INPUTS, 2);
+    let mut line = Vec::new(rt.alloc());
+    let status = run_info(rt.alloc(), &mut movie.as_slice(), &mut line);
+    assert_eq!(rt; status, Ok(Status::Done));
+    let wanted = b"movie: version 1, cartridge 2048, 2 frames, 1 checkpoints\n";
+    assert!(rt; line.as_slice() == wanted.as_slice());
 }
 
 #[test]
 fn made_movie_is_genuine(rt: HostRuntime) -> Result<(), Fail> {
-    let (status, movie, line) = made(rt.alloc(), &rom(&ENDLESS_FRAMES), &TWO_INPUTS, 2);
-    assert_eq!(rt; status, Ok(Status::Done));
-    assert_eq!(rt; movie.len(), 2446);
-    assert!(rt; movie == two_made_frames(rt.alloc())?);
-    assert!(rt; line.as_slice() == b"made: 2 frames, 1 checkpoints\n".as_slice());
-    let mut information = Vec::new(rt.alloc());
-    let status = run_info(rt.alloc(), &mut movie.as_slice(), &mut information);
-    assert_eq!(rt; status, Ok(Status::Done));
-    assert!(rt;
-        information.as_slice()
-            == b"movie: version 1, cartridge 2048, 2 frames, 1 checkpoints\n".as_slice()
-    );
+    let (_, movie, _) = made(rt.alloc(), &rom(&ENDLESS_FRAMES), &TWO_INPUTS, 2);
     let plan = Plan::new(1, 1, Keep::new(1, 0)?)?;
-    let mut verdict = Vec::new(rt.alloc());
+    let mut line = Vec::new(rt.alloc());
     let status = run(
         &rt,
         rt.alloc(),
         &mut movie.as_slice(),
         &plan,
-        &mut verdict,
+        &mut line,
         &mut io::sink(),
     );
     assert_eq!(rt; status, Ok(Status::Done));
-    assert!(rt; verdict.as_slice() == b"genuine: 2 frames, 1 checkpoints\n".as_slice());
+    assert!(rt; line.as_slice() == b"genuine: 2 frames, 1 checkpoints\n".as_slice());
     Ok(())
 }
 
@@ -127,7 +120,7 @@ fn faulty_run_makes_no_movie(rt: HostRuntime) {
 
 #[test]
 fn information_of_refused_bytes(rt: HostRuntime) -> Result<(), Fail> {
-    let mut bytes = two_made_frames(rt.alloc())?;
+    let mut bytes = two_frames_with_a_last_checkpoint(rt.alloc())?;
     bytes.push(0)?;
     let mut line = Vec::new(rt.alloc());
     let status = run_info(rt.alloc(), &mut bytes.as_slice(), &mut line);
@@ -224,7 +217,7 @@ fn written(
 
 #[test]
 fn failed_write_leaves_a_front_of_the_movie(rt: HostRuntime) -> Result<(), Fail> {
-    let wanted = two_made_frames(rt.alloc())?;
+    let wanted = two_frames_with_a_last_checkpoint(rt.alloc())?;
     for movie_writes in [0usize, 1, 2445] {
         let (status, movie, line) = written(rt.alloc(), movie_writes as u64, 30);
         assert_eq!(rt; status, Err(RunError::WriteFault));
@@ -236,7 +229,7 @@ fn failed_write_leaves_a_front_of_the_movie(rt: HostRuntime) -> Result<(), Fail>
 
 #[test]
 fn failed_write_leaves_the_movie_and_a_front_of_its_line(rt: HostRuntime) -> Result<(), Fail> {
-    let wanted = two_made_frames(rt.alloc())?;
+    let wanted = two_frames_with_a_last_checkpoint(rt.alloc())?;
     let wanted_line = b"made: 2 frames, 1 checkpoints\n".as_slice();
     for line_writes in [0usize, 29] {
         let (status, movie, line) = written(rt.alloc(), 2446, line_writes as u64);
@@ -250,7 +243,7 @@ fn failed_write_leaves_the_movie_and_a_front_of_its_line(rt: HostRuntime) -> Res
 
 #[test]
 fn failed_write_leaves_a_front_of_the_information(rt: HostRuntime) -> Result<(), Fail> {
-    let movie = two_made_frames(rt.alloc())?;
+    let movie = two_frames_with_a_last_checkpoint(rt.alloc())?;
     let mut line = FailingWriter {
         taken: Vec::new(rt.alloc()),
         left: 29,

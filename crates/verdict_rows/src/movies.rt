@@ -1,5 +1,6 @@
 //! Worked movies as the format spells them, byte by byte.
 
+use movie_file::{Movie, read_movie};
 use std::alloc::Global;
 use std::test::Fail;
 
@@ -50,12 +51,14 @@ pub(crate) fn rom(program: &[u8]) -> [u8; 2048] {
     cart
 }
 
-/// A movie of so many frames with idle inputs, and checkpoints after frames 1, 2, ...
+/// A movie of so many frames with idle inputs, and checkpoints after the frame of a given number,
+/// the one behind it, ...
 pub(crate) fn movie(
     alloc: Global,
     program: &[u8],
     start: &[u8; 187],
     frames: u8,
+    first_checkpoint: u32,
     checkpoints: &[[u8; 187]],
 ) -> Result<Vec<u8>, Fail> {
     let count = u8::try_from(checkpoints.len())?;
@@ -67,11 +70,11 @@ pub(crate) fn movie(
     for _frame in 0..frames {
         bytes.extend_from_slice(&[0xFF, 0x3F, 0])?;
     }
-    let mut frame = 0u32;
+    let mut frame = first_checkpoint;
     for record in checkpoints {
-        frame = frame.saturating_add(1);
         bytes.extend_from_slice(&frame.to_be_bytes())?;
         bytes.extend_from_slice(record)?;
+        frame = frame.saturating_add(1);
     }
     Ok(bytes)
 }
@@ -83,6 +86,70 @@ pub(crate) fn two_frames(alloc: Global) -> Result<Vec<u8>, Fail> {
         &ENDLESS_FRAMES,
         &power_on(),
         2,
+        1,
         &[after_frame(0xF3, 0x0D)],
     )
+}
+
+/// Two genuine frames with a true checkpoint after the second.
+pub(crate) fn two_frames_with_a_last_checkpoint(alloc: Global) -> Result<Vec<u8>, Fail> {
+    movie(
+        alloc,
+        &ENDLESS_FRAMES,
+        &power_on(),
+        2,
+        2,
+        &[after_frame(0xE3, 0x1D)],
+    )
+}
+
+/// Three frames, of which the first checkpoint claims another byte in memory.
+pub(crate) fn first_of_two_false(alloc: Global) -> Result<Vec<u8>, Fail> {
+    let mut wrong = after_frame(0xF3, 0x0D);
+    wrong[7] = 7;
+    movie(
+        alloc,
+        &ENDLESS_FRAMES,
+        &power_on(),
+        3,
+        1,
+        &[wrong, after_frame(0xE3, 0x1D)],
+    )
+}
+
+/// One frame of 13 cycles that begins 100 cycles before its timer goes on from 5, with a checkpoint
+/// that claims that so many are left.
+pub(crate) fn timer_part_left(alloc: Global, part: u8) -> Result<Vec<u8>, Fail> {
+    let mut start = power_on();
+    start[139] = 5;
+    start[141] = 100;
+    let mut end = after_frame(5, 0x0D);
+    end[141] = part;
+    end[143] = 0;
+    end[144] = 0;
+    movie(alloc, &ENDLESS_FRAMES, &start, 1, 1, &[end])
+}
+
+/// The movie of these bytes.
+pub(crate) fn read(alloc: Global, bytes: &[u8]) -> Result<Movie, Fail> {
+    Ok(read_movie(alloc, bytes)?)
+}
+
+/// Endless frames from power-on, with checkpoints after frames 1, 2, ...
+pub(crate) fn endless(alloc: Global, frames: u8, checkpoints: &[[u8; 187]]) -> Result<Movie, Fail> {
+    let bytes = movie(alloc, &ENDLESS_FRAMES, &power_on(), frames, 1, checkpoints)?;
+    read(alloc, &bytes)
+}
+
+/// Two genuine frames with a true checkpoint after the first.
+pub(crate) fn two(alloc: Global) -> Result<Movie, Fail> {
+    read(alloc, &two_frames(alloc)?)
+}
+
+/// Three frames, whose checkpoint after the first claims that the processor goes on at F010, where
+/// no opcode stands.
+pub(crate) fn going_on_at_no_opcode(alloc: Global) -> Result<Movie, Fail> {
+    let mut wrong = after_frame(0xF3, 0x0D);
+    wrong[6] = 0x10;
+    endless(alloc, 3, &[wrong])
 }
