@@ -1,5 +1,5 @@
 -- How many frames are kept.
-use Rattle.std.proofs.Common.{◌≡◌, ℕ, ◌+◌, ◌<◌, ◌≤◌, Bool, true, false, arith, if◌then◌else◌, refl, add-zero, ◌∙◌, sym}
+use Rattle.std.proofs.Common.{◌≡◌, ℕ, ◌+◌, Bool, true, false, arith, if◌then◌else◌, refl, add-zero, ◌∙◌, sym}
 use Rattle.std.proofs.lemmas.Bool.Decides.{nat_tests}
 use Rattle.replay_segments.specs.declared.keep.Keep.{Keep}
 use Rattle.replay_segments.specs.Keeping.{is_kept, kept_count}
@@ -12,12 +12,6 @@ kept_count-more keep from k is = grind (arith, nat_tests)
 
 pub kept_count-same : (keep : Keep) (from k : ℕ) → is_kept keep (from + k + 1) ≡ false → kept_count keep from (k + 1) ≡ kept_count keep from k
 kept_count-same keep from k is = grind (arith, nat_tests)
-
-pub kept_count-mono : (keep : Keep) (from k len : ℕ) → k ≤ len → kept_count keep from k ≤ kept_count keep from len
-kept_count-mono keep from k len le = grind (arith, nat_tests)
-
-pub kept_count-some : (keep : Keep) (from k len : ℕ) → k < len → is_kept keep (from + k + 1) ≡ true → kept_count keep from k < kept_count keep from len
-kept_count-some keep from k len lt is = grind (arith, nat_tests)
 
 pub kept_count-next : (keep : Keep) (from k : ℕ) → kept_count keep from (k + 1) ≡ kept_count keep from k + (if is_kept keep (from + k + 1) then 1 else 0)
 kept_count-next keep from k = next (is_kept keep (from + k + 1)) refl
