@@ -6,7 +6,7 @@ use Rattle.tia_core.specs.Coverage.{distance_of, copies_of, width_of, is_shown_a
 use Rattle.tia_core.proofs.Modulo.{modulo_160-is}
 
 -- the distance as a remainder of natural numbers, with so many lines added that nothing is below 0
-distance_of-natural : (x position copy : ℕ) → position < 160 → distance_of x position copy ≡ (x + (copy + 1) * 160 - position - copy) % 160
+pub distance_of-natural : (x position copy : ℕ) → position < 160 → distance_of x position copy ≡ (x + (copy + 1) * 160 - position - copy) % 160
 distance_of-natural x position copy h =
     modulo_160-is (pos x -ℤ pos position -ℤ pos copy) (copy + 1) (x + (copy + 1) * 160 - position - copy) (omega (arith, ints))
 
@@ -16,7 +16,7 @@ distance_of-round x position copy k h p =
     ∙ omega arith
     ∙ sym (distance_of-natural x position copy p)
 
-list_any-same : (p q : ℕ → Bool) (xs : List ℕ) → ((x : ℕ) → p x ≡ q x) → list_any p xs ≡ list_any q xs
+pub list_any-same : (p q : ℕ → Bool) (xs : List ℕ) → ((x : ℕ) → p x ≡ q x) → list_any p xs ≡ list_any q xs
 list_any-same p q [] h = refl
 list_any-same p q (x ∷ xs) h = rw (h x, list_any-same p q xs h) refl
 

@@ -15,7 +15,7 @@ fn distance(x: u8, position: u8, copy: u8) -> u8
 
 /// The copies of a mode, each by its distance from the object's position.
 #[inline]
-fn copies(mode: u8) -> &'static [u8]
+pub fn copies(mode: u8) -> &'static [u8]
     ensures { result.now ≡ copies_of mode }
 {
     match mode {

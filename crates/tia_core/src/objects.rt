@@ -1,7 +1,8 @@
 //! The objects that cover a pixel.
-ghost use Rattle.std.specs.Prelude.{◌≡◌, ◌<◌, ◌^◌};
+ghost use Rattle.std.specs.Prelude.{◌≡◌, ◌<◌, ◌≤◌, ◌^◌};
 ghost use Rattle.tia_core.specs.Collision.{pairs_of};
 ghost use Rattle.tia_core.specs.Objects.{ball_at, missile_at, objects_at, shown_of, size_of};
+ghost use Rattle.tia_core.specs.Spans.{is_any, joined};
 ghost use Rattle.tia_core.specs.TiaState.{IsLawful};
 
 use crate::bits::bit;
@@ -43,6 +44,29 @@ impl Objects {
         }
     }
 
+    /// The objects of both sets.
+    #[inline]
+    pub fn joined(self, other: Objects) -> Self
+        ensures { result ≡ joined self other }
+    {
+        Objects {
+            player0: self.player0 | other.player0,
+            player1: self.player1 | other.player1,
+            missile0: self.missile0 | other.missile0,
+            missile1: self.missile1 | other.missile1,
+            ball: self.ball | other.ball,
+            playfield: self.playfield | other.playfield,
+        }
+    }
+
+    /// Whether an object is in the set.
+    #[inline]
+    pub fn is_any(self) -> bool
+        ensures { result ≡ is_any self }
+    {
+        self.player0 | self.player1 | self.missile0 | self.missile1 | self.ball | self.playfield
+    }
+
     /// The collision bits of all pairs of these objects, from M0-P1 in bit 14 to M0-M1 in bit 0.
     #[inline]
     #[tactic(auto, unfolding(crate::specs::Collision::pairs_of))]
@@ -73,7 +97,7 @@ impl Objects {
 
 /// What is shown of a register that may be delayed: its old value where bit 0 of `delay` is set.
 #[inline]
-fn shown(delay: u8, old: u8, new: u8) -> u8
+pub fn shown(delay: u8, old: u8, new: u8) -> u8
     ensures { result ≡ shown_of delay old new }
 {
     if bit(delay, 0) { old } else { new }
@@ -99,8 +123,9 @@ fn ball(enabl: u8, ctrlpf: u8, position: u8, x: u8) -> bool
 
 /// The size of a missile or ball, by bits 5 and 4 of a register.
 #[inline]
-fn size(register: u8) -> u8
-    ensures { result ≡ size_of register }
+pub fn size(register: u8) -> u8
+    ensures value { result ≡ size_of register }
+    ensures range { result ≤ 8 }
 {
     1 << (register / 16 % 4)
 }

@@ -1,0 +1,14 @@
+use Rattle.std.proofs.Common.{◌≡◌, true, false}
+use Rattle.tia_core.proofs.Spans.{all-bound}
+use Rattle.tia_core.proofs.masks.Masks.stale.Goals as goal
+
+pub returns : goal.returns
+returns c = record {
+  player0 = λ e. cc;
+  player1 = λ e. cc;
+  missile0 = λ e. cc;
+  missile1 = λ e. cc;
+  ball = λ e. cc;
+  playfield = λ e. cc;
+  bound = all-bound c.args.t.now;
+}

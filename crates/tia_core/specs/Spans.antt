@@ -1,0 +1,123 @@
+-- What the masks of a line are to say, and what the pairs of objects do over a stretch of it. This project's own.
+use Rattle.std.specs.Prelude.{◌≡◌, ◌<◌, ℕ, zero, suc, ◌+◌, ◌&&◌, ◌||◌, Bool, true, false, if◌then◌else◌, List, [], ◌∷◌, bit_or}
+use Rattle.tia_core.specs.Clock.{Pixel}
+use Rattle.tia_core.specs.Collision.{pairs_of}
+use Rattle.tia_core.specs.Colour.{colour_at}
+use Rattle.tia_core.specs.Mask.{any_from, covers}
+use Rattle.tia_core.specs.Objects.{objects_at}
+use Rattle.tia_core.specs.declared.fields.TiaFields.{TiaFields}
+use Rattle.tia_core.specs.declared.masks.Masks.{Masks}
+use Rattle.tia_core.specs.declared.objects.Objects.{Objects}
+use Rattle.tia_core.specs.declared.register.Register.{Register}
+use Rattle.tia_core.specs.declared.register.Register.TheVariants.{Nusiz0, Nusiz1, Ctrlpf, Refp0, Refp1, Pf0, Pf1, Pf2, Resp0, Resp1, Resm0, Resm1, Resbl, Grp0, Grp1, Enam0, Enam1, Enabl, Vdelp0, Vdelp1, Vdelbl, Resmp0, Resmp1, Hmove}
+
+-- the objects, one by one
+abbrev pub p0 : Objects → Bool
+p0 o = o.player0
+abbrev pub p1 : Objects → Bool
+p1 o = o.player1
+abbrev pub m0 : Objects → Bool
+m0 o = o.missile0
+abbrev pub m1 : Objects → Bool
+m1 o = o.missile1
+abbrev pub bl : Objects → Bool
+bl o = o.ball
+abbrev pub pf : Objects → Bool
+pf o = o.playfield
+
+-- a mask is this object's
+abbrev pub IsMaskOf : TiaFields → (Objects → Bool) → List Bool → Type 0
+IsMaskOf t object mask = (x : ℕ) → x < 160 → covers mask x ≡ object (objects_at t x)
+
+-- all pairs that meet on a line are among these
+abbrev pub IsBound : TiaFields → ℕ → Type 0
+IsBound t bound = (x : ℕ) → x < 160 → bit_or bound (pairs_of (objects_at t x)) ≡ bound
+
+-- each mask that isn't to be made anew is its object's
+pub record MasksFit (t : TiaFields) (m : Masks) : Type 0 where
+  pub player0 : m.stale.player0 ≡ false → IsMaskOf t p0 m.player0
+  pub player1 : m.stale.player1 ≡ false → IsMaskOf t p1 m.player1
+  pub missile0 : m.stale.missile0 ≡ false → IsMaskOf t m0 m.missile0
+  pub missile1 : m.stale.missile1 ≡ false → IsMaskOf t m1 m.missile1
+  pub ball : m.stale.ball ≡ false → IsMaskOf t bl m.ball
+  pub playfield : m.stale.playfield ≡ false → IsMaskOf t pf m.playfield
+  pub bound : IsBound t m.bound
+
+-- no object
+abbrev pub nothing : Objects
+nothing = record { player0 = false; player1 = false; missile0 = false; missile1 = false; ball = false; playfield = false }
+
+-- the objects of both sets
+abbrev pub joined : Objects → Objects → Objects
+joined a b = record {
+  player0 = a.player0 || b.player0;
+  player1 = a.player1 || b.player1;
+  missile0 = a.missile0 || b.missile0;
+  missile1 = a.missile1 || b.missile1;
+  ball = a.ball || b.ball;
+  playfield = a.playfield || b.playfield;
+}
+
+-- whether an object is in a set
+abbrev pub is_any : Objects → Bool
+is_any o = o.player0 || o.player1 || o.missile0 || o.missile1 || o.ball || o.playfield
+
+-- the objects that a write of a register may change
+abbrev pub touched_by : Register → Objects
+touched_by Nusiz0 = record nothing { player0 = true; missile0 = true }
+touched_by Nusiz1 = record nothing { player1 = true; missile1 = true }
+touched_by Ctrlpf = record nothing { ball = true; playfield = true }
+touched_by Refp0 = record nothing { player0 = true }
+touched_by Refp1 = record nothing { player1 = true }
+touched_by Pf0 = record nothing { playfield = true }
+touched_by Pf1 = record nothing { playfield = true }
+touched_by Pf2 = record nothing { playfield = true }
+touched_by Resp0 = record nothing { player0 = true }
+touched_by Resp1 = record nothing { player1 = true }
+touched_by Resm0 = record nothing { missile0 = true }
+touched_by Resm1 = record nothing { missile1 = true }
+touched_by Resbl = record nothing { ball = true }
+touched_by Grp0 = record nothing { player0 = true; player1 = true }
+touched_by Grp1 = record nothing { player0 = true; player1 = true; ball = true }
+touched_by Enam0 = record nothing { missile0 = true }
+touched_by Enam1 = record nothing { missile1 = true }
+touched_by Enabl = record nothing { ball = true }
+touched_by Vdelp0 = record nothing { player0 = true }
+touched_by Vdelp1 = record nothing { player1 = true }
+touched_by Vdelbl = record nothing { ball = true }
+touched_by Resmp0 = record nothing { missile0 = true }
+touched_by Resmp1 = record nothing { missile1 = true }
+touched_by Hmove = record nothing { player0 = true; player1 = true; missile0 = true; missile1 = true; ball = true }
+touched_by _ = nothing
+
+-- the masks once these objects have changed
+abbrev pub marked : Masks → Objects → Masks
+marked m o = record m { stale = joined m.stale o; bound = if is_any o then 32767 else m.bound }
+
+-- whether two objects meet within k pixels from x
+abbrev pub met : TiaFields → (Objects → Bool) → (Objects → Bool) → ℕ → ℕ → Bool
+met t a b x k = any_from (λ y. a (objects_at t y) && b (objects_at t y)) x k
+
+-- the fifteen pairs over k pixels from x
+abbrev pub span_pairs : TiaFields → ℕ → ℕ → List Bool
+span_pairs t x k =
+    met t m0 p1 x k ∷ met t m0 p0 x k ∷ met t m1 p0 x k ∷ met t m1 p1 x k
+    ∷ met t p0 pf x k ∷ met t p0 bl x k ∷ met t p1 pf x k ∷ met t p1 bl x k
+    ∷ met t m0 pf x k ∷ met t m0 bl x k ∷ met t m1 pf x k ∷ met t m1 bl x k
+    ∷ met t bl pf x k ∷ met t p0 p1 x k ∷ met t m0 m1 x k ∷ []
+
+-- the k pixels of a line from x on
+abbrev pub span_pixels : TiaFields → ℕ → ℕ → ℕ → List Pixel
+span_pixels t line x zero = []
+span_pixels t line x (suc k) = record { line = line; x = x; colour = colour_at t (objects_at t x) x } ∷ span_pixels t line (x + 1) k
+
+-- the objects whose masks cover pixel x
+abbrev pub objects_in : Masks → ℕ → Objects
+objects_in m x = record {
+  player0 = covers m.player0 x;
+  player1 = covers m.player1 x;
+  missile0 = covers m.missile0 x;
+  missile1 = covers m.missile1 x;
+  ball = covers m.ball x;
+  playfield = covers m.playfield x;
+}

@@ -1,0 +1,130 @@
+//! The pixels of a line that an object covers.
+ghost use Rattle.std.specs.Prelude.{◌≡◌, ◌<◌, ◌≤◌, ◌||◌, ◌&&◌, ◌-◌, ◌+◌, ℕ, nat_le, nat_lt, bit_and, ◌^◌, true, false};
+ghost use Rattle.tia_core.specs.Bits.{bit};
+ghost use Rattle.tia_core.specs.Coverage.{distance_of};
+ghost use Rattle.tia_core.specs.Mask.{any_from, covers, word_bit, pixels_in};
+
+use std::marker::Model;
+
+/// The pixels of a line that an object covers. Contracts see 160 truth values.
+#[derive(Drop)]
+pub struct Mask {
+    words: [u32; 5],
+}
+
+impl Model for Mask {
+    ghost use Rattle.std.specs.Prelude.{Bool, List};
+    ghost use Rattle.tia_core.specs.Mask.{pixels_in};
+
+    ghost Value = { List Bool };
+
+    ghost view = { λ a. pixels_in a.words };
+}
+
+impl Mask {
+    /// The mask that covers no pixel.
+    #[inline]
+    pub(crate) fn empty() -> Self
+        ensures { (x : ℕ) → x < 160 → covers result x ≡ false }
+    {
+        Mask { words: [0; 5] }
+    }
+
+    /// Covers, from pixel `at` on and round from 159 to 0, the pixels whose bits are set in `row`, of which the lowest is the first.
+    #[inline]
+    pub(crate) fn place(&mut self, row: u32, at: u8)
+        requires { at < 160 }
+        ensures { (x : ℕ) → x < 160 → covers self.new x ≡ (covers self.old x || bit row (distance_of x at 0)) }
+    {
+        let word = (at / 32) as usize;
+        let shifted = (row as u64) << (at % 32);
+        self.words[word] |= (shifted % 0x1_0000_0000) as u32;
+        self.words[(word + 1) % 5] |= (shifted >> 32) as u32;
+    }
+
+    /// The mask that covers the pixels of `from..to`.
+    #[inline]
+    pub(crate) fn between(from: u8, to: u8) -> Self
+        requires order { from ≤ to }
+        requires range { to ≤ 160 }
+        ensures { (x : ℕ) → x < 160 → covers result x ≡ (nat_le from x && nat_lt x to) }
+    {
+        Mask {
+            words: [
+                ones(from, to, 0),
+                ones(from, to, 32),
+                ones(from, to, 64),
+                ones(from, to, 96),
+                ones(from, to, 128),
+            ],
+        }
+    }
+
+    /// The mask of these words.
+    #[inline]
+    pub(crate) fn of_words(words: [u32; 5]) -> Self
+        ensures { (x : ℕ) → x < 160 → covers result x ≡ word_bit words x }
+    {
+        Mask { words }
+    }
+
+    /// Whether both masks cover some pixel of `from..to`.
+    pub fn meets(&self, other: &Mask, from: u8, to: u8) -> bool
+        requires { to ≤ 160 }
+        ensures { result ≡ any_from (λ x. covers self.now x && covers other.now x) from (to - from) }
+    {
+        if from <= to {
+            self.meets_within(other, &Mask::between(from, to))
+        } else {
+            false
+        }
+    }
+
+    /// Whether a pixel is covered by all three masks.
+    #[inline]
+    pub(crate) fn meets_within(&self, other: &Mask, within: &Mask) -> bool
+        ensures some { result ≡ true → (x : ℕ) × (x < 160) × ((covers self.now x && covers other.now x && covers within.now x) ≡ true) }
+        ensures none { result ≡ false → (x : ℕ) → x < 160 → (covers self.now x && covers other.now x && covers within.now x) ≡ false }
+    {
+        for i in 0..5usize {
+            if overlap(self.words[i], other.words[i], within.words[i]) {
+                return true;
+            }
+        }
+        false
+    }
+}
+
+/// Whether three words have a bit in common.
+#[inline]
+fn overlap(a: u32, b: u32, c: u32) -> bool
+    ensures some { result ≡ true → (0 < bit_and (bit_and a b) c) × (a < 2 ^ 32) }
+    ensures none { result ≡ false → bit_and (bit_and a b) c ≡ 0 }
+{
+    a & b & c != 0
+}
+
+/// How many of the 32 pixels from `first` on lie left of pixel `x`.
+#[inline]
+fn left_of(x: u8, first: u8) -> u8
+    ensures less { x ≤ first → result ≡ 0 }
+    ensures within { first < x → x < first + 32 → result ≡ x - first }
+    ensures more { first + 32 ≤ x → result ≡ 32 }
+{
+    if x <= first {
+        0
+    } else if x - first < 32 {
+        x - first
+    } else {
+        32
+    }
+}
+
+/// The bits of the pixels of `from..to` among the 32 pixels from `first` on.
+#[inline]
+fn ones(from: u8, to: u8, first: u8) -> u32
+    requires { from ≤ to }
+    ensures { (k : ℕ) → k < 32 → bit result k ≡ (nat_le from (first + k) && nat_lt (first + k) to) }
+{
+    ((1u64 << left_of(to, first)) - (1u64 << left_of(from, first))) as u32
+}
