@@ -60,6 +60,15 @@ impl Mask {
         }
     }
 
+    /// Whether the mask covers pixel `x`.
+    #[inline]
+    pub(crate) fn covers(&self, x: u8) -> bool
+        requires { x < 160 }
+        ensures { result ≡ covers self.now x }
+    {
+        self.words[(x / 32) as usize] >> (x % 32) & 1 == 1
+    }
+
     /// The mask of these words.
     #[inline]
     pub(crate) fn of_words(words: [u32; 5]) -> Self

@@ -92,6 +92,97 @@ impl Masks {
         renew_playfield(&mut self.playfield, self.stale.playfield, t);
         self.stale = NOTHING;
     }
+
+    /// The collision bits with those of the pairs that meet in pixels `from..to`.
+    pub fn latched(&mut self, t: &TiaFields, from: u8, to: u8) -> u16
+        requires lawful { IsLawful t.now }
+        requires fit { MasksFit t.now self.old }
+        requires order { from ≤ to }
+        requires range { to ≤ 160 }
+        ensures value { result ≡ bit_or t.now.collisions (number_from 0 (span_pairs t.now from (to - from))) }
+        ensures range { result < 2 ^ 15 }
+        ensures fit { MasksFit t.now self.new }
+    {
+        if t.collisions | self.bound == t.collisions {
+            return t.collisions;
+        }
+        self.renew(t);
+        with_pairs(t.collisions, self.pairs(t, from, to))
+    }
+
+    /// The collision bits of the pairs that meet in pixels `from..to`.
+    fn pairs(&self, t: &TiaFields, from: u8, to: u8) -> u16
+        requires fit { MasksFit t.now self.now }
+        requires fresh { self.now.stale ≡ nothing }
+        requires order { from ≤ to }
+        requires range { to ≤ 160 }
+        ensures value { result ≡ number_from 0 (span_pairs t.now from (to - from)) }
+        ensures range { result < 2 ^ 15 }
+    {
+        let within = Mask::between(from, to);
+        let pairs = [
+            self.missile0.meets_within(&self.player1, &within),
+            self.missile0.meets_within(&self.player0, &within),
+            self.missile1.meets_within(&self.player0, &within),
+            self.missile1.meets_within(&self.player1, &within),
+            self.player0.meets_within(&self.playfield, &within),
+            self.player0.meets_within(&self.ball, &within),
+            self.player1.meets_within(&self.playfield, &within),
+            self.player1.meets_within(&self.ball, &within),
+            self.missile0.meets_within(&self.playfield, &within),
+            self.missile0.meets_within(&self.ball, &within),
+            self.missile1.meets_within(&self.playfield, &within),
+            self.missile1.meets_within(&self.ball, &within),
+            self.ball.meets_within(&self.playfield, &within),
+            self.player0.meets_within(&self.player1, &within),
+            self.missile0.meets_within(&self.missile1, &within),
+        ];
+        number_of(&pairs)
+    }
+
+    /// The objects whose masks cover pixel `x`.
+    #[inline]
+    fn objects(&self, x: u8) -> Objects
+        requires { x < 160 }
+        ensures { result ≡ objects_in self.now x }
+    {
+        Objects {
+            player0: self.player0.covers(x),
+            player1: self.player1.covers(x),
+            missile0: self.missile0.covers(x),
+            missile1: self.missile1.covers(x),
+            ball: self.ball.covers(x),
+            playfield: self.playfield.covers(x),
+        }
+    }
+
+    /// Puts pixels `from..to` of a line.
+    pub fn paint<S: Paint>(&mut self, t: &TiaFields, line: u16, from: u8, to: u8, sink: &mut S)
+        requires lawful { IsLawful t.now }
+        requires fit { MasksFit t.now self.old }
+        requires order { from ≤ to }
+        requires range { to ≤ 160 }
+        ensures fit { MasksFit t.now self.new }
+        ensures sink { sink.new ≡ painted S.drawn sink.old (span_pixels t.now line from (to - from)) }
+    {
+        if sink.keeps() {
+            self.renew(t);
+            self.paint_fresh(t, line, from, to, sink);
+        }
+    }
+
+    /// Puts pixels `from..to` of a line, once no mask is to be made anew.
+    fn paint_fresh<S: Paint>(&self, t: &TiaFields, line: u16, from: u8, to: u8, sink: &mut S)
+        requires fit { MasksFit t.now self.now }
+        requires fresh { self.now.stale ≡ nothing }
+        requires order { from ≤ to }
+        requires range { to ≤ 160 }
+        ensures { sink.new ≡ painted S.drawn sink.old (span_pixels t.now line from (to - from)) }
+    {
+        for x in from..to {
+            sink.put(line, x, colour_at(t, self.objects(x), x));
+        }
+    }
 }
 
 /// Makes the mask of player 0 anew where it is to be.

@@ -1,5 +1,5 @@
 use Rattle.std.proofs.Common.{◌≡◌, true, false}
-use Rattle.tia_core.proofs.Spans.{all-bound}
+use Rattle.tia_core.proofs.Pairs.{all-bound}
 use Rattle.tia_core.proofs.masks.Masks.stale.Goals as goal
 
 pub returns : goal.returns
