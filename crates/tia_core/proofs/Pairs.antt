@@ -1,5 +1,5 @@
 -- Pairs of objects over a stretch of a line, and what bounds them.
-use Rattle.std.proofs.Common.{◌≡◌, ℕ, zero, suc, ◌+◌, ◌-◌, ◌*◌, ◌/◌, ◌%◌, ◌^◌, ◌<◌, ◌≤◌, ◌&&◌, ◌||◌, max, Bool, true, false, if◌then◌else◌, List, [], ◌∷◌, bit_or, mul_comm, refl, sym, ap, ◌∙◌, arith}
+use Rattle.std.proofs.Common.{◌≡◌, ℕ, zero, suc, ◌+◌, ◌*◌, ◌/◌, ◌%◌, ◌^◌, ◌<◌, ◌≤◌, ◌&&◌, ◌||◌, max, Bool, true, false, if◌then◌else◌, List, [], ◌∷◌, bit_or, mul_comm, refl, sym, ap, ◌∙◌, arith}
 use Rattle.std.specs.Int.{bit_at}
 use Rattle.std.specs.Int.Bits.{or_zero_r}
 use Rattle.std.proofs.lemmas.Nat.{or_block, or_shr, or_lt}
@@ -8,7 +8,7 @@ use lib.Arith.{bin_ind}
 use lib.Bits.{or_step}
 use Rattle.tia_core.specs.Collision.{number_from, pairs_list, pairs_of}
 use Rattle.tia_core.specs.Objects.{objects_at}
-use Rattle.tia_core.specs.Spans.{span_pairs, IsBound}
+use Rattle.tia_core.specs.Spans.{is_crowd, joined, span_pairs, IsBound}
 use Rattle.tia_core.specs.declared.fields.TiaFields.{TiaFields}
 use Rattle.tia_core.specs.declared.objects.Objects.{Objects}
 use Rattle.tia_core.proofs.LawfulFields.{pairs_of-lt}
@@ -104,3 +104,79 @@ or_from-bounded t bound c x (suc k) h e fits =
 -- where a bound is latched already, a stretch latches nothing
 pub span-bounded : (t : TiaFields) (bound c x k : ℕ) → IsBound t bound → bit_or c bound ≡ c → x + k ≤ 160 → c ≡ bit_or c (number_from 0 (span_pairs t x k))
 span-bounded t bound c x k h e fits = sym (or_from-bounded t bound c x k h e fits) ∙ or_from-span t x k c
+
+-- a stretch without pairs latches nothing
+or_from-none : (t : TiaFields) (c x k : ℕ) → ((y : ℕ) → x ≤ y → y < x + k → pairs_of (objects_at t y) ≡ 0) → or_from t x k c ≡ c
+unfolding or_from
+or_from-none t c x zero h = refl
+or_from-none t c x (suc k) h =
+    ap (λ (n : ℕ). or_from t (x + 1) k (bit_or c n)) (h x (omega arith) (omega arith))
+    ∙ ap (or_from t (x + 1) k) (or_zero_r c)
+    ∙ or_from-none t c (x + 1) k (λ y le lt. h y (omega arith) (omega arith))
+
+pub span-none : (t : TiaFields) (c x k : ℕ) → ((y : ℕ) → x ≤ y → y < x + k → pairs_of (objects_at t y) ≡ 0) → c ≡ bit_or c (number_from 0 (span_pairs t x k))
+span-none t c x k h = sym (or_from-none t c x k h) ∙ or_from-span t x k c
+
+-- where no two objects are there, no pair is
+abbrev six : Bool → Bool → Bool → Bool → Bool → Bool → Objects
+six a b c d e f = record { player0 = a; player1 = b; missile0 = c; missile1 = d; ball = e; playfield = f }
+
+pub no-crowd : (a b c d e f : Bool) → is_crowd a b c d e f ≡ false → pairs_of (six a b c d e f) ≡ 0
+unfolding pairs_of
+no-crowd false false false false false f h = refl
+no-crowd false false false false true false h = refl
+no-crowd false false false false true true h = cc
+no-crowd false false false true false false h = refl
+no-crowd false false false true false true h = cc
+no-crowd false false false true true f h = cc
+no-crowd false false true false false false h = refl
+no-crowd false false true false false true h = cc
+no-crowd false false true false true f h = cc
+no-crowd false false true true e f h = cc
+no-crowd false true false false false false h = refl
+no-crowd false true false false false true h = cc
+no-crowd false true false false true f h = cc
+no-crowd false true false true e f h = cc
+no-crowd false true true d e f h = cc
+no-crowd true false false false false false h = refl
+no-crowd true false false false false true h = cc
+no-crowd true false false false true f h = cc
+no-crowd true false false true e f h = cc
+no-crowd true false true d e f h = cc
+no-crowd true true c d e f h = cc
+
+-- pairs of a set are among those of a greater set
+pair-within : (a b c d : Bool) → (a || c) ≡ a → (b || d) ≡ b → ((a && b) || (c && d)) ≡ (a && b)
+pair-within true true c d h k = refl
+pair-within true false c false h k = both c where
+  both : (c : Bool) → (c && false) ≡ false
+  both true = refl
+  both false = refl
+pair-within true false c true h k = cc
+pair-within false b false d h k = refl
+pair-within false b true d h k = cc
+
+pub pairs-within : (l o : Objects) → joined l o ≡ l → bit_or (pairs_of l) (pairs_of o) ≡ pairs_of l
+unfolding pairs_of zip_or
+pairs-within l o e =
+    let p0 : (l.player0 || o.player0) ≡ l.player0 = ap (λ (s : Objects). s.player0) e in
+    let p1 : (l.player1 || o.player1) ≡ l.player1 = ap (λ (s : Objects). s.player1) e in
+    let m0 : (l.missile0 || o.missile0) ≡ l.missile0 = ap (λ (s : Objects). s.missile0) e in
+    let m1 : (l.missile1 || o.missile1) ≡ l.missile1 = ap (λ (s : Objects). s.missile1) e in
+    let bl : (l.ball || o.ball) ≡ l.ball = ap (λ (s : Objects). s.ball) e in
+    let pf : (l.playfield || o.playfield) ≡ l.playfield = ap (λ (s : Objects). s.playfield) e in
+    number_or 0 0 (pairs_list l) (pairs_list o) (fifteen _ _ _ _ _ _ _ _ _ _ _ _ _ _ _ _ _ _ _ _ _ _ _ _ _ _ _ _ _ _)
+    ∙ ap (number_from 0) (same-list
+      (pair-within l.missile0 l.player1 o.missile0 o.player1 m0 p1) (pair-within l.missile0 l.player0 o.missile0 o.player0 m0 p0)
+      (pair-within l.missile1 l.player0 o.missile1 o.player0 m1 p0) (pair-within l.missile1 l.player1 o.missile1 o.player1 m1 p1)
+      (pair-within l.player0 l.playfield o.player0 o.playfield p0 pf) (pair-within l.player0 l.ball o.player0 o.ball p0 bl)
+      (pair-within l.player1 l.playfield o.player1 o.playfield p1 pf) (pair-within l.player1 l.ball o.player1 o.ball p1 bl)
+      (pair-within l.missile0 l.playfield o.missile0 o.playfield m0 pf) (pair-within l.missile0 l.ball o.missile0 o.ball m0 bl)
+      (pair-within l.missile1 l.playfield o.missile1 o.playfield m1 pf) (pair-within l.missile1 l.ball o.missile1 o.ball m1 bl)
+      (pair-within l.ball l.playfield o.ball o.playfield bl pf)
+      (pair-within l.player0 l.player1 o.player0 o.player1 p0 p1) (pair-within l.missile0 l.missile1 o.missile0 o.missile1 m0 m1))
+  where
+    same-list : {a b c d e f g h i j k l m n o a' b' c' d' e' f' g' h' i' j' k' l' m' n' o' : Bool}
+        → a ≡ a' → b ≡ b' → c ≡ c' → d ≡ d' → e ≡ e' → f ≡ f' → g ≡ g' → h ≡ h' → i ≡ i' → j ≡ j' → k ≡ k' → l ≡ l' → m ≡ m' → n ≡ n' → o ≡ o'
+        → ◌≡◌ {A = List Bool} (a ∷ b ∷ c ∷ d ∷ e ∷ f ∷ g ∷ h ∷ i ∷ j ∷ k ∷ l ∷ m ∷ n ∷ o ∷ []) (a' ∷ b' ∷ c' ∷ d' ∷ e' ∷ f' ∷ g' ∷ h' ∷ i' ∷ j' ∷ k' ∷ l' ∷ m' ∷ n' ∷ o' ∷ [])
+    same-list e1 e2 e3 e4 e5 e6 e7 e8 e9 e10 e11 e12 e13 e14 e15 = rw (e1, e2, e3, e4, e5, e6, e7, e8, e9, e10, e11, e12, e13, e14, e15) refl

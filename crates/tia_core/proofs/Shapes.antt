@@ -1,13 +1,16 @@
 -- Rows at each copy of an object.
-use Rattle.std.proofs.Common.{◌≡◌, ℕ, ◌+◌, ◌-◌, ◌*◌, ◌/◌, ◌%◌, ◌^◌, ◌<◌, ◌≤◌, ◌⊎◌, inl, inr, ◌==◌, nat_lt, if◌then◌else◌, Bool, true, false, List, [], ◌∷◌, refl, sym, ap, ◌∙◌, arith}
+use Rattle.std.proofs.Common.{◌≡◌, ℕ, ◌&&◌, ◌||◌, not, false, bit_or, ◌+◌, ◌-◌, ◌*◌, ◌/◌, ◌%◌, ◌^◌, ◌<◌, ◌≤◌, ◌⊎◌, inl, inr, ◌==◌, nat_lt, if◌then◌else◌, Bool, true, List, [], ◌∷◌, refl, sym, ap, ◌∙◌, arith}
 use Rattle.std.specs.List.{list_any}
+use Rattle.std.proofs.Math.Bool.{and-false}
+use Rattle.std.proofs.lemmas.Bool.{cases_eq}
 use Rattle.std.proofs.lemmas.Bool.Decides.{nat_tests}
+use Rattle.std.proofs.lemmas.Nat.{le_or_l, le_or_r}
 use Rattle.tia_core.specs.Bits.{bit}
-use Rattle.tia_core.specs.Coverage.{copies_of, distance_of, width_of, is_shown_at, player_covers, missile_covers, ball_covers}
+use Rattle.tia_core.specs.Coverage.{copies_of, distance_of, width_of, is_shown_at, player_covers, missile_covers}
 use Rattle.tia_core.specs.Playfield.{playfield_bit, playfield_index}
 use Rattle.tia_core.proofs.RoundTheLine.{distance_of-natural, list_any-same}
 use Rattle.tia_core.proofs.Tables.{cat-low, cat-high}
-use Rattle.tia_core.proofs.Words.{bit-low, bit-high}
+use Rattle.tia_core.proofs.Words.{bit-low, bit-high, bit-zero}
 
 -- the distance from a copy is that from its first pixel
 pub distance_of-moved : (x position copy : ℕ) → x < 160 → position < 160 → distance_of x ((position + copy) % 160) 0 ≡ distance_of x position copy
@@ -91,3 +94,47 @@ module _ (pf0 pf1 pf2 : ℕ) (mirrored : Bool) (left right : ℕ)
 
   pub word-4 : (k : ℕ) → k < 32 → bit (right / 2 ^ 12 % 2 ^ 8) (k / 4) ≡ shows (128 + k)
   word-4 k h = bit-low (right / 2 ^ 12) 8 (k / 4) (omega arith) ∙ bit-high right 12 (k / 4) ∙ on_right (128 + k) (12 + k / 4) (omega arith) (omega arith) (omega arith)
+
+-- ---- objects that can't be seen
+list_any-none : (p : ℕ → Bool) (xs : List ℕ) → ((x : ℕ) → p x ≡ false) → list_any p xs ≡ false
+list_any-none p [] h = refl
+list_any-none p (x ∷ xs) h = rw (h x) (list_any-none p xs h)
+
+is_shown_at-empty : (width : ℕ) (reflected : Bool) (d : ℕ) → is_shown_at width reflected 0 d ≡ false
+is_shown_at-empty width reflected d =
+    let index : ℕ = if reflected then d / (width / 8) else 7 - d / (width / 8) in
+    ap (λ (b : Bool). nat_lt d width && b) (bit-zero index) ∙ and-false (nat_lt d width)
+
+pub player-unseen : (mode : ℕ) (reflected : Bool) (graphic position x : ℕ) → (not (graphic == 0) || player_covers mode reflected graphic position x) ≡ not (graphic == 0)
+player-unseen mode reflected graphic position x = elim (cases_eq graphic 0) [
+  | inl e ↦ rw e
+    (list_any-none (λ copy. is_shown_at (width_of mode) reflected 0 (distance_of x position copy)) (copies_of mode)
+    (λ copy. is_shown_at-empty (width_of mode) reflected (distance_of x position copy)))
+  | inr ne ↦ (let f : (graphic == 0) ≡ false = grind (arith, nat_tests) in rw f refl)
+]
+
+pub shown-or : (a b : Bool) → (a || (a && b)) ≡ a
+shown-or true b = refl
+shown-or false b = refl
+
+pub missile-unseen : (a b c : Bool) → ((a && b) || (a && b && c)) ≡ (a && b)
+missile-unseen true true c = refl
+missile-unseen true false c = refl
+missile-unseen false b c = refl
+
+playfield-clear : (i : ℕ) → playfield_bit 0 0 0 i ≡ false
+playfield-clear i = either (nat_lt i 4) (nat_lt i 12) where
+  either : (b c : Bool) → (if b then bit 0 (4 + i) else if c then bit 0 (11 - i) else bit 0 (i - 12)) ≡ false
+  either true c = bit-zero (4 + i)
+  either false true = bit-zero (11 - i)
+  either false false = bit-zero (i - 12)
+
+pub playfield-unseen : (pf0 pf1 pf2 i : ℕ) → (not (bit_or (bit_or pf0 pf1) pf2 == 0) || playfield_bit pf0 pf1 pf2 i) ≡ not (bit_or (bit_or pf0 pf1) pf2 == 0)
+playfield-unseen pf0 pf1 pf2 i = elim (cases_eq (bit_or (bit_or pf0 pf1) pf2) 0) [
+  | inl e ↦
+    (let a : pf0 ≡ 0 = omega (arith, le_or_l pf0 pf1, le_or_l (bit_or pf0 pf1) pf2) in
+    let b : pf1 ≡ 0 = omega (arith, le_or_r pf0 pf1, le_or_l (bit_or pf0 pf1) pf2) in
+    let c : pf2 ≡ 0 = omega (arith, le_or_r (bit_or pf0 pf1) pf2) in
+    rw (a, b, c) (playfield-clear i))
+  | inr ne ↦ (let f : (bit_or (bit_or pf0 pf1) pf2 == 0) ≡ false = grind (arith, nat_tests) in rw f refl)
+]

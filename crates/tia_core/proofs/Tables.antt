@@ -1,12 +1,10 @@
 -- Tables of four bits.
 use Rattle.std.proofs.Common.{◌≡◌, ℕ, zero, suc, ◌+◌, ◌-◌, ◌*◌, ◌/◌, ◌%◌, ◌^◌, ◌==◌, ◌<◌, ◌≤◌, ◌⊎◌, inl, inr, ◌&&◌, if◌then◌else◌, nat_lt, Bool, true, false, List, [], ◌∷◌, slice_index_or, refl, sym, ap, ◌∙◌, arith}
-use Rattle.std.specs.Int.{bit_at}
 use Rattle.std.proofs.lemmas.Bool.Decides.{nat_tests}
-use Rattle.std.proofs.lemmas.Nat.{shr_split}
 use Rattle.std.proofs.lemmas.Nat.Bits.{bit_at_cat_low, bit_at_cat_high, bit_at_ones, bit_at_ones_above}
 use Rattle.tia_core.specs.Bits.{bit}
 use Rattle.tia_core.specs.Coverage.{is_shown_at}
-use Rattle.tia_core.proofs.Words.{bit-low, bit-high, bit-above}
+use Rattle.tia_core.proofs.Words.{bit-low, bit-high}
 
 -- ---- what a table says of each number is tried at each number
 same : Bool → Bool → Bool

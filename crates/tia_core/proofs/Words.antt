@@ -1,5 +1,5 @@
 -- Rows of bits in the words of a mask.
-use Rattle.std.proofs.Common.{◌≡◌, ◌≢◌, ℕ, zero, suc, [], ◌∷◌, ◌+◌, ◌-◌, ◌*◌, ◌/◌, ◌%◌, ◌^◌, ◌==◌, ◌<◌, ◌≤◌, ◌⊎◌, inl, inr, max, ◌||◌, ◌&&◌, nat_le, nat_lt, Bool, true, false, List, length, length-set, map, slice_index_or, slice_set, bit_or, bit_and, refl, sym, ap, ◌∙◌, arith, pos, ◌-ℤ◌, get_or-set_same, get_or-set_other}
+use Rattle.std.proofs.Common.{◌≡◌, ◌≢◌, ℕ, zero, suc, [], ◌∷◌, ◌+◌, ◌-◌, ◌*◌, ◌/◌, ◌%◌, ◌^◌, ◌==◌, ◌<◌, ◌≤◌, ◌⊎◌, inl, inr, ◌||◌, ◌&&◌, nat_le, nat_lt, Bool, true, false, List, length, length-set, slice_index_or, slice_set, bit_or, bit_and, refl, sym, ap, ◌∙◌, arith, pos, ◌-ℤ◌, get_or-set_same, get_or-set_other}
 use Rattle.std.specs.Int.{bit_at, trailing_zeros, w32}
 use Rattle.std.proofs.lemmas.Bool.Decides.{nat_tests}
 use Rattle.std.proofs.lemmas.Int.{ints}
@@ -9,6 +9,7 @@ use Rattle.std.proofs.lemmas.Nat.{shr_split, shr-shr, mul-le, pow_pos, and_le_l,
 use Rattle.std.proofs.lemmas.Nat.Bits.{bit_at_or, bit_at_and, bit_at-lt, bit_at_above, bit_at_cat_low, bit_at_cat_high, bit_at-zero, bit_at-trailing_zeros, bit_at_mask_inside, bit_at_mask_below, bit_at_mask_above}
 use Rattle.tia_core.specs.Bits.{bit}
 use Rattle.tia_core.specs.Coverage.{distance_of}
+use Rattle.tia_core.specs.Spans.{is_crowd}
 use Rattle.tia_core.specs.Mask.{any_from, covers, word_bit, pixels_in}
 use Rattle.tia_core.proofs.Modulo.{modulo_160-is}
 
@@ -265,7 +266,7 @@ and3-false false b c h e = refl
 in-stretch : (from to x : ℕ) → (nat_le from x && nat_lt x to) ≡ true → (from ≤ x) × (x < to)
 in-stretch from to x h = grind (arith, nat_tests)
 
-stretch-in : (from to x : ℕ) → from ≤ x → x < to → (nat_le from x && nat_lt x to) ≡ true
+pub stretch-in : (from to x : ℕ) → from ≤ x → x < to → (nat_le from x && nat_lt x to) ≡ true
 stretch-in from to x p q = grind (arith, nat_tests)
 
 pub meets-some : (a b w : List Bool) (from to : ℕ) → ((x : ℕ) → x < 160 → covers w x ≡ (nat_le from x && nat_lt x to))
@@ -288,3 +289,24 @@ pub meets-is : (result : Bool) (a b w : List Bool) (from to : ℕ) → to ≤ 16
     → result ≡ any_from (λ x. covers a x && covers b x) from (to - from)
 meets-is true a b w from to most within some none = sym (meets-some a b w from to within (some refl))
 meets-is false a b w from to most within some none = sym (meets-none a b w from to most within (none refl))
+
+-- ---- two of six
+pub crowd-bit : (a b c d e f k : ℕ)
+    → bit (bit_or (bit_or (bit_or (bit_or (bit_and a b) (bit_and (bit_or a b) c)) (bit_and (bit_or (bit_or a b) c) d)) (bit_and (bit_or (bit_or (bit_or a b) c) d) e)) (bit_and (bit_or (bit_or (bit_or (bit_or a b) c) d) e) f)) k
+      ≡ is_crowd (bit a k) (bit b k) (bit c k) (bit d k) (bit e k) (bit f k)
+crowd-bit a b c d e f k = simp (bit_or-is, bit_and-is)
+
+and-true : (a b : Bool) → (a && b) ≡ false → b ≡ true → a ≡ false
+and-true true b h e = let q : true ≡ false = sym e ∙ h in cc
+and-true false b h e = refl
+
+-- where a word of crowds misses a word, no pixel of that word is crowded
+pub not-crowded : (a b c d e f : List ℕ) (w twice i x : ℕ)
+    → ((k : ℕ) → bit twice k ≡ is_crowd (bit (slice_index_or a i 0) k) (bit (slice_index_or b i 0) k) (bit (slice_index_or c i 0) k) (bit (slice_index_or d i 0) k) (bit (slice_index_or e i 0) k) (bit (slice_index_or f i 0) k))
+    → bit_and twice w ≡ 0 → x / 32 ≡ i → x < 160 → bit w (x % 32) ≡ true
+    → is_crowd (covers (pixels_in a) x) (covers (pixels_in b) x) (covers (pixels_in c) x) (covers (pixels_in d) x) (covers (pixels_in e) x) (covers (pixels_in f) x) ≡ false
+not-crowded a b c d e f w twice i x two none at h there =
+    let k : ℕ = x % 32 in
+    let miss : (bit twice k && bit w k) ≡ false = sym (bit_and-is twice w k) ∙ ap (λ (n : ℕ). bit n k) none ∙ bit-zero k in
+    let clear : bit twice k ≡ false = and-true (bit twice k) (bit w k) miss there in
+    rw (covers-is a x h, covers-is b x h, covers-is c x h, covers-is d x h, covers-is e x h, covers-is f x h, at) (sym (two k) ∙ clear)

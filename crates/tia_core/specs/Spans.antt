@@ -1,5 +1,5 @@
 -- What the masks of a line are to say, and what the pairs of objects do over a stretch of it. This project's own.
-use Rattle.std.specs.Prelude.{◌≡◌, ◌<◌, ℕ, zero, suc, ◌+◌, ◌&&◌, ◌||◌, Bool, true, false, if◌then◌else◌, List, [], ◌∷◌, bit_or}
+use Rattle.std.specs.Prelude.{◌≡◌, ◌<◌, ℕ, zero, suc, ◌+◌, ◌*◌, ◌==◌, ◌&&◌, ◌||◌, Bool, true, false, if◌then◌else◌, List, [], ◌∷◌, bit_or}
 use Rattle.tia_core.specs.Clock.{Pixel}
 use Rattle.tia_core.specs.Collision.{pairs_of}
 use Rattle.tia_core.specs.Colour.{colour_at}
@@ -121,3 +121,18 @@ objects_in m x = record {
   ball = covers m.ball x;
   playfield = covers m.playfield x;
 }
+
+-- whether two of six objects are there
+abbrev pub is_crowd : Bool → Bool → Bool → Bool → Bool → Bool → Bool
+is_crowd a b c d e f = (a && b) || ((a || b) && c) || ((a || b || c) && d) || ((a || b || c || d) && e) || ((a || b || c || d || e) && f)
+
+-- the number of a set of objects
+abbrev pub set_number : Bool → Bool → Bool → Bool → Bool → Bool → ℕ
+set_number a b c d e f =
+    (if a then 1 else 0) + 2 * (if b then 1 else 0) + 4 * (if c then 1 else 0) + 8 * (if d then 1 else 0) + 16 * (if e then 1 else 0) + 32 * (if f then 1 else 0)
+
+-- whether the object with this number is in a set: 0 to 5 are player 0, player 1, missile 0, missile 1, the ball and the playfield
+abbrev pub has_object : ℕ → Objects → Bool
+has_object n o =
+    if n == 0 then o.player0 else if n == 1 then o.player1 else if n == 2 then o.missile0
+    else if n == 3 then o.missile1 else if n == 4 then o.ball else o.playfield

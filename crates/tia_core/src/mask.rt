@@ -2,6 +2,7 @@
 ghost use Rattle.std.specs.Prelude.{◌≡◌, ◌<◌, ◌≤◌, ◌||◌, ◌&&◌, ◌-◌, ◌+◌, ℕ, nat_le, nat_lt, bit_and, ◌^◌, true, false};
 ghost use Rattle.tia_core.specs.Bits.{bit};
 ghost use Rattle.tia_core.specs.Coverage.{distance_of};
+ghost use Rattle.tia_core.specs.Spans.{is_crowd};
 ghost use Rattle.tia_core.specs.Mask.{any_from, covers, word_bit, pixels_in};
 
 use std::marker::Model;
@@ -89,6 +90,39 @@ impl Mask {
         }
     }
 
+    /// Whether some pixel of `from..to` is covered by two of these masks.
+    #[inline]
+    pub(crate) fn are_crowded(
+        a: &Mask,
+        b: &Mask,
+        c: &Mask,
+        d: &Mask,
+        e: &Mask,
+        f: &Mask,
+        from: u8,
+        to: u8,
+    ) -> bool
+        requires order { from ≤ to }
+        requires range { to ≤ 160 }
+        ensures { result ≡ false → (x : ℕ) → from ≤ x → x < to
+            → is_crowd (covers a.now x) (covers b.now x) (covers c.now x) (covers d.now x) (covers e.now x) (covers f.now x) ≡ false }
+    {
+        for i in from as usize / 32..(to as usize + 31) / 32 {
+            let twice = crowd(
+                a.words[i],
+                b.words[i],
+                c.words[i],
+                d.words[i],
+                e.words[i],
+                f.words[i],
+            );
+            if touch(twice, ones(from, to, 32 * i as u8)) {
+                return true;
+            }
+        }
+        false
+    }
+
     /// Whether a pixel is covered by all three masks.
     #[inline]
     pub(crate) fn meets_within(&self, other: &Mask, within: &Mask) -> bool
@@ -102,6 +136,22 @@ impl Mask {
         }
         false
     }
+}
+
+/// The bits that are set in two of six words.
+#[inline]
+fn crowd(a: u32, b: u32, c: u32, d: u32, e: u32, f: u32) -> u32
+    ensures { (k : ℕ) → bit result k ≡ is_crowd (bit a k) (bit b k) (bit c k) (bit d k) (bit e k) (bit f k) }
+{
+    (a & b) | ((a | b) & c) | ((a | b | c) & d) | ((a | b | c | d) & e) | ((a | b | c | d | e) & f)
+}
+
+/// Whether two words have a bit in common.
+#[inline]
+fn touch(a: u32, b: u32) -> bool
+    ensures { result ≡ false → bit_and a b ≡ 0 }
+{
+    a & b != 0
 }
 
 /// Whether three words have a bit in common.

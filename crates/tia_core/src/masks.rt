@@ -1,10 +1,10 @@
 //! The masks of the six objects, and the pairs that meet in them.
 ghost use Rattle.std.specs.Prelude.{◌≡◌, ◌<◌, ◌≤◌, ◌-◌, ◌^◌, ℕ, false, bit_or};
 ghost use Rattle.tia_core.specs.Clock.{painted};
-ghost use Rattle.tia_core.specs.Collision.{number_from};
+ghost use Rattle.tia_core.specs.Collision.{number_from, pairs_of};
 ghost use Rattle.tia_core.specs.Mask.{covers};
-ghost use Rattle.tia_core.specs.Objects.{ball_at, missile_at};
-ghost use Rattle.tia_core.specs.Spans.{bl, marked, m0, m1, nothing, objects_in, p0, p1, pf, span_pairs, span_pixels, touched_by, IsBound, IsMaskOf, MasksFit};
+ghost use Rattle.tia_core.specs.Objects.{ball_at, missile_at, objects_at};
+ghost use Rattle.tia_core.specs.Spans.{bl, has_object, marked, m0, m1, nothing, objects_in, p0, p1, pf, span_pairs, span_pixels, touched_by, IsBound, IsMaskOf, MasksFit};
 ghost use Rattle.tia_core.specs.TiaState.{IsLawful};
 
 use crate::bits::bit;
@@ -12,7 +12,7 @@ use crate::collision::{number_of, with_pairs};
 use crate::colour::colour_at;
 use crate::fields::TiaFields;
 use crate::mask::Mask;
-use crate::objects::{shown, size, Objects};
+use crate::objects::{is_shown, shown, size, Objects};
 use crate::paint::Paint;
 use crate::register::Register;
 use crate::shape::{ball_mask, missile_mask, player_mask, playfield_mask};
@@ -103,11 +103,46 @@ impl Masks {
         ensures range { result < 2 ^ 15 }
         ensures fit { MasksFit t.now self.new }
     {
+        self.tighten(t);
         if t.collisions | self.bound == t.collisions {
             return t.collisions;
         }
         self.renew(t);
-        with_pairs(t.collisions, self.pairs(t, from, to))
+        if self.are_crowded(from, to) {
+            with_pairs(t.collisions, self.pairs(t, from, to))
+        } else {
+            t.collisions
+        }
+    }
+
+    /// Bounds the pairs by those of the objects that may be seen at all, where nothing better is known.
+    #[inline]
+    fn tighten(&mut self, t: &TiaFields)
+        requires { MasksFit t.now self.old }
+        ensures { MasksFit t.now self.new }
+    {
+        if self.bound == 0x7FFF {
+            self.bound = most_pairs(t);
+        }
+    }
+
+    /// Whether some pixel of `from..to` is covered by two objects.
+    #[inline]
+    fn are_crowded(&self, from: u8, to: u8) -> bool
+        requires order { from ≤ to }
+        requires range { to ≤ 160 }
+        ensures { result ≡ false → (x : ℕ) → from ≤ x → x < to → pairs_of (objects_in self.now x) ≡ 0 }
+    {
+        Mask::are_crowded(
+            &self.player0,
+            &self.player1,
+            &self.missile0,
+            &self.missile1,
+            &self.ball,
+            &self.playfield,
+            from,
+            to,
+        )
     }
 
     /// The collision bits of the pairs that meet in pixels `from..to`.
@@ -183,6 +218,32 @@ impl Masks {
             sink.put(line, x, colour_at(t, self.objects(x), x));
         }
     }
+}
+
+/// The mask of an object: 0 to 5 are player 0, player 1, missile 0, missile 1, the ball and the playfield.
+pub fn mask_of(t: &TiaFields, object: u8) -> Mask
+    requires lawful { IsLawful t.now }
+    requires range { object < 6 }
+    ensures { (x : ℕ) → x < 160 → covers result x ≡ has_object object (objects_at t.now x) }
+{
+    let mut masks = Masks::stale(t);
+    masks.renew(t);
+    match object {
+        0 => masks.player0,
+        1 => masks.player1,
+        2 => masks.missile0,
+        3 => masks.missile1,
+        4 => masks.ball,
+        _ => masks.playfield,
+    }
+}
+
+/// The collision bits of all pairs of the objects that may be seen at all.
+#[inline]
+fn most_pairs(t: &TiaFields) -> u16
+    ensures { IsBound t.now result }
+{
+    Objects::live(t).pairs()
 }
 
 /// Makes the mask of player 0 anew where it is to be.
@@ -270,7 +331,7 @@ fn missile(enam: u8, resmp: u8, nusiz: u8, position: u8) -> Mask
     requires { position < 160 }
     ensures { (x : ℕ) → x < 160 → covers result x ≡ missile_at enam resmp nusiz position x }
 {
-    if bit(enam, 1) && !bit(resmp, 1) {
+    if is_shown(enam, resmp) {
         missile_mask(nusiz % 8, size(nusiz), position)
     } else {
         Mask::empty()

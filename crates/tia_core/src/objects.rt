@@ -1,15 +1,24 @@
 //! The objects that cover a pixel.
-ghost use Rattle.std.specs.Prelude.{◌≡◌, ◌<◌, ◌≤◌, ◌^◌};
+ghost use Rattle.std.specs.Prelude.{◌≡◌, ◌<◌, ◌≤◌, ◌^◌, ◌&&◌, not, ℕ};
+ghost use Rattle.tia_core.specs.Bits.{bit};
 ghost use Rattle.tia_core.specs.Collision.{pairs_of};
-ghost use Rattle.tia_core.specs.Objects.{ball_at, missile_at, objects_at, shown_of, size_of};
-ghost use Rattle.tia_core.specs.Spans.{is_any, joined};
-ghost use Rattle.tia_core.specs.TiaState.{IsLawful};
+ghost use Rattle.tia_core.specs.Objects.{objects_at, shown_of, size_of};
+ghost use Rattle.tia_core.specs.Spans.{is_any, joined, set_number};
 
 use crate::bits::bit;
-use crate::collision::number_of;
-use crate::coverage::{ball_covers, missile_covers, player_covers};
 use crate::fields::TiaFields;
-use crate::playfield::{playfield_bit, playfield_index};
+
+/// The collision bits of each set of objects, by its number.
+const PAIRS: [u16; 64] = [
+    0x0000, 0x0000, 0x0000, 0x0002, 0x0000, 0x2000, 0x4000, 0x6002,
+    0x0000, 0x1000, 0x0800, 0x1802, 0x0001, 0x3001, 0x4801, 0x7803,
+    0x0000, 0x0200, 0x0080, 0x0282, 0x0020, 0x2220, 0x40A0, 0x62A2,
+    0x0008, 0x1208, 0x0888, 0x1A8A, 0x0029, 0x3229, 0x48A9, 0x7AAB,
+    0x0000, 0x0400, 0x0100, 0x0502, 0x0040, 0x2440, 0x4140, 0x6542,
+    0x0010, 0x1410, 0x0910, 0x1D12, 0x0051, 0x3451, 0x4951, 0x7D53,
+    0x0004, 0x0604, 0x0184, 0x0786, 0x0064, 0x2664, 0x41E4, 0x67E6,
+    0x001C, 0x161C, 0x099C, 0x1F9E, 0x007D, 0x367D, 0x49FD, 0x7FFF,
+];
 
 /// Which of the six objects cover a pixel.
 #[derive(Clone, Copy, Debug)]
@@ -23,24 +32,18 @@ pub struct Objects {
 }
 
 impl Objects {
-    /// The objects that cover pixel `x` of a line.
+    /// The objects that may cover a pixel of a line: a player or playfield with a bit set, a missile or ball that is enabled.
     #[inline]
-    #[tactic(auto, unfolding(crate::specs::Objects::objects_at))]
-    pub fn at(t: &TiaFields, x: u8) -> Self
-        requires lawful { IsLawful t.now }
-        requires range { x < 160 }
-        ensures { result ≡ objects_at t.now x }
+    pub fn live(t: &TiaFields) -> Self
+        ensures { (x : ℕ) → joined result (objects_at t.now x) ≡ result }
     {
-        let graphic0 = shown(t.vdelp0, t.grp0_old, t.grp0_new);
-        let graphic1 = shown(t.vdelp1, t.grp1_old, t.grp1_new);
-        let enabl = shown(t.vdelbl, t.enabl_old, t.enabl_new);
         Objects {
-            player0: player_covers(t.nusiz0 % 8, bit(t.refp0, 3), graphic0, t.position_p0, x),
-            player1: player_covers(t.nusiz1 % 8, bit(t.refp1, 3), graphic1, t.position_p1, x),
-            missile0: missile(t.enam0, t.resmp0, t.nusiz0, t.position_m0, x),
-            missile1: missile(t.enam1, t.resmp1, t.nusiz1, t.position_m1, x),
-            ball: ball(enabl, t.ctrlpf, t.position_bl, x),
-            playfield: playfield_bit(t.pf0, t.pf1, t.pf2, playfield_index(bit(t.ctrlpf, 0), x)),
+            player0: shown(t.vdelp0, t.grp0_old, t.grp0_new) != 0,
+            player1: shown(t.vdelp1, t.grp1_old, t.grp1_new) != 0,
+            missile0: is_shown(t.enam0, t.resmp0),
+            missile1: is_shown(t.enam1, t.resmp1),
+            ball: bit(shown(t.vdelbl, t.enabl_old, t.enabl_new), 1),
+            playfield: t.pf0 | t.pf1 | t.pf2 != 0,
         }
     }
 
@@ -67,31 +70,27 @@ impl Objects {
         self.player0 | self.player1 | self.missile0 | self.missile1 | self.ball | self.playfield
     }
 
+    /// The number of the set: each object has a bit, from player 0 in the lowest to the playfield in bit 5.
+    #[inline]
+    fn number(self) -> u8
+        ensures value { result ≡ set_number self.player0 self.player1 self.missile0 self.missile1 self.ball self.playfield }
+        ensures range { result < 64 }
+    {
+        self.player0 as u8
+            + 2 * self.player1 as u8
+            + 4 * self.missile0 as u8
+            + 8 * self.missile1 as u8
+            + 16 * self.ball as u8
+            + 32 * self.playfield as u8
+    }
+
     /// The collision bits of all pairs of these objects, from M0-P1 in bit 14 to M0-M1 in bit 0.
     #[inline]
-    #[tactic(auto, unfolding(crate::specs::Collision::pairs_of))]
     pub fn pairs(self) -> u16
         ensures value { result ≡ pairs_of self }
         ensures range { result < 2 ^ 15 }
     {
-        let pairs = [
-            self.missile0 & self.player1,
-            self.missile0 & self.player0,
-            self.missile1 & self.player0,
-            self.missile1 & self.player1,
-            self.player0 & self.playfield,
-            self.player0 & self.ball,
-            self.player1 & self.playfield,
-            self.player1 & self.ball,
-            self.missile0 & self.playfield,
-            self.missile0 & self.ball,
-            self.missile1 & self.playfield,
-            self.missile1 & self.ball,
-            self.ball & self.playfield,
-            self.player0 & self.player1,
-            self.missile0 & self.missile1,
-        ];
-        number_of(&pairs)
+        PAIRS[self.number() as usize]
     }
 }
 
@@ -103,22 +102,12 @@ pub fn shown(delay: u8, old: u8, new: u8) -> u8
     if bit(delay, 0) { old } else { new }
 }
 
-/// Whether a missile covers pixel `x`: it is enabled, not locked to its player, and one of its copies is there.
+/// Whether a missile is shown: it is enabled and not locked to its player.
 #[inline]
-fn missile(enam: u8, resmp: u8, nusiz: u8, position: u8, x: u8) -> bool
-    requires { position < 160 }
-    ensures { result ≡ missile_at enam resmp nusiz position x }
+pub fn is_shown(enam: u8, resmp: u8) -> bool
+    ensures { result ≡ (bit enam 1 && not (bit resmp 1)) }
 {
-    bit(enam, 1) && !bit(resmp, 1) && missile_covers(nusiz % 8, size(nusiz), position, x)
-}
-
-/// Whether a ball covers pixel `x`: it is enabled and there.
-#[inline]
-fn ball(enabl: u8, ctrlpf: u8, position: u8, x: u8) -> bool
-    requires { position < 160 }
-    ensures { result ≡ ball_at enabl ctrlpf position x }
-{
-    bit(enabl, 1) && ball_covers(size(ctrlpf), position, x)
+    bit(enam, 1) & !bit(resmp, 1)
 }
 
 /// The size of a missile or ball, by bits 5 and 4 of a register.

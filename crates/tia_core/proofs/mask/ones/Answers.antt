@@ -1,4 +1,4 @@
-use Rattle.std.proofs.Common.{◌≡◌, ◌∙◌, ◌-◌, ◌^◌, ◌<◌, ◌≤◌, ap, arith, rules, ℕ}
+use Rattle.std.proofs.Common.{arith}
 use Rattle.std.proofs.lemmas.Nat.{one_shl}
 use Rattle.tia_core.proofs.Words.{IsLeftOf, stretch-word, left-order, left-least, powers-order}
 use Rattle.tia_core.proofs.mask.ones.Goals as goal

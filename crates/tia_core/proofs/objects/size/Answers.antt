@@ -1,4 +1,4 @@
-use Rattle.std.proofs.Common.{◌≡◌, ◌*◌, ◌/◌, ◌%◌, ◌^◌, ◌≤◌, arith}
+use Rattle.std.proofs.Common.{◌/◌, ◌%◌, arith}
 use Rattle.tia_core.proofs.Words.{powers-order}
 use Rattle.tia_core.proofs.objects.size.Goals as goal
 

@@ -1,4 +1,4 @@
-use Rattle.std.proofs.Common.{◌∙◌, ◌-◌, ◌^◌, ap, arith, ℕ}
+use Rattle.std.proofs.Common.{◌∙◌, ◌-◌, ap, arith, ℕ}
 use Rattle.std.proofs.lemmas.Nat.{one_shl}
 use Rattle.tia_core.specs.Bits.{bit}
 use Rattle.tia_core.proofs.Tables.{ones-is}

@@ -1,7 +1,7 @@
-use Rattle.std.proofs.Common.{◌≡◌, ◌∙◌, ◌/◌, ◌<◌, ◌≤◌, ap, arith, rules, ℕ}
+use Rattle.std.proofs.Common.{◌≡◌, ◌∙◌, ap, arith, ℕ}
 use Rattle.std.proofs.lemmas.Bool.Decides.{nat_tests}
 use Rattle.tia_core.specs.Bits.{bit}
-use Rattle.tia_core.specs.Coverage.{width_of, is_shown_at}
+use Rattle.tia_core.specs.Coverage.{width_of}
 use Rattle.tia_core.proofs.Tables.{row_shows}
 use Rattle.tia_core.proofs.Words.{bit-above}
 use Rattle.tia_core.proofs.row.player_row.Goals as goal

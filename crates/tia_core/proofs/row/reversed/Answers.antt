@@ -1,4 +1,4 @@
-use Rattle.std.proofs.Common.{◌∙◌, ◌-◌, ◌+◌, ap, arith}
+use Rattle.std.proofs.Common.{◌∙◌, ◌-◌, ap, arith}
 use Rattle.tia_core.specs.Bits.{bit}
 use Rattle.tia_core.proofs.Tables.{halves, half-low, half-high}
 use Rattle.tia_core.proofs.row.reversed.Goals as goal

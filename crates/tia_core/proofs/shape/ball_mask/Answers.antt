@@ -1,4 +1,4 @@
-use Rattle.std.proofs.Common.{◌∙◌, ◌≡◌, ◌||◌, ap, Bool}
+use Rattle.std.proofs.Common.{◌∙◌, ◌||◌, ap, Bool}
 use Rattle.tia_core.specs.Bits.{bit}
 use Rattle.tia_core.specs.Coverage.{distance_of}
 use Rattle.tia_core.proofs.shape.ball_mask.Goals as goal

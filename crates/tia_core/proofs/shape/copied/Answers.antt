@@ -1,10 +1,9 @@
-use Rattle.std.proofs.Common.{◌≡◌, ◌<◌, ◌||◌, ◌+◌, ◌%◌, ◌∙◌, sym, ap, arith, ℕ, Bool, take, slice_index_or, List}
+use Rattle.std.proofs.Common.{◌≡◌, ◌||◌, ◌∙◌, sym, ap, ℕ, Bool, take, slice_index_or, List}
 use Rattle.std.specs.List.{list_any}
 use Rattle.std.proofs.lemmas.List.{take_all}
 use Rattle.std.proofs.lemmas.List.Folds.{list_any_more}
 use Rattle.tia_core.specs.Bits.{bit}
-use Rattle.tia_core.specs.Coverage.{copies_of, distance_of}
-use Rattle.tia_core.specs.Mask.{covers}
+use Rattle.tia_core.specs.Coverage.{distance_of}
 use Rattle.tia_core.proofs.Shapes.{distance_of-moved}
 use Rattle.tia_core.proofs.shape.copied.Goals as goal
 

@@ -1,7 +1,7 @@
 use Rattle.std.proofs.Common.{◌≡◌, ◌<◌, ℕ, take}
 use Rattle.std.specs.List.{list_any}
 use Rattle.tia_core.specs.Bits.{bit}
-use Rattle.tia_core.specs.Coverage.{distance_of, copies_of}
+use Rattle.tia_core.specs.Coverage.{distance_of}
 use Rattle.tia_core.specs.Mask.{covers}
 use Rattle.tia_core.proofs.shape.copied.Given as goal
 

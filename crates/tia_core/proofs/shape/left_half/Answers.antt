@@ -1,4 +1,4 @@
-use Rattle.std.proofs.Common.{◌≡◌, ◌/◌, arith, ℕ}
+use Rattle.std.proofs.Common.{arith}
 use Rattle.tia_core.proofs.Shapes.{left-bit}
 use Rattle.tia_core.proofs.shape.left_half.Goals as goal
 

@@ -1,4 +1,4 @@
-use Rattle.std.proofs.Common.{◌≡◌, ◌/◌, arith, ℕ}
+use Rattle.std.proofs.Common.{arith}
 use Rattle.tia_core.proofs.Shapes.{mirrored-bit}
 use Rattle.tia_core.proofs.shape.mirrored_half.Goals as goal
 

@@ -1,4 +1,4 @@
-use Rattle.std.proofs.Common.{◌∙◌, ◌≡◌, ◌/◌, ◌%◌, ap, ℕ}
+use Rattle.std.proofs.Common.{◌∙◌, ◌/◌, ◌%◌, ap, ℕ}
 use Rattle.tia_core.specs.Bits.{bit}
 use Rattle.tia_core.proofs.Words.{covers-is, empty-word, bit-zero}
 use Rattle.tia_core.proofs.mask.Mask.empty.Goals as goal

@@ -1,5 +1,5 @@
-use Rattle.std.proofs.Common.{◌≡◌, ◌-◌, ◌<◌, ◌≤◌, ◌&&◌, ◌∙◌, sym, ap, arith, ℕ, zero}
-use Rattle.tia_core.specs.Mask.{any_from, covers}
+use Rattle.std.proofs.Common.{◌-◌, ◌&&◌, sym, arith}
+use Rattle.tia_core.specs.Mask.{covers}
 use Rattle.tia_core.proofs.Words.{meets-is, any_from-none}
 use Rattle.tia_core.proofs.mask.Mask.meets.Goals as goal
 

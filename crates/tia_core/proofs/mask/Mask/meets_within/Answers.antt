@@ -1,5 +1,4 @@
-use Rattle.std.proofs.Common.{◌≡◌, ◌<◌, ◌≤◌, ◌&&◌, ◌+◌, ◌*◌, ◌/◌, ◌⊎◌, inl, inr, ℕ, Bool, true, false, List, ap, sym, ◌∙◌, arith}
-use Rattle.tia_core.specs.Mask.{covers, pixels_in}
+use Rattle.std.proofs.Common.{◌≡◌, ◌<◌, ◌+◌, ◌*◌, ◌/◌, ◌⊎◌, inl, inr, ℕ, arith}
 use Rattle.tia_core.proofs.Words.{common-some, common-none}
 use Rattle.tia_core.proofs.mask.Mask.meets_within.Goals as goal
 

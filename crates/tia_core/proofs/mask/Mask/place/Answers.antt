@@ -1,4 +1,4 @@
-use Rattle.std.proofs.Common.{◌∙◌, ◌≡◌, ◌||◌, ap, sym, ℕ, Bool, List}
+use Rattle.std.proofs.Common.{◌∙◌, ◌||◌, ap, sym, Bool, List}
 use Rattle.tia_core.specs.Bits.{bit}
 use Rattle.tia_core.specs.Coverage.{distance_of}
 use Rattle.tia_core.specs.Mask.{covers}

@@ -1,4 +1,4 @@
-use Rattle.std.proofs.Common.{◌≡◌, ◌-◌, sym}
+use Rattle.std.proofs.Common.{◌-◌, sym}
 use Rattle.tia_core.specs.Spans.{span_pixels}
 use Rattle.tia_core.proofs.Spans.{painted-nothing}
 use Rattle.tia_core.proofs.masks.Masks.paint.Goals as goal

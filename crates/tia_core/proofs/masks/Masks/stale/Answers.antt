@@ -1,4 +1,3 @@
-use Rattle.std.proofs.Common.{◌≡◌, true, false}
 use Rattle.tia_core.proofs.Pairs.{all-bound}
 use Rattle.tia_core.proofs.masks.Masks.stale.Goals as goal
 

@@ -1,4 +1,4 @@
-use Rattle.std.proofs.Common.{rules, sym, ◌∙◌}
+use Rattle.std.proofs.Common.{rules}
 use Rattle.tia_core.proofs.Spans.{blank-span}
 use Rattle.tia_core.proofs.MaskFits.{fit-placed}
 use Rattle.tia_core.proofs.tia.Tia.pass_blank.Goals as goal

@@ -1,4 +1,4 @@
-use Rattle.std.proofs.Common.{rules, sym, ap, subst, ◌∙◌, ◌≡◌, ◌<◌, ◌≤◌, ◌+◌, bit_or}
+use Rattle.std.proofs.Common.{rules, sym, ap, subst, ◌∙◌, ◌≤◌, ◌+◌}
 use Rattle.tia_core.specs.TiaState.{TiaState}
 use Rattle.tia_core.specs.Clock.{clocked, pixels, painted}
 use Rattle.std.specs.Fn.{iterate}

@@ -1,7 +1,3 @@
-use Rattle.std.proofs.Common.{◌∙◌, ap, sym, subst, ◌≡◌}
-use Rattle.tia_core.specs.Spans.{marked, touched_by, MasksFit}
-use Rattle.tia_core.specs.declared.masks.Masks.{Masks}
-use Rattle.tia_core.specs.declared.fields.TiaFields.{TiaFields}
 use Rattle.tia_core.proofs.MaskFits.{fit-written}
 use Rattle.tia_core.proofs.tia.Tia.write.Goals as goal
 
