@@ -4,6 +4,8 @@
 #[cfg(test)]
 mod frames;
 #[cfg(test)]
+mod masks;
+#[cfg(test)]
 mod riot;
 #[cfg(test)]
 mod tia;

@@ -44,7 +44,7 @@ Untouched t u o = (x : ℕ) → objects_at u x ≡ merged o (objects_at u x) (ob
 
 -- an object that was not touched is covered as before
 either-false : (a b : Bool) → (a || b) ≡ false → (a ≡ false) × (b ≡ false)
-either-false false false h = (refl , refl)
+either-false false false h = (refl, refl)
 either-false false true h = cc
 either-false true b h = cc
 
@@ -141,4 +141,4 @@ pub met-is : (result : Bool) (t : TiaFields) (a b : Objects → Bool) (ma mb w :
 met-is result t a b ma mb w from to order most fa fb within some none =
     meets-is result ma mb w from to most within some none
     ∙ any_from-same (λ y. covers ma y && covers mb y) (λ y. a (objects_at t y) && b (objects_at t y)) (to - from) from
-      (λ y lt. let in_line : y < 160 = omega arith in rw (fa y in_line, fb y in_line) refl)
+    (λ y lt. let in_line : y < 160 = omega arith in rw (fa y in_line, fb y in_line) refl)

@@ -17,17 +17,17 @@ use Rattle.tia_core.proofs.LawfulFields.{pairs_of-lt}
 pub or_assoc : (a b c : ℕ) → bit_or (bit_or a b) c ≡ bit_or a (bit_or b c)
 or_assoc =
     bin_ind (λ (n : ℕ). (b c : ℕ) → bit_or (bit_or n b) c ≡ bit_or n (bit_or b c)) (λ b c. refl)
-      (λ n ih b c.
-        let q1 : bit_or n b / 2 ≡ bit_or (n / 2) (b / 2) = or_shr n b 1 in
-        let q2 : bit_or b c / 2 ≡ bit_or (b / 2) (c / 2) = or_shr b c 1 in
-        let r1 : bit_or n b % 2 ≡ max (n % 2) (b % 2) = omega (arith, or_step n b) in
-        let r2 : bit_or b c % 2 ≡ max (b % 2) (c % 2) = omega (arith, or_step b c) in
-        let left : bit_or (bit_or n b) c ≡ bit_or (bit_or (n / 2) (b / 2)) (c / 2) * 2 + max (max (n % 2) (b % 2)) (c % 2) =
-          or_step (bit_or n b) c ∙ rw (q1, r1) in
-        let right : bit_or n (bit_or b c) ≡ bit_or (n / 2) (bit_or (b / 2) (c / 2)) * 2 + max (n % 2) (max (b % 2) (c % 2)) =
-          or_step n (bit_or b c) ∙ rw (q2, r2) in
-        let half : bit_or (bit_or (n / 2) (b / 2)) (c / 2) ≡ bit_or (n / 2) (bit_or (b / 2) (c / 2)) = ih (b / 2) (c / 2) in
-        left ∙ rw half (omega arith) ∙ sym right)
+    (λ n ih b c.
+    let q1 : bit_or n b / 2 ≡ bit_or (n / 2) (b / 2) = or_shr n b 1 in
+    let q2 : bit_or b c / 2 ≡ bit_or (b / 2) (c / 2) = or_shr b c 1 in
+    let r1 : bit_or n b % 2 ≡ max (n % 2) (b % 2) = omega (arith, or_step n b) in
+    let r2 : bit_or b c % 2 ≡ max (b % 2) (c % 2) = omega (arith, or_step b c) in
+    let left : bit_or (bit_or n b) c ≡ bit_or (bit_or (n / 2) (b / 2)) (c / 2) * 2 + max (max (n % 2) (b % 2)) (c % 2) =
+    or_step (bit_or n b) c ∙ rw (q1, r1) in
+    let right : bit_or n (bit_or b c) ≡ bit_or (n / 2) (bit_or (b / 2) (c / 2)) * 2 + max (n % 2) (max (b % 2) (c % 2)) =
+    or_step n (bit_or b c) ∙ rw (q2, r2) in
+    let half : bit_or (bit_or (n / 2) (b / 2)) (c / 2) ≡ bit_or (n / 2) (bit_or (b / 2) (c / 2)) = ih (b / 2) (c / 2) in
+    left ∙ rw half (omega arith) ∙ sym right)
 
 or_block2 : (m n r s : ℕ) → r < 2 → s < 2 → bit_or (2 * m + r) (2 * n + s) ≡ 2 * bit_or m n + bit_or r s
 or_block2 m n r s h k = rw (mul_comm 2 m, mul_comm 2 n, mul_comm 2 (bit_or m n)) (or_block 1 m n r s h k)
@@ -76,7 +76,6 @@ or_from-span t x (suc k) c =
     or_from-span t (x + 1) k (bit_or c (pairs_of (objects_at t x)))
     ∙ or_assoc c (pairs_of (objects_at t x)) (number_from 0 (span_pairs t (x + 1) k))
     ∙ ap (bit_or c) (pairs-then-span t x k)
-
 
 -- ---- bounds
 or-all : (n : ℕ) → n < 2 ^ 15 → bit_or 32767 n ≡ 32767
@@ -167,14 +166,14 @@ pairs-within l o e =
     let pf : (l.playfield || o.playfield) ≡ l.playfield = ap (λ (s : Objects). s.playfield) e in
     number_or 0 0 (pairs_list l) (pairs_list o) (fifteen _ _ _ _ _ _ _ _ _ _ _ _ _ _ _ _ _ _ _ _ _ _ _ _ _ _ _ _ _ _)
     ∙ ap (number_from 0) (same-list
-      (pair-within l.missile0 l.player1 o.missile0 o.player1 m0 p1) (pair-within l.missile0 l.player0 o.missile0 o.player0 m0 p0)
-      (pair-within l.missile1 l.player0 o.missile1 o.player0 m1 p0) (pair-within l.missile1 l.player1 o.missile1 o.player1 m1 p1)
-      (pair-within l.player0 l.playfield o.player0 o.playfield p0 pf) (pair-within l.player0 l.ball o.player0 o.ball p0 bl)
-      (pair-within l.player1 l.playfield o.player1 o.playfield p1 pf) (pair-within l.player1 l.ball o.player1 o.ball p1 bl)
-      (pair-within l.missile0 l.playfield o.missile0 o.playfield m0 pf) (pair-within l.missile0 l.ball o.missile0 o.ball m0 bl)
-      (pair-within l.missile1 l.playfield o.missile1 o.playfield m1 pf) (pair-within l.missile1 l.ball o.missile1 o.ball m1 bl)
-      (pair-within l.ball l.playfield o.ball o.playfield bl pf)
-      (pair-within l.player0 l.player1 o.player0 o.player1 p0 p1) (pair-within l.missile0 l.missile1 o.missile0 o.missile1 m0 m1))
+    (pair-within l.missile0 l.player1 o.missile0 o.player1 m0 p1) (pair-within l.missile0 l.player0 o.missile0 o.player0 m0 p0)
+    (pair-within l.missile1 l.player0 o.missile1 o.player0 m1 p0) (pair-within l.missile1 l.player1 o.missile1 o.player1 m1 p1)
+    (pair-within l.player0 l.playfield o.player0 o.playfield p0 pf) (pair-within l.player0 l.ball o.player0 o.ball p0 bl)
+    (pair-within l.player1 l.playfield o.player1 o.playfield p1 pf) (pair-within l.player1 l.ball o.player1 o.ball p1 bl)
+    (pair-within l.missile0 l.playfield o.missile0 o.playfield m0 pf) (pair-within l.missile0 l.ball o.missile0 o.ball m0 bl)
+    (pair-within l.missile1 l.playfield o.missile1 o.playfield m1 pf) (pair-within l.missile1 l.ball o.missile1 o.ball m1 bl)
+    (pair-within l.ball l.playfield o.ball o.playfield bl pf)
+    (pair-within l.player0 l.player1 o.player0 o.player1 p0 p1) (pair-within l.missile0 l.missile1 o.missile0 o.missile1 m0 m1))
   where
     same-list : {a b c d e f g h i j k l m n o a' b' c' d' e' f' g' h' i' j' k' l' m' n' o' : Bool}
         → a ≡ a' → b ≡ b' → c ≡ c' → d ≡ d' → e ≡ e' → f ≡ f' → g ≡ g' → h ≡ h' → i ≡ i' → j ≡ j' → k ≡ k' → l ≡ l' → m ≡ m' → n ≡ n' → o ≡ o'

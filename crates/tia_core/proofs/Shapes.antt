@@ -108,8 +108,8 @@ is_shown_at-empty width reflected d =
 pub player-unseen : (mode : ℕ) (reflected : Bool) (graphic position x : ℕ) → (not (graphic == 0) || player_covers mode reflected graphic position x) ≡ not (graphic == 0)
 player-unseen mode reflected graphic position x = elim (cases_eq graphic 0) [
   | inl e ↦ rw e
-    (list_any-none (λ copy. is_shown_at (width_of mode) reflected 0 (distance_of x position copy)) (copies_of mode)
-    (λ copy. is_shown_at-empty (width_of mode) reflected (distance_of x position copy)))
+      (list_any-none (λ copy. is_shown_at (width_of mode) reflected 0 (distance_of x position copy)) (copies_of mode)
+      (λ copy. is_shown_at-empty (width_of mode) reflected (distance_of x position copy)))
   | inr ne ↦ (let f : (graphic == 0) ≡ false = grind (arith, nat_tests) in rw f refl)
 ]
 
@@ -132,9 +132,9 @@ playfield-clear i = either (nat_lt i 4) (nat_lt i 12) where
 pub playfield-unseen : (pf0 pf1 pf2 i : ℕ) → (not (bit_or (bit_or pf0 pf1) pf2 == 0) || playfield_bit pf0 pf1 pf2 i) ≡ not (bit_or (bit_or pf0 pf1) pf2 == 0)
 playfield-unseen pf0 pf1 pf2 i = elim (cases_eq (bit_or (bit_or pf0 pf1) pf2) 0) [
   | inl e ↦
-    (let a : pf0 ≡ 0 = omega (arith, le_or_l pf0 pf1, le_or_l (bit_or pf0 pf1) pf2) in
-    let b : pf1 ≡ 0 = omega (arith, le_or_r pf0 pf1, le_or_l (bit_or pf0 pf1) pf2) in
-    let c : pf2 ≡ 0 = omega (arith, le_or_r (bit_or pf0 pf1) pf2) in
-    rw (a, b, c) (playfield-clear i))
+      (let a : pf0 ≡ 0 = omega (arith, le_or_l pf0 pf1, le_or_l (bit_or pf0 pf1) pf2) in
+      let b : pf1 ≡ 0 = omega (arith, le_or_r pf0 pf1, le_or_l (bit_or pf0 pf1) pf2) in
+      let c : pf2 ≡ 0 = omega (arith, le_or_r (bit_or pf0 pf1) pf2) in
+      rw (a, b, c) (playfield-clear i))
   | inr ne ↦ (let f : (bit_or (bit_or pf0 pf1) pf2 == 0) ≡ false = grind (arith, nat_tests) in rw f refl)
 ]

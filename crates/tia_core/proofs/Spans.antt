@@ -28,6 +28,7 @@ clocked-inside : (s : TiaState) → 68 ≤ s.fields.clock → s.fields.clock < 2
 clocked-inside s h k = rw (nat_lt_no, eq_no) refl where
   nat_lt_no : nat_lt s.fields.clock 68 ≡ false
   nat_lt_no = grind (arith, nat_tests)
+
   eq_no : (s.fields.clock == 227) ≡ false
   eq_no = grind (arith, nat_tests)
 
@@ -57,6 +58,7 @@ clocked-last : (s : TiaState) → s.fields.clock ≡ 227 → clocked s ≡ recor
 clocked-last s h = rw (no, yes) refl where
   no : nat_lt s.fields.clock 68 ≡ false
   no = grind (arith, nat_tests)
+
   yes : (s.fields.clock == 227) ≡ true
   yes = grind (arith, nat_tests)
 
@@ -99,8 +101,9 @@ sweep : (k : ℕ) (s : TiaState) → 68 ≤ s.fields.clock → s.fields.clock < 
 unfolding or_from
 sweep zero s lo hi fits = sym (swept-none s hi)
 sweep (suc k) s lo hi fits = elim (at_end s hi) [
-    inl h ↦ sweep-last k s h fits
-    | inr h ↦ sweep-more k s lo h (sweep k (inside_line s) (omega arith) (omega arith) (omega arith)) ]
+  | inl h ↦ sweep-last k s h fits
+  | inr h ↦ sweep-more k s lo h (sweep k (inside_line s) (omega arith) (omega arith) (omega arith))
+]
 
 pixels-last : (k : ℕ) (s : TiaState) → 68 ≤ s.fields.clock → s.fields.clock ≡ 227 → s.fields.clock + suc k ≤ 228 → pixels (suc k) s ≡ span_pixels s.fields s.line (s.fields.clock - 68) (suc k)
 pixels-last zero s lo h fits = ap (λ (ps : List Pixel). ps ++ []) (pixels_of-visible s lo)
@@ -112,7 +115,7 @@ unfolding with_place
 pixels-more k s lo lt ih =
     let next : s.fields.clock + 1 - 68 ≡ s.fields.clock - 68 + 1 = omega arith in
     let rest : pixels k (clocked s) ≡ span_pixels s.fields s.line (s.fields.clock - 68 + 1) k =
-      ap (pixels k) (clocked-inside s lo lt) ∙ ih ∙ rw next (span_pixels-placed s.fields (bit_or s.fields.collisions (pairs_of (objects_at s.fields (s.fields.clock - 68)))) (s.fields.clock + 1) s.line (s.fields.clock - 68 + 1) k) in
+    ap (pixels k) (clocked-inside s lo lt) ∙ ih ∙ rw next (span_pixels-placed s.fields (bit_or s.fields.collisions (pairs_of (objects_at s.fields (s.fields.clock - 68)))) (s.fields.clock + 1) s.line (s.fields.clock - 68 + 1) k) in
     ap (λ (ps : List Pixel). ps ++ pixels k (clocked s)) (pixels_of-visible s lo) ∙ ap (λ (ps : List Pixel). record { line = s.line; x = s.fields.clock - 68; colour = colour_at s.fields (objects_at s.fields (s.fields.clock - 68)) (s.fields.clock - 68) } ∷ ps) rest
 
 -- k clocks within a line
@@ -124,14 +127,16 @@ pub pixels-span : (k : ℕ) (s : TiaState) → 68 ≤ s.fields.clock → s.field
     → pixels k s ≡ span_pixels s.fields s.line (s.fields.clock - 68) k
 pixels-span zero s lo hi fits = refl
 pixels-span (suc k) s lo hi fits = elim (at_end s hi) [
-    inl h ↦ pixels-last k s lo h fits
-    | inr h ↦ pixels-more k s lo h (pixels-span k (inside_line s) (omega arith) (omega arith) (omega arith)) ]
+  | inl h ↦ pixels-last k s lo h fits
+  | inr h ↦ pixels-more k s lo h (pixels-span k (inside_line s) (omega arith) (omega arith) (omega arith))
+]
 
 -- clocks of the blank change the beam's place alone
 clocked-blank : (s : TiaState) → s.fields.clock < 68 → clocked s ≡ record s { fields = record s.fields { clock = s.fields.clock + 1 } }
 clocked-blank s h = rw (yes, no) refl where
   yes : nat_lt s.fields.clock 68 ≡ true
   yes = grind (arith, nat_tests)
+
   no : (s.fields.clock == 227) ≡ false
   no = grind (arith, nat_tests)
 

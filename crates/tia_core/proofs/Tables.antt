@@ -29,6 +29,7 @@ holds-below test zero k h lt = absurd (omega arith)
 holds-below test (suc n) k h lt = split (test n) refl (last_or_before k n lt) (λ q p. holds-below test n k q p) h where
   last_or_before : (k n : ℕ) → k < suc n → (k ≡ n) ⊎ (k < n)
   last_or_before k n lt = grind arith
+
   split : (b : Bool) → test n ≡ b → ((k ≡ n) ⊎ (k < n)) → (holds_below test n ≡ true → k < n → test k ≡ true) → (b && holds_below test n) ≡ true → test k ≡ true
   split true e (inl p) ih q = ap test p ∙ e
   split true e (inr p) ih q = ih q p
@@ -48,8 +49,10 @@ below table most h n p = let e = holds-below (λ n. nat_lt (slice_index_or table
 
 abbrev pub reversed_table : List ℕ
 reversed_table = 0x0 ∷ 0x8 ∷ 0x4 ∷ 0xC ∷ 0x2 ∷ 0xA ∷ 0x6 ∷ 0xE ∷ 0x1 ∷ 0x9 ∷ 0x5 ∷ 0xD ∷ 0x3 ∷ 0xB ∷ 0x7 ∷ 0xF ∷ []
+
 abbrev pub doubled_table : List ℕ
 doubled_table = 0x00 ∷ 0x03 ∷ 0x0C ∷ 0x0F ∷ 0x30 ∷ 0x33 ∷ 0x3C ∷ 0x3F ∷ 0xC0 ∷ 0xC3 ∷ 0xCC ∷ 0xCF ∷ 0xF0 ∷ 0xF3 ∷ 0xFC ∷ 0xFF ∷ []
+
 abbrev pub quadrupled_table : List ℕ
 quadrupled_table = 0x0000 ∷ 0x000F ∷ 0x00F0 ∷ 0x00FF ∷ 0x0F00 ∷ 0x0F0F ∷ 0x0FF0 ∷ 0x0FFF ∷ 0xF000 ∷ 0xF00F ∷ 0xF0F0 ∷ 0xF0FF ∷ 0xFF00 ∷ 0xFF0F ∷ 0xFFF0 ∷ 0xFFFF ∷ []
 
@@ -120,5 +123,6 @@ row_shows width reflected graphic dots row d h p q r = elim (order d width) [
 ] where
   order : (k w : ℕ) → (k < w) ⊎ (w ≤ k)
   order k w = grind arith
+
   inside : (b : Bool) → (if b then d / (width / 8) else 7 - d / (width / 8)) ≡ (if b then d / (width / 8) else 7 - d / (width / 8))
   inside b = refl

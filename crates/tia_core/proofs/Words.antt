@@ -108,14 +108,17 @@ or-false false = refl
 -- the words of a mask in which a row was placed
 pub word_bit-placed : (words : List ℕ) (row at x : ℕ) → length words ≡ 5 → row < 2 ^ 32 → at < 160 → x < 160
     → word_bit (placed words (at / 32) (row * 2 ^ (at % 32) % 18446744073709551616 % 4294967296) ((at / 32 + 1) % 5) (row * 2 ^ (at % 32) % 18446744073709551616 / 4294967296)) x
-      ≡ (word_bit words x || bit row (distance_of x at 0))
+    ≡ (word_bit words x || bit row (distance_of x at 0))
 word_bit-placed words row at x len h p q = rw (shifted-fits row (at % 32) h (omega arith)) (at_word (where_is (x / 32) (at / 32))) where
   low : ℕ
   low = row * 2 ^ (at % 32) % 2 ^ 32
+
   high : ℕ
   high = row * 2 ^ (at % 32) / 2 ^ 32
+
   where_is : (i w : ℕ) → (i ≡ w) ⊎ ((i ≡ (w + 1) % 5) ⊎ ((i ≢ w) × (i ≢ (w + 1) % 5)))
   where_is i w = grind arith
+
   at_word : ((x / 32 ≡ at / 32) ⊎ ((x / 32 ≡ (at / 32 + 1) % 5) ⊎ ((x / 32 ≢ at / 32) × (x / 32 ≢ (at / 32 + 1) % 5))))
       → word_bit (placed words (at / 32) low ((at / 32 + 1) % 5) high) x ≡ (word_bit words x || bit row (distance_of x at 0))
   at_word (inl e) =
@@ -126,7 +129,7 @@ word_bit-placed words row at x len h p q = rw (shifted-fits row (at % 32) h (ome
       ap (λ (n : ℕ). bit n (x % 32)) (placed-second words (at / 32) low ((at / 32 + 1) % 5) high (x / 32) (omega arith) (omega arith) e)
       ∙ bit_or-is (slice_index_or words (x / 32) 0) high (x % 32)
       ∙ ap (λ (b : Bool). word_bit words x || b) (high_word row (at % 32) (x % 32) x at h p q refl refl e)
-  at_word (inr (inr (ne , ne2))) =
+  at_word (inr (inr (ne, ne2))) =
       ap (λ (n : ℕ). bit n (x % 32)) (placed-other words (at / 32) low ((at / 32 + 1) % 5) high (x / 32) ne ne2)
       ∙ or-false (word_bit words x)
       ∙ ap (λ (b : Bool). word_bit words x || b) (sym (other_word row x at h p q ne ne2))
@@ -175,7 +178,7 @@ common-some ws vs us i h small some =
     let in_line : x < 160 = omega arith in
     let e : x / 32 ≡ i = omega arith in
     let f : x % 32 ≡ k = omega arith in
-    (x , in_line , sym (common-at ws vs us i k x e f in_line) ∙ ap (λ (b : ℕ). b == 1) t.1)
+    (x, in_line, sym (common-at ws vs us i k x e f in_line) ∙ ap (λ (b : ℕ). b == 1) t.1)
 
 pub common-none : (ws vs us : List ℕ) (i x : ℕ) → common ws vs us i ≡ 0 → x / 32 ≡ i → x < 160
     → (covers (pixels_in ws) x && covers (pixels_in vs) x && covers (pixels_in us) x) ≡ false
@@ -247,13 +250,14 @@ any_from-some test x (suc k) y le lt e = split (test x) refl (λ le2. any_from-s
   split false f ih = ih (later (first_or_later x y le)) where
     first_or_later : (x y : ℕ) → x ≤ y → (y ≡ x) ⊎ (x + 1 ≤ y)
     first_or_later x y le = grind arith
+
     later : ((y ≡ x) ⊎ (x + 1 ≤ y)) → x + 1 ≤ y
     later (inl p) = let q : true ≡ false = sym e ∙ ap test p ∙ f in cc
     later (inr p) = p
 
 -- a test that is tried within a stretch alone
 and3-true : (a b c : Bool) → (a && b && c) ≡ true → ((a && b) ≡ true) × (c ≡ true)
-and3-true true true true h = (refl , refl)
+and3-true true true true h = (refl, refl)
 and3-true true true false h = cc
 and3-true true false c h = cc
 and3-true false b c h = cc
@@ -271,7 +275,7 @@ stretch-in from to x p q = grind (arith, nat_tests)
 
 pub meets-some : (a b w : List Bool) (from to : ℕ) → ((x : ℕ) → x < 160 → covers w x ≡ (nat_le from x && nat_lt x to))
     → ((x : ℕ) × (x < 160) × ((covers a x && covers b x && covers w x) ≡ true)) → any_from (λ x. covers a x && covers b x) from (to - from) ≡ true
-meets-some a b w from to within (x , h , e) =
+meets-some a b w from to within (x, h, e) =
     let both = and3-true (covers a x) (covers b x) (covers w x) e in
     let place = in-stretch from to x (sym (within x h) ∙ both.1) in
     any_from-some (λ x. covers a x && covers b x) from (to - from) x place.0 (omega arith) both.0
@@ -280,7 +284,7 @@ pub meets-none : (a b w : List Bool) (from to : ℕ) → to ≤ 160 → ((x : �
     → ((x : ℕ) → x < 160 → (covers a x && covers b x && covers w x) ≡ false) → any_from (λ x. covers a x && covers b x) from (to - from) ≡ false
 meets-none a b w from to most within h =
     any_from-none (λ x. covers a x && covers b x) from (to - from) (λ x le lt.
-      and3-false (covers a x) (covers b x) (covers w x) (h x (omega arith)) (within x (omega arith) ∙ stretch-in from to x le (omega arith)))
+    and3-false (covers a x) (covers b x) (covers w x) (h x (omega arith)) (within x (omega arith) ∙ stretch-in from to x le (omega arith)))
 
 -- whether masks meet is decided by these two
 pub meets-is : (result : Bool) (a b w : List Bool) (from to : ℕ) → to ≤ 160 → ((x : ℕ) → x < 160 → covers w x ≡ (nat_le from x && nat_lt x to))
@@ -293,7 +297,7 @@ meets-is false a b w from to most within some none = sym (meets-none a b w from 
 -- ---- two of six
 pub crowd-bit : (a b c d e f k : ℕ)
     → bit (bit_or (bit_or (bit_or (bit_or (bit_and a b) (bit_and (bit_or a b) c)) (bit_and (bit_or (bit_or a b) c) d)) (bit_and (bit_or (bit_or (bit_or a b) c) d) e)) (bit_and (bit_or (bit_or (bit_or (bit_or a b) c) d) e) f)) k
-      ≡ is_crowd (bit a k) (bit b k) (bit c k) (bit d k) (bit e k) (bit f k)
+    ≡ is_crowd (bit a k) (bit b k) (bit c k) (bit d k) (bit e k) (bit f k)
 crowd-bit a b c d e f k = simp (bit_or-is, bit_and-is)
 
 and-true : (a b : Bool) → (a && b) ≡ false → b ≡ true → a ≡ false

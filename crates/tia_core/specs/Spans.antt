@@ -14,14 +14,19 @@ use Rattle.tia_core.specs.declared.register.Register.TheVariants.{Nusiz0, Nusiz1
 -- the objects, one by one
 abbrev pub p0 : Objects → Bool
 p0 o = o.player0
+
 abbrev pub p1 : Objects → Bool
 p1 o = o.player1
+
 abbrev pub m0 : Objects → Bool
 m0 o = o.missile0
+
 abbrev pub m1 : Objects → Bool
 m1 o = o.missile1
+
 abbrev pub bl : Objects → Bool
 bl o = o.ball
+
 abbrev pub pf : Objects → Bool
 pf o = o.playfield
 

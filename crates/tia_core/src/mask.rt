@@ -109,12 +109,7 @@ impl Mask {
     {
         for i in from as usize / 32..(to as usize + 31) / 32 {
             let twice = crowd(
-                a.words[i],
-                b.words[i],
-                c.words[i],
-                d.words[i],
-                e.words[i],
-                f.words[i],
+                a.words[i], b.words[i], c.words[i], d.words[i], e.words[i], f.words[i],
             );
             if touch(twice, ones(from, to, 32 * i as u8)) {
                 return true;

@@ -12,7 +12,7 @@ use crate::collision::{number_of, with_pairs};
 use crate::colour::colour_at;
 use crate::fields::TiaFields;
 use crate::mask::Mask;
-use crate::objects::{is_shown, shown, size, Objects};
+use crate::objects::{Objects, is_shown, shown, size};
 use crate::paint::Paint;
 use crate::register::Register;
 use crate::shape::{ball_mask, missile_mask, player_mask, playfield_mask};
@@ -309,7 +309,11 @@ fn renew_ball(mask: &mut Mask, stale: bool, t: &TiaFields)
     ensures { IsMaskOf t.now bl mask.new }
 {
     if stale {
-        *mask = ball(shown(t.vdelbl, t.enabl_old, t.enabl_new), t.ctrlpf, t.position_bl);
+        *mask = ball(
+            shown(t.vdelbl, t.enabl_old, t.enabl_new),
+            t.ctrlpf,
+            t.position_bl,
+        );
     }
 }
 
@@ -357,17 +361,56 @@ pub fn touched_by(register: Register) -> Objects
     ensures { result ≡ touched_by register }
 {
     match register {
-        Register::Nusiz0 => Objects { player0: true, missile0: true, ..NOTHING },
-        Register::Nusiz1 => Objects { player1: true, missile1: true, ..NOTHING },
-        Register::Ctrlpf => Objects { ball: true, playfield: true, ..NOTHING },
-        Register::Refp0 | Register::Resp0 | Register::Vdelp0 => Objects { player0: true, ..NOTHING },
-        Register::Refp1 | Register::Resp1 | Register::Vdelp1 => Objects { player1: true, ..NOTHING },
-        Register::Pf0 | Register::Pf1 | Register::Pf2 => Objects { playfield: true, ..NOTHING },
-        Register::Resm0 | Register::Enam0 | Register::Resmp0 => Objects { missile0: true, ..NOTHING },
-        Register::Resm1 | Register::Enam1 | Register::Resmp1 => Objects { missile1: true, ..NOTHING },
-        Register::Resbl | Register::Enabl | Register::Vdelbl => Objects { ball: true, ..NOTHING },
-        Register::Grp0 => Objects { player0: true, player1: true, ..NOTHING },
-        Register::Grp1 => Objects { player0: true, player1: true, ball: true, ..NOTHING },
+        Register::Nusiz0 => Objects {
+            player0: true,
+            missile0: true,
+            ..NOTHING
+        },
+        Register::Nusiz1 => Objects {
+            player1: true,
+            missile1: true,
+            ..NOTHING
+        },
+        Register::Ctrlpf => Objects {
+            ball: true,
+            playfield: true,
+            ..NOTHING
+        },
+        Register::Refp0 | Register::Resp0 | Register::Vdelp0 => Objects {
+            player0: true,
+            ..NOTHING
+        },
+        Register::Refp1 | Register::Resp1 | Register::Vdelp1 => Objects {
+            player1: true,
+            ..NOTHING
+        },
+        Register::Pf0 | Register::Pf1 | Register::Pf2 => Objects {
+            playfield: true,
+            ..NOTHING
+        },
+        Register::Resm0 | Register::Enam0 | Register::Resmp0 => Objects {
+            missile0: true,
+            ..NOTHING
+        },
+        Register::Resm1 | Register::Enam1 | Register::Resmp1 => Objects {
+            missile1: true,
+            ..NOTHING
+        },
+        Register::Resbl | Register::Enabl | Register::Vdelbl => Objects {
+            ball: true,
+            ..NOTHING
+        },
+        Register::Grp0 => Objects {
+            player0: true,
+            player1: true,
+            ..NOTHING
+        },
+        Register::Grp1 => Objects {
+            player0: true,
+            player1: true,
+            ball: true,
+            ..NOTHING
+        },
         Register::Hmove => Objects {
             player0: true,
             player1: true,

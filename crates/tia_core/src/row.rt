@@ -59,7 +59,11 @@ pub fn quadrupled(byte: u8) -> u32
 pub fn player_dots(reflected: bool, graphic: u8) -> u8
     ensures { (k : ℕ) → k < 8 → bit result k ≡ bit graphic (if reflected then k else 7 - k) }
 {
-    if reflected { graphic } else { reversed(graphic) }
+    if reflected {
+        graphic
+    } else {
+        reversed(graphic)
+    }
 }
 
 /// A copy of a player, from its first pixel on.

@@ -82,7 +82,11 @@ fn mirrored_half(pf0: u8, pf1: u8, pf2: u8) -> u32
 fn right_half(pf0: u8, pf1: u8, pf2: u8, mirrored: bool) -> u32
     ensures { (i : ℕ) → i < 20 → bit result i ≡ playfield_bit pf0 pf1 pf2 (if mirrored then 19 - i else i) }
 {
-    if mirrored { mirrored_half(pf0, pf1, pf2) } else { left_half(pf0, pf1, pf2) }
+    if mirrored {
+        mirrored_half(pf0, pf1, pf2)
+    } else {
+        left_half(pf0, pf1, pf2)
+    }
 }
 
 /// The mask of the playfield.

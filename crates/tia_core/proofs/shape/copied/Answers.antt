@@ -13,7 +13,7 @@ loop-copy-preserved c = λ x h.
     let items : List ℕ = c.copies-copy-items.result.now in
     let i : ℕ = c.loop-copy.copy-index in
     let place : distance_of x c.right_of.result 0 ≡ distance_of x c.args.position (slice_index_or items i 0) =
-      ap (λ (p : ℕ). distance_of x p 0) c.right_of.ensures.value ∙ distance_of-moved x c.args.position (slice_index_or items i 0) h c.requires in
+    ap (λ (p : ℕ). distance_of x p 0) c.right_of.ensures.value ∙ distance_of-moved x c.args.position (slice_index_or items i 0) h c.requires in
     c.place.ensures x h
     ∙ ap (λ (b : Bool). b || bit c.args.row (distance_of x c.right_of.result 0)) (c.loop-copy.invariant x h)
     ∙ ap (λ (d : ℕ). list_any test (take i items) || bit c.args.row d) place

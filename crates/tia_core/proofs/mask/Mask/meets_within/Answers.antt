@@ -15,5 +15,5 @@ pub loop-i-preserved : goal.loop-i-preserved
 loop-i-preserved c = λ x h lt. elim (earlier_or_here x c.loop-i.i lt) [
   | inl before ↦ c.loop-i.invariant x h before
   | inr here ↦ rw (← c.self.view_is, ← c.other.view_is, ← c.within.view_is)
-    (common-none c.self.inside.words c.other.inside.words c.within.inside.words c.loop-i.i x (c.overlap.ensures.none c.if-overlap.false) here h)
+      (common-none c.self.inside.words c.other.inside.words c.within.inside.words c.loop-i.i x (c.overlap.ensures.none c.if-overlap.false) here h)
 ]

@@ -11,6 +11,6 @@ returns-then-t-self-clause-value c =
 pub returns-else-are_crowded-clause-value : goal.returns-else-are_crowded-clause-value
 returns-else-are_crowded-clause-value c =
     span-none c.args.t.now c.args.t.now.collisions c.args.from (c.args.to - c.args.from) (λ y le lt.
-      let h : y < 160 = omega arith in
-      ap pairs_of (sym (objects_in-fit c.args.t.now c.renew.new.self y c.renew.ensures.fit c.renew.ensures.fresh h))
-      ∙ c.are_crowded.ensures c.if-are_crowded.false y le (omega arith))
+    let h : y < 160 = omega arith in
+    ap pairs_of (sym (objects_in-fit c.args.t.now c.renew.new.self y c.renew.ensures.fit c.renew.ensures.fresh h))
+    ∙ c.are_crowded.ensures c.if-are_crowded.false y le (omega arith))

@@ -11,19 +11,21 @@ use Rattle.tia_core.proofs.objects.Objects.live.Goals as goal
 -- what may be seen, and what is
 live-joined : (t : TiaFields) (x : ℕ)
     → joined (record {
-        player0 = not (shown_of t.vdelp0 t.grp0_old t.grp0_new == 0);
-        player1 = not (shown_of t.vdelp1 t.grp1_old t.grp1_new == 0);
-        missile0 = bit t.enam0 1 && not (bit t.resmp0 1);
-        missile1 = bit t.enam1 1 && not (bit t.resmp1 1);
-        ball = bit (shown_of t.vdelbl t.enabl_old t.enabl_new) 1;
-        playfield = not (bit_or (bit_or t.pf0 t.pf1) t.pf2 == 0) }) (objects_at t x)
-      ≡ record {
-        player0 = not (shown_of t.vdelp0 t.grp0_old t.grp0_new == 0);
-        player1 = not (shown_of t.vdelp1 t.grp1_old t.grp1_new == 0);
-        missile0 = bit t.enam0 1 && not (bit t.resmp0 1);
-        missile1 = bit t.enam1 1 && not (bit t.resmp1 1);
-        ball = bit (shown_of t.vdelbl t.enabl_old t.enabl_new) 1;
-        playfield = not (bit_or (bit_or t.pf0 t.pf1) t.pf2 == 0) }
+      player0 = not (shown_of t.vdelp0 t.grp0_old t.grp0_new == 0);
+      player1 = not (shown_of t.vdelp1 t.grp1_old t.grp1_new == 0);
+      missile0 = bit t.enam0 1 && not (bit t.resmp0 1);
+      missile1 = bit t.enam1 1 && not (bit t.resmp1 1);
+      ball = bit (shown_of t.vdelbl t.enabl_old t.enabl_new) 1;
+      playfield = not (bit_or (bit_or t.pf0 t.pf1) t.pf2 == 0);
+    }) (objects_at t x)
+    ≡ record {
+      player0 = not (shown_of t.vdelp0 t.grp0_old t.grp0_new == 0);
+      player1 = not (shown_of t.vdelp1 t.grp1_old t.grp1_new == 0);
+      missile0 = bit t.enam0 1 && not (bit t.resmp0 1);
+      missile1 = bit t.enam1 1 && not (bit t.resmp1 1);
+      ball = bit (shown_of t.vdelbl t.enabl_old t.enabl_new) 1;
+      playfield = not (bit_or (bit_or t.pf0 t.pf1) t.pf2 == 0);
+    }
 unfolding objects_at
 live-joined t x = rw (
   player-unseen (t.nusiz0 % 8) (bit t.refp0 3) (shown_of t.vdelp0 t.grp0_old t.grp0_new) t.position_p0 x,
@@ -31,7 +33,8 @@ live-joined t x = rw (
   missile-unseen (bit t.enam0 1) (not (bit t.resmp0 1)) (missile_covers (t.nusiz0 % 8) (size_of t.nusiz0) t.position_m0 x),
   missile-unseen (bit t.enam1 1) (not (bit t.resmp1 1)) (missile_covers (t.nusiz1 % 8) (size_of t.nusiz1) t.position_m1 x),
   shown-or (bit (shown_of t.vdelbl t.enabl_old t.enabl_new) 1) (ball_covers (size_of t.ctrlpf) t.position_bl x),
-  playfield-unseen t.pf0 t.pf1 t.pf2 (playfield_index (bit t.ctrlpf 0) x)) refl
+  playfield-unseen t.pf0 t.pf1 t.pf2 (playfield_index (bit t.ctrlpf 0) x),
+) refl
 
 pub returns : goal.returns
 returns c = λ x.

@@ -7,10 +7,10 @@ use Rattle.tia_core.proofs.Spans.{span-wraps, span-stays, span-sink}
 use Rattle.tia_core.proofs.tia.Tia.pass_visible.Goals as goal
 
 pub invariant_of-self : goal.invariant_of-self
-invariant_of-self g c = (search rules , fit-placed c.self.inside.fields _ _ _ _ c.latched-self-inside.ensures.fit)
+invariant_of-self g c = (search rules, fit-placed c.self.inside.fields _ _ _ _ c.latched-self-inside.ensures.fit)
 
 pub invariant_of-self-else-to : goal.invariant_of-self-else-to
-invariant_of-self-else-to g c = (search rules , fit-placed c.self.inside.fields _ _ _ _ c.latched-self-inside.ensures.fit)
+invariant_of-self-else-to g c = (search rules, fit-placed c.self.inside.fields _ _ _ _ c.latched-self-inside.ensures.fit)
 
 pub returns-then-to-clause-value : goal.returns-then-to-clause-value
 returns-then-to-clause-value g c =
