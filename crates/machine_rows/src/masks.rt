@@ -1,5 +1,5 @@
 //! Worked examples of masks, and of clocks in one call and in many.
-ghost use Rattle.std.specs.Prelude.{◌≡◌, ◌<◌, ◌≤◌, nat_lt, slice_set, if◌then◌else◌};
+ghost use Rattle.std.specs.Prelude.{◌≡◌, ◌≤◌, nat_lt, slice_set, if◌then◌else◌};
 
 use std::test::Fail;
 use tia_core::fields::TiaFields;
@@ -7,7 +7,7 @@ use tia_core::mask::Mask;
 use tia_core::paint::Paint;
 use tia_core::tia::Tia;
 
-/// The pixels that were put last in a line, and how many were put.
+/// A line's pixels, as they were put last.
 #[derive(Clone, Copy)]
 struct Row {
     pixels: [u8; 160],
@@ -116,7 +116,10 @@ fn players_are_their_bits(rt: HostRuntime) -> Result<(), Fail> {
                     fields.grp1_new = graphic;
                     fields.refp1 = if reflected { 0x08 } else { 0x00 };
                     let row = player(mode, reflected, graphic, position);
-                    assert!(rt; row_of(&made(fields)?.mask(1)) == row, "{mode} {position} {graphic}");
+                    assert!(rt;
+                        row_of(&made(fields)?.mask(1)) == row,
+                        "{mode} {position} {graphic}"
+                    );
                 }
             }
         }
