@@ -10,7 +10,7 @@ use crate::mode::Mode;
 use crate::registers::Cpu;
 
 /// A byte of an instruction, a pointer or a vector, or the fault that none is there.
-#[inline]
+#[inline(always)]
 pub fn byte<B: Bus>(bus: &B, at: u16) -> Result<u8, CpuFault>
     ensures { result ≡ byte_at B.meaning (B.state bus.now) at }
 {
@@ -18,7 +18,7 @@ pub fn byte<B: Bus>(bus: &B, at: u16) -> Result<u8, CpuFault>
 }
 
 /// The number of two bytes, its low one looked at first.
-#[inline]
+#[inline(always)]
 pub fn word<B: Bus>(bus: &B, low: u16, high: u16) -> Result<u16, CpuFault>
     ensures { result ≡ word_at B.meaning (B.state bus.now) low high }
 {
@@ -28,7 +28,7 @@ pub fn word<B: Bus>(bus: &B, low: u16, high: u16) -> Result<u16, CpuFault>
 }
 
 /// The pointer at a place in page zero, where it wraps.
-#[inline]
+#[inline(always)]
 fn pointer<B: Bus>(bus: &B, at: u8) -> u16
     ensures { result ≡ pointer_at B.meaning (B.state bus.now) at }
 {
@@ -36,7 +36,7 @@ fn pointer<B: Bus>(bus: &B, at: u8) -> u16
 }
 
 /// An address with an index added, modulo 65,536.
-#[inline]
+#[inline(always)]
 fn indexed(base: u16, index: u16) -> Operand
     ensures { result ≡ indexed_by base index }
 {
@@ -48,7 +48,7 @@ fn indexed(base: u16, index: u16) -> Operand
 }
 
 /// The target of a branch from the next instruction's address.
-#[inline]
+#[inline(always)]
 fn branch(base: u16, offset: u8) -> Operand
     ensures { result ≡ branch_target base offset }
 {
@@ -61,7 +61,7 @@ fn branch(base: u16, offset: u8) -> Operand
 
 /// The next address of the same page, or its first one after its last.
 #[tactic(auto, using(crate::proofs::OperandLemmas::page_next))]
-#[inline]
+#[inline(always)]
 fn next_in_page(at: u16) -> u16
     ensures { result ≡ next_in_page_of at }
 {
@@ -69,7 +69,7 @@ fn next_in_page(at: u16) -> u16
 }
 
 /// A place that was reached with no index.
-#[inline]
+#[inline(always)]
 pub fn place(address: u16) -> Operand
     ensures { result ≡ Operand.Place address false }
 {
@@ -80,7 +80,7 @@ pub fn place(address: u16) -> Operand
 }
 
 /// The operand by its addressing mode.
-#[inline]
+#[inline(always)]
 pub fn named<B: Bus>(cpu: &Cpu, bus: &B, mode: Mode) -> Result<Operand, CpuFault>
     ensures { result ≡ named_by B.meaning (B.state bus.now) cpu.now mode }
 {

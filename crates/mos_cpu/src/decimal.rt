@@ -10,7 +10,7 @@ use crate::arithmetic::Alu;
 use crate::status::{Flag, has, with_flag};
 
 /// The sum of the low digits with carry, and 16 where they carry.
-#[inline]
+#[inline(always)]
 const fn low_digits(a: u8, m: u8, p: u8) -> u8
     ensures { result ≡ low_sum a m p }
 {
@@ -23,7 +23,7 @@ const fn low_digits(a: u8, m: u8, p: u8) -> u8
 }
 
 /// The sum of both digits with carry, before the high one is corrected.
-#[inline]
+#[inline(always)]
 const fn decimal_sum(a: u8, m: u8, p: u8) -> u16
     ensures value { result ≡ decimal_sum_of a m p }
     ensures bound { result < 512 }
@@ -32,7 +32,7 @@ const fn decimal_sum(a: u8, m: u8, p: u8) -> u16
 }
 
 /// A sum with its high digit in decimal.
-#[inline]
+#[inline(always)]
 const fn corrected(sum: u16) -> u16
     requires { sum < 512 }
     ensures { result ≡ corrected_of sum }
@@ -42,7 +42,7 @@ const fn corrected(sum: u16) -> u16
 
 /// The status with Z of the binary sum.
 #[tactic(auto, using(crate::proofs::DecimalLemmas::carried, crate::proofs::StatusLemmas::and_one))]
-#[inline]
+#[inline(always)]
 const fn with_binary_zero(a: u8, m: u8, p: u8) -> u8
     ensures value { result ≡ put_flag Flag.Zero (sum_of a m p % 256 == 0) p }
     ensures status { result / 16 % 4 ≡ p / 16 % 4 }
@@ -53,6 +53,7 @@ const fn with_binary_zero(a: u8, m: u8, p: u8) -> u8
 
 /// The decimal sum, with C of itself, N and V of the sum before its correction, and Z of the binary
 /// sum.
+#[inline(never)]
 pub const fn decimal_adc(a: u8, m: u8, p: u8) -> Alu
     ensures result { result ≡ decimal_adc_of a m p }
     ensures status { result.p / 16 % 4 ≡ p / 16 % 4 }
@@ -75,7 +76,7 @@ pub const fn decimal_adc(a: u8, m: u8, p: u8) -> Alu
 
 /// A low digit that lacks what is taken from it: 6 less, modulo 16.
 #[tactic(auto, using(crate::proofs::DecimalLemmas::digit_modulo))]
-#[inline]
+#[inline(always)]
 const fn lacking_digit(have: u8, taken: u8) -> u8
     requires digit { taken ≤ 16 }
     requires lacks { have < taken }
@@ -86,7 +87,7 @@ const fn lacking_digit(have: u8, taken: u8) -> u8
 }
 
 /// The difference of the low digits with borrow, and the 16 that it borrows or 0.
-#[inline]
+#[inline(always)]
 const fn low_difference(a: u8, m: u8, p: u8) -> (u8, u8)
     ensures difference { pos result.0 -ℤ pos result.1 ≡ low_difference_of a m p }
     ensures digit { result.0 < 16 }
@@ -102,6 +103,7 @@ const fn low_difference(a: u8, m: u8, p: u8) -> (u8, u8)
 }
 
 /// The decimal difference with borrow: a digit that lacks borrows from the next, and is 6 less.
+#[inline(never)]
 pub const fn decimal_sub(a: u8, m: u8, p: u8) -> u8
     ensures { result ≡ decimal_difference a m p }
 {

@@ -13,7 +13,7 @@ use crate::status::{Flag, pulled_status, with_flag};
 use crate::sums::{adc, sbc};
 
 /// A byte that was read, or 0.
-#[inline]
+#[inline(always)]
 pub fn byte_of(bytes: &[u8], i: usize) -> u8
     ensures { result ≡ slice_index bytes.now i }
 {
@@ -21,7 +21,7 @@ pub fn byte_of(bytes: &[u8], i: usize) -> u8
 }
 
 /// The number of two bytes that were read, its low one first.
-#[inline]
+#[inline(always)]
 fn word_of(bytes: &[u8], i: usize) -> u16
     requires { i < 3 }
     ensures { result ≡ word_in bytes.now i }
@@ -30,7 +30,7 @@ fn word_of(bytes: &[u8], i: usize) -> u16
 }
 
 /// A changed operand: in A, or in memory, where only the status is left to change.
-#[inline]
+#[inline(always)]
 fn keep(operand: Operand, cpu: Cpu, outcome: Alu) -> Cpu
     requires { IsStatus outcome.p }
     ensures { result ≡ kept operand cpu outcome }
@@ -43,7 +43,7 @@ fn keep(operand: Operand, cpu: Cpu, outcome: Alu) -> Cpu
 
 /// The value that an operation works on: of a register, of the instruction, or the first byte that
 /// was read.
-#[inline]
+#[inline(always)]
 fn worked_value(operand: Operand, register: u8, bytes: &[u8]) -> u8
     ensures { result ≡ worked_on operand register bytes.now }
 {
@@ -55,6 +55,7 @@ fn worked_value(operand: Operand, register: u8, bytes: &[u8]) -> u8
 }
 
 /// The registers after an operation, from those with the next instruction's address.
+#[inline(always)]
 pub fn apply(operation: Operation, operand: Operand, cpu: Cpu, bytes: &[u8]) -> Cpu
     ensures { result ≡ effect operation operand cpu bytes.now }
 {

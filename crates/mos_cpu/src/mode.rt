@@ -23,7 +23,7 @@ pub enum Mode {
 
 impl Mode {
     /// The bytes of an instruction, its opcode included.
-    #[inline]
+    #[inline(always)]
     pub(crate) const fn length(self) -> u16
         ensures { result ≡ length_of self }
     {

@@ -8,7 +8,7 @@ use crate::opcode_row::Row;
 use crate::operation::Operation;
 
 /// A row whose indexing costs no more cycles.
-#[inline]
+#[inline(always)]
 const fn fixed(operation: Operation, mode: Mode, cycles: u8) -> Row
     ensures { result ≡ row_with operation mode cycles false }
 {
@@ -21,7 +21,7 @@ const fn fixed(operation: Operation, mode: Mode, cycles: u8) -> Row
 }
 
 /// A row with one more cycle where indexing crosses a page.
-#[inline]
+#[inline(always)]
 const fn indexed(operation: Operation, mode: Mode, cycles: u8) -> Row
     ensures { result ≡ row_with operation mode cycles true }
 {
@@ -35,7 +35,7 @@ const fn indexed(operation: Operation, mode: Mode, cycles: u8) -> Row
 
 /// The row of an opcode in the manual's table of the 151 documented instructions. None for any
 /// other opcode.
-#[inline]
+#[inline(always)]
 pub const fn row(opcode: u8) -> Option<Row>
     ensures { result ≡ row_of opcode }
 {

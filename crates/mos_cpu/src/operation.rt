@@ -71,7 +71,7 @@ pub enum Operation {
 
 impl Operation {
     /// Whether a branch is taken at a status. Nothing else is.
-    #[inline]
+    #[inline(always)]
     pub(crate) fn is_taken(self, p: u8) -> bool
         ensures { result ≡ is_taken self p }
     {
@@ -89,7 +89,7 @@ impl Operation {
     }
 
     /// What an operation that changes its operand makes of it.
-    #[inline]
+    #[inline(always)]
     pub(crate) fn changed(self, m: u8, p: u8) -> Alu
         ensures { result ≡ changed_of self m p }
     {

@@ -34,5 +34,5 @@ pub fn step<B: Bus>(cpu: &mut Cpu, bus: &mut B) -> Result<u8, CpuFault>
         IfOk (decoded B.meaning start cpu.old) (KeepsTime B.meaning cpu.old start) }
 {
     let instruction = decode(cpu, bus)?;
-    Ok(execute(cpu, bus, &instruction))
+    Ok(execute(cpu, bus, instruction))
 }

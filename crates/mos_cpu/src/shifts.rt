@@ -7,7 +7,7 @@ use crate::arithmetic::Alu;
 use crate::status::{Flag, has, with_flag, with_sign};
 
 /// A shifted value, with N and Z, and in C the bit that fell out.
-#[inline]
+#[inline(always)]
 const fn shift_to(value: u8, out: bool, p: u8) -> Alu
     ensures result { result ≡ shifted value out p }
     ensures status { result.p / 16 % 4 ≡ p / 16 % 4 }
@@ -19,7 +19,7 @@ const fn shift_to(value: u8, out: bool, p: u8) -> Alu
 }
 
 /// ASL: to the left, with 0 in bit 0 and bit 7 in C.
-#[inline]
+#[inline(always)]
 pub const fn asl(m: u8, p: u8) -> Alu
     ensures result { result ≡ asl_of m p }
     ensures status { result.p / 16 % 4 ≡ p / 16 % 4 }
@@ -28,7 +28,7 @@ pub const fn asl(m: u8, p: u8) -> Alu
 }
 
 /// LSR: to the right, with 0 in bit 7 and bit 0 in C.
-#[inline]
+#[inline(always)]
 pub const fn lsr(m: u8, p: u8) -> Alu
     ensures result { result ≡ lsr_of m p }
     ensures status { result.p / 16 % 4 ≡ p / 16 % 4 }
@@ -38,7 +38,7 @@ pub const fn lsr(m: u8, p: u8) -> Alu
 
 /// ROL: to the left, with the old C in bit 0 and bit 7 in C.
 #[tactic(auto, using(crate::proofs::SumLemmas::or_carry))]
-#[inline]
+#[inline(always)]
 pub const fn rol(m: u8, p: u8) -> Alu
     ensures result { result ≡ rol_of m p }
     ensures status { result.p / 16 % 4 ≡ p / 16 % 4 }
@@ -47,7 +47,7 @@ pub const fn rol(m: u8, p: u8) -> Alu
 }
 
 /// ROR: to the right, with the old C in bit 7 and bit 0 in C.
-#[inline]
+#[inline(always)]
 pub const fn ror(m: u8, p: u8) -> Alu
     ensures result { result ≡ ror_of m p }
     ensures status { result.p / 16 % 4 ≡ p / 16 % 4 }

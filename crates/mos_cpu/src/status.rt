@@ -16,7 +16,7 @@ pub enum Flag {
 }
 
 /// The bit of a flag.
-#[inline]
+#[inline(always)]
 const fn mask(flag: Flag) -> u8
     ensures { result ≡ weight flag }
 {
@@ -31,7 +31,7 @@ const fn mask(flag: Flag) -> u8
 }
 
 #[tactic(auto, using(crate::proofs::StatusLemmas::and_weight))]
-#[inline]
+#[inline(always)]
 pub const fn has(p: u8, flag: Flag) -> bool
     ensures { result ≡ has_flag flag p }
 {
@@ -40,7 +40,7 @@ pub const fn has(p: u8, flag: Flag) -> bool
 
 /// The status with a flag set or cleared.
 #[tactic(auto, using(crate::proofs::StatusLemmas::puts))]
-#[inline]
+#[inline(always)]
 pub const fn with_flag(p: u8, flag: Flag, on: bool) -> u8
     ensures value { result ≡ put_flag flag on p }
     ensures status { result / 16 % 4 ≡ p / 16 % 4 }
@@ -49,7 +49,7 @@ pub const fn with_flag(p: u8, flag: Flag, on: bool) -> u8
 }
 
 /// The status with N and Z of a value.
-#[inline]
+#[inline(always)]
 pub const fn with_sign(p: u8, value: u8) -> u8
     ensures value { result ≡ with_nz value p }
     ensures status { result / 16 % 4 ≡ p / 16 % 4 }
@@ -63,7 +63,7 @@ pub const fn with_sign(p: u8, value: u8) -> u8
 
 /// The status as it is pushed: with bits 5 and 4 set.
 #[tactic(auto, using(crate::proofs::StatusLemmas::or_48))]
-#[inline]
+#[inline(always)]
 pub const fn pushed_status(p: u8) -> u8
     requires { IsStatus p }
     ensures { result ≡ pushed_of p }
@@ -73,7 +73,7 @@ pub const fn pushed_status(p: u8) -> u8
 
 /// A pulled byte as the status: its bits 5 and 4 are dropped.
 #[tactic(auto, using(crate::proofs::StatusLemmas::pulls))]
-#[inline]
+#[inline(always)]
 pub const fn pulled_status(byte: u8) -> u8
     ensures value { result ≡ pulled_of byte }
     ensures status { IsStatus result }

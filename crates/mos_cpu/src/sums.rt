@@ -9,7 +9,7 @@ use crate::decimal::{decimal_adc, decimal_sub};
 use crate::status::{Flag, has, with_flag, with_sign};
 
 /// ADC: the sum with carry, in decimal where D is set.
-#[inline]
+#[inline(always)]
 pub const fn adc(a: u8, m: u8, p: u8) -> Alu
     ensures result { result ≡ adc_of a m p }
     ensures status { result.p / 16 % 4 ≡ p / 16 % 4 }
@@ -21,7 +21,7 @@ pub const fn adc(a: u8, m: u8, p: u8) -> Alu
     }
 }
 
-#[inline]
+#[inline(always)]
 const fn binary_adc(a: u8, m: u8, p: u8) -> Alu
     ensures result { result ≡ binary_adc_of a m p }
     ensures status { result.p / 16 % 4 ≡ p / 16 % 4 }
@@ -40,7 +40,7 @@ const fn binary_adc(a: u8, m: u8, p: u8) -> Alu
 }
 
 /// SBC: the difference with borrow. Its value is in decimal where D is set, its flags never are.
-#[inline]
+#[inline(always)]
 pub const fn sbc(a: u8, m: u8, p: u8) -> Alu
     ensures result { result ≡ sbc_of a m p }
     ensures status { result.p / 16 % 4 ≡ p / 16 % 4 }
@@ -58,7 +58,7 @@ pub const fn sbc(a: u8, m: u8, p: u8) -> Alu
 
 /// The difference as the sum with the operand's complement.
 #[tactic(auto, using(crate::proofs::SumLemmas::binary_sbc_adc))]
-#[inline]
+#[inline(always)]
 const fn binary_sbc(a: u8, m: u8, p: u8) -> Alu
     ensures result { result ≡ binary_sbc_of a m p }
     ensures status { result.p / 16 % 4 ≡ p / 16 % 4 }
