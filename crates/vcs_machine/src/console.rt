@@ -6,8 +6,10 @@ ghost use Rattle.vcs_machine.specs.Consoles.{meaning_of, rested, wait_cycles, wa
 ghost use Rattle.vcs_machine.specs.States.{joined};
 ghost use Rattle.vcs_machine.specs.Inputs.{is_pressed};
 
+use crate::devices::Devices;
 use crate::input::Input;
 use crate::state::State;
+use crate::unchanged::is_unchanged;
 use mos_cpu::{Bus, Cpu};
 use riot_map::{Cart, Place, Riot, place};
 use std::marker::Model;
@@ -15,24 +17,34 @@ use tia_core::effect::Effect;
 use tia_core::paint::Paint;
 use tia_core::tia::Tia;
 
+/// The register of the TIA whose write makes the processor wait for the next scanline.
+const WSYNC: u8 = 2;
+
 /// A console in a frame, whose pixels go to a sink.
-pub struct Console<'a, S> {
+pub struct Console<'a, S: Paint> {
     cart: &'a Cart,
-    riot: Riot,
-    tia: Tia,
+    devices: Devices<S>,
     /// WSYNC was written in this instruction.
     synced: bool,
     /// VSYNC has fallen in this frame.
     ended: bool,
-    sink: S,
 }
 
-impl<'a, S> Model for Console<'a, S> {
-    ghost use Rattle.vcs_machine.specs.Consoles.{Console as ConsoleOf};
+impl<'a, S: Paint> Model for Console<'a, S> {
+    ghost use Rattle.vcs_machine.specs.Consoles.{Console as ConsoleOf, riot_seen, tia_seen, sink_seen, IsBehind};
 
     ghost Value = { ConsoleOf S };
 
-    ghost view = { λ c. record { cart = c.cart.now; riot = c.riot; tia = c.tia; synced = c.synced; ended = c.ended; sink = c.sink } };
+    ghost view = { λ c. record {
+      cart = c.cart.now;
+      riot = riot_seen c.devices;
+      tia = tia_seen c.devices;
+      synced = c.synced;
+      ended = c.ended;
+      sink = sink_seen S.drawn c.devices;
+    } };
+
+    ghost invariant = { λ c. IsBehind c.devices };
 }
 
 impl<'a, S: Paint> Bus for Console<'a, S> {
@@ -44,46 +56,59 @@ impl<'a, S: Paint> Bus for Console<'a, S> {
 
     ghost meaning = { meaning_of S.drawn };
 
-    #[tactic(auto, unfolding(crate::specs::Consoles::meaning_of))]
+    #[tactic(auto, unfolding(crate::specs::Consoles::meaning_of, riot_map::specs::Riot::after_cycles))]
+    #[inline(always)]
     fn pass(&mut self, cycles: u8) {
-        self.riot.cycles(cycles);
-        self.tia.clocks(3 * cycles, &mut self.sink);
+        self.devices.pass(cycles);
     }
 
-    #[tactic(auto, unfolding(crate::specs::Consoles::meaning_of))]
+    #[tactic(auto, unfolding(crate::specs::Consoles::meaning_of, riot_map::specs::Riot::after_cycles))]
+    #[inline(always)]
     fn read(&mut self, addr: u16) -> u8 {
         match place(addr) {
             Place::Cart(address) => self.cart.at(address),
-            Place::Tia(register) => self.tia.read(register),
-            Place::Ram(index) => self.riot.ram(index),
-            Place::Io(register) => self.riot.read(register),
+            Place::Tia(register) => {
+                self.devices.settle();
+                self.devices.tia.read(register)
+            }
+            Place::Ram(index) => self.devices.riot.ram(index),
+            Place::Io(register) => {
+                self.devices.settle_riot();
+                self.devices.riot.read(register)
+            }
         }
     }
 
-    #[tactic(auto, unfolding(crate::specs::Consoles::meaning_of))]
+    #[tactic(auto, unfolding(crate::specs::Consoles::meaning_of, riot_map::specs::Riot::after_cycles))]
+    #[inline(always)]
     fn write(&mut self, addr: u16, value: u8) {
         match place(addr) {
             Place::Cart(_) => {}
             Place::Tia(register) => self.write_tia(register, value),
-            Place::Ram(index) => self.riot.set_ram(index, value),
-            Place::Io(register) => self.riot.write(register, value),
+            Place::Ram(index) => self.devices.riot.set_ram(index, value),
+            Place::Io(register) => {
+                self.devices.settle_riot();
+                self.devices.riot.write(register, value);
+            }
         }
     }
 
-    #[tactic(auto, unfolding(crate::specs::Consoles::meaning_of))]
+    #[tactic(auto, unfolding(crate::specs::Consoles::meaning_of, riot_map::specs::Riot::after_cycles))]
+    #[inline(always)]
     fn peek(&self, addr: u16) -> Option<u8> {
         match place(addr) {
             Place::Cart(address) => Some(self.cart.at(address)),
-            Place::Ram(index) => Some(self.riot.ram(index)),
+            Place::Ram(index) => Some(self.devices.riot.ram(index)),
             Place::Tia(_) | Place::Io(_) => None,
         }
     }
 
-    #[tactic(auto, unfolding(crate::specs::Consoles::meaning_of))]
+    #[tactic(auto, unfolding(crate::specs::Consoles::meaning_of, riot_map::specs::Riot::after_cycles))]
+    #[inline(always)]
     fn peek_zero(&self, addr: u8) -> u8 {
         match place(addr as u16) {
-            Place::Tia(register) => self.tia.read(register),
-            _ => self.riot.ram(addr % 128),
+            Place::Tia(register) => self.devices.glance(register),
+            _ => self.devices.riot.ram(addr % 128),
         }
     }
 }
@@ -93,6 +118,7 @@ impl<'a, S: Paint> Console<'a, S> {
     ghost use Rattle.vcs_machine.specs.Outcomes.{console_of, state_at};
 
     /// The console of a state as a frame begins: the pins and latches are those of the input.
+    #[tactic(auto, unfolding(riot_map::specs::Riot::after_cycles))]
     pub fn begin(cart: &'a Cart, state: &State, input: Input, sink: S) -> Self
         ensures { result ≡ console_of cart.now state.now input sink }
     {
@@ -103,11 +129,15 @@ impl<'a, S: Paint> Console<'a, S> {
         tia.new_frame();
         Console {
             cart,
-            riot,
-            tia,
+            devices: Devices {
+                riot,
+                tia,
+                sink,
+                owed: 0,
+                paid: 0,
+            },
             synced: false,
             ended: false,
-            sink,
         }
     }
 
@@ -118,20 +148,36 @@ impl<'a, S: Paint> Console<'a, S> {
     {
         let Console {
             cart: _,
-            riot,
-            tia,
+            mut devices,
             synced: _,
             ended: _,
-            sink,
         } = self;
+        devices.settle();
+        let Devices {
+            riot,
+            tia,
+            sink,
+            owed: _,
+            paid: _,
+        } = devices;
         (State::of_parts(cpu, &riot, &tia), sink)
     }
 
     /// A write of a register of the TIA.
+    #[tactic(auto, unfolding(riot_map::specs::Riot::after_cycles, tia_core::specs::Write::written))]
     fn write_tia(&mut self, register: u8, value: u8)
         ensures { self.new ≡ tia_written self.old register value }
     {
-        match self.tia.write(register, value) {
+        // These leave the cycles owed, since they change nothing in the TIA.
+        if register == WSYNC {
+            self.synced = true;
+            return;
+        }
+        if is_unchanged(&self.devices.tia.fields(), register, value) {
+            return;
+        }
+        self.devices.settle();
+        match self.devices.tia.write(register, value) {
             Effect::Nothing => {}
             Effect::Sync => self.synced = true,
             Effect::FrameEnd => self.ended = true,
@@ -139,7 +185,8 @@ impl<'a, S: Paint> Console<'a, S> {
     }
 
     /// The wait that an instruction left, in cycles: up to the next scanline where it wrote WSYNC.
-    #[tactic(auto, unfolding(crate::specs::Consoles::meaning_of))]
+    #[tactic(auto, unfolding(crate::specs::Consoles::meaning_of, riot_map::specs::Riot::after_cycles))]
+    #[inline(always)]
     pub fn wait(&mut self) -> u8
         ensures bus { self.new ≡ rested S.drawn self.old }
         ensures cycles { result ≡ wait_cycles self.old }
@@ -148,7 +195,7 @@ impl<'a, S: Paint> Console<'a, S> {
         if !self.synced {
             return 0;
         }
-        let cycles = (76 - self.tia.beam() / 3) % 76;
+        let cycles = (76 - self.devices.line_cycle()) % 76;
         self.pass(cycles);
         self.synced = false;
         cycles

@@ -2,6 +2,7 @@
 #![tactic(auto)]
 
 mod console;
+mod devices;
 mod fault;
 mod fields;
 mod frames;
@@ -13,6 +14,7 @@ mod picture;
 mod run;
 mod same;
 mod state;
+mod unchanged;
 
 pub use fault::{FaultKind, FrameError};
 pub use fields::StateFields;

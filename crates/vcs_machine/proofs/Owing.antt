@@ -1,0 +1,132 @@
+-- Devices that are behind.
+use Rattle.std.proofs.Common.{◌≡◌, ℕ, zero, suc, ◌+◌, ◌-◌, ◌*◌, ◌/◌, ◌%◌, ◌==◌, ◌<◌, ◌≤◌, ◌⊎◌, inl, inr, nat_lt, Bool, true, false, refl, sym, ap, ◌∙◌, arith}
+use Rattle.std.specs.Prelude.{if◌then◌else◌, ◌||◌}
+use Rattle.std.specs.Fn.{iterate}
+use Rattle.std.proofs.lemmas.Bool.Decides.{nat_tests}
+use Rattle.riot_map.specs.Riot.{RiotState, after_cycles}
+use Rattle.riot_map.specs.Timer.{Countdown, ticked}
+use Rattle.tia_core.specs.Clock.{clocked, collisions_after, pixels, painted}
+use Rattle.tia_core.specs.Read.{read_of, byte_at}
+use Rattle.tia_core.specs.Registers.{register_of}
+use Rattle.tia_core.specs.TiaState.{TiaState}
+use Rattle.tia_core.specs.Write.{fields_after, effect_after, effect_of, written}
+use Rattle.tia_core.specs.declared.effect.Effect.{Effect}
+use Rattle.tia_core.specs.declared.effect.Effect.TheVariants.{Nothing}
+use Rattle.tia_core.specs.declared.fields.TiaFields.{TiaFields}
+use Rattle.vcs_machine.specs.Consoles.{Console, tia_written, is_sync, is_frame_end, after_beam}
+use Rattle.tia_core.proofs.Clocks.{iterate-add, painted-add, iterate-clocked-clock, iterate-clocked-others}
+
+-- ---- more cycles
+pub riot-later : (owed paid n : ℕ) (r : RiotState) → paid ≤ owed → after_cycles (owed + n - paid) r ≡ after_cycles n (after_cycles (owed - paid) r)
+unfolding after_cycles
+riot-later owed paid n r h =
+    let e : owed + n - paid ≡ (owed - paid) + n = omega arith in
+    rw e (ap (λ (t : Countdown). record r { timer = t }) (iterate-add ticked (owed - paid) n r.timer))
+
+three : (m n : ℕ) → 3 * (m + n) ≡ 3 * m + 3 * n
+three m n = omega arith
+
+pub tia-later : (owed n : ℕ) (t : TiaState) → iterate clocked (3 * (owed + n)) t ≡ iterate clocked (3 * n) (iterate clocked (3 * owed) t)
+tia-later owed n t = rw (three owed n) (iterate-add clocked (3 * owed) (3 * n) t)
+
+pub sink-later : {S : Type 0} (drawn : S → ℕ → ℕ → ℕ → S) (owed n : ℕ) (t : TiaState) (s : S)
+    → painted drawn s (pixels (3 * (owed + n)) t) ≡ painted drawn (painted drawn s (pixels (3 * owed) t)) (pixels (3 * n) (iterate clocked (3 * owed) t))
+sink-later drawn owed n t s = rw (three owed n) (painted-add drawn s (3 * owed) (3 * n) t)
+
+-- ---- the beam
+pub line-later : (owed : ℕ) (t : TiaState) → t.fields.clock < 228 → (iterate clocked (3 * owed) t).fields.clock / 3 ≡ (t.fields.clock / 3 + owed) % 76
+line-later owed t h = rw (iterate-clocked-clock (3 * owed) t h) (thirds t.fields.clock)
+  where
+    thirds : (c : ℕ) → (c + 3 * owed) % 228 / 3 ≡ (c / 3 + owed) % 76
+    thirds c = omega arith
+
+-- ---- reads
+-- The numbers of a TIA after a clock, by its numbers alone.
+numbers_clocked : TiaFields → TiaFields
+numbers_clocked t =
+    let seen : TiaFields = record t { collisions = collisions_after t } in
+    if t.clock == 227 then record seen { clock = 0; comb = 0 } else record seen { clock = t.clock + 1 }
+
+clocked-numbers : (s : TiaState) → (clocked s).fields ≡ numbers_clocked s.fields
+unfolding numbers_clocked
+clocked-numbers s = by_end (s.fields.clock == 227)
+  where
+    seen : TiaFields
+    seen = record s.fields { collisions = collisions_after s.fields }
+
+    by_end : (last : Bool)
+        → (if last then record s { fields = record seen { clock = 0; comb = 0 }; line = (s.line + 1) % 65536 } else record s { fields = record seen { clock = s.fields.clock + 1 } }).fields
+        ≡ (if last then record seen { clock = 0; comb = 0 } else record seen { clock = s.fields.clock + 1 })
+    by_end true = refl
+    by_end false = refl
+
+pub iterate-clocked-numbers : (n : ℕ) (s t : TiaState) → s.fields ≡ t.fields → (iterate clocked n s).fields ≡ (iterate clocked n t).fields
+iterate-clocked-numbers zero s t e = e
+iterate-clocked-numbers (suc n) s t e =
+    iterate-clocked-numbers n (clocked s) (clocked t) (clocked-numbers s ∙ ap numbers_clocked e ∙ sym (clocked-numbers t))
+
+-- The registers of the buttons don't see the beam.
+byte_at-buttons : (t u : TiaFields) (fire0 fire1 : Bool) (k : ℕ) → 8 ≤ k → t.vblank ≡ u.vblank → t.latches ≡ u.latches
+    → byte_at t fire0 fire1 k ≡ byte_at u fire0 fire1 k
+byte_at-buttons t u fire0 fire1 k h ev el =
+    let no_pairs : nat_lt k 6 ≡ false = grind (arith, nat_tests) in
+    let no_six : (k == 6) ≡ false = grind (arith, nat_tests) in
+    let no_seven : (k == 7) ≡ false = grind (arith, nat_tests) in
+    rw (no_pairs, no_six, no_seven, ev, el) refl
+
+pub read-buttons : (n : ℕ) (s : TiaState) (r : ℕ) → s.fields.clock < 228 → 8 ≤ r % 16 → read_of s r ≡ read_of (iterate clocked n s) r
+read-buttons n s r h k =
+    let e = iterate-clocked-others n s h in
+    byte_at-buttons s.fields (iterate clocked n s).fields s.fire0 s.fire1 (r % 16) k
+    (sym (ap (λ (t : TiaState). t.fields.vblank) e)) (sym (ap (λ (t : TiaState). t.fields.latches) e))
+    ∙ ap (λ (t : TiaState). byte_at (iterate clocked n s).fields t.fire0 t.fire1 (r % 16)) (sym e)
+
+-- The registers of collisions see nothing else.
+byte_at-pairs : (t u : TiaFields) (fire0 fire1 other0 other1 : Bool) (k : ℕ) → k < 8 → t.collisions ≡ u.collisions
+    → byte_at t fire0 fire1 k ≡ byte_at u other0 other1 k
+byte_at-pairs t u fire0 fire1 other0 other1 k h e =
+    elim (below_six k h) [
+      | inl lt ↦ (let yes : nat_lt k 6 ≡ true = grind (arith, nat_tests) in rw (yes, e) refl)
+      | inr more ↦ elim more [
+        | inl six ↦ rw (six, e) refl
+        | inr seven ↦ rw (seven, e) refl
+      ]
+    ]
+  where
+    below_six : (k : ℕ) → k < 8 → (k < 6) ⊎ ((k ≡ 6) ⊎ (k ≡ 7))
+    below_six k h = grind arith
+
+pub read-pairs : (n : ℕ) (s t : TiaState) (r : ℕ) → s.fields ≡ t.fields → r % 16 < 8 → read_of (iterate clocked n s) r ≡ read_of (iterate clocked n t) r
+read-pairs n s t r e h =
+    byte_at-pairs (iterate clocked n s).fields (iterate clocked n t).fields (iterate clocked n s).fire0 (iterate clocked n s).fire1
+    (iterate clocked n t).fire0 (iterate clocked n t).fire1 (r % 16) h
+    (ap (λ (f : TiaFields). f.collisions) (iterate-clocked-numbers n s t e))
+
+-- ---- writes
+or_false : (b : Bool) → (b || false) ≡ b
+or_false true = refl
+or_false false = refl
+
+same_console : {S : Type 0} (c : Console S) (f : TiaFields) (synced ended : Bool) → f ≡ c.tia.fields → synced ≡ c.synced → ended ≡ c.ended
+    → c ≡ record c { tia = record c.tia { fields = f }; synced = synced; ended = ended }
+same_console c f synced ended ef es ee = rw (ef, es, ee) refl
+
+-- A write that changes nothing wherever the beam is changes nothing after some clocks.
+pub written-unchanged : {S : Type 0} (c : Console S) (n : ℕ) (t : TiaState) (register v : ℕ) → t.fields.clock < 228 → c.tia ≡ iterate clocked n t
+    → ((fire0 fire1 : Bool) (collisions clock comb : ℕ) → fields_after (after_beam t.fields collisions clock comb) fire0 fire1 (register_of register) v ≡ after_beam t.fields collisions clock comb)
+    → ((collisions clock comb : ℕ) → effect_after (after_beam t.fields collisions clock comb) (register_of register) v ≡ Nothing)
+    → c ≡ tia_written c register v
+unfolding written
+written-unchanged c n t register v h et fields effect =
+    let f : TiaFields = (iterate clocked n t).fields in
+    let seen : c.tia.fields ≡ after_beam t.fields f.collisions f.clock f.comb =
+    ap (λ (z : TiaState). z.fields) et ∙ ap (λ (z : TiaState). z.fields) (iterate-clocked-others n t h) in
+    let same : fields_after c.tia.fields c.tia.fire0 c.tia.fire1 (register_of register) v ≡ c.tia.fields =
+    ap (λ (z : TiaFields). fields_after z c.tia.fire0 c.tia.fire1 (register_of register) v) seen
+    ∙ fields c.tia.fire0 c.tia.fire1 f.collisions f.clock f.comb
+    ∙ sym seen in
+    let none : effect_of c.tia register v ≡ Nothing =
+    ap (λ (z : TiaFields). effect_after z (register_of register) v) seen ∙ effect f.collisions f.clock f.comb in
+    same_console c _ _ _ same
+    (ap (λ (x : Effect). c.synced || is_sync x) none ∙ or_false c.synced)
+    (ap (λ (x : Effect). c.ended || is_frame_end x) none ∙ or_false c.ended)

@@ -1,0 +1,106 @@
+//! The devices of a console, which may be behind its processor.
+ghost use Rattle.std.specs.Prelude.{◌≡◌, ◌≤◌, ◌<◌, ◌+◌, ◌-◌, ◌*◌, ◌/◌};
+ghost use Rattle.std.specs.Fn.{iterate};
+ghost use Rattle.tia_core.specs.Read.{read_of};
+ghost use Rattle.vcs_machine.specs.Consoles.{riot_seen, tia_seen, sink_seen, IsBehind};
+ghost use Rattle.riot_map.specs.Riot.{after_cycles};
+ghost use Rattle.tia_core.specs.Clock.{clocked, pixels, painted};
+
+use riot_map::Riot;
+use tia_core::paint::{NoPaint, Paint};
+use tia_core::tia::Tia;
+
+/// Most cycles that devices are behind: those of a scanline, whose clocks fit a call of the TIA.
+pub const MOST_OWED: u8 = 76;
+
+/// A RIOT, a TIA and its sink, and how many cycles of the processor they have yet to see.
+///
+/// Most instructions look at memory alone, so the cycles are passed on where a device is looked at.
+#[derive(Drop)]
+pub struct Devices<S> {
+    pub riot: Riot,
+    pub tia: Tia,
+    pub sink: S,
+    /// The cycles that the TIA has yet to see.
+    pub owed: u8,
+    /// How many of them the RIOT has seen.
+    pub paid: u8,
+}
+
+impl<S: Paint> Devices<S> {
+    /// Lets the RIOT see the cycles that it has not seen.
+    #[inline(always)]
+    pub fn settle_riot(&mut self)
+        requires { IsBehind self.old }
+        ensures { self.new ≡ record self.old {
+          riot = riot_seen self.old;
+          paid = self.old.owed;
+        } }
+    {
+        self.riot.cycles(self.owed - self.paid);
+        self.paid = self.owed;
+    }
+
+    /// Lets both see the cycles that they have not seen.
+    #[inline(never)]
+    pub fn settle(&mut self)
+        requires { IsBehind self.old }
+        ensures { self.new ≡ record self.old {
+          riot = riot_seen self.old;
+          tia = tia_seen self.old;
+          sink = sink_seen S.drawn self.old;
+          owed = 0;
+          paid = 0;
+        } }
+    {
+        self.settle_riot();
+        self.tia.clocks(3 * self.owed, &mut self.sink);
+        self.owed = 0;
+        self.paid = 0;
+    }
+
+    /// Lets cycles pass.
+    #[inline(always)]
+    pub fn pass(&mut self, cycles: u8)
+        requires behind { IsBehind self.old }
+        requires most { cycles ≤ 76 }
+        ensures behind { IsBehind self.new }
+        ensures riot { riot_seen self.new ≡ after_cycles cycles (riot_seen self.old) }
+        ensures tia { tia_seen self.new ≡ iterate clocked (3 * cycles) (tia_seen self.old) }
+        ensures sink { sink_seen S.drawn self.new ≡ painted S.drawn (sink_seen S.drawn self.old) (pixels (3 * cycles) (tia_seen self.old)) }
+    {
+        if cycles <= MOST_OWED - self.owed {
+            self.owed += cycles;
+        } else {
+            self.settle();
+            self.owed = cycles;
+        }
+    }
+
+    /// What a read of a register of the TIA would give, had the TIA seen all cycles.
+    #[inline(never)]
+    pub fn glance(&self, register: u8) -> u8
+        requires { IsBehind self.now }
+        ensures { result ≡ read_of (tia_seen self.now) register }
+    {
+        let fields = self.tia.fields();
+        if register % 16 >= 8 {
+            return self.tia.read(register);
+        }
+        let Some(mut tia) = Tia::from_fields(fields) else {
+            unreachable!()
+        };
+        tia.clocks(3 * self.owed, &mut NoPaint);
+        tia.read(register)
+    }
+
+    /// The beam's place in its scanline, in cycles, as it is once the TIA has seen all of them.
+    #[inline(always)]
+    pub fn line_cycle(&self) -> u8
+        requires { IsBehind self.now }
+        ensures value { result ≡ (tia_seen self.now).fields.clock / 3 }
+        ensures range { result < 76 }
+    {
+        (self.tia.beam() / 3 + self.owed) % 76
+    }
+}
