@@ -1,15 +1,21 @@
 //! Cartridges.
-ghost use Rattle.std.specs.Prelude.{◌≡◌, ◌↔◌, length, nat_eq, IsTrue, IsOk, IfOk};
+ghost use Rattle.std.specs.Prelude.{◌≡◌, ◌<◌, ◌↔◌, length, nat_eq, IsTrue, IsOk, IfOk};
 ghost use Rattle.std.specs.Cmp.Rules.{comparing};
 ghost use Rattle.std.specs.Cmp.Lexicographic.{pointwise};
 ghost use Rattle.std.proofs.Common.{rules};
-ghost use Rattle.riot_map.specs.Cart.{is_cart_length, byte_at};
+ghost use Rattle.riot_map.specs.Cart.{is_cart_length, has_banks, byte_at, bank_after, bank_at_power_on};
 
 use std::fmt;
 use std::marker::Model;
 use thiserror::Error;
 
-/// The bytes of a cartridge are neither 2048 nor 4096.
+/// The bytes of a bank.
+const BANK_LENGTH: usize = 4096;
+
+/// The bytes of a cartridge of two banks.
+const BANKED_LENGTH: usize = 2 * BANK_LENGTH;
+
+/// The bytes of a cartridge are neither 2048 nor 4096 nor 8192.
 #[derive(Clone, Copy, Debug, PartialEq, Eq, Error)]
 pub struct BadCartSize;
 
@@ -23,8 +29,8 @@ impl fmt::Display for BadCartSize {
     }
 }
 
-/// A cartridge without bank switching, of 2048 or 4096 bytes, which contracts see as the list of
-/// its bytes.
+/// A cartridge of 2048 or 4096 bytes, or of 8192 bytes in two banks, which contracts see as the
+/// list of its bytes.
 #[derive(Drop)]
 pub struct Cart {
     bytes: Vec<u8>,
@@ -46,7 +52,14 @@ impl Cart {
     pub fn is_length(bytes: usize) -> bool
         ensures { result ≡ is_cart_length bytes }
     {
-        bytes == 2048 || bytes == 4096
+        bytes == 2048 || bytes == 4096 || Cart::is_banked(bytes)
+    }
+
+    /// Whether cartridges of this many bytes have two banks.
+    pub fn is_banked(bytes: usize) -> bool
+        ensures { result ≡ has_banks bytes }
+    {
+        bytes == BANKED_LENGTH
     }
 
     /// The cartridge of these bytes. Takes no memory.
@@ -77,13 +90,47 @@ impl Cart {
         &self.bytes
     }
 
-    /// The byte that a read of an address gives: the cartridge stands there again and again.
-    #[tactic(auto, using(crate::proofs::Mirrors::mask_is_mirror))]
-    pub fn at(&self, addr: u16) -> u8
-        ensures { result ≡ byte_at self.now addr }
+    /// Whether it has two banks.
+    pub fn has_banks(&self) -> bool
+        ensures value { result ≡ has_banks (length self.now) }
+        ensures lawful { IsTrue (is_cart_length (length self.now)) }
     {
+        Cart::is_banked(self.bytes.len())
+    }
+
+    /// The byte that a read of an address gives while this bank is selected. A cartridge without
+    /// banks stands there again and again, whatever the bank.
+    #[tactic(auto, using(crate::proofs::Mirrors::mask_is_mirror))]
+    pub fn at(&self, bank: u8, addr: u16) -> u8
+        requires { bank < 2 }
+        ensures { result ≡ byte_at self.now bank addr }
+    {
+        let place = BANK_LENGTH * bank as usize + addr as usize % BANK_LENGTH;
         // The length is a power of two, so this is the remainder by it.
-        self.bytes[addr as usize & (self.bytes.len() - 1)]
+        self.bytes[place & (self.bytes.len() - 1)]
+    }
+
+    /// The bank after a data access to this address. A cartridge without banks leaves it.
+    pub fn select(&self, bank: u8, addr: u16) -> u8
+        ensures value { result ≡ bank_after self.now bank addr }
+        ensures range { bank < 2 → result < 2 }
+    {
+        if !self.has_banks() {
+            return bank;
+        }
+        match addr % 8192 {
+            0x1FF8 => 0,
+            0x1FF9 => 1,
+            _ => bank,
+        }
+    }
+
+    /// The bank that is selected when a console is switched on.
+    pub fn bank_at_power_on(&self) -> u8
+        ensures value { result ≡ bank_at_power_on self.now }
+        ensures range { result < 2 }
+    {
+        u8::from(self.has_banks())
     }
 }
 
