@@ -8,7 +8,7 @@ use Rattle.riot_map.specs.declared.fields.RiotFields.{RiotFields}
 use Rattle.tia_core.specs.TiaState.{IsLawful}
 use Rattle.tia_core.specs.Bits.{bit}
 use Rattle.tia_core.specs.declared.fields.TiaFields.{TiaFields}
-use Rattle.vcs_machine.specs.States.{is_state, keeps, riot_fields_of, tia_fields_of, joined, has_lawful_status, has_lawful_timer, has_lawful_colours, has_lawful_objects, has_lawful_motion, has_lawful_positions, has_lawful_beam}
+use Rattle.vcs_machine.specs.States.{is_state, keeps, riot_fields_of, tia_fields_of, joined, has_lawful_status, has_lawful_timer, has_lawful_colours, has_lawful_objects, has_lawful_motion, has_lawful_positions, has_lawful_beam, has_lawful_bank}
 use Rattle.vcs_machine.specs.declared.fields.StateFields.{StateFields}
 
 -- The groups of conditions.
@@ -20,6 +20,7 @@ record Groups (f : StateFields) : Type 0 where
   motion : IsTrue (has_lawful_motion f)
   positions : IsTrue (has_lawful_positions f)
   beam : IsTrue (has_lawful_beam f)
+  bank : IsTrue (has_lawful_bank f)
 
 both : (a b : Bool) → IsTrue (a && b) → IsTrue a × IsTrue b
 both a b h = grind arith
@@ -27,13 +28,14 @@ both a b h = grind arith
 groups_of : (f : StateFields) → IsTrue (is_state f) → Groups f
 unfolding is_state
 groups_of f h =
-    let g6 = both _ _ h in
+    let g7 = both _ _ h in
+    let g6 = both _ _ g7.0 in
     let g5 = both _ _ g6.0 in
     let g4 = both _ _ g5.0 in
     let g3 = both _ _ g4.0 in
     let g2 = both _ _ g3.0 in
     let g1 = both _ _ g2.0 in
-    record { status = g1.0; timer = g1.1; colours = g2.1; objects = g3.1; motion = g4.1; positions = g5.1; beam = g6.1 }
+    record { status = g1.0; timer = g1.1; colours = g2.1; objects = g3.1; motion = g4.1; positions = g5.1; beam = g6.1; bank = g7.1 }
 
 pub riot_lawful : (f : StateFields) → IsTrue (is_state f) → IsTrue (is_riot (riot_fields_of f))
 unfolding is_riot
@@ -81,6 +83,9 @@ status_lawful f h = (Decides-eqb (f.p / 16 % 4) 0).0 (groups_of f h).status
 
 pub line_cycle_lawful : (f : StateFields) → IsTrue (is_state f) → f.line_cycle < 76
 line_cycle_lawful f h = (beam f (groups_of f h).beam).3
+
+pub bank_lawful : (f : StateFields) → IsTrue (is_state f) → f.bank < 2
+bank_lawful f h = below _ _ (groups_of f h).bank
 
 pub tia_lawful : (f : StateFields) → IsTrue (is_state f) → IsLawful (tia_fields_of f)
 tia_lawful f h =
@@ -138,11 +143,11 @@ is_below a b h = (Decides-ltb a b).1 h
 and : (a b : Bool) → IsTrue a → IsTrue b → IsTrue (a && b)
 and a b h k = grind arith
 
-pub state_lawful : (cpu : Registers) (riot : RiotFields) (tia : TiaFields) → IsStatus cpu.p → IsTrue (is_riot riot) → IsLawful tia
-    → IsTrue (is_state (joined cpu riot tia))
+pub state_lawful : (cpu : Registers) (riot : RiotFields) (tia : TiaFields) (bank : ℕ) → IsStatus cpu.p → IsTrue (is_riot riot) → IsLawful tia → bank < 2
+    → IsTrue (is_state (joined cpu riot tia bank))
 unfolding is_state is_riot
-state_lawful cpu riot tia p r t =
-    let f = joined cpu riot tia in
+state_lawful cpu riot tia bank p r t small =
+    let f = joined cpu riot tia bank in
     let status : IsTrue (has_lawful_status f) = (Decides-eqb (cpu.p / 16 % 4) 0).1 p in
     let colours : IsTrue (has_lawful_colours f) =
     and _ _ (and _ _ (and _ _ (and _ _ (and _ _ (and _ _ (and _ _ (keeps_it _ _ t.vsync) (keeps_it _ _ t.vblank)) (keeps_it _ _ t.nusiz0)) (keeps_it _ _ t.nusiz1))
@@ -159,7 +164,7 @@ state_lawful cpu riot tia p r t =
     let beam : IsTrue (has_lawful_beam f) =
     and _ _ (and _ _ (and _ _ (and _ _ (is_below _ _ t.collisions) (is_below _ _ t.latches)) (latched tia.vblank tia.latches t.unlatched))
     (is_below _ _ (line_cycle tia.clock t.clock))) (is_below _ _ t.comb) in
-    and _ _ (and _ _ (and _ _ (and _ _ (and _ _ (and _ _ status r) colours) objects) motion) positions) beam
+    and _ _ (and _ _ (and _ _ (and _ _ (and _ _ (and _ _ (and _ _ status r) colours) objects) motion) positions) beam) (is_below _ _ small)
   where
     latched : (vblank latches : ℕ) → (bit vblank 6 ≡ false → latches ≡ 0) → IsTrue ((latches == 0) || (vblank / 64 % 2 == 1))
     latched vblank latches h = grind (arith, nat_tests)

@@ -1,4 +1,5 @@
 pub mod AlongBuses
+pub mod BankLaws
 pub mod BeamLaws
 pub mod FrameOutcomes
 pub mod LawfulParts

@@ -3,7 +3,7 @@ use Rattle.std.specs.Prelude.{ℕ, ◌≤◌, ◌-◌, ◌*◌, ◌/◌, ◌%◌
 use Rattle.std.specs.Fn.{iterate}
 use Rattle.mos_cpu.specs.Buses.{Meaning}
 use Rattle.riot_map.specs.Riot.{RiotState, after_cycles, after_read, after_write, with_ram, read_of as riot_read_of}
-use Rattle.riot_map.specs.Cart.{byte_at}
+use Rattle.riot_map.specs.Cart.{byte_at, bank_after}
 use Rattle.riot_map.specs.Place.{place_of}
 use Rattle.riot_map.specs.declared.places.Place.{Place}
 use Rattle.riot_map.specs.declared.places.Place.TheVariants.{Cart, Tia, Ram, Io}
@@ -17,10 +17,11 @@ use Rattle.tia_core.specs.declared.effect.Effect.TheVariants.{Sync, FrameEnd}
 use Rattle.vcs_machine.specs.Frame.{Rules}
 use Rattle.vcs_machine.specs.declared.devices.Devices.{Devices}
 
--- A console whose pixels go to a sink: whether WSYNC was written in this instruction, and whether VSYNC has fallen in this
+-- A console whose pixels go to a sink: the selected bank of its cartridge, whether WSYNC was written in this instruction, and whether VSYNC has fallen in this
 -- frame.
 pub record Console (S : Type 0) : Type 0 where
   pub cart : List ℕ
+  pub bank : ℕ
   pub riot : RiotState
   pub tia : TiaState
   pub synced : Bool
@@ -38,19 +39,20 @@ is_frame_end other = false
 module _ {S : Type 0} where
   -- The byte that a read gives.
   abbrev pub value_at : Console S → Place → ℕ
-  value_at c (Cart address) = byte_at c.cart address
+  value_at c (Cart address) = byte_at c.cart c.bank address
   value_at c (Tia register) = tia_read_of c.tia register
   value_at c (Ram index) = slice_index c.riot.ram index
   value_at c (Io register) = riot_read_of c.riot register
 
-  -- A read changes a port or the timer at most.
+  -- A read may select a bank, and changes a port or the timer at most. It still sees the bank before it.
   abbrev pub read_at : Console S → Place → Console S
+  read_at c (Cart address) = record c { bank = bank_after c.cart c.bank address }
   read_at c (Io register) = record c { riot = after_read c.riot register }
   read_at c other = c
 
-  -- An instruction's byte: no register of the TIA or the RIOT gives one.
+  -- An instruction's byte: no register of the TIA or the RIOT gives one. It selects no bank.
   abbrev pub peeked_at : Console S → Place → Option ℕ
-  peeked_at c (Cart address) = Some (byte_at c.cart address)
+  peeked_at c (Cart address) = Some (byte_at c.cart c.bank address)
   peeked_at c (Ram index) = Some (slice_index c.riot.ram index)
   peeked_at c other = None
 
@@ -64,9 +66,9 @@ module _ {S : Type 0} where
         ended = c.ended || is_frame_end effect;
       }
 
-  -- A cartridge has no place to write to.
+  -- A cartridge has no place to write to, but a write may select a bank.
   abbrev pub written_at : Console S → Place → ℕ → Console S
-  written_at c (Cart address) v = c
+  written_at c (Cart address) v = record c { bank = bank_after c.cart c.bank address }
   written_at c (Tia register) v = tia_written c register v
   written_at c (Ram index) v = record c { riot = with_ram index v c.riot }
   written_at c (Io register) v = record c { riot = after_write c.riot register v }
@@ -133,6 +135,7 @@ logged log line x colour = log ++ record { line = line; x = x; colour = colour }
 abbrev pub drawn_on : {S : Type 0} → (S → ℕ → ℕ → ℕ → S) → S → Console (List Pixel) → Console S
 drawn_on drawn sink c = record {
   cart = c.cart;
+  bank = c.bank;
   riot = c.riot;
   tia = c.tia;
   synced = c.synced;

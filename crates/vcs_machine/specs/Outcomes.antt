@@ -20,12 +20,18 @@ pub data Outcome : Type 0 where
   Played : StateFields → Rows → Outcome
   Failed : FaultKind → StateFields → Outcome
 
+-- The state that a frame leaves.
+abbrev pub left_by : Outcome → StateFields
+left_by (Played s rows) = s
+left_by (Failed kind s) = s
+
 -- The console of a state at a frame's start: the pins and the latches are those of the input, then a pressed button sets its
 -- latch where VBLANK has bit 6, and the line is 0.
 abbrev pub console_of : {S : Type 0} → List ℕ → StateFields → Controls → S → Console S
 console_of cart s i sink =
     record {
       cart = cart;
+      bank = s.bank;
       riot = with_pins i.swcha i.swchb (riot_of (riot_fields_of s));
       tia = frame_begun (fire_set (tia_state_of (tia_fields_of s)) (is_pressed 0 i) (is_pressed 1 i));
       synced = false;
@@ -38,7 +44,7 @@ machine_of cart s i sink = record { registers = registers_of s; bus = console_of
 
 -- The state that a machine leaves.
 abbrev pub state_at : {S : Type 0} → Machine (Console S) → StateFields
-state_at m = joined m.registers (fields_of m.bus.riot) m.bus.tia.fields
+state_at m = joined m.registers (fields_of m.bus.riot) m.bus.tia.fields m.bus.bank
 
 -- The outcome of a way to stop, for a frame that began at this cycle of its scanline.
 abbrev pub outcome_of : ℕ → Stop (Console (List Pixel)) → Outcome

@@ -31,9 +31,10 @@ ShareMotion s t =
     (s.hmp0 ≡ t.hmp0) × (s.hmp1 ≡ t.hmp1) × (s.hmm0 ≡ t.hmm0) × (s.hmm1 ≡ t.hmm1) × (s.hmbl ≡ t.hmbl)
     × (s.vdelp0 ≡ t.vdelp0) × (s.vdelp1 ≡ t.vdelp1) × (s.vdelbl ≡ t.vdelbl) × (s.resmp0 ≡ t.resmp0) × (s.resmp1 ≡ t.resmp1)
 
--- the places of the objects and of the beam, and what is latched
+-- the places of the objects and of the beam, what is latched, and the bank
 abbrev pub SharePlaces : StateFields → StateFields → Type 0
 SharePlaces s t =
     (s.position_p0 ≡ t.position_p0) × (s.position_p1 ≡ t.position_p1) × (s.position_m0 ≡ t.position_m0)
     × (s.position_m1 ≡ t.position_m1) × (s.position_bl ≡ t.position_bl)
     × (s.collisions ≡ t.collisions) × (s.latches ≡ t.latches) × (s.line_cycle ≡ t.line_cycle) × (s.comb ≡ t.comb)
+    × (s.bank ≡ t.bank)

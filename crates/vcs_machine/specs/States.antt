@@ -2,7 +2,7 @@
 -- the bits that the Stella Programmer's Guide gives a use; the record itself is this project's own.
 use Rattle.std.specs.Prelude.{ℕ, List, replicate, ◌+◌, ◌*◌, ◌/◌, ◌%◌, Bool, ◌==◌, ◌&&◌, ◌||◌, nat_lt, nat_le, bit_and}
 use Rattle.mos_cpu.specs.Registers.{Registers}
-use Rattle.riot_map.specs.Cart.{byte_at}
+use Rattle.riot_map.specs.Cart.{byte_at, bank_at_power_on}
 use Rattle.riot_map.specs.Timer.{interval_of}
 use Rattle.riot_map.specs.declared.fields.RiotFields.{RiotFields}
 use Rattle.tia_core.specs.declared.fields.TiaFields.{TiaFields}
@@ -48,11 +48,15 @@ has_lawful_beam f =
     nat_lt f.collisions 32768 && nat_lt f.latches 4 && ((f.latches == 0) || (f.vblank / 64 % 2 == 1))
     && nat_lt f.line_cycle 76 && nat_lt f.comb 2
 
+-- There are two banks at most.
+abbrev pub has_lawful_bank : StateFields → Bool
+has_lawful_bank f = nat_lt f.bank 2
+
 -- All the conditions of a state record.
 unfoldable pub is_state : StateFields → Bool
 is_state f =
     has_lawful_status f && has_lawful_timer f && has_lawful_colours f && has_lawful_objects f
-    && has_lawful_motion f && has_lawful_positions f && has_lawful_beam f
+    && has_lawful_motion f && has_lawful_positions f && has_lawful_beam f && has_lawful_bank f
 
 -- The RIOT's part of a state's numbers.
 abbrev pub riot_fields_of : StateFields → RiotFields
@@ -119,9 +123,9 @@ tia_fields_of f = record {
 abbrev pub registers_of : StateFields → Registers
 registers_of f = record { a = f.a; x = f.x; y = f.y; s = f.s; p = f.p; pc = f.pc }
 
--- The numbers of a state with these parts. The beam stands at the beginning of a cycle.
-abbrev pub joined : Registers → RiotFields → TiaFields → StateFields
-joined cpu riot tia = record {
+-- The numbers of a state with these parts and this bank. The beam stands at the beginning of a cycle.
+abbrev pub joined : Registers → RiotFields → TiaFields → ℕ → StateFields
+joined cpu riot tia bank = record {
   a = cpu.a;
   x = cpu.x;
   y = cpu.y;
@@ -179,10 +183,11 @@ joined cpu riot tia = record {
   latches = tia.latches;
   line_cycle = tia.clock / 3;
   comb = tia.comb;
+  bank = bank;
 }
 
--- A console that was just switched on. PC comes from the reset vector; the rest is this project's own: S is FF, I is set, the
--- timer is one cycle before zero with the longest interval, and all else is 0.
+-- A console that was just switched on. PC comes from the reset vector, in the second bank where there are two; the rest is
+-- this project's own: S is FF, I is set, the timer is one cycle before zero with the longest interval, and all else is 0.
 abbrev pub power_on : List ℕ → StateFields
 power_on cart = record {
   a = 0;
@@ -190,7 +195,7 @@ power_on cart = record {
   y = 0;
   s = 0xFF;
   p = 0x04;
-  pc = byte_at cart 0xFFFC + 256 * byte_at cart 0xFFFD;
+  pc = byte_at cart (bank_at_power_on cart) 0xFFFC + 256 * byte_at cart (bank_at_power_on cart) 0xFFFD;
   ram = replicate 128 0;
   output_a = 0;
   direction_a = 0;
@@ -242,4 +247,5 @@ power_on cart = record {
   latches = 0;
   line_cycle = 0;
   comb = 0;
+  bank = bank_at_power_on cart;
 }

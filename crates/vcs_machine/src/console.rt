@@ -23,6 +23,8 @@ const WSYNC: u8 = 2;
 /// A console in a frame, whose pixels go to a sink.
 pub struct Console<'a, S: Paint> {
     cart: &'a Cart,
+    /// The selected bank of the cartridge.
+    bank: u8,
     devices: Devices<S>,
     /// WSYNC was written in this instruction.
     synced: bool,
@@ -31,12 +33,14 @@ pub struct Console<'a, S: Paint> {
 }
 
 impl<'a, S: Paint> Model for Console<'a, S> {
+    ghost use Rattle.std.specs.Prelude.{◌<◌};
     ghost use Rattle.vcs_machine.specs.Consoles.{Console as ConsoleOf, riot_seen, tia_seen, sink_seen, IsBehind};
 
     ghost Value = { ConsoleOf S };
 
     ghost view = { λ c. record {
       cart = c.cart.now;
+      bank = c.bank;
       riot = riot_seen c.devices;
       tia = tia_seen c.devices;
       synced = c.synced;
@@ -44,7 +48,7 @@ impl<'a, S: Paint> Model for Console<'a, S> {
       sink = sink_seen S.drawn c.devices;
     } };
 
-    ghost invariant = { λ c. IsBehind c.devices };
+    ghost invariant = { λ c. IsBehind c.devices × (c.bank < 2) };
 }
 
 impl<'a, S: Paint> Bus for Console<'a, S> {
@@ -66,7 +70,11 @@ impl<'a, S: Paint> Bus for Console<'a, S> {
     #[inline(always)]
     fn read(&mut self, addr: u16) -> u8 {
         match place(addr) {
-            Place::Cart(address) => self.cart.at(address),
+            Place::Cart(address) => {
+                let byte = self.cart.at(self.bank, address);
+                self.bank = self.cart.select(self.bank, address);
+                byte
+            }
             Place::Tia(register) => {
                 self.devices.settle();
                 self.devices.tia.read(register)
@@ -83,7 +91,7 @@ impl<'a, S: Paint> Bus for Console<'a, S> {
     #[inline(always)]
     fn write(&mut self, addr: u16, value: u8) {
         match place(addr) {
-            Place::Cart(_) => {}
+            Place::Cart(address) => self.bank = self.cart.select(self.bank, address),
             Place::Tia(register) => self.write_tia(register, value),
             Place::Ram(index) => self.devices.riot.set_ram(index, value),
             Place::Io(register) => {
@@ -97,7 +105,7 @@ impl<'a, S: Paint> Bus for Console<'a, S> {
     #[inline(always)]
     fn peek(&self, addr: u16) -> Option<u8> {
         match place(addr) {
-            Place::Cart(address) => Some(self.cart.at(address)),
+            Place::Cart(address) => Some(self.cart.at(self.bank, address)),
             Place::Ram(index) => Some(self.devices.riot.ram(index)),
             Place::Tia(_) | Place::Io(_) => None,
         }
@@ -129,6 +137,7 @@ impl<'a, S: Paint> Console<'a, S> {
         tia.new_frame();
         Console {
             cart,
+            bank: state.bank(),
             devices: Devices {
                 riot,
                 tia,
@@ -143,11 +152,12 @@ impl<'a, S: Paint> Console<'a, S> {
 
     /// The state that a processor and this console leave, and the sink.
     pub fn finish(self, cpu: Cpu) -> (State, S)
-        ensures state { result.0 ≡ joined cpu (fields_of self.entry.riot) self.entry.tia.fields }
+        ensures state { result.0 ≡ joined cpu (fields_of self.entry.riot) self.entry.tia.fields self.entry.bank }
         ensures sink { result.1 ≡ self.entry.sink }
     {
         let Console {
             cart: _,
+            bank,
             mut devices,
             synced: _,
             ended: _,
@@ -160,7 +170,7 @@ impl<'a, S: Paint> Console<'a, S> {
             owed: _,
             paid: _,
         } = devices;
-        (State::of_parts(cpu, &riot, &tia), sink)
+        (State::of_parts(cpu, &riot, &tia, bank), sink)
     }
 
     /// A write of a register of the TIA.

@@ -73,4 +73,6 @@ pub struct StateFields {
     pub line_cycle: u8,
     /// 1 where the first 8 pixels of the scanline are blanked after HMOVE.
     pub comb: u8,
+    /// The selected bank of the cartridge, 0 or 1; 0 where it has no banks.
+    pub bank: u8,
 }

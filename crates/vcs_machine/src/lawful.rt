@@ -10,6 +10,7 @@ ghost use Rattle.vcs_machine.specs.States.{
   has_lawful_motion,
   has_lawful_positions,
   has_lawful_beam,
+  has_lawful_bank,
   is_state,
 };
 
@@ -112,6 +113,12 @@ fn has_lawful_beam(f: &StateFields) -> bool
         && f.comb < 2
 }
 
+fn has_lawful_bank(f: &StateFields) -> bool
+    ensures { result ≡ has_lawful_bank f.now }
+{
+    f.bank < 2
+}
+
 /// Whether these are the numbers of a state.
 #[tactic(auto, unfolding(crate::specs::States::is_state))]
 pub fn is_lawful(f: &StateFields) -> bool
@@ -124,4 +131,5 @@ pub fn is_lawful(f: &StateFields) -> bool
         && has_lawful_motion(f)
         && has_lawful_positions(f)
         && has_lawful_beam(f)
+        && has_lawful_bank(f)
 }

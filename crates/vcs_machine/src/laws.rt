@@ -1,10 +1,11 @@
 //! Laws about the definitions of a frame.
-ghost use Rattle.std.specs.Prelude.{◌≡◌, ◌↔◌, ℕ, ◌+◌, ◌*◌, ◌%◌, ◌<◌, ◌≤◌, List, [], true};
+ghost use Rattle.std.specs.Prelude.{◌≡◌, ◌↔◌, ℕ, ◌+◌, ◌*◌, ◌%◌, ◌<◌, ◌≤◌, List, [], length, true, false};
+ghost use Rattle.riot_map.specs.Cart.{has_banks};
 ghost use Rattle.tia_core.specs.Clock.{Pixel};
 ghost use Rattle.vcs_machine.specs.Consoles.{Console, console_rules, logged, rested, wait_cycles};
 ghost use Rattle.vcs_machine.specs.Frame.{Rules, Machine, Stop, Ended, StopsAs, stop_of, turn, Went};
 ghost use Rattle.vcs_machine.specs.Inputs.{Controls};
-ghost use Rattle.vcs_machine.specs.Outcomes.{machine_of, state_at};
+ghost use Rattle.vcs_machine.specs.Outcomes.{frame_of, left_by, machine_of, state_at};
 ghost use Rattle.vcs_machine.specs.Pictures.{rows_of};
 ghost use Rattle.vcs_machine.specs.declared.fields.StateFields.{StateFields};
 
@@ -33,4 +34,10 @@ pub const fn law_of_frame_lengths()
     ensures beam { (cart : List ℕ) (s : StateFields) (i : Controls) (here : Machine (Console (List Pixel))) → s.line_cycle < 76
         → stop_of (console_rules logged) (machine_of cart s i []) ≡ Ended here
         → 3 * (state_at here).line_cycle ≡ here.bus.tia.fields.clock }
+{}
+
+/// A law: on a cartridge without banks a frame leaves the bank as it was.
+pub const fn law_of_banks()
+    ensures { (cart : List ℕ) (s : StateFields) (i : Controls) → has_banks (length cart) ≡ false
+        → (left_by (frame_of cart s i)).bank ≡ s.bank }
 {}

@@ -76,9 +76,9 @@ pub fn tia_fields(f: &StateFields) -> TiaFields
     }
 }
 
-/// The numbers of a state with these parts.
-pub fn join(cpu: Cpu, riot: &RiotFields, tia: &TiaFields) -> StateFields
-    ensures value { result ≡ joined cpu riot.now tia.now }
+/// The numbers of a state with these parts and this bank.
+pub fn join(cpu: Cpu, riot: &RiotFields, tia: &TiaFields, bank: u8) -> StateFields
+    ensures value { result ≡ joined cpu riot.now tia.now bank }
     ensures status { IsStatus cpu.p }
 {
     StateFields {
@@ -139,5 +139,6 @@ pub fn join(cpu: Cpu, riot: &RiotFields, tia: &TiaFields) -> StateFields
         latches: tia.latches,
         line_cycle: tia.clock / 3,
         comb: tia.comb,
+        bank,
     }
 }

@@ -44,7 +44,7 @@ fn share_motion(first: &StateFields, second: &StateFields) -> bool
 fn share_places(first: &StateFields, second: &StateFields) -> bool
     ensures { IsTrue result ↔ SharePlaces first.now second.now }
 {
-    share!(first, second: position_p0 position_p1 position_m0 position_m1 position_bl collisions latches line_cycle comb)
+    share!(first, second: position_p0 position_p1 position_m0 position_m1 position_bl collisions latches line_cycle comb bank)
 }
 
 /// Whether each number is the same in both.

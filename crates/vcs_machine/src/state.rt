@@ -44,15 +44,16 @@ impl State {
     pub fn power_on(cart: &Cart) -> State
         ensures { result ≡ power_on cart.now }
     {
+        let bank = cart.bank_at_power_on();
         let cpu = Cpu {
             a: 0,
             x: 0,
             y: 0,
             s: 0xFF,
             p: 0x04,
-            pc: u16::from_le_bytes([cart.at(RESET_VECTOR), cart.at(RESET_VECTOR + 1)]),
+            pc: u16::from_le_bytes([cart.at(bank, RESET_VECTOR), cart.at(bank, RESET_VECTOR + 1)]),
         };
-        State::of_parts(cpu, &Riot::power_on(), &Tia::power_on())
+        State::of_parts(cpu, &Riot::power_on(), &Tia::power_on(), bank)
     }
 
     /// The state of these numbers, where each condition of the state record holds.
@@ -97,12 +98,21 @@ impl State {
         *self
     }
 
-    /// The state that these parts are left in.
-    pub(crate) fn of_parts(cpu: Cpu, riot: &Riot, tia: &Tia) -> State
-        ensures { result ≡ joined cpu (fields_of riot.now) tia.now.fields }
+    /// The bank of the cartridge that is selected.
+    pub(crate) fn bank(&self) -> u8
+        ensures value { result ≡ self.now.bank }
+        ensures range { result < 2 }
+    {
+        self.fields.bank
+    }
+
+    /// The state that these parts are left in, with this bank.
+    pub(crate) fn of_parts(cpu: Cpu, riot: &Riot, tia: &Tia, bank: u8) -> State
+        requires { bank < 2 }
+        ensures { result ≡ joined cpu (fields_of riot.now) tia.now.fields bank }
     {
         State {
-            fields: join(cpu, &riot.fields(), &tia.fields()),
+            fields: join(cpu, &riot.fields(), &tia.fields(), bank),
         }
     }
 
