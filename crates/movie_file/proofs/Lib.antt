@@ -1,6 +1,7 @@
 pub mod Cells
 pub mod Fronts
 pub mod RecordLaws
+pub mod MovieRecords
 pub mod MovieLaws
 pub mod Loops
 pub mod Orders

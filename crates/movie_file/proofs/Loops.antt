@@ -6,6 +6,7 @@ use Rattle.movie_file.specs.Format.{input_length, checkpoint_length}
 use Rattle.movie_file.specs.declared.error.MovieError.{MovieError}
 use Rattle.movie_file.specs.declared.error.MovieError.TheVariants.{Short, BadMagic, BadVersion, BadCartSize, BadCounts, BadState, BadInput, BadOrder, Trailing, NoMemory}
 use Rattle.movie_file.specs.declared.checkpoint.Checkpoint.{Checkpoint}
+use Rattle.movie_file.specs.declared.reading.sizes.Sizes.{Sizes}
 use Rattle.movie_file.specs.Reading.{◌>>=◌, input_at, inputs_at, checkpoint_at, checkpoints_at}
 use Rattle.movie_file.specs.MovieError.{Fails}
 
@@ -87,28 +88,28 @@ inputs_done front count i bytes total le so_far =
 
 -- ---- checkpoints
 
-checkpoints_step : (count i last n : ℕ) (bytes : List ℕ) → i < count → checkpoints_at (count - i) (i + 1) last n bytes ≡ (checkpoint_at (i + 1) last n bytes >>= λ first. checkpoints_at (count - (i + 1)) (i + 1 + 1) first.frame n (drop checkpoint_length bytes) >>= λ others. Ok (first ∷ others.0, others.1))
+checkpoints_step : (h : Sizes) (count i last : ℕ) (bytes : List ℕ) → i < count → checkpoints_at h (count - i) (i + 1) last bytes ≡ (checkpoint_at h (i + 1) last bytes >>= λ first. checkpoints_at h (count - (i + 1)) (i + 1 + 1) first.frame (drop (checkpoint_length h.version) bytes) >>= λ others. Ok (first ∷ others.0, others.1))
 unfolding checkpoints_at
-checkpoints_step count i last n bytes lt =
+checkpoints_step h count i last bytes lt =
     let k : count - i ≡ suc (count - (i + 1)) = omega arith in
     let j : suc (i + 1) ≡ i + 1 + 1 = omega arith in
-    ap (λ (m : ℕ). checkpoints_at m (i + 1) last n bytes) k ∙ ap (λ (m : ℕ). checkpoint_at (i + 1) last n bytes >>= λ first. checkpoints_at (count - (i + 1)) m first.frame n (drop checkpoint_length bytes) >>= λ others. Ok (first ∷ others.0, others.1)) j
+    ap (λ (m : ℕ). checkpoints_at h m (i + 1) last bytes) k ∙ ap (λ (m : ℕ). checkpoint_at h (i + 1) last bytes >>= λ first. checkpoints_at h (count - (i + 1)) m first.frame (drop (checkpoint_length h.version) bytes) >>= λ others. Ok (first ∷ others.0, others.1)) j
 
-pub checkpoints_go_on : (front : List Checkpoint) (count i last n : ℕ) (bytes : List ℕ) (c : Checkpoint) (total : Result (List Checkpoint × List ℕ) MovieError) → i < count → checkpoint_at (i + 1) last n bytes ≡ Ok c
-    → with_front front (checkpoints_at (count - i) (i + 1) last n bytes) ≡ total → with_front (front ++ c ∷ []) (checkpoints_at (count - (i + 1)) (i + 1 + 1) c.frame n (drop checkpoint_length bytes)) ≡ total
-checkpoints_go_on front count i last n bytes c total lt h so_far =
-    let rest = λ (first : Checkpoint). checkpoints_at (count - (i + 1)) (i + 1 + 1) first.frame n (drop checkpoint_length bytes) >>= λ others. Ok (first ∷ others.0, others.1) in
-    sym (ap (with_front front) (checkpoints_step count i last n bytes lt ∙ ap (λ (r : Result Checkpoint MovieError). r >>= rest) h) ∙ regroup front c (checkpoints_at (count - (i + 1)) (i + 1 + 1) c.frame n (drop checkpoint_length bytes))) ∙ so_far
+pub checkpoints_go_on : (h : Sizes) (front : List Checkpoint) (count i last : ℕ) (bytes : List ℕ) (c : Checkpoint) (total : Result (List Checkpoint × List ℕ) MovieError) → i < count → checkpoint_at h (i + 1) last bytes ≡ Ok c
+    → with_front front (checkpoints_at h (count - i) (i + 1) last bytes) ≡ total → with_front (front ++ c ∷ []) (checkpoints_at h (count - (i + 1)) (i + 1 + 1) c.frame (drop (checkpoint_length h.version) bytes)) ≡ total
+checkpoints_go_on h front count i last bytes c total lt is so_far =
+    let rest = λ (first : Checkpoint). checkpoints_at h (count - (i + 1)) (i + 1 + 1) first.frame (drop (checkpoint_length h.version) bytes) >>= λ others. Ok (first ∷ others.0, others.1) in
+    sym (ap (with_front front) (checkpoints_step h count i last bytes lt ∙ ap (λ (r : Result Checkpoint MovieError). r >>= rest) is) ∙ regroup front c (checkpoints_at h (count - (i + 1)) (i + 1 + 1) c.frame (drop (checkpoint_length h.version) bytes))) ∙ so_far
 
-pub checkpoints_end : (e : MovieError) (front : List Checkpoint) (count i last n : ℕ) (bytes : List ℕ) (total : Result (List Checkpoint × List ℕ) MovieError) → i < count → Fails e (checkpoint_at (i + 1) last n bytes)
-    → with_front front (checkpoints_at (count - i) (i + 1) last n bytes) ≡ total → Fails e total
-checkpoints_end e front count i last n bytes total lt h so_far =
-    let rest = λ (first : Checkpoint). checkpoints_at (count - (i + 1)) (i + 1 + 1) first.frame n (drop checkpoint_length bytes) >>= λ others. Ok (first ∷ others.0, others.1) in
-    fails_is e _ total so_far (fails_is e _ _ (ap (with_front front) (sym (checkpoints_step count i last n bytes lt)))
-    (fails_on e (checkpoint_at (i + 1) last n bytes >>= rest) (λ x. Ok (front ++ x.0, x.1)) (fails_on e (checkpoint_at (i + 1) last n bytes) rest h)))
+pub checkpoints_end : (h : Sizes) (e : MovieError) (front : List Checkpoint) (count i last : ℕ) (bytes : List ℕ) (total : Result (List Checkpoint × List ℕ) MovieError) → i < count → Fails e (checkpoint_at h (i + 1) last bytes)
+    → with_front front (checkpoints_at h (count - i) (i + 1) last bytes) ≡ total → Fails e total
+checkpoints_end h e front count i last bytes total lt fails so_far =
+    let rest = λ (first : Checkpoint). checkpoints_at h (count - (i + 1)) (i + 1 + 1) first.frame (drop (checkpoint_length h.version) bytes) >>= λ others. Ok (first ∷ others.0, others.1) in
+    fails_is e _ total so_far (fails_is e _ _ (ap (with_front front) (sym (checkpoints_step h count i last bytes lt)))
+    (fails_on e (checkpoint_at h (i + 1) last bytes >>= rest) (λ x. Ok (front ++ x.0, x.1)) (fails_on e (checkpoint_at h (i + 1) last bytes) rest fails)))
 
-pub checkpoints_done : (front : List Checkpoint) (count i last n : ℕ) (bytes : List ℕ) (total : Result (List Checkpoint × List ℕ) MovieError) → count ≤ i → with_front front (checkpoints_at (count - i) (i + 1) last n bytes) ≡ total → total ≡ Ok (front, bytes)
+pub checkpoints_done : (h : Sizes) (front : List Checkpoint) (count i last : ℕ) (bytes : List ℕ) (total : Result (List Checkpoint × List ℕ) MovieError) → count ≤ i → with_front front (checkpoints_at h (count - i) (i + 1) last bytes) ≡ total → total ≡ Ok (front, bytes)
 unfolding checkpoints_at
-checkpoints_done front count i last n bytes total le so_far =
+checkpoints_done h front count i last bytes total le so_far =
     let k : count - i ≡ 0 = omega arith in
-    sym so_far ∙ ap (λ (m : ℕ). with_front front (checkpoints_at m (i + 1) last n bytes)) k ∙ ap (λ (ns : List Checkpoint). Ok (ns, bytes)) (append-nil front)
+    sym so_far ∙ ap (λ (m : ℕ). with_front front (checkpoints_at h m (i + 1) last bytes)) k ∙ ap (λ (ns : List Checkpoint). Ok (ns, bytes)) (append-nil front)

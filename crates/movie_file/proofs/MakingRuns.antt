@@ -1,12 +1,16 @@
 -- A run frame by frame, and the checkpoints that are made of it.
-use Rattle.std.proofs.Common.{◌≡◌, ◌≢◌, ℕ, zero, suc, ◌+◌, ◌*◌, ◌/◌, ◌%◌, ◌<◌, ◌≤◌, Bool, true, false, eqb, cond, List, [], ◌∷◌, ◌++◌, length, Option, Some, None, refl, sym, ap, subst, ◌∙◌, arith, add-one, below_more, rules}
-use Rattle.std.specs.Prelude.{slice_get, option_and_then, IsTrue}
-use Rattle.std.proofs.lemmas.Bool.{eqb-true, eqb-false}
+use Rattle.std.proofs.Common.{◌≡◌, ◌≢◌, ℕ, zero, suc, ◌+◌, ◌*◌, ◌/◌, ◌%◌, ◌<◌, ◌≤◌, Bool, true, false, eqb, ltb, cond, List, [], ◌∷◌, ◌++◌, length, Option, Some, None, refl, sym, ap, subst, ◌∙◌, arith, add-one, below_more, rules}
+use Rattle.std.specs.Prelude.{slice_get, option_and_then, IsTrue, ◌||◌}
+use Rattle.std.specs.Option.{option_map}
+use Rattle.std.proofs.lemmas.Bool.{eqb-true, eqb-false, ltb-false}
+use Rattle.std.proofs.lemmas.Bool.Decides.{nat_tests}
 use Rattle.std.proofs.lemmas.List.{append-nil, length-append}
 use Rattle.std.proofs.lemmas.Nat.{le-div, div_below}
 use Rattle.std.proofs.Math.Nat.{div-mul-le_self, add-mul, mul_comm}
 use Rattle.vcs_machine.specs.Inputs.{Controls}
-use Rattle.vcs_machine.specs.Outcomes.{Outcome, Played, Failed, frame_of}
+use Rattle.riot_map.specs.Cart.{is_cart_length, has_banks}
+use Rattle.vcs_machine.specs.Outcomes.{Outcome, Played, Failed, left_by, frame_of}
+use Rattle.vcs_machine.proofs.BankLaws.{frame_of-bank}
 use Rattle.vcs_machine.specs.Pictures.{Rows}
 use Rattle.vcs_machine.specs.States.{power_on}
 use Rattle.vcs_machine.specs.declared.fault.FaultKind.{FaultKind}
@@ -14,11 +18,12 @@ use Rattle.vcs_machine.specs.declared.fields.StateFields.{StateFields}
 use Rattle.movie_file.specs.declared.checkpoint.Checkpoint.{Checkpoint}
 use Rattle.movie_file.specs.declared.error.MakeError.{MakeError}
 use Rattle.movie_file.specs.declared.error.MakeError.TheVariants.{Fault, BadCounts, NoMemory}
-use Rattle.movie_file.specs.Format.{movie_version, most_frames, most_checkpoints}
+use Rattle.movie_file.specs.Format.{is_version, takes_cart, most_frames, most_checkpoints}
 use Rattle.movie_file.specs.Judgement.{IsSound, AllSound, FaultsAt, IsGenuine}
-use Rattle.movie_file.specs.Making.{bare, counts_fit, Explains, IsMadeOf}
+use Rattle.movie_file.specs.Making.{bare, counts_fit, version_made, Explains, IsMadeOf}
 use Rattle.movie_file.specs.MakingSteps.{checkpoint_if, Records, RunFails}
-use Rattle.movie_file.specs.Movie.{MovieData, IsState, AreCheckpoints}
+use Rattle.movie_file.specs.Movie.{MovieData, IsState, IsStateWith, AreCheckpoints}
+use Rattle.movie_file.specs.Record.{fits_bank}
 use Rattle.movie_file.specs.Run.{run, frame_after, state_after}
 
 -- ---- multiples
@@ -51,7 +56,7 @@ has_room every k n count capacity some is less room h =
     let more : (k + 1) / every ≤ n / every = le-div ((k + 1) / every) n every (omega arith) (omega (arith, div-mul-le_self (k + 1) every)) in
     omega arith
 
-pub counts_are : (n every : ℕ) → IsTrue (counts_fit n every) → (1 ≤ n) × (n ≤ most_frames) × (1 ≤ every) × (n / every ≤ most_checkpoints)
+pub counts_are : (n every : ℕ) → IsTrue (counts_fit n every) → (1 ≤ n) × (n ≤ most_frames 2) × (1 ≤ every) × (n / every ≤ most_checkpoints)
 counts_are n every h = search rules
 
 -- ---- one checkpoint more
@@ -123,7 +128,7 @@ Records-none cart inputs every = record {
 -- ---- the movie
 
 abbrev pub with_checkpoints : List ℕ → List Controls → List Checkpoint → MovieData
-with_checkpoints cart inputs cs = record { version = movie_version; cart = cart; start = power_on cart; inputs = inputs; checkpoints = cs }
+with_checkpoints cart inputs cs = record { version = version_made (length cart) (length inputs); cart = cart; start = power_on cart; inputs = inputs; checkpoints = cs }
 
 -- a run knows nothing of checkpoints
 pub run_same : (cart : List ℕ) (inputs : List Controls) (cs : List Checkpoint) (k : ℕ) → run (bare cart inputs) (power_on cart) 0 k ≡ run (with_checkpoints cart inputs cs) (power_on cart) 0 k
@@ -131,18 +136,65 @@ run_same cart inputs cs zero = refl
 run_same cart inputs cs (suc k) =
     ap (λ (before : Option StateFields). option_and_then (λ state. state_after (frame_after (bare cart inputs) (0 + k) state)) before) (run_same cart inputs cs k)
 
+-- ---- the bank
+
+abbrev found_state : StateFields → Option StateFields
+found_state s = Some s
+
+same_state : (s t : StateFields) → found_state s ≡ found_state t → s ≡ t
+same_state s t e = cc
+
+no_state : {P : Type 0} (t : StateFields) → None ≡ found_state t → P
+no_state t e = absurd cc
+
+-- a frame on a cartridge without banks keeps the bank
+outcome_bank : (outcome : Outcome) (s t : StateFields) → (left_by outcome).bank ≡ s.bank → state_after (Some outcome) ≡ Some t → t.bank ≡ s.bank
+outcome_bank (Played left rows) s t kept e = rw (← same_state left t e) kept
+outcome_bank (Failed kind left) s t kept e = no_state t e
+
+frame_bank : (cart : List ℕ) (u t : StateFields) (input : Option Controls) → has_banks (length cart) ≡ false → state_after (option_map (λ input. frame_of cart u input) input) ≡ Some t → t.bank ≡ u.bank
+frame_bank cart u t (Some input) single e = outcome_bank (frame_of cart u input) u t (frame_of-bank cart u input single) e
+frame_bank cart u t None single e = no_state t e
+
+step_bank : (m : MovieData) (s : StateFields) (from k : ℕ) (t : StateFields) (before : Option StateFields) → has_banks (length m.cart) ≡ false → ((u : StateFields) → before ≡ Some u → u.bank ≡ s.bank)
+    → option_and_then (λ state. state_after (frame_after m (from + k) state)) before ≡ Some t → t.bank ≡ s.bank
+step_bank m s from k t (Some u) single earlier e = frame_bank m.cart u t (slice_get m.inputs (from + k)) single e ∙ earlier u refl
+step_bank m s from k t None single earlier e = no_state t e
+
+-- a run on a cartridge without banks keeps the bank
+pub run-bank : (m : MovieData) (s : StateFields) (from k : ℕ) (t : StateFields) → has_banks (length m.cart) ≡ false → run m s from k ≡ Some t → t.bank ≡ s.bank
+run-bank m s from zero t single e = rw (same_state s t e) refl
+run-bank m s from (suc k) t single e = step_bank m s from k t (run m s from k) single (λ u ran. run-bank m s from k u single ran) e
+
+-- the bank of a state is 0 where the cartridge has none
+pub bank_at_start : (cart : List ℕ) → IsTrue (fits_bank (length cart) (power_on cart))
+bank_at_start cart = by (has_banks (length cart))
+  where
+    by : (banks : Bool) → IsTrue (banks || eqb (cond {A = ℕ} banks 1 0) 0)
+    by true = refl
+    by false = refl
+
+bank_fits : (cart : List ℕ) (inputs : List Controls) (k : ℕ) (t : StateFields) → run (bare cart inputs) (power_on cart) 0 k ≡ Some t → IsTrue (fits_bank (length cart) t)
+bank_fits cart inputs k t ran = by (has_banks (length cart)) refl
+  where
+    by : (banks : Bool) → has_banks (length cart) ≡ banks → IsTrue (banks || eqb t.bank 0)
+    by true e = refl
+    by false e =
+        let none : (power_on cart).bank ≡ 0 = rw e refl in
+        let same : t.bank ≡ 0 = run-bank (bare cart inputs) (power_on cart) 0 k t e ran ∙ none in rw same refl
+
 -- checkpoints at multiples rise
-rising : (every n b : ℕ) (cs : List Checkpoint) → 1 ≤ every → ((j : ℕ) (c : Checkpoint) → slice_get cs j ≡ Some c → c.frame ≡ every * (b + j + 1))
-    → ((j : ℕ) (c : Checkpoint) → slice_get cs j ≡ Some c → IsState c.state) → every * (b + length cs) ≤ n → AreCheckpoints (every * b) n cs
-rising every n b [] some places lawful fits = tt
-rising every n b (d ∷ cs) some places lawful fits =
+rising : (cart every n b : ℕ) (cs : List Checkpoint) → 1 ≤ every → ((j : ℕ) (c : Checkpoint) → slice_get cs j ≡ Some c → c.frame ≡ every * (b + j + 1))
+    → ((j : ℕ) (c : Checkpoint) → slice_get cs j ≡ Some c → IsStateWith cart c.state) → every * (b + length cs) ≤ n → AreCheckpoints cart (every * b) n cs
+rising cart every n b [] some places lawful fits = tt
+rising cart every n b (d ∷ cs) some places lawful fits =
     let first : d.frame ≡ every * (b + 0 + 1) = places 0 d refl in
     let next : every * (b + 1) ≡ d.frame = omega (arith, first) in
-    let later = rising every n (b + 1) cs some
+    let later = rising cart every n (b + 1) cs some
     (λ j c e. let at : b + suc j + 1 ≡ b + 1 + j + 1 = omega arith in places (suc j) c e ∙ ap (λ (i : ℕ). every * i) at)
     (λ j c e. lawful (suc j) c e) (omega arith)
     in
-    (omega arith, omega arith, lawful 0 d refl, subst (λ (f : ℕ). AreCheckpoints f n cs) next later)
+    (omega arith, omega arith, lawful 0 d refl, subst (λ (f : ℕ). AreCheckpoints cart f n cs) next later)
 
 module _ (cart : List ℕ) (inputs : List Controls) (every : ℕ) (cs : List Checkpoint) (some : 1 ≤ every) (far : Records cart inputs every (length inputs) cs) where
   pub IsMadeOf-run : IsMadeOf cart inputs every (with_checkpoints cart inputs cs)
@@ -168,26 +220,39 @@ module _ (cart : List ℕ) (inputs : List Controls) (every : ℕ) (cs : List Che
             let claimed-here = subst (λ (f : ℕ). run (bare cart inputs) (power_on cart) 0 f ≡ Some c.state) at claimed in cc,
       )
 
-  pub AreCheckpoints-run : AreCheckpoints 0 (length inputs) cs
+  pub AreCheckpoints-run : AreCheckpoints (length cart) 0 (length inputs) cs
   AreCheckpoints-run =
       let none : every * 0 ≡ 0 = omega arith in
       let most : every * (0 + length cs) ≡ every * (length inputs / every) = ap (λ (i : ℕ). every * i) (omega (arith, far.count)) in
       let fits : every * (0 + length cs) ≤ length inputs = omega arith in
-      subst (λ (f : ℕ). AreCheckpoints f (length inputs) cs) none (rising every (length inputs) 0 cs some
-      (λ j c e. let at : j + 1 ≡ 0 + j + 1 = omega arith in far.places j c e ∙ ap (λ (i : ℕ). every * i) at) far.lawful fits)
+      subst (λ (f : ℕ). AreCheckpoints (length cart) f (length inputs) cs) none (rising (length cart) every (length inputs) 0 cs some
+      (λ j c e. let at : j + 1 ≡ 0 + j + 1 = omega arith in far.places j c e ∙ ap (λ (i : ℕ). every * i) at)
+      (λ j c e. record { state = far.lawful j c e; bank = bank_fits cart inputs c.frame c.state (far.states j c e) }) fits)
 
-abbrev from_start : List ℕ → List Controls → List Checkpoint → StateFields → MovieData
-from_start cart inputs cs start = record { version = movie_version; cart = cart; start = start; inputs = inputs; checkpoints = cs }
+abbrev from_start : List ℕ → List Controls → List Checkpoint → ℕ → StateFields → MovieData
+from_start cart inputs cs version start = record { version = version; cart = cart; start = start; inputs = inputs; checkpoints = cs }
 
 -- the movie of these parts is the made one
-pub made_of_parts : (cart : List ℕ) (inputs seen : List Controls) (every : ℕ) (cs : List Checkpoint) (start : StateFields) (m : MovieData)
-    → IsTrue (counts_fit (length inputs) every) → seen ≡ inputs → Records cart seen every (length seen) cs → start ≡ power_on cart → m ≡ from_start cart inputs cs start
+pub made_of_parts : (cart : List ℕ) (inputs seen : List Controls) (every : ℕ) (cs : List Checkpoint) (version : ℕ) (start : StateFields) (m : MovieData)
+    → IsTrue (counts_fit (length inputs) every) → seen ≡ inputs → Records cart seen every (length seen) cs → version ≡ version_made (length cart) (length inputs) → start ≡ power_on cart
+    → m ≡ from_start cart inputs cs version start
     → IsMadeOf cart inputs every m × IsGenuine m
-made_of_parts cart inputs seen every cs start m fit seen-is made start-is m-is =
+made_of_parts cart inputs seen every cs version start m fit seen-is made version-is start-is m-is =
     let some = (counts_are (length inputs) every fit).2 in
     let far = subst (λ (is : List Controls). Records cart is every (length is) cs) seen-is made in
-    let is = sym (m-is ∙ ap (from_start cart inputs cs) start-is) in
+    let is = sym (m-is ∙ ap (λ (v : ℕ). from_start cart inputs cs v start) version-is ∙ ap (from_start cart inputs cs (version_made (length cart) (length inputs))) start-is) in
     (subst (IsMadeOf cart inputs every) is (IsMadeOf-run cart inputs every cs some far), subst IsGenuine is (IsGenuine-run cart inputs every cs some far))
+
+-- a version that is made has room for the cartridge and the inputs
+pub version_takes : (cart frames : ℕ) → IsTrue (is_cart_length cart) → frames ≤ most_frames 2
+    → IsTrue (is_version (version_made cart frames)) × IsTrue (takes_cart (version_made cart frames) cart) × (frames ≤ most_frames (version_made cart frames))
+version_takes cart frames lawful few = by (has_banks cart) (ltb 65535 frames) refl refl
+  where
+    by : (banks many : Bool) → has_banks cart ≡ banks → ltb 65535 frames ≡ many
+        → let version : ℕ = cond (banks || many) 2 1 in IsTrue (is_version version) × IsTrue (takes_cart version cart) × (frames ≤ most_frames version)
+    by true many e f = (refl, grind (arith, nat_tests), few)
+    by false true e f = (refl, grind (arith, nat_tests), few)
+    by false false e f = (refl, grind (arith, nat_tests), ltb-false 65535 frames f)
 
 -- why a run stopped is why no movie is made
 pub explains : (cart : List ℕ) (inputs seen : List Controls) (every : ℕ) (e : MakeError) → seen ≡ inputs → IsTrue (counts_fit (length inputs) every) → RunFails cart seen e → Explains cart inputs every e

@@ -8,9 +8,8 @@ use Rattle.vcs_machine.specs.States.{power_on}
 use Rattle.vcs_machine.specs.declared.fault.FaultKind.{FaultKind}
 use Rattle.vcs_machine.specs.declared.fields.StateFields.{StateFields}
 use Rattle.movie_file.specs.declared.checkpoint.Checkpoint.{Checkpoint}
-use Rattle.movie_file.specs.Format.{movie_version}
 use Rattle.movie_file.specs.Judgement.{FaultsAt, IsGenuine}
-use Rattle.movie_file.specs.Making.{bare, IsFirstFault, IsMadeOf}
+use Rattle.movie_file.specs.Making.{bare, version_made, IsFirstFault, IsMadeOf}
 use Rattle.movie_file.specs.Movie.{MovieData}
 use Rattle.movie_file.specs.Run.{run, frame_after}
 use Rattle.movie_file.proofs.MakingRuns.{with_checkpoints, run_same}
@@ -53,8 +52,9 @@ movie_of version cart start inputs checkpoints = record { version = version; car
 module _ (cart : List ℕ) (inputs : List Controls) (every : ℕ) (m : MovieData) (made : IsMadeOf cart inputs every m) where
   made_parts : m ≡ with_checkpoints cart inputs m.checkpoints
   made_parts =
-      ap (λ (v : ℕ). movie_of v m.cart m.start m.inputs m.checkpoints) made.version ∙ ap (λ (c : List ℕ). movie_of movie_version c m.start m.inputs m.checkpoints) made.cart_is
-      ∙ ap (λ (s : StateFields). movie_of movie_version cart s m.inputs m.checkpoints) made.start ∙ ap (λ (i : List Controls). movie_of movie_version cart (power_on cart) i m.checkpoints) made.inputs_are
+      let version = version_made (length cart) (length inputs) in
+      ap (λ (v : ℕ). movie_of v m.cart m.start m.inputs m.checkpoints) made.version ∙ ap (λ (c : List ℕ). movie_of version c m.start m.inputs m.checkpoints) made.cart_is
+      ∙ ap (λ (s : StateFields). movie_of version cart s m.inputs m.checkpoints) made.start ∙ ap (λ (i : List Controls). movie_of version cart (power_on cart) i m.checkpoints) made.inputs_are
 
   -- its run is that of the movie that claims nothing
   made_run : (k : ℕ) → run m m.start 0 k ≡ run (bare cart inputs) (power_on cart) 0 k

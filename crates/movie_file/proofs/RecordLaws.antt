@@ -17,11 +17,11 @@ cpu_back c r t fits len =
     ap (λ (w : List ℕ). get_or c 0 0 ∷ get_or c 1 0 ∷ get_or c 2 0 ∷ get_or c 3 0 ∷ get_or c 4 0 ∷ w) (two_back (get_or c 5 0) (get_or c 6 0) (fits 5) (fits 6))
     ∙ cells_whole 7 c len
 
-rest_back : (c r t : List ℕ) → IsBytes t → length t ≡ 52 → rest_bytes (fields_of c r t) ≡ t
+rest_back : (c r t : List ℕ) → IsBytes t → length t ≡ 53 → rest_bytes (fields_of c r t) ≡ t
 rest_back c r t fits len =
-    ap (λ (w : List ℕ). (get_or t 0 0 ∷ get_or t 1 0 ∷ get_or t 2 0 ∷ get_or t 3 0 ∷ get_or t 4 0 ∷ w) ++ (get_or t 7 0 ∷ get_or t 8 0 ∷ get_or t 9 0 ∷ get_or t 10 0 ∷ get_or t 11 0 ∷ get_or t 12 0 ∷ get_or t 13 0 ∷ get_or t 14 0 ∷ get_or t 15 0 ∷ get_or t 16 0 ∷ get_or t 17 0 ∷ get_or t 18 0 ∷ get_or t 19 0 ∷ get_or t 20 0 ∷ get_or t 21 0 ∷ get_or t 22 0 ∷ get_or t 23 0 ∷ get_or t 24 0 ∷ get_or t 25 0 ∷ get_or t 26 0 ∷ get_or t 27 0 ∷ get_or t 28 0 ∷ get_or t 29 0 ∷ get_or t 30 0 ∷ get_or t 31 0 ∷ get_or t 32 0 ∷ get_or t 33 0 ∷ get_or t 34 0 ∷ get_or t 35 0 ∷ get_or t 36 0 ∷ get_or t 37 0 ∷ get_or t 38 0 ∷ get_or t 39 0 ∷ get_or t 40 0 ∷ get_or t 41 0 ∷ get_or t 42 0 ∷ get_or t 43 0 ∷ get_or t 44 0 ∷ get_or t 45 0 ∷ get_or t 46 0 ∷ to_be_bytes w16 (from_be_bytes w16 (get_or t 47 0 ∷ get_or t 48 0 ∷ [])) ++ (get_or t 49 0 ∷ get_or t 50 0 ∷ get_or t 51 0 ∷ []))) (two_back (get_or t 5 0) (get_or t 6 0) (fits 5) (fits 6))
-    ∙ ap (λ (w : List ℕ). get_or t 0 0 ∷ get_or t 1 0 ∷ get_or t 2 0 ∷ get_or t 3 0 ∷ get_or t 4 0 ∷ get_or t 5 0 ∷ get_or t 6 0 ∷ get_or t 7 0 ∷ get_or t 8 0 ∷ get_or t 9 0 ∷ get_or t 10 0 ∷ get_or t 11 0 ∷ get_or t 12 0 ∷ get_or t 13 0 ∷ get_or t 14 0 ∷ get_or t 15 0 ∷ get_or t 16 0 ∷ get_or t 17 0 ∷ get_or t 18 0 ∷ get_or t 19 0 ∷ get_or t 20 0 ∷ get_or t 21 0 ∷ get_or t 22 0 ∷ get_or t 23 0 ∷ get_or t 24 0 ∷ get_or t 25 0 ∷ get_or t 26 0 ∷ get_or t 27 0 ∷ get_or t 28 0 ∷ get_or t 29 0 ∷ get_or t 30 0 ∷ get_or t 31 0 ∷ get_or t 32 0 ∷ get_or t 33 0 ∷ get_or t 34 0 ∷ get_or t 35 0 ∷ get_or t 36 0 ∷ get_or t 37 0 ∷ get_or t 38 0 ∷ get_or t 39 0 ∷ get_or t 40 0 ∷ get_or t 41 0 ∷ get_or t 42 0 ∷ get_or t 43 0 ∷ get_or t 44 0 ∷ get_or t 45 0 ∷ get_or t 46 0 ∷ (w ++ (get_or t 49 0 ∷ get_or t 50 0 ∷ get_or t 51 0 ∷ []))) (two_back (get_or t 47 0) (get_or t 48 0) (fits 47) (fits 48))
-    ∙ cells_whole 52 t len
+    ap (λ (w : List ℕ). (get_or t 0 0 ∷ get_or t 1 0 ∷ get_or t 2 0 ∷ get_or t 3 0 ∷ get_or t 4 0 ∷ w) ++ (get_or t 7 0 ∷ get_or t 8 0 ∷ get_or t 9 0 ∷ get_or t 10 0 ∷ get_or t 11 0 ∷ get_or t 12 0 ∷ get_or t 13 0 ∷ get_or t 14 0 ∷ get_or t 15 0 ∷ get_or t 16 0 ∷ get_or t 17 0 ∷ get_or t 18 0 ∷ get_or t 19 0 ∷ get_or t 20 0 ∷ get_or t 21 0 ∷ get_or t 22 0 ∷ get_or t 23 0 ∷ get_or t 24 0 ∷ get_or t 25 0 ∷ get_or t 26 0 ∷ get_or t 27 0 ∷ get_or t 28 0 ∷ get_or t 29 0 ∷ get_or t 30 0 ∷ get_or t 31 0 ∷ get_or t 32 0 ∷ get_or t 33 0 ∷ get_or t 34 0 ∷ get_or t 35 0 ∷ get_or t 36 0 ∷ get_or t 37 0 ∷ get_or t 38 0 ∷ get_or t 39 0 ∷ get_or t 40 0 ∷ get_or t 41 0 ∷ get_or t 42 0 ∷ get_or t 43 0 ∷ get_or t 44 0 ∷ get_or t 45 0 ∷ get_or t 46 0 ∷ to_be_bytes w16 (from_be_bytes w16 (get_or t 47 0 ∷ get_or t 48 0 ∷ [])) ++ (get_or t 49 0 ∷ get_or t 50 0 ∷ get_or t 51 0 ∷ get_or t 52 0 ∷ []))) (two_back (get_or t 5 0) (get_or t 6 0) (fits 5) (fits 6))
+    ∙ ap (λ (w : List ℕ). get_or t 0 0 ∷ get_or t 1 0 ∷ get_or t 2 0 ∷ get_or t 3 0 ∷ get_or t 4 0 ∷ get_or t 5 0 ∷ get_or t 6 0 ∷ get_or t 7 0 ∷ get_or t 8 0 ∷ get_or t 9 0 ∷ get_or t 10 0 ∷ get_or t 11 0 ∷ get_or t 12 0 ∷ get_or t 13 0 ∷ get_or t 14 0 ∷ get_or t 15 0 ∷ get_or t 16 0 ∷ get_or t 17 0 ∷ get_or t 18 0 ∷ get_or t 19 0 ∷ get_or t 20 0 ∷ get_or t 21 0 ∷ get_or t 22 0 ∷ get_or t 23 0 ∷ get_or t 24 0 ∷ get_or t 25 0 ∷ get_or t 26 0 ∷ get_or t 27 0 ∷ get_or t 28 0 ∷ get_or t 29 0 ∷ get_or t 30 0 ∷ get_or t 31 0 ∷ get_or t 32 0 ∷ get_or t 33 0 ∷ get_or t 34 0 ∷ get_or t 35 0 ∷ get_or t 36 0 ∷ get_or t 37 0 ∷ get_or t 38 0 ∷ get_or t 39 0 ∷ get_or t 40 0 ∷ get_or t 41 0 ∷ get_or t 42 0 ∷ get_or t 43 0 ∷ get_or t 44 0 ∷ get_or t 45 0 ∷ get_or t 46 0 ∷ (w ++ (get_or t 49 0 ∷ get_or t 50 0 ∷ get_or t 51 0 ∷ get_or t 52 0 ∷ []))) (two_back (get_or t 47 0) (get_or t 48 0) (fits 47) (fits 48))
+    ∙ cells_whole 53 t len
 
 parts_are : (b : List ℕ) → b ≡ take 7 b ++ take 128 (drop 7 b) ++ drop 128 (drop 7 b)
 parts_are b =
@@ -34,7 +34,7 @@ record_back b fits len =
     let r = take 128 (drop 7 b) in
     let t = drop 128 (drop 7 b) in
     let c_len : length c ≡ 7 = omega (arith, length-take 7 b) in
-    let t_len : length t ≡ 52 = omega (arith, length-drop 128 (drop 7 b), length-drop 7 b) in
+    let t_len : length t ≡ 53 = omega (arith, length-drop 128 (drop 7 b), length-drop 7 b) in
     let c_back : cpu_bytes (fields_of c r t) ≡ c = cpu_back c r t (IsBytes-take 7 b fits) c_len in
     let t_back : rest_bytes (fields_of c r t) ≡ t = rest_back c r t (IsBytes-drop 128 (drop 7 b) (IsBytes-drop 7 b fits)) t_len in
     ap (λ (w : List ℕ). w ++ r ++ rest_bytes (fields_of c r t)) c_back ∙ ap (λ (w : List ℕ). c ++ r ++ w) t_back ∙ sym (parts_are b)
@@ -83,7 +83,7 @@ state_found b (Some f) fits e = state_takes b f fits (sym e)
 state_found b None fits e = tt
 
 -- three parts written one after the other
-pub pasted : (o o1 o2 o3 c r t : List ℕ) → length o1 ≡ state_length → length o2 ≡ state_length → length c ≡ 7 → length r ≡ 128 → length t ≡ 52
+pub pasted : (o o1 o2 o3 c r t : List ℕ) → length o1 ≡ state_length → length o2 ≡ state_length → length c ≡ 7 → length r ≡ 128 → length t ≡ 53
     → o1 ≡ take 0 o ++ c ++ drop (0 + length c) o → o2 ≡ take 7 o1 ++ r ++ drop (7 + length r) o1 → o3 ≡ take 135 o2 ++ t ++ drop (135 + length t) o2
     → o3 ≡ c ++ r ++ t
 pasted o o1 o2 o3 c r t l1 l2 cl rl tl e1 e2 e3 =

@@ -1,5 +1,5 @@
 -- A run goes on from where it stands, and a frame is sound, faults or has a false checkpoint, and no two of these.
-use Rattle.std.proofs.Common.{◌≡◌, ℕ, zero, suc, ◌+◌, ◌-◌, ◌<◌, ◌≤◌, Option, Some, None, refl, sym, ap, subst, ◌∙◌, arith, add-one, add-zero, ◌⊎◌, inl, inr}
+use Rattle.std.proofs.Common.{◌≡◌, ℕ, zero, suc, ◌+◌, ◌-◌, ◌<◌, ◌≤◌, length, Option, Some, None, refl, sym, ap, subst, ◌∙◌, arith, add-one, add-zero, ◌⊎◌, inl, inr}
 use Rattle.std.proofs.lemmas.Bool.{cases_lt}
 use Rattle.vcs_machine.specs.Outcomes.{Outcome, Failed}
 use Rattle.vcs_machine.specs.declared.fault.FaultKind.{FaultKind}
@@ -51,8 +51,8 @@ pub same_number : (m : MovieData) (s : StateFields) (a k n n' : ℕ) → IsMovie
 same_number m s a k n n' lawful (state, j, c, ran, num, got, at, ne) (state', j', c', ran', num', got', at', ne') = by (cases_lt j j') (cases_lt j' j)
   where
     by : (j < j') ⊎ (j' ≤ j) → (j' < j) ⊎ (j ≤ j') → n ≡ n'
-    by (inl less) other = absurd (let h = checkpoints_rise m.checkpoints 0 _ j j' c c' lawful.checkpoints less got got' in omega arith)
-    by (inr le) (inl less) = absurd (let h = checkpoints_rise m.checkpoints 0 _ j' j c' c lawful.checkpoints less got' got in omega arith)
+    by (inl less) other = absurd (let h = checkpoints_rise (length m.cart) m.checkpoints 0 _ j j' c c' lawful.checkpoints less got got' in omega arith)
+    by (inr le) (inl less) = absurd (let h = checkpoints_rise (length m.cart) m.checkpoints 0 _ j' j c' c lawful.checkpoints less got' got in omega arith)
     by (inr le) (inr ge) = omega arith
 
 abbrev failed : FaultKind → StateFields → Option Outcome

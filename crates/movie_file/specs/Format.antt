@@ -1,16 +1,23 @@
 -- The numbers of the format, each in this one place. The format is this project's own; its numbers are big-endian.
-use Rattle.std.specs.Prelude.{ℕ, ◌+◌, ◌*◌, List, codes}
+use Rattle.std.specs.Prelude.{ℕ, ◌+◌, ◌*◌, List, codes, Bool, ◌==◌, ◌&&◌, ◌||◌, not, if◌then◌else◌}
+use Rattle.riot_map.specs.Cart.{is_cart_length, has_banks}
+use Rattle.movie_file.specs.declared.reading.sizes.Sizes.{Sizes}
 
 -- the first four bytes
 abbrev pub magic : List ℕ
 magic = codes "A26M"
 
-abbrev pub movie_version : ℕ
-movie_version = 1
+-- there are versions 1 and 2
+abbrev pub is_version : ℕ → Bool
+is_version version = (version == 1) || (version == 2)
 
--- a movie has 1 to 65,535 frames
-abbrev pub most_frames : ℕ
-most_frames = 65535
+-- the cartridges of a version, by their length: version 1 has none with banks
+abbrev pub takes_cart : ℕ → ℕ → Bool
+takes_cart version cart = is_cart_length cart && ((version == 2) || not (has_banks cart))
+
+-- a movie of version 1 has 1 to 65,535 frames, one of version 2 up to 262,143
+abbrev pub most_frames : ℕ → ℕ
+most_frames version = if version == 1 then 65535 else 262143
 
 -- and 0 to 4,095 checkpoints
 abbrev pub most_checkpoints : ℕ
@@ -18,16 +25,21 @@ most_checkpoints = 4095
 
 -- the bytes of a state record
 abbrev pub state_length : ℕ
-state_length = 187
+state_length = 188
+
+-- the bytes of one in a movie: version 1 leaves out the last, the bank
+abbrev pub record_length : ℕ → ℕ
+record_length version = if version == 1 then 187 else state_length
 
 -- the bytes of an input
 abbrev pub input_length : ℕ
 input_length = 3
 
 -- the bytes of a checkpoint: its frame number, and the record of its state
-abbrev pub checkpoint_length : ℕ
-checkpoint_length = 4 + state_length
+abbrev pub checkpoint_length : ℕ → ℕ
+checkpoint_length version = 4 + record_length version
 
--- the bytes after the header, of a cartridge of so many bytes, so many frames and so many checkpoints
-abbrev pub body_length : ℕ → ℕ → ℕ → ℕ
-body_length cart frames checkpoints = cart + state_length + input_length * frames + checkpoint_length * checkpoints
+-- the bytes after a header
+abbrev pub body_length : Sizes → ℕ
+body_length h =
+    h.cart + record_length h.version + input_length * h.frames + checkpoint_length h.version * h.checkpoints

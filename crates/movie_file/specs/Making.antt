@@ -1,25 +1,30 @@
 -- Making a movie: a run from power-on, with its state after each so many frames as a checkpoint. This project's own.
-use Rattle.std.specs.Prelude.{◌≡◌, ℕ, ◌+◌, ◌*◌, ◌/◌, ◌<◌, List, [], length, Bool, ◌&&◌, nat_le, IsTrue, Some, slice_get}
+use Rattle.std.specs.Prelude.{◌≡◌, ℕ, ◌+◌, ◌*◌, ◌/◌, ◌<◌, List, [], length, Bool, ◌&&◌, ◌||◌, nat_le, nat_lt, IsTrue, if◌then◌else◌, Some, slice_get}
+use Rattle.riot_map.specs.Cart.{has_banks}
 use Rattle.vcs_machine.specs.Inputs.{Controls}
 use Rattle.vcs_machine.specs.States.{power_on}
 use Rattle.vcs_machine.specs.declared.fault.FaultKind.{FaultKind}
 use Rattle.movie_file.specs.declared.checkpoint.Checkpoint.{Checkpoint}
 use Rattle.movie_file.specs.declared.error.MakeError.{MakeError}
 use Rattle.movie_file.specs.declared.error.MakeError.TheVariants.{Fault, BadCounts, NoMemory}
-use Rattle.movie_file.specs.Format.{movie_version, most_frames, most_checkpoints}
+use Rattle.movie_file.specs.Format.{most_frames, most_checkpoints}
 use Rattle.movie_file.specs.Judgement.{AllSound, FaultsAt}
 use Rattle.movie_file.specs.Movie.{MovieData}
 use Rattle.movie_file.specs.Run.{run}
 
+-- the version of a movie that is made of a cartridge of so many bytes and so many inputs: 1 where that has room for them
+abbrev pub version_made : ℕ → ℕ → ℕ
+version_made cart frames = if has_banks cart || nat_lt (most_frames 1) frames then 2 else 1
+
 -- frames of which a movie can be made, with a checkpoint after each `every` of them
 abbrev pub counts_fit : ℕ → ℕ → Bool
 counts_fit frames every =
-    nat_le 1 frames && nat_le frames most_frames && nat_le 1 every && nat_le (frames / every) most_checkpoints
+    nat_le 1 frames && nat_le frames (most_frames 2) && nat_le 1 every && nat_le (frames / every) most_checkpoints
 
 -- The movie of a run from power-on. Checkpoint j + 1 claims the state of the run after frame every * (j + 1), and there
 -- is one for each multiple of `every` up to the last frame.
 pub record IsMadeOf (cart : List ℕ) (inputs : List Controls) (every : ℕ) (m : MovieData) : Type 0 where
-  pub version : m.version ≡ movie_version
+  pub version : m.version ≡ version_made (length cart) (length inputs)
   pub cart_is : m.cart ≡ cart
   pub start : m.start ≡ power_on cart
   pub inputs_are : m.inputs ≡ inputs
@@ -30,7 +35,13 @@ pub record IsMadeOf (cart : List ℕ) (inputs : List Controls) (every : ℕ) (m 
 -- a movie that claims nothing
 abbrev pub bare : List ℕ → List Controls → MovieData
 bare cart inputs =
-    record { version = movie_version; cart = cart; start = power_on cart; inputs = inputs; checkpoints = [] }
+    record {
+      version = version_made (length cart) (length inputs);
+      cart = cart;
+      start = power_on cart;
+      inputs = inputs;
+      checkpoints = [];
+    }
 
 -- this frame of the run from power-on, counted from 1, faults, and each frame before it ends
 abbrev pub IsFirstFault : List ℕ → List Controls → ℕ → FaultKind → Type 0

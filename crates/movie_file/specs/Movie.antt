@@ -1,12 +1,12 @@
 -- What a movie is, wherever it lies in memory. This project's own.
 use Rattle.std.specs.Prelude.{◌≡◌, ℕ, ◌<◌, ◌≤◌, ◌^◌, List, [], ◌∷◌, length, IsTrue}
 use Rattle.std.specs.List.{AllByRecursion}
-use Rattle.riot_map.specs.Cart.{is_cart_length}
 use Rattle.vcs_machine.specs.Inputs.{Controls, is_input}
 use Rattle.vcs_machine.specs.States.{is_state}
 use Rattle.vcs_machine.specs.declared.fields.StateFields.{StateFields}
 use Rattle.movie_file.specs.declared.checkpoint.Checkpoint.{Checkpoint}
-use Rattle.movie_file.specs.Format.{movie_version, most_frames, most_checkpoints}
+use Rattle.movie_file.specs.Format.{is_version, takes_cart, most_frames, most_checkpoints}
+use Rattle.movie_file.specs.Record.{fits_bank}
 
 -- inputs are those of frames 1, 2, .., and checkpoints have the numbers 1, 2, ..
 pub record MovieData : Type 0 where
@@ -24,18 +24,24 @@ pub record IsState (f : StateFields) : Type 0 where
   pub collisions : f.collisions < 2 ^ 16
   pub ram : length f.ram ≡ 128
 
--- each frame number is greater than the one before it, and none is above n; each claimed state is one
-abbrev pub AreCheckpoints : ℕ → ℕ → List Checkpoint → Type 0
-AreCheckpoints last n [] = Unit {0}
-AreCheckpoints last n (c ∷ cs) = (last < c.frame) × (c.frame ≤ n) × IsState c.state × AreCheckpoints c.frame n cs
+-- a state of a console with a cartridge of so many bytes: without banks its bank is 0
+pub record IsStateWith (cart : ℕ) (f : StateFields) : Type 0 where
+  pub state : IsState f
+  pub bank : IsTrue (fits_bank cart f)
+
+-- each frame number is greater than the one before it, and none is above n; each claimed state is one with the cartridge
+abbrev pub AreCheckpoints : ℕ → ℕ → ℕ → List Checkpoint → Type 0
+AreCheckpoints cart last n [] = Unit {0}
+AreCheckpoints cart last n (c ∷ cs) =
+    (last < c.frame) × (c.frame ≤ n) × IsStateWith cart c.state × AreCheckpoints cart c.frame n cs
 
 -- what a movie keeps to
 pub record IsMovie (m : MovieData) : Type 0 where
-  pub version : m.version ≡ movie_version
-  pub cart : IsTrue (is_cart_length (length m.cart))
-  pub start : IsState m.start
+  pub version : IsTrue (is_version m.version)
+  pub cart : IsTrue (takes_cart m.version (length m.cart))
+  pub start : IsStateWith (length m.cart) m.start
   pub some_frames : 1 ≤ length m.inputs
-  pub few_frames : length m.inputs ≤ most_frames
+  pub few_frames : length m.inputs ≤ most_frames m.version
   pub few_checkpoints : length m.checkpoints ≤ most_checkpoints
   pub inputs : AllByRecursion (λ i. IsTrue (is_input i)) m.inputs
-  pub checkpoints : AreCheckpoints 0 (length m.inputs) m.checkpoints
+  pub checkpoints : AreCheckpoints (length m.cart) 0 (length m.inputs) m.checkpoints

@@ -1,8 +1,7 @@
 -- The movie that its parts make.
 use Rattle.movie_file.specs.declared.parts.MovieParts.{MovieParts}
-use Rattle.movie_file.specs.Format.{movie_version}
 use Rattle.movie_file.specs.Movie.{MovieData}
 
 abbrev pub data_of : MovieParts → MovieData
 data_of p =
-    record { version = movie_version; cart = p.cart; start = p.start; inputs = p.inputs.items; checkpoints = p.checkpoints.items }
+    record { version = p.version; cart = p.cart; start = p.start; inputs = p.inputs.items; checkpoints = p.checkpoints.items }

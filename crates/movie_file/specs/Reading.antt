@@ -2,15 +2,15 @@
 -- back, the length of the file, the start state, the inputs, the checkpoints, the end. This project's own.
 use Rattle.std.specs.Prelude.{ℕ, zero, suc, ◌&&◌, List, [], ◌∷◌, length, take, drop, slice_index, Option, Some, None, Result, Ok, Err, nat_lt, nat_le, ◌==◌, if◌then◌else◌}
 use Rattle.std.specs.Int.{Width, w16, w32, byte_len, from_be_bytes}
-use Rattle.riot_map.specs.Cart.{is_cart_length}
 use Rattle.vcs_machine.specs.Inputs.{Controls, is_input}
+use Rattle.vcs_machine.specs.declared.fields.StateFields.{StateFields}
 use Rattle.movie_file.specs.declared.checkpoint.Checkpoint.{Checkpoint}
 use Rattle.movie_file.specs.declared.error.MovieError.{MovieError}
 use Rattle.movie_file.specs.declared.error.MovieError.TheVariants.{Short, BadMagic, BadVersion, BadCartSize, BadCounts, BadState, BadInput, BadOrder, Trailing}
 use Rattle.movie_file.specs.declared.reading.sizes.Sizes.{Sizes}
-use Rattle.movie_file.specs.Format.{magic, movie_version, most_frames, most_checkpoints, state_length, input_length, checkpoint_length, body_length}
+use Rattle.movie_file.specs.Format.{magic, is_version, takes_cart, most_frames, most_checkpoints, record_length, input_length, checkpoint_length, body_length}
 use Rattle.movie_file.specs.Movie.{MovieData}
-use Rattle.movie_file.specs.Record.{state_at}
+use Rattle.movie_file.specs.Record.{movie_state_at}
 
 -- one step after another, up to the first refusal
 infixl 10 ◌>>=◌
@@ -34,31 +34,36 @@ magic_at bytes = do
   n ← number_at w32 bytes
   if n.0 == from_be_bytes w32 magic then Ok n.1 else Err BadMagic
 
-unfoldable pub version_at : List ℕ → Result (List ℕ) MovieError
+unfoldable pub version_at : List ℕ → Result (ℕ × List ℕ) MovieError
 version_at bytes = do
   n ← number_at w16 bytes
-  if n.0 == movie_version then Ok n.1 else Err BadVersion
+  if is_version n.0 then Ok n else Err BadVersion
 
-unfoldable pub cart_length_at : List ℕ → Result (ℕ × List ℕ) MovieError
-cart_length_at bytes = do
+-- the length of the cartridge, in a movie of this version
+unfoldable pub cart_length_at : ℕ → List ℕ → Result (ℕ × List ℕ) MovieError
+cart_length_at version bytes = do
   n ← number_at w16 bytes
-  if is_cart_length n.0 then Ok n else Err BadCartSize
+  if takes_cart version n.0 then Ok n else Err BadCartSize
 
 -- frames and checkpoints are one field
-unfoldable pub counts_at : List ℕ → Result (ℕ × ℕ × List ℕ) MovieError
-counts_at bytes = do
+unfoldable pub counts_at : ℕ → List ℕ → Result (ℕ × ℕ × List ℕ) MovieError
+counts_at version bytes = do
   n ← number_at w32 bytes
   m ← number_at w16 n.1
-  if nat_le 1 n.0 && nat_le n.0 most_frames && nat_le m.0 most_checkpoints then Ok (n.0, m.0, m.1) else Err BadCounts
+  if nat_le 1 n.0 && nat_le n.0 (most_frames version) && nat_le m.0 most_checkpoints then Ok (n.0, m.0, m.1) else Err BadCounts
+
+-- bytes of which there are enough after such a header
+abbrev pub enough_of : Sizes → List ℕ → Result (Sizes × List ℕ) MovieError
+enough_of h bytes = if nat_lt (length bytes) (body_length h) then Err Short else Ok (h, bytes)
 
 -- the header, and the bytes after it, of which there are enough
 unfoldable pub sizes_at : List ℕ → Result (Sizes × List ℕ) MovieError
 sizes_at bytes = do
   a ← magic_at bytes
-  b ← version_at a
-  l ← cart_length_at b
-  c ← counts_at l.1
-  if nat_lt (length c.2) (body_length l.0 c.0 c.1) then Err Short else Ok (record { cart = l.0; frames = c.0; checkpoints = c.1 }, c.2)
+  v ← version_at a
+  l ← cart_length_at v.0 v.1
+  c ← counts_at v.0 l.1
+  enough_of (record { version = v.0; cart = l.0; frames = c.0; checkpoints = c.1 }) c.2
 
 abbrev pub controls_at : List ℕ → Controls
 controls_at bytes = record { swcha = slice_index bytes 0; swchb = slice_index bytes 1; buttons = slice_index bytes 2 }
@@ -78,29 +83,33 @@ inputs_at (suc n) k bytes = do
 abbrev pub frame_at : List ℕ → ℕ
 frame_at bytes = from_be_bytes w32 (take 4 bytes)
 
--- the checkpoint of number j: its frame is greater than the last one and at most n, and its state is one
-unfoldable pub checkpoint_at : ℕ → ℕ → ℕ → List ℕ → Result Checkpoint MovieError
-checkpoint_at j last n bytes =
-    if nat_lt last (frame_at bytes) && nat_le (frame_at bytes) n
-    then (or_refuse (state_at (take state_length (drop 4 bytes))) (BadState j) >>= λ s. Ok (record { frame = frame_at bytes; state = s }))
+-- the state at the head of the bytes, with the version and the cartridge of a header
+abbrev pub head_state_at : Sizes → List ℕ → Option StateFields
+head_state_at h bytes = movie_state_at h.version h.cart (take (record_length h.version) bytes)
+
+-- the checkpoint of number j: its frame is greater than the last one and one of the movie's, and its state is one
+unfoldable pub checkpoint_at : Sizes → ℕ → ℕ → List ℕ → Result Checkpoint MovieError
+checkpoint_at h j last bytes =
+    if nat_lt last (frame_at bytes) && nat_le (frame_at bytes) h.frames
+    then (or_refuse (head_state_at h (drop 4 bytes)) (BadState j) >>= λ s. Ok (record { frame = frame_at bytes; state = s }))
     else Err (BadOrder j)
 
 -- so many checkpoints, the first of number j, and the bytes after them
-unfoldable pub checkpoints_at : ℕ → ℕ → ℕ → ℕ → List ℕ → Result (List Checkpoint × List ℕ) MovieError
-checkpoints_at zero j last n bytes = Ok ([], bytes)
-checkpoints_at (suc m) j last n bytes = do
-  first ← checkpoint_at j last n bytes
-  others ← checkpoints_at m (suc j) first.frame n (drop checkpoint_length bytes)
+unfoldable pub checkpoints_at : Sizes → ℕ → ℕ → ℕ → List ℕ → Result (List Checkpoint × List ℕ) MovieError
+checkpoints_at h zero j last bytes = Ok ([], bytes)
+checkpoints_at h (suc m) j last bytes = do
+  first ← checkpoint_at h j last bytes
+  others ← checkpoints_at h m (suc j) first.frame (drop (checkpoint_length h.version) bytes)
   Ok (first ∷ others.0, others.1)
 
 -- what stands after the header, to the end
 unfoldable pub body_at : Sizes → List ℕ → Result MovieData MovieError
 body_at h bytes = do
-  start ← or_refuse (state_at (take state_length (drop h.cart bytes))) (BadState 0)
-  inputs ← inputs_at h.frames 1 (drop state_length (drop h.cart bytes))
-  checkpoints ← checkpoints_at h.checkpoints 1 0 h.frames inputs.1
+  start ← or_refuse (head_state_at h (drop h.cart bytes)) (BadState 0)
+  inputs ← inputs_at h.frames 1 (drop (record_length h.version) (drop h.cart bytes))
+  checkpoints ← checkpoints_at h h.checkpoints 1 0 inputs.1
   if length checkpoints.1 == 0
-      then Ok (record { version = movie_version; cart = take h.cart bytes; start = start; inputs = inputs.0; checkpoints = checkpoints.0 })
+      then Ok (record { version = h.version; cart = take h.cart bytes; start = start; inputs = inputs.0; checkpoints = checkpoints.0 })
       else Err Trailing
 
 -- the movie that the bytes are, or their refusal

@@ -1,16 +1,17 @@
--- The record of a state: its 187 bytes, in the order of `StateFields`. This project's own. It has three parts: the
+-- The record of a state: its 188 bytes, in the order of `StateFields`. This project's own. It has three parts: the
 -- processor, the memory of the RIOT, and the rest.
-use Rattle.std.specs.Prelude.{ℕ, List, [], ◌∷◌, ◌++◌, length, take, drop, slice_index, ◌==◌, ◌&&◌, Option, Some, None, if◌then◌else◌}
+use Rattle.std.specs.Prelude.{ℕ, List, [], ◌∷◌, ◌++◌, length, take, drop, slice_index, ◌==◌, ◌&&◌, ◌||◌, Bool, Option, Some, None, if◌then◌else◌}
 use Rattle.std.specs.Int.{w16, to_be_bytes, from_be_bytes}
 use Rattle.vcs_machine.specs.declared.fields.StateFields.{StateFields}
 use Rattle.vcs_machine.specs.States.{is_state}
-use Rattle.movie_file.specs.Format.{state_length}
+use Rattle.riot_map.specs.Cart.{has_banks}
+use Rattle.movie_file.specs.Format.{state_length, record_length}
 
 -- the seven bytes of the processor
 abbrev pub cpu_bytes : StateFields → List ℕ
 cpu_bytes f = f.a ∷ f.x ∷ f.y ∷ f.s ∷ f.p ∷ to_be_bytes w16 f.pc
 
--- the 52 bytes after the memory: ports and timer, the TIA's registers, positions, collisions, buttons and beam
+-- the 53 bytes after the memory: ports and timer, the TIA's registers, positions, collisions, buttons, beam and bank
 abbrev pub rest_bytes : StateFields → List ℕ
 rest_bytes f =
     f.output_a ∷ f.direction_a ∷ f.output_b ∷ f.direction_b ∷ f.timer ∷ to_be_bytes w16 f.part ++ f.interval ∷ f.past_zero ∷ f.flag
@@ -19,7 +20,7 @@ rest_bytes f =
     ∷ f.grp0_new ∷ f.grp0_old ∷ f.grp1_new ∷ f.grp1_old ∷ f.enam0 ∷ f.enam1 ∷ f.enabl_new ∷ f.enabl_old
     ∷ f.hmp0 ∷ f.hmp1 ∷ f.hmm0 ∷ f.hmm1 ∷ f.hmbl ∷ f.vdelp0 ∷ f.vdelp1 ∷ f.vdelbl ∷ f.resmp0 ∷ f.resmp1
     ∷ f.position_p0 ∷ f.position_p1 ∷ f.position_m0 ∷ f.position_m1 ∷ f.position_bl
-    ∷ to_be_bytes w16 f.collisions ++ f.latches ∷ f.line_cycle ∷ f.comb ∷ []
+    ∷ to_be_bytes w16 f.collisions ++ f.latches ∷ f.line_cycle ∷ f.comb ∷ f.bank ∷ []
 
 unfoldable pub record_of : StateFields → List ℕ
 record_of f = cpu_bytes f ++ f.ram ++ rest_bytes f
@@ -84,12 +85,33 @@ fields_of c ram t = record {
   latches = slice_index t 49;
   line_cycle = slice_index t 50;
   comb = slice_index t 51;
+  bank = slice_index t 52;
 }
 
--- the parts have 7, 128 and 52 bytes
+-- the parts have 7, 128 and 53 bytes
 abbrev pub fields_at : List ℕ → StateFields
 fields_at bytes = fields_of (take 7 bytes) (take 128 (drop 7 bytes)) (drop 128 (drop 7 bytes))
 
 -- the state whose record the bytes are, where they are one
 unfoldable pub state_at : List ℕ → Option StateFields
 state_at bytes = if (length bytes == state_length) && is_state (fields_at bytes) then Some (fields_at bytes) else None
+
+-- the record of a state in a movie of this version: version 1 leaves out the last byte, the bank
+abbrev pub movie_record : ℕ → StateFields → List ℕ
+movie_record version f = take (record_length version) (record_of f)
+
+-- the whole record: a bank that was left out is 0
+abbrev pub whole_record : ℕ → List ℕ → List ℕ
+whole_record version bytes = if version == 1 then bytes ++ 0 ∷ [] else bytes
+
+-- a bank other than 0 is there only where a cartridge of so many bytes has banks
+abbrev pub fits_bank : ℕ → StateFields → Bool
+fits_bank cart f = has_banks cart || (f.bank == 0)
+
+abbrev pub with_fitting_bank : ℕ → Option StateFields → Option StateFields
+with_fitting_bank cart (Some f) = if fits_bank cart f then Some f else None
+with_fitting_bank cart None = None
+
+-- the state whose record in a movie the bytes are: of this version, with a cartridge of so many bytes
+unfoldable pub movie_state_at : ℕ → ℕ → List ℕ → Option StateFields
+movie_state_at version cart bytes = with_fitting_bank cart (state_at (whole_record version bytes))

@@ -6,7 +6,7 @@ use Rattle.vcs_machine.specs.Inputs.{input_bytes}
 use Rattle.movie_file.specs.declared.checkpoint.Checkpoint.{Checkpoint}
 use Rattle.movie_file.specs.Format.{magic}
 use Rattle.movie_file.specs.Movie.{MovieData, IsMovie}
-use Rattle.movie_file.specs.Record.{record_of}
+use Rattle.movie_file.specs.Record.{movie_record}
 
 -- the magic, the version, the length of the cartridge, and the numbers of frames and checkpoints
 abbrev pub header_of : MovieData → List ℕ
@@ -14,14 +14,15 @@ header_of m =
     magic ++ to_be_bytes w16 m.version ++ to_be_bytes w16 (length m.cart)
     ++ to_be_bytes w32 (length m.inputs) ++ to_be_bytes w16 (length m.checkpoints)
 
--- a frame number and a state
-abbrev pub checkpoint_bytes : Checkpoint → List ℕ
-checkpoint_bytes c = to_be_bytes w32 c.frame ++ record_of c.state
+-- a frame number and a state, in a movie of this version
+abbrev pub checkpoint_bytes : ℕ → Checkpoint → List ℕ
+checkpoint_bytes version c = to_be_bytes w32 c.frame ++ movie_record version c.state
 
 -- the header, the cartridge, the start state, the inputs and the checkpoints
 abbrev pub spelling : MovieData → List ℕ
 spelling m =
-    header_of m ++ m.cart ++ record_of m.start ++ flat_map input_bytes m.inputs ++ flat_map checkpoint_bytes m.checkpoints
+    header_of m ++ m.cart ++ movie_record m.version m.start ++ flat_map input_bytes m.inputs
+    ++ flat_map (checkpoint_bytes m.version) m.checkpoints
 
 -- the bytes spell the movie
 pub record Spells (bytes : List ℕ) (m : MovieData) : Type 0 where

@@ -16,13 +16,14 @@ pub enum MovieError {
     Short,
     /// The first four bytes aren't `A26M`.
     BadMagic,
-    /// The version isn't 1.
+    /// The version is neither 1 nor 2.
     BadVersion,
-    /// No cartridge has this length.
+    /// No cartridge of the version has this length.
     BadCartSize,
     /// No frame or too many, or too many checkpoints.
     BadCounts,
-    /// The start state (0), or the state of a checkpoint (from 1), is no state.
+    /// The start state (0), or the state of a checkpoint (from 1), is no state, or has a bank that
+    /// the cartridge doesn't have.
     BadState(u16),
     /// The input of this number, from 1, has a bit set that no input has.
     BadInput(u64),

@@ -1,13 +1,17 @@
 //! The numbers of the format. `specs/Format` has them for contracts.
+ghost use Rattle.std.specs.Prelude.{◌≡◌, ◌≤◌, ◌<◌};
+ghost use Rattle.movie_file.specs.Format.{is_version, takes_cart, most_frames, record_length};
+
+use riot_map::Cart;
 
 /// The first four bytes of a file, `A26M`, as a number.
 pub(crate) const MAGIC: u32 = 0x4132_364D;
 
-/// The version of the format.
-pub(crate) const VERSION: u16 = 1;
+/// The most frames of a movie of version 1.
+pub(crate) const MOST_FRAMES_OF_VERSION_1: u32 = 65_535;
 
 /// The most frames of a movie.
-pub(crate) const MOST_FRAMES: u32 = 65_535;
+pub(crate) const MOST_FRAMES: u32 = 262_143;
 
 /// The most checkpoints of a movie.
 pub(crate) const MOST_CHECKPOINTS: u16 = 4_095;
@@ -16,10 +20,46 @@ pub(crate) const MOST_CHECKPOINTS: u16 = 4_095;
 pub(crate) const HEADER_LENGTH: usize = 14;
 
 /// The bytes of a state record.
-pub(crate) const STATE_LENGTH: usize = 187;
+pub(crate) const STATE_LENGTH: usize = 188;
 
 /// The bytes of an input.
 pub(crate) const INPUT_LENGTH: usize = 3;
 
-/// The bytes of a checkpoint: its frame number and its state.
-pub(crate) const CHECKPOINT_LENGTH: usize = 4 + STATE_LENGTH;
+/// Whether there is such a version of the format.
+pub(crate) fn is_version(version: u16) -> bool
+    ensures { result ≡ is_version version }
+{
+    version == 1 || version == 2
+}
+
+/// Whether a version has cartridges of this length. Version 1 has none with banks.
+pub(crate) fn takes_cart(version: u16, cart: u16) -> bool
+    ensures { result ≡ takes_cart version cart }
+{
+    Cart::is_length(cart as usize) && (version == 2 || !Cart::is_banked(cart as usize))
+}
+
+/// The most frames of a movie of a version.
+pub(crate) fn most_frames(version: u16) -> u32
+    ensures value { result ≡ most_frames version }
+    ensures most { result ≤ MOST_FRAMES }
+{
+    if version == 1 {
+        MOST_FRAMES_OF_VERSION_1
+    } else {
+        MOST_FRAMES
+    }
+}
+
+/// The bytes of a state record in a movie of a version. Version 1 leaves out the last, the bank.
+pub(crate) fn record_length(version: u16) -> usize
+    ensures value { result ≡ record_length version }
+    ensures some { 0 < result }
+    ensures most { result ≤ STATE_LENGTH }
+{
+    if version == 1 {
+        STATE_LENGTH - 1
+    } else {
+        STATE_LENGTH
+    }
+}

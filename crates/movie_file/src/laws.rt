@@ -3,7 +3,7 @@ ghost use Rattle.std.specs.Prelude.{◌≡◌, ◌+◌, ◌<◌, ◌≤◌, List
 ghost use Rattle.movie_file.specs.InputLists.{SpellsInputs, all_inputs_at};
 ghost use Rattle.movie_file.specs.Judgement.{IsSound, FaultsAt, IsFalseAt, IsGenuine};
 ghost use Rattle.movie_file.specs.Making.{IsFirstFault, IsMadeOf};
-ghost use Rattle.movie_file.specs.Movie.{MovieData, IsMovie, IsState};
+ghost use Rattle.movie_file.specs.Movie.{MovieData, IsMovie, IsState, IsStateWith};
 ghost use Rattle.movie_file.specs.Reading.{movie_at};
 ghost use Rattle.movie_file.specs.Record.{record_of, state_at};
 ghost use Rattle.movie_file.specs.Run.{run};
@@ -61,11 +61,11 @@ pub const fn law_of_records()
 {}
 
 /// A law: checkpoints stand after frames of their movie, each after the one before it, and claim
-/// states.
+/// states of a console with its cartridge.
 pub const fn law_of_checkpoints()
     ensures range { (m : MovieData) (j : ℕ) (c : Checkpoint) → IsMovie m
         → slice_get m.checkpoints j ≡ Some c
-        → (0 < c.frame) × (c.frame ≤ length m.inputs) × IsState c.state }
+        → (0 < c.frame) × (c.frame ≤ length m.inputs) × IsStateWith (length m.cart) c.state }
     ensures rising { (m : MovieData) (i j : ℕ) (c d : Checkpoint) → IsMovie m → i < j
         → slice_get m.checkpoints i ≡ Some c → slice_get m.checkpoints j ≡ Some d
         → c.frame < d.frame }

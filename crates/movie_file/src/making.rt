@@ -1,17 +1,18 @@
 //! Making movies.
 ghost use Rattle.std.specs.Prelude.{◌≡◌, ◌↔◌, ◌%◌, ◌/◌, ◌≤◌, ◌<◌, ◌++◌, ◌==◌, List, [], ◌∷◌, length, vec_len, vec_capacity, if◌then◌else◌, IfOk, IfErr, OnOk, IsTrue};
 ghost use Rattle.std.specs.List.{AllByRecursion};
+ghost use Rattle.riot_map.specs.Cart.{is_cart_length};
 ghost use Rattle.vcs_machine.specs.Inputs.{is_input};
 ghost use Rattle.vcs_machine.specs.Outcomes.{Played, Failed, frame_of};
 ghost use Rattle.vcs_machine.specs.Pictures.{Rows};
 ghost use Rattle.movie_file.specs.Judgement.{IsGenuine};
-ghost use Rattle.movie_file.specs.Making.{Explains, IsMadeOf, counts_fit};
+ghost use Rattle.movie_file.specs.Making.{Explains, IsMadeOf, counts_fit, version_made};
 ghost use Rattle.movie_file.specs.MakingSteps.{Records, RunFails, checkpoint_if};
 ghost use Rattle.movie_file.specs.Movie.{IsState};
 
 use crate::checkpoint::Checkpoint;
 use crate::error::MakeError;
-use crate::format::{MOST_CHECKPOINTS, MOST_FRAMES};
+use crate::format::{MOST_CHECKPOINTS, MOST_FRAMES, MOST_FRAMES_OF_VERSION_1};
 use crate::movie::Movie;
 use crate::parts::MovieParts;
 use riot_map::Cart;
@@ -26,6 +27,18 @@ fn do_counts_fit(frames: usize, every: u32) -> bool
         && frames <= MOST_FRAMES as usize
         && 1 <= every
         && frames / every as usize <= MOST_CHECKPOINTS as usize
+}
+
+/// The version of the movie that is made of a cartridge and inputs.
+fn version_made(cart: &Cart, inputs: &[Input]) -> u16
+    ensures value { result ≡ version_made (length cart.now) (length inputs.now) }
+    ensures lawful { IsTrue (is_cart_length (length cart.now)) }
+{
+    if cart.has_banks() || inputs.len() > MOST_FRAMES_OF_VERSION_1 as usize {
+        2
+    } else {
+        1
+    }
 }
 
 /// Reads a state, which says that it is one.
@@ -103,7 +116,9 @@ fn checkpoints_of_run(
 /// The movie of a run from power-on on a cartridge, one frame for each input, with a checkpoint
 /// after each `every` frames.
 ///
-/// `BadCounts` comes first: for no inputs, more than 65,535, `every` 0, or more than 4,095
+/// The movie has version 1 where that has room for it, and else version 2.
+///
+/// `BadCounts` comes first: for no inputs, more than 262,143, `every` 0, or more than 4,095
 /// checkpoints. Then the memory of the checkpoints is taken, in one growth; where that is refused
 /// `NoMemory` comes before any frame. `Fault` names the first frame that faults.
 pub fn make_movie(
@@ -127,11 +142,12 @@ pub fn make_movie(
         Ok(checkpoints) => checkpoints,
         Err(e) => return Err(e),
     };
+    let version = version_made(&cart, &inputs);
     let start = State::power_on(&cart);
-    let _bytes = cart.bytes();
     look_at(&start);
     look_at_inputs(&inputs);
     Ok(Movie::from_parts(MovieParts {
+        version,
         cart,
         start,
         inputs,

@@ -1,9 +1,7 @@
 //! Movies.
 ghost use Rattle.std.specs.Prelude.{◌≡◌, ◌-◌, ◌<◌, ◌≤◌, length, slice_get, Some};
-ghost use Rattle.movie_file.specs.Format.{movie_version};
 
 use crate::checkpoint::Checkpoint;
-use crate::format::VERSION;
 use crate::parts::MovieParts;
 use riot_map::Cart;
 use std::marker::Model;
@@ -51,13 +49,14 @@ impl Movie {
         ensures { result ≡ data_of parts }
     {
         let MovieParts {
+            version,
             cart,
             start,
             inputs,
             checkpoints,
         } = parts;
         Movie {
-            version: VERSION,
+            version,
             cart,
             start,
             inputs,
@@ -65,7 +64,7 @@ impl Movie {
         }
     }
 
-    /// The version of its format, 1.
+    /// The version of its format, 1 or 2.
     pub fn version(&self) -> u16
         ensures value { result ≡ self.now.version }
         ensures lawful { IsMovie self.now }
@@ -87,7 +86,7 @@ impl Movie {
         &self.start
     }
 
-    /// The number of its frames, 1 to 65,535.
+    /// The number of its frames, 1 to 65,535, or to 262,143 in version 2.
     pub fn frames(&self) -> u32
         ensures value { result ≡ length self.now.inputs }
         ensures lawful { IsMovie self.now }

@@ -3,9 +3,10 @@ use crate::checkpoint::Checkpoint;
 use riot_map::Cart;
 use vcs_machine::{Input, State};
 
-/// The parts of a movie of version 1.
+/// The parts of a movie.
 #[derive(Drop)]
 pub(crate) struct MovieParts {
+    pub version: u16,
     pub cart: Cart,
     pub start: State,
     pub inputs: Vec<Input>,

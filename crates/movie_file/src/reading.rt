@@ -1,7 +1,6 @@
 //! Reading movies.
 ghost use Rattle.std.specs.Prelude.{◌≡◌, ◌≢◌, ◌≤◌, length, IfErr, IfOk, IsOk, IsTrue, Ok};
-ghost use Rattle.riot_map.specs.Cart.{is_cart_length};
-ghost use Rattle.movie_file.specs.Format.{most_frames, most_checkpoints, body_length};
+ghost use Rattle.movie_file.specs.Format.{takes_cart, most_frames, most_checkpoints, body_length};
 ghost use Rattle.movie_file.specs.Movie.{MovieData};
 ghost use Rattle.movie_file.specs.MovieError.{Gives};
 ghost use Rattle.movie_file.specs.MovieParts.{data_of};
@@ -14,36 +13,36 @@ mod items;
 mod sizes;
 
 use crate::error::MovieError;
-use crate::format::STATE_LENGTH;
+use crate::format::record_length;
 use crate::movie::Movie;
 use crate::parts::MovieParts;
-use crate::record::read_state;
+use crate::record::movie_state_in;
 use header::sizes_in;
 pub use inputs::read_inputs;
 use items::{checkpoints_in, inputs_in};
 use riot_map::Cart;
-use sizes::Sizes;
+pub(crate) use sizes::Sizes;
 use std::alloc::Global;
 
 /// What follows a header. Memory is taken before the first byte is looked at.
 #[tactic(auto, unfolding(crate::specs::Reading::body_at))]
 fn body_in(alloc: Global, sizes: Sizes, bytes: &[u8]) -> Result<MovieParts, MovieError>
-    requires cart { IsTrue (is_cart_length sizes.cart) }
-    requires frames { sizes.frames ≤ most_frames }
+    requires cart { IsTrue (takes_cart sizes.version sizes.cart) }
+    requires frames { sizes.frames ≤ most_frames sizes.version }
     requires checkpoints { sizes.checkpoints ≤ most_checkpoints }
-    requires long { body_length sizes.cart sizes.frames sizes.checkpoints ≤ length bytes.now }
+    requires long { body_length sizes ≤ length bytes.now }
     ensures { Gives data_of result (body_at sizes bytes.now) }
 {
     let (cart, rest) = bytes.split_at(sizes.cart as usize);
     let cart = Vec::from_slice(alloc, cart)?;
     let inputs = Vec::with_capacity(alloc, sizes.frames as usize)?;
     let checkpoints = Vec::with_capacity(alloc, sizes.checkpoints as usize)?;
-    let (start, rest) = rest.split_at(STATE_LENGTH);
-    let Some(start) = read_state(start) else {
+    let (start, rest) = rest.split_at(record_length(sizes.version));
+    let Some(start) = movie_state_in(sizes, start) else {
         return Err(MovieError::BadState(0));
     };
     let (inputs, rest) = inputs_in(inputs, sizes.frames as usize, rest)?;
-    let (checkpoints, rest) = checkpoints_in(checkpoints, sizes.checkpoints, sizes.frames, rest)?;
+    let (checkpoints, rest) = checkpoints_in(checkpoints, sizes, rest)?;
     if !rest.is_empty() {
         return Err(MovieError::Trailing);
     }
@@ -51,6 +50,7 @@ fn body_in(alloc: Global, sizes: Sizes, bytes: &[u8]) -> Result<MovieParts, Movi
         return Err(MovieError::BadCartSize);
     };
     Ok(MovieParts {
+        version: sizes.version,
         cart,
         start,
         inputs,

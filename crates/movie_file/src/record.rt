@@ -2,16 +2,18 @@
 ghost use Rattle.std.specs.Prelude.{◌≡◌, ◌+◌, ◌≤◌, ◌++◌, length, take, drop, IfSome, Some};
 ghost use Rattle.vcs_machine.specs.declared.fields.StateFields.{StateFields};
 ghost use Rattle.movie_file.specs.Movie.{IsState};
-ghost use Rattle.movie_file.specs.Format.{state_length};
-ghost use Rattle.movie_file.specs.Record.{record_of, state_at, fields_of, cpu_bytes, rest_bytes};
+ghost use Rattle.movie_file.specs.Format.{state_length, record_length};
+ghost use Rattle.movie_file.specs.Record.{record_of, state_at, whole_record, movie_state_at, fields_of, cpu_bytes, rest_bytes};
 
 use crate::format::STATE_LENGTH;
+use crate::reading::Sizes;
+use riot_map::Cart;
 use vcs_machine::{State, StateFields};
 
 /// The numbers of the three parts of a record: the processor, the memory, and the rest.
 fn fields_in(cpu: &[u8], ram: [u8; 128], rest: &[u8]) -> StateFields
     requires cpu { length cpu.now ≡ 7 }
-    requires rest { length rest.now ≡ 52 }
+    requires rest { length rest.now ≡ 53 }
     ensures { result ≡ fields_of cpu.now ram rest.now }
 {
     StateFields {
@@ -72,6 +74,7 @@ fn fields_in(cpu: &[u8], ram: [u8; 128], rest: &[u8]) -> StateFields
         latches: rest[49],
         line_cycle: rest[50],
         comb: rest[51],
+        bank: rest[52],
     }
 }
 
@@ -90,13 +93,40 @@ fn state_in(bytes: &[u8]) -> Option<State>
     State::from_fields(fields_in(cpu, ram, rest))
 }
 
-/// The state whose record the bytes are; none where they aren't 187 bytes or break a condition.
+/// The state whose record the bytes are; none where they aren't 188 bytes or break a condition.
 pub fn read_state(bytes: &[u8]) -> Option<State>
     ensures exact { result ≡ state_at bytes.now }
     ensures found { IfSome result (λ f. IsState f × (bytes.now ≡ record_of f)) }
     ensures only { (f : StateFields) → IsState f → bytes.now ≡ record_of f → result ≡ Some f }
 {
     state_in(bytes)
+}
+
+/// The state whose whole record the bytes are, but for a bank that version 1 leaves out.
+fn whole_state_in(version: u16, bytes: &[u8]) -> Option<State>
+    requires { length bytes.now ≡ record_length version }
+    ensures { result ≡ state_at (whole_record version bytes.now) }
+{
+    if version != 1 {
+        return read_state(bytes);
+    }
+    let mut record = [0; STATE_LENGTH];
+    record[..STATE_LENGTH - 1].copy_from_slice(bytes);
+    read_state(&record)
+}
+
+/// The state whose record in a movie of these sizes the bytes are.
+#[tactic(auto, unfolding(crate::specs::Record::movie_state_at))]
+pub(crate) fn movie_state_in(sizes: Sizes, bytes: &[u8]) -> Option<State>
+    requires { length bytes.now ≡ record_length sizes.version }
+    ensures { result ≡ movie_state_at sizes.version sizes.cart bytes.now }
+{
+    let state = whole_state_in(sizes.version, bytes)?;
+    if Cart::is_banked(sizes.cart as usize) || state.fields().bank == 0 {
+        Some(state)
+    } else {
+        None
+    }
 }
 
 /// The seven bytes of the processor.
@@ -108,7 +138,7 @@ fn cpu_part(f: &StateFields) -> [u8; 7]
 }
 
 /// The bytes after the memory.
-fn rest_part(f: &StateFields) -> [u8; 52]
+fn rest_part(f: &StateFields) -> [u8; 53]
     ensures { result ≡ rest_bytes f.now }
 {
     let part = f.part.to_be_bytes();
@@ -166,6 +196,7 @@ fn rest_part(f: &StateFields) -> [u8; 52]
         f.latches,
         f.line_cycle,
         f.comb,
+        f.bank,
     ]
 }
 

@@ -5,14 +5,15 @@ ghost use Rattle.std.specs.List.{flat_map};
 ghost use Rattle.vcs_machine.specs.Inputs.{input_bytes};
 ghost use Rattle.movie_file.specs.Movie.{IsMovie};
 ghost use Rattle.movie_file.specs.Spelling.{header_of, checkpoint_bytes, spelling};
+ghost use Rattle.movie_file.specs.Record.{movie_record};
 
 use crate::checkpoint::Checkpoint;
 use crate::error::NoMemory;
-use crate::format::{HEADER_LENGTH, MAGIC};
+use crate::format::{HEADER_LENGTH, MAGIC, record_length};
 use crate::movie::Movie;
 use crate::record::write_state;
 use std::alloc::AllocError;
-use vcs_machine::Input;
+use vcs_machine::{Input, State};
 
 /// The header of a movie.
 fn header(movie: &Movie) -> [u8; HEADER_LENGTH]
@@ -52,25 +53,42 @@ fn put_inputs(out: &mut Vec<u8>, inputs: &[Input]) -> Result<(), AllocError>
     Ok(())
 }
 
-/// Appends a checkpoint.
-fn put_checkpoint(out: &mut Vec<u8>, checkpoint: &Checkpoint) -> Result<(), AllocError>
-    ensures ok { OnOk result (out.new.items ≡ out.old.items ++ checkpoint_bytes checkpoint.now) }
+/// Appends a state, in a movie of a version.
+fn put_state(out: &mut Vec<u8>, version: u16, state: &State) -> Result<(), AllocError>
+    ensures ok { OnOk result (out.new.items ≡ out.old.items ++ movie_record version state.now) }
+    ensures front { StartsWith out.new.items out.old.items }
+{
+    out.extend_from_slice(&write_state(state)[..record_length(version)])
+}
+
+/// Appends a checkpoint, in a movie of a version.
+fn put_checkpoint(
+    out: &mut Vec<u8>,
+    version: u16,
+    checkpoint: &Checkpoint,
+) -> Result<(), AllocError>
+    ensures ok { OnOk result
+        (out.new.items ≡ out.old.items ++ checkpoint_bytes version checkpoint.now) }
     ensures front { StartsWith out.new.items out.old.items }
 {
     out.extend_from_slice(&checkpoint.frame.to_be_bytes())?;
-    out.extend_from_slice(&write_state(&checkpoint.state))?;
+    put_state(out, version, &checkpoint.state)?;
     Ok(())
 }
 
-/// Appends checkpoints.
+/// Appends checkpoints, in a movie of a version.
 #[tactic(auto, using(crate::proofs::Fronts::front_then))]
-fn put_checkpoints(out: &mut Vec<u8>, checkpoints: &[Checkpoint]) -> Result<(), AllocError>
+fn put_checkpoints(
+    out: &mut Vec<u8>,
+    version: u16,
+    checkpoints: &[Checkpoint],
+) -> Result<(), AllocError>
     ensures ok { OnOk result
-        (out.new.items ≡ out.old.items ++ flat_map checkpoint_bytes checkpoints.now) }
+        (out.new.items ≡ out.old.items ++ flat_map (checkpoint_bytes version) checkpoints.now) }
     ensures front { StartsWith out.new.items out.old.items }
 {
     for checkpoint in checkpoints {
-        put_checkpoint(out, checkpoint)?;
+        put_checkpoint(out, version, checkpoint)?;
     }
     Ok(())
 }
@@ -81,11 +99,12 @@ fn put_movie(out: &mut Vec<u8>, movie: &Movie) -> Result<(), AllocError>
     ensures ok { OnOk result (out.new.items ≡ out.old.items ++ spelling movie.now) }
     ensures front { StartsWith out.new.items out.old.items }
 {
+    let version = movie.version();
     out.extend_from_slice(&header(movie))?;
     out.extend_from_slice(movie.cart().bytes())?;
-    out.extend_from_slice(&write_state(movie.start()))?;
+    put_state(out, version, movie.start())?;
     put_inputs(out, movie.inputs())?;
-    put_checkpoints(out, movie.all_checkpoints())?;
+    put_checkpoints(out, version, movie.all_checkpoints())?;
     Ok(())
 }
 

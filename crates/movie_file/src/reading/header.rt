@@ -1,17 +1,15 @@
 //! Reading the header.
 ghost use Rattle.std.specs.Prelude.{◌≡◌, ◌≢◌, ◌≤◌, IfErr, IfOk, IsTrue, length};
 ghost use Rattle.std.specs.Int.{w16, w32};
-ghost use Rattle.riot_map.specs.Cart.{is_cart_length};
-ghost use Rattle.movie_file.specs.Format.{most_frames, most_checkpoints, body_length};
+ghost use Rattle.movie_file.specs.Format.{takes_cart, is_version, most_frames, most_checkpoints, body_length};
 ghost use Rattle.movie_file.specs.MovieError.{Gives};
 ghost use Rattle.movie_file.specs.Reading.{number_at, magic_at, version_at, cart_length_at, counts_at, sizes_at};
 
 use super::sizes::Sizes;
 use crate::error::MovieError;
 use crate::format::{
-    CHECKPOINT_LENGTH, INPUT_LENGTH, MAGIC, MOST_CHECKPOINTS, MOST_FRAMES, STATE_LENGTH, VERSION,
+    INPUT_LENGTH, MAGIC, MOST_CHECKPOINTS, is_version, most_frames, record_length, takes_cart,
 };
-use riot_map::Cart;
 
 /// A number of two bytes, and what follows it.
 fn u16_at(bytes: &[u8]) -> Result<(u16, &[u8]), MovieError>
@@ -51,47 +49,61 @@ fn magic_in(bytes: &[u8]) -> Result<&[u8], MovieError>
     Ok(rest)
 }
 
-/// What follows the version.
+/// The version, and what follows it.
 #[tactic(auto, unfolding(crate::specs::Reading::version_at))]
-fn version_in(bytes: &[u8]) -> Result<&[u8], MovieError>
-    ensures gives { Gives (λ x. x.now) result (version_at bytes.now) }
+fn version_in(bytes: &[u8]) -> Result<(u16, &[u8]), MovieError>
+    ensures gives { Gives (λ x. (x.0, x.1.now)) result (version_at bytes.now) }
     ensures never { IfErr result (λ e. e ≢ MovieError.NoMemory) }
+    ensures version { IfOk result (λ x. IsTrue (is_version x.0)) }
 {
     let (version, rest) = u16_at(bytes)?;
-    if version != VERSION {
+    if !is_version(version) {
         return Err(MovieError::BadVersion);
     }
-    Ok(rest)
+    Ok((version, rest))
 }
 
-/// The length of the cartridge, and what follows it.
+/// The length of the cartridge, and what follows it, in a movie of a version.
 #[tactic(auto, unfolding(crate::specs::Reading::cart_length_at))]
-fn cart_length_in(bytes: &[u8]) -> Result<(u16, &[u8]), MovieError>
-    ensures gives { Gives (λ x. (x.0, x.1.now)) result (cart_length_at bytes.now) }
+fn cart_length_in(version: u16, bytes: &[u8]) -> Result<(u16, &[u8]), MovieError>
+    ensures gives { Gives (λ x. (x.0, x.1.now)) result (cart_length_at version bytes.now) }
     ensures never { IfErr result (λ e. e ≢ MovieError.NoMemory) }
-    ensures length { IfOk result (λ x. IsTrue (is_cart_length x.0)) }
+    ensures length { IfOk result (λ x. IsTrue (takes_cart version x.0)) }
 {
     let (length, rest) = u16_at(bytes)?;
-    if !Cart::is_length(length as usize) {
+    if !takes_cart(version, length) {
         return Err(MovieError::BadCartSize);
     }
     Ok((length, rest))
 }
 
-/// The numbers of frames and checkpoints, which are one field, and what follows them.
+/// The numbers of frames and checkpoints, which are one field, and what follows them, in a movie of
+/// a version.
 #[tactic(auto, unfolding(crate::specs::Reading::counts_at))]
-fn counts_in(bytes: &[u8]) -> Result<(u32, u16, &[u8]), MovieError>
-    ensures gives { Gives (λ x. (x.0, x.1, x.2.now)) result (counts_at bytes.now) }
+fn counts_in(version: u16, bytes: &[u8]) -> Result<(u32, u16, &[u8]), MovieError>
+    ensures gives { Gives (λ x. (x.0, x.1, x.2.now)) result (counts_at version bytes.now) }
     ensures never { IfErr result (λ e. e ≢ MovieError.NoMemory) }
-    ensures few { IfOk result (λ x. (x.0 ≤ most_frames) × (x.1 ≤ most_checkpoints)) }
+    ensures few { IfOk result (λ x. (x.0 ≤ most_frames version) × (x.1 ≤ most_checkpoints)) }
 {
     let (frames, rest) = u32_at(bytes)?;
     let (checkpoints, rest) = u16_at(rest)?;
-    if 1 <= frames && frames <= MOST_FRAMES && checkpoints <= MOST_CHECKPOINTS {
+    if 1 <= frames && frames <= most_frames(version) && checkpoints <= MOST_CHECKPOINTS {
         Ok((frames, checkpoints, rest))
     } else {
         Err(MovieError::BadCounts)
     }
+}
+
+/// The bytes after a header.
+fn body_length(sizes: Sizes) -> usize
+    requires frames { sizes.frames ≤ most_frames sizes.version }
+    requires checkpoints { sizes.checkpoints ≤ most_checkpoints }
+    ensures { result ≡ body_length sizes }
+{
+    let record = record_length(sizes.version);
+    let inputs = INPUT_LENGTH * sizes.frames as usize;
+    let checkpoints = (4 + record) * sizes.checkpoints as usize;
+    sizes.cart as usize + record + inputs + checkpoints
 }
 
 /// What the header says, and the bytes after it, of which there are enough.
@@ -99,29 +111,24 @@ fn counts_in(bytes: &[u8]) -> Result<(u32, u16, &[u8]), MovieError>
 pub(super) fn sizes_in(bytes: &[u8]) -> Result<(Sizes, &[u8]), MovieError>
     ensures gives { Gives (λ x. (x.0, x.1.now)) result (sizes_at bytes.now) }
     ensures never { IfErr result (λ e. e ≢ MovieError.NoMemory) }
-    ensures long { IfOk result (λ x.
-        body_length x.0.cart x.0.frames x.0.checkpoints ≤ length x.1.now) }
-    ensures cart { IfOk result (λ x. IsTrue (is_cart_length x.0.cart)) }
+    ensures long { IfOk result (λ x. body_length x.0 ≤ length x.1.now) }
+    ensures version { IfOk result (λ x. IsTrue (is_version x.0.version)) }
+    ensures cart { IfOk result (λ x. IsTrue (takes_cart x.0.version x.0.cart)) }
     ensures few { IfOk result (λ x.
-        (x.0.frames ≤ most_frames) × (x.0.checkpoints ≤ most_checkpoints)) }
+        (x.0.frames ≤ most_frames x.0.version) × (x.0.checkpoints ≤ most_checkpoints)) }
 {
     let rest = magic_in(bytes)?;
-    let rest = version_in(rest)?;
-    let (cart, rest) = cart_length_in(rest)?;
-    let (frames, checkpoints, rest) = counts_in(rest)?;
-    let wanted = cart as usize
-        + STATE_LENGTH
-        + INPUT_LENGTH * frames as usize
-        + CHECKPOINT_LENGTH * checkpoints as usize;
-    if rest.len() < wanted {
+    let (version, rest) = version_in(rest)?;
+    let (cart, rest) = cart_length_in(version, rest)?;
+    let (frames, checkpoints, rest) = counts_in(version, rest)?;
+    let sizes = Sizes {
+        version,
+        cart,
+        frames,
+        checkpoints,
+    };
+    if rest.len() < body_length(sizes) {
         return Err(MovieError::Short);
     }
-    Ok((
-        Sizes {
-            cart,
-            frames,
-            checkpoints,
-        },
-        rest,
-    ))
+    Ok((sizes, rest))
 }

@@ -1,14 +1,15 @@
 //! Reading inputs and checkpoints.
 ghost use Rattle.std.specs.Prelude.{◌≡◌, ◌≤◌, ◌<◌, ◌+◌, ◌*◌, ◌^◌, [], IfOk, length};
-ghost use Rattle.movie_file.specs.Format.{input_length, checkpoint_length, most_checkpoints};
+ghost use Rattle.movie_file.specs.Format.{input_length, record_length, checkpoint_length, most_checkpoints};
 ghost use Rattle.movie_file.specs.MovieError.{Gives};
-ghost use Rattle.movie_file.specs.Reading.{input_at, inputs_at, checkpoint_at, checkpoints_at};
+ghost use Rattle.movie_file.specs.Reading.{input_at, inputs_at, head_state_at, checkpoint_at, checkpoints_at};
 
 use crate::checkpoint::Checkpoint;
 use crate::error::MovieError;
-use crate::format::{CHECKPOINT_LENGTH, INPUT_LENGTH};
-use crate::record::read_state;
-use vcs_machine::Input;
+use super::sizes::Sizes;
+use crate::format::{INPUT_LENGTH, record_length};
+use crate::record::movie_state_in;
+use vcs_machine::{Input, State};
 
 /// The input of a number, at the head of the bytes.
 #[tactic(auto, unfolding(crate::specs::Reading::input_at))]
@@ -44,47 +45,55 @@ pub(super) fn inputs_in(
     Ok((inputs, rest))
 }
 
+/// The state whose record the bytes begin with.
+fn head_state_in(sizes: Sizes, bytes: &[u8]) -> Option<State>
+    requires { record_length sizes.version ≤ length bytes.now }
+    ensures { result ≡ head_state_at sizes bytes.now }
+{
+    movie_state_in(sizes, &bytes[..record_length(sizes.version)])
+}
+
 /// The checkpoint of a number, at the head of the bytes, where the one before it stands after
 /// frame `last`.
 #[tactic(auto, unfolding(crate::specs::Reading::checkpoint_at))]
 fn checkpoint_in(
+    sizes: Sizes,
     number: u16,
     last: u32,
-    frames: u32,
     bytes: &[u8],
 ) -> Result<Checkpoint, MovieError>
-    requires { checkpoint_length ≤ length bytes.now }
-    ensures { Gives (λ x. x) result (checkpoint_at number last frames bytes.now) }
+    requires { checkpoint_length sizes.version ≤ length bytes.now }
+    ensures { Gives (λ x. x) result (checkpoint_at sizes number last bytes.now) }
 {
     let frame = u32::from_be_bytes([bytes[0], bytes[1], bytes[2], bytes[3]]);
-    if frame <= last || frames < frame {
+    if frame <= last || sizes.frames < frame {
         return Err(MovieError::BadOrder(number));
     }
-    match read_state(&bytes[4..CHECKPOINT_LENGTH]) {
+    match head_state_in(sizes, &bytes[4..]) {
         Some(state) => Ok(Checkpoint { frame, state }),
         None => Err(MovieError::BadState(number)),
     }
 }
 
-/// So many checkpoints, put into an empty list, and what follows them.
+/// The checkpoints of a movie, put into an empty list, and what follows them.
 pub(super) fn checkpoints_in(
     mut checkpoints: Vec<Checkpoint>,
-    count: u16,
-    frames: u32,
+    sizes: Sizes,
     bytes: &[u8],
 ) -> Result<(Vec<Checkpoint>, &[u8]), MovieError>
     requires empty { checkpoints.items ≡ [] }
-    requires few { count ≤ most_checkpoints }
-    requires long { checkpoint_length * count ≤ length bytes.now }
-    ensures { Gives (λ x. (x.0.items, x.1.now)) result (checkpoints_at count 1 0 frames bytes.now) }
+    requires few { sizes.checkpoints ≤ most_checkpoints }
+    requires long { checkpoint_length sizes.version * sizes.checkpoints ≤ length bytes.now }
+    ensures { Gives (λ x. (x.0.items, x.1.now)) result
+        (checkpoints_at sizes sizes.checkpoints 1 0 bytes.now) }
 {
     let mut rest = bytes;
     let mut last = 0;
-    for i in 0..count {
-        let checkpoint = checkpoint_in(i + 1, last, frames, rest)?;
+    for i in 0..sizes.checkpoints {
+        let checkpoint = checkpoint_in(sizes, i + 1, last, rest)?;
         last = checkpoint.frame;
         checkpoints.push(checkpoint)?;
-        let (_, after) = rest.split_at(CHECKPOINT_LENGTH);
+        let (_, after) = rest.split_at(4 + record_length(sizes.version));
         rest = after;
     }
     Ok((checkpoints, rest))

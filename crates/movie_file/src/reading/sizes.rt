@@ -1,8 +1,9 @@
 //! What a header says.
 
-/// The lengths that a header gives.
+/// The version and the lengths that a header gives.
 #[derive(Clone, Copy)]
 pub(crate) struct Sizes {
+    pub version: u16,
     /// The bytes of the cartridge.
     pub cart: u16,
     pub frames: u32,

@@ -3,7 +3,7 @@ use Rattle.movie_file.proofs.Orders.{checkpoint_in_range, checkpoints_rise}
 use Rattle.movie_file.proofs.laws.law_of_checkpoints.Goals as goal
 
 pub returns-clause-range : goal.returns-clause-range
-returns-clause-range c = λ m j d h e. checkpoint_in_range m.checkpoints 0 (length m.inputs) j d h.checkpoints e
+returns-clause-range c = λ m j d h e. checkpoint_in_range (length m.cart) m.checkpoints 0 (length m.inputs) j d h.checkpoints e
 
 pub returns-clause-rising : goal.returns-clause-rising
-returns-clause-rising c = λ m i j b d h lt e f. checkpoints_rise m.checkpoints 0 (length m.inputs) i j b d h.checkpoints lt e f
+returns-clause-rising c = λ m i j b d h lt e f. checkpoints_rise (length m.cart) m.checkpoints 0 (length m.inputs) i j b d h.checkpoints lt e f

@@ -6,6 +6,6 @@ use Rattle.movie_file.proofs.reading.items.checkpoints_in.Given as goal
 
 abbrev pub invariant-loop-i : goal.invariant-loop-i
 invariant-loop-i l = record {
-  so_far : with_front l.checkpoints.items (checkpoints_at (l.count - l.i) (l.i + 1) l.last l.frames l.rest) ≡ checkpoints_at l.count 1 0 l.frames l.bytes;
-  long : length l.rest + checkpoint_length * l.i ≡ length l.bytes;
+  so_far : with_front l.checkpoints.items (checkpoints_at l.sizes (l.sizes.checkpoints - l.i) (l.i + 1) l.last l.rest) ≡ checkpoints_at l.sizes l.sizes.checkpoints 1 0 l.bytes;
+  long : length l.rest + checkpoint_length l.sizes.version * l.i ≡ length l.bytes;
 }

@@ -1,0 +1,108 @@
+-- Records in movies: version 1 leaves out the bank, which is 0.
+use Rattle.std.proofs.Common.{◌≡◌, ℕ, zero, suc, ◌+◌, ◌-◌, ◌*◌, ◌<◌, ◌≤◌, Bool, true, false, cond, eqb, List, [], ◌∷◌, ◌++◌, length, get_or, take, drop, Option, Some, None, refl, sym, ap, ◌∙◌, append_assoc, arith, inl, inr}
+use Rattle.std.specs.Prelude.{◌&&◌, ◌||◌, not, IsTrue}
+use Rattle.std.proofs.lemmas.Bool.{cases_lt}
+use Rattle.std.proofs.lemmas.Bool.Decides.{nat_tests}
+use Rattle.std.proofs.lemmas.List.{take_at, take_all, length-append, length-take, get_or_append_left, get_or-append_right, get_or_past}
+use Rattle.riot_map.specs.Cart.{is_cart_length, has_banks}
+use Rattle.vcs_machine.specs.declared.fields.StateFields.{StateFields}
+use Rattle.movie_file.specs.Format.{takes_cart, most_frames, record_length}
+use Rattle.movie_file.specs.Movie.{IsState, IsStateWith}
+use Rattle.movie_file.specs.Record.{record_of, state_at, cpu_bytes, rest_bytes, movie_record, whole_record, fits_bank, with_fitting_bank, movie_state_at}
+use Rattle.movie_file.proofs.Cells.{IsBytes, chosen_some}
+use Rattle.movie_file.proofs.RecordLaws.{state_takes, state_again, length-record_of}
+
+-- ---- the numbers of a version
+
+pub record_length-most : (version : ℕ) → record_length version ≤ 188
+record_length-most version = by (eqb version 1)
+  where
+    by : (old : Bool) → cond {A = ℕ} old 187 188 ≤ 188
+    by true = omega arith
+    by false = omega arith
+
+pub most_frames-most : (version : ℕ) → most_frames version ≤ 262143
+most_frames-most version = by (eqb version 1)
+  where
+    by : (old : Bool) → cond {A = ℕ} old 65535 262143 ≤ 262143
+    by true = omega arith
+    by false = omega arith
+
+-- version 1 has no cartridge with banks, so that its bank is 0
+bank_of_old : (version cart bank : ℕ) → eqb version 1 ≡ true → IsTrue (takes_cart version cart) → IsTrue (has_banks cart || eqb bank 0) → bank ≡ 0
+bank_of_old version cart bank old takes fits = grind (arith, nat_tests)
+
+-- ---- the bank is the last byte
+
+abbrev front_bytes : StateFields → List ℕ
+front_bytes f = cpu_bytes f ++ f.ram ++ take 52 (rest_bytes f)
+
+record_parts : (f : StateFields) → record_of f ≡ front_bytes f ++ f.bank ∷ []
+unfolding record_of
+record_parts f = sym (append_assoc (cpu_bytes f ++ f.ram) (take 52 (rest_bytes f)) (f.bank ∷ []))
+
+front_length : (f : StateFields) → IsState f → length (front_bytes f) ≡ 187
+front_length f h = omega (arith, length-append f.ram (take 52 (rest_bytes f)), h.ram)
+
+take_front : (f : StateFields) → IsState f → take 187 (record_of f) ≡ front_bytes f
+take_front f h = ap (take 187) (record_parts f) ∙ take_at (front_bytes f) (f.bank ∷ []) 187 (front_length f h)
+
+pub length-movie_record : (version : ℕ) (f : StateFields) → IsState f → length (movie_record version f) ≡ record_length version
+length-movie_record version f h = omega (arith, length-take (record_length version) (record_of f), length-record_of f h, record_length-most version)
+
+-- ---- there and back
+
+whole_again : (version cart : ℕ) (f : StateFields) → IsTrue (takes_cart version cart) → IsStateWith cart f → whole_record version (movie_record version f) ≡ record_of f
+whole_again version cart f takes h = by (eqb version 1) refl
+  where
+    by : (old : Bool) → eqb version 1 ≡ old → cond {A = List ℕ} old (take (cond {A = ℕ} old 187 188) (record_of f) ++ 0 ∷ []) (take (cond {A = ℕ} old 187 188) (record_of f)) ≡ record_of f
+    by true e =
+        let none : f.bank ≡ 0 = bank_of_old version cart f.bank e takes h.bank in
+        ap (λ (w : List ℕ). w ++ 0 ∷ []) (take_front f h.state) ∙ ap (λ (bank : ℕ). front_bytes f ++ bank ∷ []) (sym none) ∙ sym (record_parts f)
+    by false e = take_all 188 (record_of f) (omega (arith, length-record_of f h.state))
+
+pub movie_state_again : (version cart : ℕ) (f : StateFields) → IsTrue (takes_cart version cart) → IsStateWith cart f → movie_state_at version cart (movie_record version f) ≡ Some f
+unfolding movie_state_at
+movie_state_again version cart f takes h =
+    ap (λ (b : List ℕ). with_fitting_bank cart (state_at b)) (whole_again version cart f takes h)
+    ∙ ap (with_fitting_bank cart) (state_again f h.state)
+    ∙ ap (λ (fits : Bool). cond fits (Some f) None) h.bank
+
+IsBytes-zero : (bytes : List ℕ) → IsBytes bytes → IsBytes (bytes ++ 0 ∷ [])
+IsBytes-zero bytes fits i =
+    elim (cases_lt i (length bytes)) [
+      | inl lt ↦ rw (get_or_append_left bytes (0 ∷ []) 0 i lt) (fits i)
+      | inr le ↦ rw (get_or-append_right bytes (0 ∷ []) (length bytes) i 0 refl le) (zero_cell (i - length bytes))
+    ]
+  where
+    zero_cell : (j : ℕ) → get_or (0 ∷ []) j 0 < 256
+    zero_cell zero = omega arith
+    zero_cell (suc j) = omega arith
+
+IsBytes-whole : (version : ℕ) (bytes : List ℕ) → IsBytes bytes → IsBytes (whole_record version bytes)
+IsBytes-whole version bytes fits = by (eqb version 1)
+  where
+    by : (old : Bool) → IsBytes (cond {A = List ℕ} old (bytes ++ 0 ∷ []) bytes)
+    by true = IsBytes-zero bytes fits
+    by false = fits
+
+whole_back : (version : ℕ) (bytes : List ℕ) → length bytes ≡ record_length version → take (record_length version) (whole_record version bytes) ≡ bytes
+whole_back version bytes = by (eqb version 1)
+  where
+    by : (old : Bool) → length bytes ≡ cond {A = ℕ} old 187 188 → take (cond {A = ℕ} old 187 188) (cond {A = List ℕ} old (bytes ++ 0 ∷ []) bytes) ≡ bytes
+    by true len = take_at bytes (0 ∷ []) 187 len
+    by false len = take_all 188 bytes (omega arith)
+
+fitting : (cart : ℕ) (o : Option StateFields) (f : StateFields) → with_fitting_bank cart o ≡ Some f → (o ≡ Some f) × IsTrue (fits_bank cart f)
+fitting cart (Some g) f e =
+    let c = chosen_some (fits_bank cart g) g f e in
+    (ap (λ (x : StateFields). Some x) c.1, rw (← c.1) c.0)
+fitting cart None f e = absurd (cc)
+
+pub movie_state_takes : (version cart : ℕ) (bytes : List ℕ) (f : StateFields) → IsBytes bytes → length bytes ≡ record_length version → movie_state_at version cart bytes ≡ Some f
+    → IsStateWith cart f × (bytes ≡ movie_record version f)
+unfolding movie_state_at
+movie_state_takes version cart bytes f fits len e =
+    let found = fitting cart (state_at (whole_record version bytes)) f e in
+    let taken = state_takes (whole_record version bytes) f (IsBytes-whole version bytes fits) found.0 in
+    (record { state = taken.0; bank = found.1 }, sym (whole_back version bytes len) ∙ ap (take (record_length version)) taken.1)
