@@ -23,6 +23,22 @@ fn cart_of(rt: &impl Abort, alloc: Global, start: &[u8], offset: usize, more: &[
     Cart::new(bytes).expect(rt, "2048 bytes are a cartridge")
 }
 
+/// A cartridge of 8192 bytes: a program at F003 of the first bank, and A5 at FFF8; in the second bank three bytes at F000, eight
+/// at FFF6, the vector among them, and LDA #00, STA VSYNC at FF80.
+fn banked_cart(rt: &impl Abort, alloc: Global, second: [u8; 3], last: [u8; 8]) -> Cart {
+    let first = [
+        0x85, 0x80, 0xA9, 2, 0x85, 0, 0xA9, 0, 0x85, 0, 0x4C, 0x05, 0xF0,
+    ];
+    let mut bytes = [0; 8192];
+    bytes[0x0003..0x0010].copy_from_slice(&first);
+    bytes[0x0FF8] = 0xA5;
+    bytes[0x1000..0x1003].copy_from_slice(&second);
+    bytes[0x1F80..0x1F84].copy_from_slice(&[0xA9, 0, 0x85, 0]);
+    bytes[0x1FF6..0x1FFE].copy_from_slice(&last);
+    let bytes = Vec::from_slice(alloc, &bytes).expect(rt, "memory for a cartridge");
+    Cart::new(bytes).expect(rt, "8192 bytes are a cartridge")
+}
+
 /// Stores 2 in memory, then raises and lowers VSYNC, for ever.
 fn endless_frames(rt: &impl Abort, alloc: Global) -> Cart {
     let program = [
@@ -79,6 +95,54 @@ fn counts_the_cycles_of_each_frame(rt: HostRuntime) {
         assert!(rt; state.equals(&lawful(&rt, wanted)));
         assert!(rt; !state.equals(&start));
     }
+}
+
+#[test]
+fn read_of_a_bank_switch_sees_the_bank_before_it(rt: HostRuntime) {
+    // LDA 1FF8 in the second bank, which has 5A there; the program goes on in the first bank.
+    let last = [0, 0, 0x5A, 0, 0, 0, 0x00, 0xF0];
+    let cart = banked_cart(&rt, rt.alloc(), [0xAD, 0xF8, 0x1F], last);
+    let start = State::power_on(&cart);
+    assert_eq!(rt; start.fields().bank, 1);
+    let mut state = start.copy();
+    assert_eq!(rt; fault_of(&rt, rt.alloc(), &cart, &mut state), None);
+    let mut wanted = start.fields();
+    wanted.p = 0x06;
+    wanted.pc = 0xF00D;
+    wanted.ram[0] = 0x5A;
+    wanted.timer = 0xEF;
+    wanted.past_zero = 1;
+    wanted.flag = 1;
+    wanted.line_cycle = 0x11;
+    wanted.bank = 0;
+    assert!(rt; state.equals(&lawful(&rt, wanted)));
+    wanted.bank = 1;
+    assert!(rt; !state.equals(&lawful(&rt, wanted)));
+    wanted.bank = 2;
+    assert!(rt; State::from_fields(wanted).is_none());
+}
+
+#[test]
+fn write_to_a_bank_switch_selects(rt: HostRuntime) {
+    // STA 1FF8 in the second bank; the program goes on in the first bank.
+    let last = [0, 0, 0, 0, 0, 0, 0x00, 0xF0];
+    let cart = banked_cart(&rt, rt.alloc(), [0x8D, 0xF8, 0x1F], last);
+    let mut state = State::power_on(&cart);
+    assert_eq!(rt; fault_of(&rt, rt.alloc(), &cart, &mut state), None);
+    assert_eq!(rt; state.fields().pc, 0xF00D);
+    assert_eq!(rt; state.fields().bank, 0);
+}
+
+#[test]
+fn instruction_out_of_a_bank_switch_selects_nothing(rt: HostRuntime) {
+    // LDA #02 at FFF6, STA VSYNC at FFF8 and FFF9, BNE FF80 at FFFA; LDA #00 and STA VSYNC at FF80.
+    let last = [0xA9, 2, 0x85, 0, 0xD0, 0x84, 0xF6, 0xFF];
+    let cart = banked_cart(&rt, rt.alloc(), [0; 3], last);
+    let mut state = State::power_on(&cart);
+    assert_eq!(rt; fault_of(&rt, rt.alloc(), &cart, &mut state), None);
+    assert_eq!(rt; state.fields().pc, 0xFF84);
+    assert_eq!(rt; state.fields().line_cycle, 0x0D);
+    assert_eq!(rt; state.fields().bank, 1);
 }
 
 #[test]

@@ -78,8 +78,8 @@ fn ports_mix_pins_and_outputs(rt: HostRuntime) {
 }
 
 #[test]
-fn cartridges_have_2048_or_4096_bytes(rt: HostRuntime) -> Result<(), Fail> {
-    for (length, fits) in [(0usize, false), (2048, true), (4096, true), (4097, false)] {
+fn cartridges_have_2048_4096_or_8192_bytes(rt: HostRuntime) -> Result<(), Fail> {
+    for (length, fits) in [(0usize, false), (2048, true), (4096, true), (4097, false), (8192, true)] {
         let bytes = vec![in rt.alloc(); 0u8; length]?;
         match Cart::new(bytes) {
             Ok(cart) => {
@@ -105,13 +105,48 @@ fn small_cartridge_stands_at_each_2048_addresses(rt: HostRuntime) -> Result<(), 
     let cart = Cart::new(bytes).ok().ok_or("2048 bytes")?;
     for (address, byte) in [(0x1000u16, 1u8), (0x1800, 1), (0xFFFC, 2), (0xFFFD, 3)] {
         assert_eq!(rt; place(address), Place::Cart(address));
-        assert_eq!(rt; cart.at(address), byte);
+        assert_eq!(rt; cart.at(0, address), byte);
+        assert_eq!(rt; cart.at(1, address), byte);
+        assert_eq!(rt; cart.select(0, 0x1FF9), 0);
     }
     let other = Cart::new(vec![in rt.alloc(); 0u8; 2048]?)
         .ok()
         .ok_or("2048 bytes")?;
     assert!(rt; cart == cart);
     assert!(rt; cart != other);
+    Ok(())
+}
+
+#[test]
+fn banks_stand_at_each_4096_addresses(rt: HostRuntime) -> Result<(), Fail> {
+    let mut bytes = vec![in rt.alloc(); 0u8; 8192]?;
+    bytes[0x0000] = 1;
+    bytes[0x0FFC] = 2;
+    bytes[0x1000] = 3;
+    bytes[0x1FFC] = 4;
+    let cart = Cart::new(bytes).ok().ok_or("8192 bytes")?;
+    assert_eq!(rt; cart.bank_at_power_on(), 1);
+    for (bank, address, byte) in [
+        (0u8, 0x1000u16, 1u8),
+        (0, 0xF000, 1),
+        (0, 0xFFFC, 2),
+        (1, 0x3000, 3),
+        (1, 0x1FFC, 4),
+    ] {
+        assert_eq!(rt; cart.at(bank, address), byte);
+    }
+    for (address, from_first, from_second) in [
+        (0x1FF8u16, 0u8, 0u8),
+        (0xFFF8, 0, 0),
+        (0x1FF9, 1, 1),
+        (0x3FF9, 1, 1),
+        (0x1FF7, 0, 1),
+        (0x1FFA, 0, 1),
+        (0x0FF8, 0, 1),
+    ] {
+        assert_eq!(rt; cart.select(0, address), from_first);
+        assert_eq!(rt; cart.select(1, address), from_second);
+    }
     Ok(())
 }
 
