@@ -9,3 +9,4 @@ pub mod Runs
 pub mod InputLists
 pub mod MakingRuns
 pub mod OneMaking
+pub mod Conversions

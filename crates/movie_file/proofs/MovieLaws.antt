@@ -23,7 +23,7 @@ use Rattle.movie_file.specs.Spelling.{header_of, checkpoint_bytes, spelling, Spe
 use Rattle.vcs_machine.specs.Inputs.{input_bytes}
 use Rattle.movie_file.specs.Reading.{◌>>=◌, or_refuse, number_at, magic_at, version_at, cart_length_at, counts_at, enough_of, sizes_at, controls_at, input_at, inputs_at, frame_at, head_state_at, checkpoint_at, checkpoints_at, body_at, movie_at}
 use Rattle.movie_file.proofs.Cells.{IsBytes, IsBytes-take, IsBytes-drop, cells_is, and_true}
-use Rattle.movie_file.proofs.MovieRecords.{movie_state_takes, movie_state_again, length-movie_record, record_length-most, most_frames-most}
+use Rattle.movie_file.proofs.MovieRecords.{movie_state_takes, movie_state_again, length-movie_record, most_frames-most}
 
 pub bind_ok : {A B : Type 0} (r : Result A MovieError) (f : A → Result B MovieError) (y : B) → (r >>= f) ≡ Ok y → (x : A) × (r ≡ Ok x) × (f x ≡ Ok y)
 bind_ok (Ok x) f y e = (x, refl, e)

@@ -1,10 +1,10 @@
 -- Records in movies: version 1 leaves out the bank, which is 0.
-use Rattle.std.proofs.Common.{◌≡◌, ℕ, zero, suc, ◌+◌, ◌-◌, ◌*◌, ◌<◌, ◌≤◌, Bool, true, false, cond, eqb, List, [], ◌∷◌, ◌++◌, length, get_or, take, drop, Option, Some, None, refl, sym, ap, ◌∙◌, append_assoc, arith, inl, inr}
-use Rattle.std.specs.Prelude.{◌&&◌, ◌||◌, not, IsTrue}
+use Rattle.std.proofs.Common.{◌≡◌, ℕ, zero, suc, ◌-◌, ◌<◌, ◌≤◌, Bool, true, false, cond, eqb, List, [], ◌∷◌, ◌++◌, length, get_or, take, Option, Some, None, refl, sym, ap, ◌∙◌, append_assoc, arith, inl, inr}
+use Rattle.std.specs.Prelude.{◌||◌, IsTrue}
 use Rattle.std.proofs.lemmas.Bool.{cases_lt}
 use Rattle.std.proofs.lemmas.Bool.Decides.{nat_tests}
-use Rattle.std.proofs.lemmas.List.{take_at, take_all, length-append, length-take, get_or_append_left, get_or-append_right, get_or_past}
-use Rattle.riot_map.specs.Cart.{is_cart_length, has_banks}
+use Rattle.std.proofs.lemmas.List.{take_at, take_all, length-append, length-take, get_or_append_left, get_or-append_right}
+use Rattle.riot_map.specs.Cart.{has_banks}
 use Rattle.vcs_machine.specs.declared.fields.StateFields.{StateFields}
 use Rattle.movie_file.specs.Format.{takes_cart, most_frames, record_length}
 use Rattle.movie_file.specs.Movie.{IsState, IsStateWith}

@@ -10,3 +10,4 @@ pub mod Judgement
 pub mod InputLists
 pub mod Making
 pub mod MakingSteps
+pub mod Conversion

@@ -1,5 +1,6 @@
 //! Laws about the definitions.
 ghost use Rattle.std.specs.Prelude.{◌≡◌, ◌+◌, ◌<◌, ◌≤◌, List, ℕ, length, Ok, Some, get_or, slice_get};
+ghost use Rattle.movie_file.specs.Conversion.{converted};
 ghost use Rattle.movie_file.specs.InputLists.{SpellsInputs, all_inputs_at};
 ghost use Rattle.movie_file.specs.Judgement.{IsSound, FaultsAt, IsFalseAt, IsGenuine};
 ghost use Rattle.movie_file.specs.Making.{IsFirstFault, IsMadeOf};
@@ -90,4 +91,11 @@ pub const fn law_of_judgements()
         → FaultsAt m s from k kind → FaultsAt m s from k other → kind ≡ other }
     ensures one_false { (m : MovieData) (s : StateFields) (from k number other : ℕ) → IsMovie m
         → IsFalseAt m s from k number → IsFalseAt m s from k other → number ≡ other }
+{}
+
+/// A law: a movie in version 2 is a movie, whose run is that of the movie.
+pub const fn law_of_conversion()
+    ensures lawful { (m : MovieData) → IsMovie m → IsMovie (converted m) }
+    ensures run { (m : MovieData) (s : StateFields) (from k : ℕ)
+        → run (converted m) s from k ≡ run m s from k }
 {}

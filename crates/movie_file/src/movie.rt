@@ -41,6 +41,7 @@ impl Model for Movie {
 
 impl Movie {
     ghost use Rattle.movie_file.specs.Movie.{MovieData, IsMovie};
+    ghost use Rattle.movie_file.specs.Conversion.{converted};
     ghost use Rattle.movie_file.specs.MovieParts.{data_of};
 
     /// The movie of these parts.
@@ -118,6 +119,15 @@ impl Movie {
         ensures { slice_get self.now.checkpoints (number - 1) ≡ Some result.now }
     {
         &self.checkpoints[number as usize - 1]
+    }
+
+    /// The same movie in version 2.
+    pub(crate) fn in_version_2(self) -> Movie
+        ensures { result ≡ converted self }
+    {
+        let mut movie = self;
+        movie.version = 2;
+        movie
     }
 
     /// The inputs of its frames, in order.

@@ -1,4 +1,4 @@
-use Rattle.std.proofs.Common.{List, length, refl, subst, ap, ◌∙◌, arith, rules}
+use Rattle.std.proofs.Common.{List, length, subst, ap, ◌∙◌, arith, rules}
 use Rattle.std.specs.Prelude.{IsTrue}
 use Rattle.std.specs.List.{AllByRecursion}
 use Rattle.vcs_machine.specs.Inputs.{Controls, is_input}

@@ -1,10 +1,8 @@
-use Rattle.std.proofs.Common.{ℕ, List, ◌++◌, ◌∙◌, ap}
+use Rattle.std.proofs.Common.{ℕ, ◌++◌, ◌∙◌, ap}
 use Rattle.std.specs.List.{flat_map}
 use Rattle.movie_file.specs.Record.{movie_record}
 use Rattle.movie_file.specs.Spelling.{header_of, checkpoint_bytes}
 use Rattle.vcs_machine.specs.Inputs.{input_bytes}
-use Rattle.vcs_machine.specs.declared.fields.StateFields.{StateFields}
-use Rattle.movie_file.specs.declared.checkpoint.Checkpoint.{Checkpoint}
 use Rattle.movie_file.proofs.Fronts.{front_then, three, one_more, same_five}
 use Rattle.movie_file.proofs.writing.put_movie.Goals as goal
 

@@ -1,0 +1,37 @@
+//! Conversion of movies to version 2.
+ghost use Rattle.std.specs.Prelude.{◌≡◌, IfOk, IfErr};
+ghost use Rattle.movie_file.specs.Conversion.{converted};
+ghost use Rattle.movie_file.specs.declared.converting.ConvertError.TheVariants.{AlreadyTwo};
+
+use crate::movie::Movie;
+use std::fmt;
+
+/// Why a movie is not converted.
+#[derive(Drop)]
+pub enum ConvertError {
+    /// It has version 2, and is handed back.
+    AlreadyTwo(Movie),
+}
+
+impl fmt::Display for ConvertError {
+    ghost use Rattle.std.specs.Prelude.{Some, codes};
+
+    ghost output = { λ _. Some (codes "AlreadyTwo") };
+
+    fn fmt<W: fmt::Write>(&self, f: &mut fmt::Formatter<W>) -> fmt::Result {
+        write!(f, "AlreadyTwo")
+    }
+}
+
+/// The movie of version 2 with the same cartridge, start state, inputs and checkpoints.
+///
+/// It takes no memory. A movie that has version 2 already is handed back in the error.
+pub fn convert(movie: Movie) -> Result<Movie, ConvertError>
+    ensures converted { IfOk result (λ new. (movie.version ≡ 1) × (new ≡ converted movie)) }
+    ensures refused { IfErr result (λ error. (movie.version ≡ 2) × (error ≡ AlreadyTwo movie)) }
+{
+    if movie.version() == 2 {
+        return Err(ConvertError::AlreadyTwo(movie));
+    }
+    Ok(movie.in_version_2())
+}
