@@ -1,8 +1,8 @@
 //! Worked movie files, records and inputs, and movies that are made.
 
 use movie_file::{
-    MakeError, MovieError, make_movie, read_inputs, read_movie, read_state, write_movie,
-    write_state,
+    ConvertError, MakeError, MovieError, convert, make_movie, read_inputs, read_movie, read_state,
+    write_movie, write_state,
 };
 use riot_map::Cart;
 use std::alloc::Global;
@@ -20,7 +20,8 @@ const SEVEN_FRAMES: [u8; 16] = [
     0xE8, 0xE0, 0x07, 0xF0, 0x0B, 0xA9, 0x02, 0x85, 0x00, 0xA9, 0x00, 0x85, 0x00, 0x4C, 0x00, 0xF0,
 ];
 
-/// The record of power-on: all 0 but S, P, PC, the timer's part and its interval.
+/// The record of power-on as version 1 has it: all 0 but S, P, PC, the timer's part and its
+/// interval.
 fn state_at_power_on() -> [u8; 187] {
     let mut record = [0; 187];
     record[3] = 0xFF;
@@ -50,6 +51,54 @@ fn state_after_frame_2() -> [u8; 187] {
     record[139] = 0xE3;
     record[185] = 0x1D;
     record
+}
+
+/// A record of version 1 with the bank that it leaves out.
+fn with_bank(record: &[u8; 187], bank: u8) -> [u8; 188] {
+    let mut whole = [0; 188];
+    whole[..187].copy_from_slice(record);
+    whole[187] = bank;
+    whole
+}
+
+/// The bytes of a cartridge of two banks. The second begins with LDA 1FF8, which has 5A there and
+/// selects the first; that goes on with STA 80, LDA #02, STA VSYNC, LDA #00, STA VSYNC, JMP F005.
+fn banked_bytes() -> [u8; 8192] {
+    let mut bytes = [0; 8192];
+    bytes[0x0003..0x0010].copy_from_slice(&[
+        0x85, 0x80, 0xA9, 0x02, 0x85, 0x00, 0xA9, 0x00, 0x85, 0x00, 0x4C, 0x05, 0xF0,
+    ]);
+    bytes[0x0FF8] = 0xA5;
+    bytes[0x1000..0x1003].copy_from_slice(&[0xAD, 0xF8, 0x1F]);
+    bytes[0x1FF8] = 0x5A;
+    bytes[0x1FFD] = 0xF0;
+    bytes
+}
+
+/// The state of that cartridge after its first frame, of 17 cycles from power-on.
+fn banked_state_after_frame_1() -> [u8; 188] {
+    let mut record = state_at_power_on();
+    record[4] = 0x06;
+    record[6] = 0x0D;
+    record[7] = 0x5A;
+    record[139] = 0xEF;
+    record[143] = 0x01;
+    record[144] = 0x01;
+    record[185] = 0x11;
+    with_bank(&record, 0)
+}
+
+/// A movie of two frames of that cartridge with a checkpoint after the first: 8,592 bytes.
+fn banked_file(alloc: Global) -> Result<Vec<u8>, Fail> {
+    let mut bytes = Vec::new(alloc);
+    bytes.extend_from_slice(b"A26M")?;
+    bytes.extend_from_slice(&[0x00, 0x02, 0x20, 0x00, 0, 0, 0, 2, 0, 1])?;
+    bytes.extend_from_slice(&banked_bytes())?;
+    bytes.extend_from_slice(&with_bank(&state_at_power_on(), 1))?;
+    bytes.extend_from_slice(&[0xFF, 0x3F, 0x00, 0xFF, 0x3F, 0x00])?;
+    bytes.extend_from_slice(&[0, 0, 0, 1])?;
+    bytes.extend_from_slice(&banked_state_after_frame_1())?;
+    Ok(bytes)
 }
 
 /// A cartridge with a program at F000, and byte 02 at F010.
@@ -221,13 +270,90 @@ fn refusals_have_their_names(rt: HostRuntime) -> Result<(), Fail> {
 
 #[test]
 fn record_is_read_and_written(rt: HostRuntime) -> Result<(), Fail> {
-    let record = state_after_frame_1();
+    let record = with_bank(&state_after_frame_1(), 1);
     let state = read_state(&record).ok_or("a state")?;
     assert!(rt; write_state(&state) == record);
-    let front = record.get(..186).ok_or("a shorter record")?;
+    let front = record.get(..187).ok_or("a shorter record")?;
     assert!(rt; read_state(front).is_none());
     assert_eq!(rt; state.fields().pc, 0xF00A);
     assert_eq!(rt; state.fields().timer, 0xF3);
+    assert_eq!(rt; state.fields().bank, 1);
+    assert!(rt; read_state(&with_bank(&state_after_frame_1(), 2)).is_none());
+    Ok(())
+}
+
+#[test]
+fn movie_of_two_banks_is_written_as_it_was_read(rt: HostRuntime) -> Result<(), Fail> {
+    let bytes = banked_file(rt.alloc())?;
+    assert_eq!(rt; bytes.len(), 8592);
+    let movie = read_movie(rt.alloc(), &bytes).ok().ok_or("a movie")?;
+    assert_eq!(rt; movie.version(), 2);
+    assert_eq!(rt; movie.cart().len(), 8192);
+    assert_eq!(rt; movie.start().fields().bank, 1);
+    let mut written = Vec::new(rt.alloc());
+    write_movie(&movie, &mut written).ok().ok_or("written")?;
+    assert!(rt; written == bytes);
+    Ok(())
+}
+
+#[test]
+fn refusals_of_version_2(rt: HostRuntime) -> Result<(), Fail> {
+    let bytes = banked_file(rt.alloc())?;
+    for (at, new, wanted) in [
+        (4u16, [0x00u8, 0x01], MovieError::BadCartSize),
+        (4, [0x00, 0x03], MovieError::BadVersion),
+        (8, [0x00, 0x04], MovieError::BadCounts),
+        (8392, [0x00, 0x02], MovieError::BadState(0)),
+        (8395, [0x3F, 0x04], MovieError::BadInput(1)),
+        (8590, [0x00, 0x02], MovieError::BadState(1)),
+    ] {
+        let copy = changed(rt.alloc(), &bytes, at, &new)?;
+        assert_eq!(rt; refusal(rt.alloc(), &copy), Some(wanted));
+    }
+    Ok(())
+}
+
+#[test]
+fn bank_1_is_refused_without_banks(rt: HostRuntime) -> Result<(), Fail> {
+    let mut bytes = Vec::new(rt.alloc());
+    bytes.extend_from_slice(file(rt.alloc())?.get(..2062).ok_or("a header and a cartridge")?)?;
+    bytes.extend_from_slice(&with_bank(&state_at_power_on(), 1))?;
+    bytes.extend_from_slice(&[0xFF, 0x3F, 0x00])?;
+    let bytes = changed(rt.alloc(), &bytes, 4, &[0, 2, 8, 0, 0, 0, 0, 1, 0, 0])?;
+    assert_eq!(rt; refusal(rt.alloc(), &bytes), Some(MovieError::BadState(0)));
+    let bytes = changed(rt.alloc(), &bytes, 2249, &[0])?;
+    assert_eq!(rt; refusal(rt.alloc(), &bytes), None);
+    Ok(())
+}
+
+#[test]
+fn movie_is_converted_once(rt: HostRuntime) -> Result<(), Fail> {
+    let movie = read_movie(rt.alloc(), &file(rt.alloc())?).ok().ok_or("a movie")?;
+    let new = convert(movie).ok().ok_or("converted")?;
+    let mut written = Vec::new(rt.alloc());
+    write_movie(&new, &mut written).ok().ok_or("written")?;
+    assert_eq!(rt; written.len(), 2448);
+    assert_eq!(rt; new.version(), 2);
+    assert!(rt; new.start().equals(new.start()));
+    match convert(new) {
+        Ok(_) => Err("converted twice".into()),
+        Err(ConvertError::AlreadyTwo(movie)) => {
+            assert_eq!(rt; movie.frames(), 2);
+            Ok(())
+        }
+    }
+}
+
+#[test]
+fn movie_is_made_of_two_banks(rt: HostRuntime) -> Result<(), Fail> {
+    let inputs = read_inputs(rt.alloc(), &[0xFF, 0x3F, 0x00, 0xFF, 0x3F, 0x00])?;
+    let cart = Cart::new(Vec::from_slice(rt.alloc(), &banked_bytes())?)?;
+    let movie = make_movie(rt.alloc(), cart, inputs, 1)?;
+    assert_eq!(rt; movie.version(), 2);
+    let mut written = Vec::new(rt.alloc());
+    write_movie(&movie, &mut written)?;
+    assert_eq!(rt; written.len(), 8784);
+    assert!(rt; written.get(8404..8592) == Some(banked_state_after_frame_1().as_slice()));
     Ok(())
 }
 
@@ -265,7 +391,7 @@ fn movies_are_not_made_of_bad_counts(rt: HostRuntime) -> Result<(), Fail> {
     for (frames, every, made) in [
         (2u32, 0u32, false),
         (0, 1, false),
-        (65_536, 65_536, false),
+        (262_144, 262_144, false),
         (4_096, 1, false),
         (4_096, 2, true),
     ] {
