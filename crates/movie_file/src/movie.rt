@@ -2,6 +2,7 @@
 ghost use Rattle.std.specs.Prelude.{◌≡◌, ◌-◌, ◌<◌, ◌≤◌, length, slice_get, Some};
 
 use crate::checkpoint::Checkpoint;
+use crate::format::MOST_FRAMES;
 use crate::parts::MovieParts;
 use riot_map::Cart;
 use std::marker::Model;
@@ -90,6 +91,7 @@ impl Movie {
     /// The number of its frames, 1 to 65,535, or to 262,143 in version 2.
     pub fn frames(&self) -> u32
         ensures value { result ≡ length self.now.inputs }
+        ensures most { result ≤ MOST_FRAMES }
         ensures lawful { IsMovie self.now }
     {
         self.inputs.len() as u32

@@ -13,7 +13,7 @@ pub IsNext-start : (m : MovieData) → IsMovie m → IsNext m 0 (0 + 1)
 IsNext-start m movie = record {
   within = omega arith;
   before = λ j c here less. absurd (omega arith);
-  after = λ j c here le. let h = checkpoint_in_range m.checkpoints 0 (length m.inputs) j c movie.checkpoints here in let low = h.0 in omega arith;
+  after = λ j c here le. let h = checkpoint_in_range (length m.cart) m.checkpoints 0 (length m.inputs) j c movie.checkpoints here in let low = h.0 in omega arith;
 }
 
 pub ruleset at_start = IsNext-start
@@ -32,7 +32,7 @@ IsClaim-none m next frame state is all = (
 module _ (m : MovieData) (movie : IsMovie m) (next frame : ℕ) (state : StateFields) (is : IsNext m next frame)
     (c : Checkpoint) (here : slice_get m.checkpoints next ≡ Some c) where
   rises : (i j : ℕ) (d e : Checkpoint) → i < j → slice_get m.checkpoints i ≡ Some d → slice_get m.checkpoints j ≡ Some e → d.frame < e.frame
-  rises i j d e less at there = checkpoints_rise m.checkpoints 0 (length m.inputs) i j d e movie.checkpoints less at there
+  rises i j d e less at there = checkpoints_rise (length m.cart) m.checkpoints 0 (length m.inputs) i j d e movie.checkpoints less at there
 
   same_checkpoint : (j : ℕ) (d : Checkpoint) → slice_get m.checkpoints j ≡ Some d → j ≡ next → d ≡ c
   same_checkpoint j d at e =

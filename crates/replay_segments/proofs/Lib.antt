@@ -1,5 +1,6 @@
 pub mod CheckpointLemmas
 pub mod Composition
+pub mod Conversions
 pub mod CutLemmas
 pub mod FindLemmas
 pub mod GatherLemmas

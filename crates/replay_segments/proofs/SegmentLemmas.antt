@@ -25,7 +25,7 @@ pub record AtCut (m : MovieData) (cuts : List ℕ) (i n : ℕ) (c : Checkpoint) 
 
 -- A checkpoint is after a frame of its movie.
 pub checkpoint_within : (m : MovieData) (j : ℕ) (c : Checkpoint) → IsMovie m → slice_get m.checkpoints j ≡ Some c → c.frame ≤ length m.inputs
-checkpoint_within m j c movie at = (checkpoint_in_range m.checkpoints 0 (length m.inputs) j c movie.checkpoints at).1
+checkpoint_within m j c movie at = (checkpoint_in_range (length m.cart) m.checkpoints 0 (length m.inputs) j c movie.checkpoints at).1
 
 -- The last segment ends with the movie.
 pub end_of-last : (m : MovieData) (cuts : List ℕ) (i : ℕ) → length cuts ≤ i → end_of m cuts i ≡ length m.inputs
@@ -76,14 +76,14 @@ module _ (m : MovieData) (cuts : List ℕ) (movie : IsMovie m) (fits : Fits cuts
   pub from_of-below : (i : ℕ) → i < length cuts → from_of m cuts i < end_of m cuts i
   from_of-below zero less =
       let (n, c, at) = at_cut 0 less in
-      let h = checkpoint_in_range m.checkpoints 0 (length m.inputs) (n - 1) c movie.checkpoints at.checkpoint in
+      let h = checkpoint_in_range (length m.cart) m.checkpoints 0 (length m.inputs) (n - 1) c movie.checkpoints at.checkpoint in
       rw (end_of-cut m cuts 0 n c at) h.0
   from_of-below (suc i) less =
       let (n, c, was) = at_cut i (omega arith) in
       let (n', c', at) = at_cut (suc i) less in
       let rises = fits.rising i (suc i) n n' (omega arith) was.cut at.cut in
       let p = was.positive in
-      let h = checkpoints_rise m.checkpoints 0 (length m.inputs) (n - 1) (n' - 1) c c' movie.checkpoints (omega (arith, rises, p)) was.checkpoint at.checkpoint in
+      let h = checkpoints_rise (length m.cart) m.checkpoints 0 (length m.inputs) (n - 1) (n' - 1) c c' movie.checkpoints (omega (arith, rises, p)) was.checkpoint at.checkpoint in
       rw (end_of-cut m cuts i n c was, end_of-cut m cuts (suc i) n' c' at) h
 
   from_of-le : (i : ℕ) → from_of m cuts i ≤ end_of m cuts i
@@ -117,11 +117,11 @@ IsNext-cut m n c movie positive at =
     record {
       within = omega arith;
       before = λ j d here less. before j d here less (cases_lt j (n - 1));
-      after = λ j d here le. let h = checkpoints_rise m.checkpoints 0 (length m.inputs) (n - 1) j c d movie.checkpoints (omega arith) at here in omega (arith, h);
+      after = λ j d here le. let h = checkpoints_rise (length m.cart) m.checkpoints 0 (length m.inputs) (n - 1) j c d movie.checkpoints (omega arith) at here in omega (arith, h);
     }
   where
     before : (j : ℕ) (d : Checkpoint) → slice_get m.checkpoints j ≡ Some d → j < n → (j < n - 1) ⊎ (n - 1 ≤ j) → d.frame < c.frame + 1
-    before j d here less (inl low) = let h = checkpoints_rise m.checkpoints 0 (length m.inputs) j (n - 1) d c movie.checkpoints low here at in omega (arith, h)
+    before j d here less (inl low) = let h = checkpoints_rise (length m.cart) m.checkpoints 0 (length m.inputs) j (n - 1) d c movie.checkpoints low here at in omega (arith, h)
     before j d here less (inr high) =
         let equal = same_at m.checkpoints j (n - 1) d c (omega arith) here at in
         let frames : d.frame ≡ c.frame = ap (λ (x : Checkpoint). x.frame) equal in omega arith

@@ -22,7 +22,7 @@ fn step(
     ensures { IsStep movie.now before state.old keep state.new result }
 {
     let frames = movie.frames();
-    prove!(frames < 65_536);
+    prove!(frames < 262_144);
     frame(alloc, movie.cart(), state, movie.input(before + 1), keep)
 }
 
@@ -42,7 +42,7 @@ fn advance(
     ensures capacity { vec_capacity pictures.new ≡ vec_capacity pictures.old }
 {
     let frames = movie.frames();
-    prove!(frames < 65_536);
+    prove!(frames < 262_144);
     let kept = keep.has(before + 1);
     if let Some(picture) = step(alloc, movie, before, state, kept)? {
         pictures.push_reserved(picture);
@@ -89,7 +89,7 @@ pub(crate) fn judge(
 {
     let room = keep.count(from, len);
     let frames = movie.frames();
-    prove!(frames < 65_536);
+    prove!(frames < 262_144);
     let Ok(mut pictures) = Vec::with_capacity(alloc, room) else {
         return Err(NoMemory);
     };

@@ -1,5 +1,6 @@
 //! Laws about verdicts.
-ghost use Rattle.std.specs.Prelude.{◌≡◌, List, ℕ};
+ghost use Rattle.std.specs.Prelude.{◌≡◌, ◌↔◌, List, ℕ};
+ghost use Rattle.movie_file.specs.Conversion.{converted};
 ghost use Rattle.movie_file.specs.Movie.{MovieData, IsMovie};
 ghost use Rattle.replay_segments.specs.declared.keep.Keep.{Keep};
 ghost use Rattle.replay_segments.specs.declared.verdict.Verdict.{Verdict};
@@ -15,4 +16,9 @@ pub const fn law_of_one_verdict()
 pub const fn law_of_one_outcome()
     ensures { (m : MovieData) (cuts : List ℕ) (keep : Keep) (i : ℕ) (v w : Verdict) → IsMovie m
         → IsSegment m cuts keep i v → IsSegment m cuts keep i w → v ≡ w }
+{}
+
+/// A law: a movie in version 2 has the verdict of the movie, whichever frames are kept.
+pub const fn law_of_converted_verdicts()
+    ensures { (m : MovieData) (keep : Keep) (v : Verdict) → IsVerdict m keep v ↔ IsVerdict (converted m) keep v }
 {}

@@ -21,7 +21,7 @@ pub use cuts::{BadCuts, Cuts, CutsError};
 pub use gathering::{GatherError, gather};
 pub use judge::verify_one;
 pub use keep::{BadKeep, Keep};
-pub use laws::{law_of_one_outcome, law_of_one_verdict};
+pub use laws::{law_of_converted_verdicts, law_of_one_outcome, law_of_one_verdict};
 pub use outcome::Outcome;
 pub use piece::Piece;
 pub use segment::replay;
