@@ -9,7 +9,7 @@ use std::sync::Wait;
 use std::thread::Threads;
 use std::{fs, io};
 use thiserror::Error;
-use vcs_engine::{Plan, RunError, Status, run, run_info, run_make};
+use vcs_engine::{Plan, RunError, Status, run, run_convert, run_info, run_make};
 
 /// Why a command did not reach its end, as the program prints it after `error: `.
 #[derive(Clone, Copy, Debug, PartialEq, Eq, Error)]
@@ -130,4 +130,16 @@ pub(crate) fn info<R: Files + AllocGlobal, W: Write>(
     line: &mut W,
 ) -> Result<Status, Failure> {
     Ok(run_info(rt.alloc(), &mut open(rt, file)?, line)?)
+}
+
+/// Writes the movie of a file to another in version 2.
+pub(crate) fn convert<R: Files + AllocGlobal, W: Write>(
+    rt: &R,
+    old: &str,
+    new: &str,
+    line: &mut W,
+) -> Result<Status, Failure> {
+    let mut movie = open(rt, old)?;
+    let mut converted = create(rt, new)?;
+    Ok(run_convert(rt.alloc(), &mut movie, &mut converted, line)?)
 }

@@ -1,4 +1,4 @@
-//! The program: judges movies, makes them, and says what they hold.
+//! The program: judges movies, makes them, converts them, and says what they hold.
 //!
 //! Status 0: done; 1: a false checkpoint; 2: a fault; 3: refused; 4: no command; 5: an error of files, memory or devices, which is
 //! printed on standard error. Without words it judges the movie on standard input.
@@ -9,7 +9,7 @@ mod commands;
 ghost use Rattle.command_line.specs.Ranges.{IsInRange};
 
 use command_line::{Command, LineFault, parse_line};
-use commands::{Failure, info, judge, make, plan_of, verify, verify_with_pictures};
+use commands::{Failure, convert, info, judge, make, plan_of, verify, verify_with_pictures};
 use std::alloc::AllocError;
 use std::io::{Eprint, Read, Write};
 use std::process::ExitCode;
@@ -57,6 +57,7 @@ fn execute<R: Files + Threads + Wait + Sync + AllocGlobal, I: Read, W: Write>(
             out,
         } => make(rt, rom, inputs, *every, out, line),
         Command::Info { file } => info(rt, file, line),
+        Command::Convert { old, new } => convert(rt, old, new, line),
     }
 }
 

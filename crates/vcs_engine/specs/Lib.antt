@@ -1,6 +1,7 @@
 pub mod Information
 pub mod Lines
 pub mod Makings
+pub mod Conversions
 pub mod MakingViews
 pub mod OutputViews
 pub mod Outputs

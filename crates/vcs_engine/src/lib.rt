@@ -2,6 +2,7 @@
 //! a movie.
 #![tactic(auto)]
 
+mod converting;
 mod engine;
 mod information;
 mod line;
@@ -12,6 +13,7 @@ mod run_error;
 mod status;
 mod streams;
 
+pub use converting::run_convert;
 pub use engine::run;
 pub use information::run_info;
 pub use making::run_make;

@@ -27,6 +27,12 @@ pub enum Line {
         frames: u32,
         checkpoints: u16,
     },
+    Converted {
+        frames: u32,
+        checkpoints: u16,
+    },
+    /// A movie of version 2 is not converted.
+    AlreadyTwo,
     Movie {
         version: u16,
         cartridge: u16,
@@ -97,6 +103,11 @@ impl fmt::Display for Line {
                 frames,
                 checkpoints,
             } => write!(f, "made: {}", Counts(frames, checkpoints)),
+            Line::Converted {
+                frames,
+                checkpoints,
+            } => write!(f, "converted: {}", Counts(frames, checkpoints)),
+            Line::AlreadyTwo => write!(f, "refused: AlreadyTwo"),
             Line::Movie {
                 version,
                 cartridge,

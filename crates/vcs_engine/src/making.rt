@@ -29,7 +29,7 @@ impl Making {
     ghost use Rattle.vcs_engine.specs.Makings.{made_refused};
 
     /// What is written of what is refused.
-    fn refused(alloc: Global, error: MovieError) -> Making
+    pub(crate) fn refused(alloc: Global, error: MovieError) -> Making
         ensures { made_by result ≡ made_refused error }
     {
         Making {
@@ -114,7 +114,7 @@ impl Making {
     }
 
     /// Writes a movie, then a line.
-    fn write<W: Write, L: Write>(
+    pub(crate) fn write<W: Write, L: Write>(
         &self,
         alloc: Global,
         movie: &mut W,
