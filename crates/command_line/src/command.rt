@@ -34,6 +34,11 @@ pub enum Command {
     Info {
         file: String,
     },
+    /// Convert a movie to version 2.
+    Convert {
+        old: String,
+        new: String,
+    },
 }
 
 /// Why there is no command.

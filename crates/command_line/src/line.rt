@@ -98,6 +98,10 @@ pub fn parse_line<S: AsStr>(alloc: Global, words: &[S]) -> Result<Command, LineF
         Some(("info", inner)) => Some(Command::Info {
             file: text_of(alloc, inner, "file")?,
         }),
+        Some(("convert", inner)) => Some(Command::Convert {
+            old: text_of(alloc, inner, "old")?,
+            new: text_of(alloc, inner, "new")?,
+        }),
         _ => None,
     };
     match found {

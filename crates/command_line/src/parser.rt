@@ -84,7 +84,7 @@ fn make<'a>(alloc: Global) -> Result<Command<'a>, AllocError> {
         .arg(
             Arg::new(alloc, "rom")
                 .required(true)
-                .help("The cartridge, of 2048 or 4096 bytes"),
+                .help("The cartridge, of 2048, 4096 or 8192 bytes"),
         )?
         .arg(
             Arg::new(alloc, "inputs")
@@ -102,6 +102,14 @@ fn info<'a>(alloc: Global) -> Result<Command<'a>, AllocError> {
         .arg(Arg::new(alloc, "file").required(true).help("The movie"))
 }
 
+/// `convert OLD NEW`.
+fn convert<'a>(alloc: Global) -> Result<Command<'a>, AllocError> {
+    Command::new(alloc, "convert")
+        .about("Write a movie of version 1 in version 2")
+        .arg(Arg::new(alloc, "old").required(true).help("The movie"))?
+        .arg(Arg::new(alloc, "new").required(true).help("The movie in version 2"))
+}
+
 /// The program with all of its commands.
 pub(crate) fn program<'a>(alloc: Global) -> Result<Command<'a>, AllocError> {
     Command::new(alloc, "vcs_check")
@@ -110,5 +118,6 @@ pub(crate) fn program<'a>(alloc: Global) -> Result<Command<'a>, AllocError> {
         .subcommand_required(true)
         .subcommand(verify(alloc)?)?
         .subcommand(make(alloc)?)?
-        .subcommand(info(alloc)?)
+        .subcommand(info(alloc)?)?
+        .subcommand(convert(alloc)?)
 }

@@ -30,6 +30,8 @@ fn defaults(rt: HostRuntime) -> Result<(), Fail> {
     );
     let found = parse_line(rt.alloc(), &["vcs_check", "info", "absent"]);
     assert!(rt; matches!(&found, Ok(Command::Info { .. })));
+    let found = parse_line(rt.alloc(), &["vcs_check", "convert", "a", "b"]);
+    assert!(rt; matches!(&found, Ok(Command::Convert { .. })));
     let found = parse_line(rt.alloc(), &["vcs_check"]);
     assert!(rt; matches!(&found, Ok(Command::Stdin)));
     let found = parse_line(rt.alloc(), &["vcs_check", "--help"]);
@@ -47,7 +49,7 @@ fn mistakes(rt: HostRuntime) {
     assert!(rt; matches!(&found, Err(LineFault::Usage { .. })));
     let found = parse_line(rt.alloc(), &["vcs_check", "make", "r", "i", "--out", "o"]);
     assert!(rt; matches!(&found, Err(LineFault::Usage { .. })));
-    let found = parse_line(rt.alloc(), &["vcs_check", "convert", "a", "b"]);
+    let found = parse_line(rt.alloc(), &["vcs_check", "convert", "a"]);
     assert!(rt; matches!(&found, Err(LineFault::Usage { .. })));
     if let Err(LineFault::Usage { text }) = &found {
         let text = text.as_str();

@@ -16,4 +16,6 @@ mod segments;
 #[cfg(test)]
 mod verdicts;
 #[cfg(test)]
+mod versions;
+#[cfg(test)]
 mod workers;
