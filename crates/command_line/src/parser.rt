@@ -107,7 +107,11 @@ fn convert<'a>(alloc: Global) -> Result<Command<'a>, AllocError> {
     Command::new(alloc, "convert")
         .about("Write a movie of version 1 in version 2")
         .arg(Arg::new(alloc, "old").required(true).help("The movie"))?
-        .arg(Arg::new(alloc, "new").required(true).help("The movie in version 2"))
+        .arg(
+            Arg::new(alloc, "new")
+                .required(true)
+                .help("The movie in version 2"),
+        )
 }
 
 /// The program with all of its commands.

@@ -79,7 +79,13 @@ fn ports_mix_pins_and_outputs(rt: HostRuntime) {
 
 #[test]
 fn cartridges_have_2048_4096_or_8192_bytes(rt: HostRuntime) -> Result<(), Fail> {
-    for (length, fits) in [(0usize, false), (2048, true), (4096, true), (4097, false), (8192, true)] {
+    for (length, fits) in [
+        (0usize, false),
+        (2048, true),
+        (4096, true),
+        (4097, false),
+        (8192, true),
+    ] {
         let bytes = vec![in rt.alloc(); 0u8; length]?;
         match Cart::new(bytes) {
             Ok(cart) => {

@@ -21,8 +21,8 @@ pub use checkpoint::Checkpoint;
 pub use converting::{ConvertError, convert};
 pub use error::{MakeError, MovieError, NoMemory};
 pub use laws::{
-    law_of_checkpoints, law_of_conversion, law_of_inputs, law_of_judgements, law_of_making, law_of_one_movie,
-    law_of_one_spelling, law_of_reading, law_of_records, law_of_runs,
+    law_of_checkpoints, law_of_conversion, law_of_inputs, law_of_judgements, law_of_making,
+    law_of_one_movie, law_of_one_spelling, law_of_reading, law_of_records, law_of_runs,
 };
 pub use making::make_movie;
 pub use movie::Movie;

@@ -316,7 +316,11 @@ fn refusals_of_version_2(rt: HostRuntime) -> Result<(), Fail> {
 #[test]
 fn bank_1_is_refused_without_banks(rt: HostRuntime) -> Result<(), Fail> {
     let mut bytes = Vec::new(rt.alloc());
-    bytes.extend_from_slice(file(rt.alloc())?.get(..2062).ok_or("a header and a cartridge")?)?;
+    bytes.extend_from_slice(
+        file(rt.alloc())?
+            .get(..2062)
+            .ok_or("a header and a cartridge")?,
+    )?;
     bytes.extend_from_slice(&with_bank(&state_at_power_on(), 1))?;
     bytes.extend_from_slice(&[0xFF, 0x3F, 0x00])?;
     let bytes = changed(rt.alloc(), &bytes, 4, &[0, 2, 8, 0, 0, 0, 0, 1, 0, 0])?;
@@ -328,7 +332,9 @@ fn bank_1_is_refused_without_banks(rt: HostRuntime) -> Result<(), Fail> {
 
 #[test]
 fn movie_is_converted_once(rt: HostRuntime) -> Result<(), Fail> {
-    let movie = read_movie(rt.alloc(), &file(rt.alloc())?).ok().ok_or("a movie")?;
+    let movie = read_movie(rt.alloc(), &file(rt.alloc())?)
+        .ok()
+        .ok_or("a movie")?;
     let new = convert(movie).ok().ok_or("converted")?;
     let mut written = Vec::new(rt.alloc());
     write_movie(&new, &mut written).ok().ok_or("written")?;

@@ -71,7 +71,7 @@ pub fn run_convert<R: Read, W: Write, L: Write>(
         × Appends (L.contents line.old) (L.contents line.new) (converted_of (movie_at input)).line) }
     ensures write_fault { result ≡ Err RunError.WriteFault → (input : List ℕ) × ReadsAll (R.remaining movie.old) (R.remaining movie.new) input
         × WritesPart (W.contents new.old) (W.contents new.new) (converted_of (movie_at input)).movie
-            (L.contents line.old) (L.contents line.new) (converted_of (movie_at input)).line }
+        (L.contents line.old) (L.contents line.new) (converted_of (movie_at input)).line }
 
     // What was written after the other errors.
     ensures quiet { OnErr result (result ≢ Err RunError.WriteFault

@@ -45,7 +45,14 @@ fn line_of<T: Threads + Wait + Sync + AllocGlobal>(
     let plan = Plan::new(workers, 1, Keep::new(1, 0)?)?;
     let mut line = Vec::new(rt.alloc());
     let mut input = bytes;
-    let _status = run(rt, rt.alloc(), &mut input, &plan, &mut line, &mut io::sink())?;
+    let _status = run(
+        rt,
+        rt.alloc(),
+        &mut input,
+        &plan,
+        &mut line,
+        &mut io::sink(),
+    )?;
     Ok(line)
 }
 

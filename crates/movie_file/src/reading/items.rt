@@ -4,9 +4,9 @@ ghost use Rattle.movie_file.specs.Format.{input_length, record_length, checkpoin
 ghost use Rattle.movie_file.specs.MovieError.{Gives};
 ghost use Rattle.movie_file.specs.Reading.{input_at, inputs_at, head_state_at, checkpoint_at, checkpoints_at};
 
+use super::sizes::Sizes;
 use crate::checkpoint::Checkpoint;
 use crate::error::MovieError;
-use super::sizes::Sizes;
 use crate::format::{INPUT_LENGTH, record_length};
 use crate::record::movie_state_in;
 use vcs_machine::{Input, State};
