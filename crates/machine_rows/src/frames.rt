@@ -23,19 +23,29 @@ fn cart_of(rt: &impl Abort, alloc: Global, start: &[u8], offset: usize, more: &[
     Cart::new(bytes).expect(rt, "2048 bytes are a cartridge")
 }
 
+/// The byte of a part that begins at this offset, and 0 outside of it.
+fn byte_in(part: &[u8], offset: usize, i: usize) -> u8 {
+    if i >= offset && i - offset < part.len() {
+        part[i - offset]
+    } else {
+        0
+    }
+}
+
 /// A cartridge of 8192 bytes: a program at F003 of the first bank, and A5 at FFF8; in the second bank three bytes at F000, eight
 /// at FFF6, the vector among them, and LDA #00, STA VSYNC at FF80.
 fn banked_cart(rt: &impl Abort, alloc: Global, second: [u8; 3], last: [u8; 8]) -> Cart {
     let first = [
         0x85, 0x80, 0xA9, 2, 0x85, 0, 0xA9, 0, 0x85, 0, 0x4C, 0x05, 0xF0,
     ];
-    let mut bytes = [0; 8192];
-    bytes[0x0003..0x0010].copy_from_slice(&first);
-    bytes[0x0FF8] = 0xA5;
-    bytes[0x1000..0x1003].copy_from_slice(&second);
-    bytes[0x1F80..0x1F84].copy_from_slice(&[0xA9, 0, 0x85, 0]);
-    bytes[0x1FF6..0x1FFE].copy_from_slice(&last);
-    let bytes = Vec::from_slice(alloc, &bytes).expect(rt, "memory for a cartridge");
+    let mut bytes = Vec::with_capacity(alloc, 8192).expect(rt, "memory for a cartridge");
+    for i in 0..8192usize {
+        let in_first = byte_in(&first, 0x0003, i) | byte_in(&[0xA5], 0x0FF8, i);
+        let in_second = byte_in(&second, 0x1000, i)
+            | byte_in(&[0xA9, 0, 0x85, 0], 0x1F80, i)
+            | byte_in(&last, 0x1FF6, i);
+        bytes.push(in_first | in_second).expect(rt, "room for a byte");
+    }
     Cart::new(bytes).expect(rt, "8192 bytes are a cartridge")
 }
 
