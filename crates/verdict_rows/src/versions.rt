@@ -9,10 +9,8 @@ use std::test::Fail;
 use std::thread::Threads;
 use vcs_engine::{Plan, RunError, Status, run, run_convert, run_info};
 
-/// A movie of two frames of a cartridge of two banks, with a checkpoint after the first that claims
-/// a bank: 8,592 bytes. The second bank begins with LDA 1FF8, which has 5A there and selects the
-/// first; that goes on with STA 80, LDA #02, STA VSYNC, LDA #00, STA VSYNC, JMP F005.
-fn two_banks(alloc: Global, bank: u8) -> Result<Vec<u8>, Fail> {
+/// The cartridge of two banks of that movie.
+fn banked_rom() -> [u8; 8192] {
     let mut cart = [0; 8192];
     cart[0x0003..0x0010].copy_from_slice(&[
         0x85, 0x80, 0xA9, 0x02, 0x85, 0x00, 0xA9, 0x00, 0x85, 0x00, 0x4C, 0x05, 0xF0,
@@ -21,17 +19,29 @@ fn two_banks(alloc: Global, bank: u8) -> Result<Vec<u8>, Fail> {
     cart[0x1000..0x1003].copy_from_slice(&[0xAD, 0xF8, 0x1F]);
     cart[0x1FF8] = 0x5A;
     cart[0x1FFD] = 0xF0;
+    cart
+}
+
+/// The state that it claims, but for the bank.
+fn claimed_state() -> [u8; 187] {
     let mut claimed = after_frame(0xEF, 0x11);
     claimed[6] = 0x0D;
     claimed[7] = 0x5A;
+    claimed
+}
+
+/// A movie of two frames of a cartridge of two banks, with a checkpoint after the first that claims
+/// a bank: 8,592 bytes. The second bank begins with LDA 1FF8, which has 5A there and selects the
+/// first; that goes on with STA 80, LDA #02, STA VSYNC, LDA #00, STA VSYNC, JMP F005.
+fn two_banks(alloc: Global, bank: u8) -> Result<Vec<u8>, Fail> {
     let mut bytes = Vec::new(alloc);
     bytes.extend_from_slice(b"A26M")?;
     bytes.extend_from_slice(&[0, 2, 0x20, 0, 0, 0, 0, 2, 0, 1])?;
-    bytes.extend_from_slice(&cart)?;
+    bytes.extend_from_slice(&banked_rom())?;
     bytes.extend_from_slice(&power_on())?;
     bytes.push(1)?;
     bytes.extend_from_slice(&[0xFF, 0x3F, 0, 0xFF, 0x3F, 0, 0, 0, 0, 1])?;
-    bytes.extend_from_slice(&claimed)?;
+    bytes.extend_from_slice(&claimed_state())?;
     bytes.push(bank)?;
     Ok(bytes)
 }
