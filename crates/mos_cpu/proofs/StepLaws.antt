@@ -9,7 +9,7 @@ use Rattle.mos_cpu.specs.Registers.{Registers}
 use Rattle.mos_cpu.specs.Opcodes.{row_of}
 use Rattle.mos_cpu.specs.Operands.{and_then, byte_at, operand_of, documented, decoded}
 use Rattle.mos_cpu.specs.Accesses.{accesses_of, cycles_of, use_of}
-use Rattle.mos_cpu.specs.Execution.{Progress, reached, transferred, accessed, begun, executed, step_by, step_of}
+use Rattle.mos_cpu.specs.Execution.{Step, Progress, reached, transferred, accessed, begun, executed, step_by, step_of}
 use Rattle.mos_cpu.specs.Timing.{IsTimed, least_of, AscendsTo, access_clocks, KeepsTime}
 use Rattle.mos_cpu.proofs.AccessLemmas.{accesses_of-ascend, cycles_of-least, cycles_of-most}
 use Rattle.mos_cpu.proofs.OpcodeLemmas.{row_of-timed}
@@ -232,3 +232,21 @@ count-adds rate t a b = grind arith
 pub count_modulo-adds : (rate modulus t a b : ℕ)
     → ((t + rate * a) % modulus + rate * b) % modulus ≡ (t + rate * (a + b)) % modulus
 count_modulo-adds rate modulus t a b = mod-add-mod (t + rate * a) modulus (rate * b) ∙ ap (λ n. n % modulus) (count-adds rate t a b)
+
+-- The laws of what a step answered and left.
+module _ {S : Type 0} (m : Meaning S) (r : Registers) (s : S) (step : Step S) (told : step_of m r s ≡ step) where
+  pub told-fault_registers : OnErr step.answer (step.registers ≡ r)
+  told-fault_registers = rw told at (step_of-fault_registers m r s)
+
+  pub told-fault_bus : OnErr step.answer (step.bus ≡ s)
+  told-fault_bus = rw told at (step_of-fault_bus m r s)
+
+  pub told-least : IfOk step.answer (λ cycles. 2 ≤ cycles)
+  told-least = rw told at (step_of-least m r s)
+
+  pub told-most : IfOk step.answer (λ cycles. cycles ≤ 7)
+  told-most = rw told at (step_of-most m r s)
+
+  pub told-clock : (advance : ℕ → ℕ → ℕ) (clock : S → ℕ) → IsClock m advance clock
+      → IfOk step.answer (λ cycles. clock step.bus ≡ advance (clock s) cycles)
+  told-clock advance clock is = rw told at (step_of-clock m advance clock is r s)

@@ -29,7 +29,7 @@ pub fn word<B: Bus>(bus: &B, low: u16, high: u16) -> Result<u16, CpuFault>
 
 /// The pointer at a place in page zero, where it wraps.
 #[inline(always)]
-fn pointer<B: Bus>(bus: &B, at: u8) -> u16
+pub fn pointer<B: Bus>(bus: &B, at: u8) -> u16
     ensures { result ≡ pointer_at B.meaning (B.state bus.now) at }
 {
     u16::from_le_bytes([bus.peek_zero(at), bus.peek_zero(at.wrapping_add(1))])
@@ -109,4 +109,52 @@ pub fn named<B: Bus>(cpu: &Cpu, bus: &B, mode: Mode) -> Result<Operand, CpuFault
             Ok(indexed(pointer(bus, at), cpu.y as u16))
         }
     }
+}
+
+/// A place that an instruction names, and the address of the next instruction.
+#[derive(Clone, Copy)]
+pub struct Target {
+    pub address: u16,
+    pub crossed: bool,
+    pub next: u16,
+}
+
+/// A place with an index added.
+#[inline(always)]
+pub fn offset_by(base: u16, index: u16, next: u16) -> Target
+    ensures place { Operand.Place result.address result.crossed ≡ indexed_by base index }
+    ensures next { result.next ≡ next }
+{
+    let address = base.wrapping_add(index);
+    Target {
+        address,
+        crossed: base >> 8 != address >> 8,
+        next,
+    }
+}
+
+/// A place that was reached with no index.
+#[inline(always)]
+pub fn direct(address: u16, next: u16) -> Target
+    ensures { result ≡ record { address = address; crossed = false; next = next } }
+{
+    Target {
+        address,
+        crossed: false,
+        next,
+    }
+}
+
+/// The target of a branch from the next instruction's address.
+#[inline(always)]
+pub fn branch_by(next: u16, offset: u8) -> Target
+    ensures place { Operand.Place result.address result.crossed ≡ branch_target next offset }
+    ensures next { result.next ≡ next }
+{
+    let index = if offset >= 0x80 {
+        0xFF00 + offset as u16
+    } else {
+        offset as u16
+    };
+    offset_by(next, index, next)
 }

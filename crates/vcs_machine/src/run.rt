@@ -15,6 +15,7 @@ const TOO_MANY_CYCLES: u32 = 24_320;
 
 /// One instruction with its wait; it answers the cycles of the frame so far. A fault changes nothing.
 #[tactic(auto, unfolding(crate::specs::Consoles::console_rules, crate::specs::Frame::turn))]
+#[inline(always)]
 fn turn<S: Paint>(cpu: &mut Cpu, console: &mut Console<S>, cycles: u32) -> Result<u32, CpuFault>
     requires { cycles < TOO_MANY_CYCLES }
     ensures value { MatchResult result
