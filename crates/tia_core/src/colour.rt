@@ -1,10 +1,19 @@
 //! The colour of a pixel.
-ghost use Rattle.std.specs.Prelude.{◌≡◌};
+ghost use Rattle.std.specs.Prelude.{◌≡◌, ◌||◌};
+ghost use Rattle.tia_core.specs.Bits.{bit};
 ghost use Rattle.tia_core.specs.Colour.{colour_at, is_blanked, playfield_colour};
 
 use crate::bits::bit;
 use crate::fields::TiaFields;
 use crate::objects::Objects;
+
+/// Whether each pixel is black whatever covers it.
+#[inline]
+pub fn is_dark(t: &TiaFields) -> bool
+    ensures { result ≡ (bit t.now.vblank 1 || bit t.now.vsync 1) }
+{
+    bit(t.vblank, 1) || bit(t.vsync, 1)
+}
 
 /// Whether pixel `x` is black whatever covers it.
 #[inline]

@@ -1,5 +1,5 @@
 //! The pixels of a line that an object covers.
-ghost use Rattle.std.specs.Prelude.{◌≡◌, ◌<◌, ◌≤◌, ◌||◌, ◌&&◌, ◌-◌, ◌+◌, ℕ, nat_le, nat_lt, bit_and, ◌^◌, true, false};
+ghost use Rattle.std.specs.Prelude.{◌≡◌, ◌<◌, ◌≤◌, ◌||◌, ◌&&◌, ◌-◌, ◌+◌, ◌%◌, ℕ, nat_le, nat_lt, bit_and, ◌^◌, true, false};
 ghost use Rattle.tia_core.specs.Bits.{bit};
 ghost use Rattle.tia_core.specs.Coverage.{distance_of};
 ghost use Rattle.tia_core.specs.Spans.{is_crowd};
@@ -70,6 +70,15 @@ impl Mask {
         self.words[(x / 32) as usize] >> (x % 32) & 1 == 1
     }
 
+    /// Where the mask changes right of pixel `x`, up to the end of 32 pixels: bit k is set where pixel x + k isn't covered as x is.
+    #[inline]
+    pub(crate) fn changes(&self, x: u8) -> u32
+        requires { x < 160 }
+        ensures { (k : ℕ) → x % 32 + k < 32 → bit result k ≡ false → covers self.now (x + k) ≡ covers self.now x }
+    {
+        changes(self.words[(x / 32) as usize], x % 32)
+    }
+
     /// The mask of these words.
     #[inline]
     pub(crate) fn of_words(words: [u32; 5]) -> Self
@@ -131,6 +140,26 @@ impl Mask {
         }
         false
     }
+}
+
+/// The bits of `word` from `first` on that aren't as the bit `first` is.
+#[inline]
+fn changes(word: u32, first: u8) -> u32
+    requires { first < 32 }
+    ensures { (k : ℕ) → k < 32 → bit result k ≡ false → bit word (first + k) ≡ bit word first }
+{
+    let rest = word >> first;
+    if rest & 1 == 1 { rest ^ 0xFFFF_FFFF } else { rest }
+}
+
+/// How many bits from bit 0 on follow one another before the next set bit, whatever bit 0 is: at most 33.
+#[inline]
+pub(crate) fn unchanged(changes: u32) -> u8
+    ensures positive { 0 < result }
+    ensures range { result ≤ 33 }
+    ensures clear { (k : ℕ) → 0 < k → k < result → bit changes k ≡ false }
+{
+    (changes >> 1).trailing_zeros() as u8 + 1
 }
 
 /// The bits that are set in two of six words.

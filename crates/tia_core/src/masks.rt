@@ -1,5 +1,5 @@
 //! The masks of the six objects, and the pairs that meet in them.
-ghost use Rattle.std.specs.Prelude.{◌≡◌, ◌<◌, ◌≤◌, ◌-◌, ◌^◌, ℕ, false, bit_or};
+ghost use Rattle.std.specs.Prelude.{◌≡◌, ◌<◌, ◌≤◌, ◌-◌, ◌+◌, ◌*◌, ◌/◌, ◌^◌, ℕ, false, bit_or};
 ghost use Rattle.tia_core.specs.Clock.{painted};
 ghost use Rattle.tia_core.specs.Collision.{number_from, pairs_of};
 ghost use Rattle.tia_core.specs.Mask.{covers};
@@ -9,9 +9,9 @@ ghost use Rattle.tia_core.specs.TiaState.{IsLawful};
 
 use crate::bits::bit;
 use crate::collision::{number_of, with_pairs};
-use crate::colour::colour_at;
+use crate::colour::{colour_at, is_dark};
 use crate::fields::TiaFields;
-use crate::mask::Mask;
+use crate::mask::{Mask, unchanged};
 use crate::objects::{Objects, is_shown, shown, size};
 use crate::paint::Paint;
 use crate::register::Register;
@@ -201,8 +201,12 @@ impl Masks {
         ensures sink { sink.new ≡ painted S.drawn sink.old (span_pixels t.now line from (to - from)) }
     {
         if sink.keeps() {
-            self.renew(t);
-            self.paint_fresh(t, line, from, to, sink);
+            if is_dark(t) {
+                sink.put_run(line, from, to, 0);
+            } else {
+                self.renew(t);
+                self.paint_fresh(t, line, from, to, sink);
+            }
         }
     }
 
@@ -214,10 +218,61 @@ impl Masks {
         requires range { to ≤ 160 }
         ensures { sink.new ≡ painted S.drawn sink.old (span_pixels t.now line from (to - from)) }
     {
-        for x in from..to {
-            sink.put(line, x, colour_at(t, self.objects(x), x));
+        let mut x = from;
+        while x < to {
+            let end = self.run_end(x, to);
+            sink.put_run(line, x, end, colour_at(t, self.objects(x), x));
+            x = end;
         }
     }
+
+    /// The end of a run of pixels from `x` on, at most at `to`, that the same objects cover.
+    #[inline]
+    fn run_end(&self, x: u8, to: u8) -> u8
+        requires order { x < to }
+        requires range { to ≤ 160 }
+        ensures after { x < result }
+        ensures range { result ≤ to }
+        ensures comb { x < 8 → result ≤ 8 }
+        ensures half { x < 80 → result ≤ 80 }
+        ensures same { (y : ℕ) → x ≤ y → y < result → objects_in self.now y ≡ objects_in self.now x }
+    {
+        let changes = self.player0.changes(x)
+            | self.player1.changes(x)
+            | self.missile0.changes(x)
+            | self.missile1.changes(x)
+            | self.ball.changes(x)
+            | self.playfield.changes(x);
+        least(x + unchanged(changes), least(edge_after(x), to))
+    }
+}
+
+/// The next pixel at which a word of a mask, the picture's right half or what the comb leaves begins, or the line ends.
+#[inline]
+fn edge_after(x: u8) -> u8
+    requires { x < 160 }
+    ensures after { x < result }
+    ensures word { result ≤ 32 * (x / 32) + 32 }
+    ensures comb { x < 8 → result ≤ 8 }
+    ensures half { x < 80 → result ≤ 80 }
+{
+    if x < 8 {
+        8
+    } else if x < 80 && x >= 64 {
+        80
+    } else {
+        32 * (x / 32) + 32
+    }
+}
+
+/// The smaller number.
+#[inline]
+fn least(a: u8, b: u8) -> u8
+    ensures first { result ≤ a }
+    ensures second { result ≤ b }
+    ensures greater { (n : ℕ) → n < a → n < b → n < result }
+{
+    if a < b { a } else { b }
 }
 
 /// The mask of an object: 0 to 5 are player 0, player 1, missile 0, missile 1, the ball and the playfield.

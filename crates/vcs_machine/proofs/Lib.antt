@@ -6,4 +6,5 @@ pub mod LawfulParts
 pub mod OneStop
 pub mod Owing
 pub mod PictureTable
+pub mod Runs
 pub mod Sinks

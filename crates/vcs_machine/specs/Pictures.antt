@@ -1,5 +1,5 @@
 -- The picture of a frame: the colour last put at each place, else 0.
-use Rattle.std.specs.Prelude.{ℕ, ◌+◌, ◌/◌, ◌==◌, ◌&&◌, nat_lt, if◌then◌else◌, List, [], ◌∷◌, length, map, replicate, slice_set, slice_index_or}
+use Rattle.std.specs.Prelude.{ℕ, zero, suc, ◌+◌, ◌/◌, ◌==◌, ◌&&◌, nat_lt, if◌then◌else◌, List, [], ◌∷◌, length, map, replicate, slice_set, slice_index_or}
 use Rattle.std.specs.List.{range_with_len}
 use Rattle.tia_core.specs.Clock.{Pixel}
 
@@ -31,3 +31,8 @@ with_pixel rows line x colour =
 -- So many rows of zeros.
 abbrev pub blank : ℕ → Rows
 blank n = replicate n (replicate 160 0)
+
+-- A row after k of its pixels from x on got one colour.
+abbrev pub filled : List ℕ → ℕ → ℕ → ℕ → List ℕ
+filled row x zero colour = row
+filled row x (suc k) colour = filled (slice_set row x colour) (x + 1) k colour

@@ -1,6 +1,6 @@
 //! The picture of a frame.
-ghost use Rattle.std.specs.Prelude.{◌≡◌, ◌↔◌, ◌<◌, ◌≤◌, [], length, take, slice_index, slice_index_or, IsTrue, IfOk};
-ghost use Rattle.vcs_machine.specs.Pictures.{with_pixel, blank, rows_of};
+ghost use Rattle.std.specs.Prelude.{◌≡◌, ◌↔◌, ◌<◌, ◌≤◌, ◌-◌, [], length, take, slice_index, slice_index_or, IsTrue, IfOk};
+ghost use Rattle.vcs_machine.specs.Pictures.{with_pixel, filled, blank, rows_of};
 
 use std::alloc::{AllocError, Global};
 use std::marker::Model;
@@ -36,6 +36,25 @@ impl Paint for Picture {
             let row = &mut self.rows[line];
             row[x as usize] = colour;
         }
+    }
+
+    fn put_run(&mut self, line: u16, from: u8, to: u8, colour: u8) {
+        let line = line as usize;
+        if line < self.rows.len() {
+            fill(&mut self.rows[line], from, to, colour);
+        }
+    }
+}
+
+/// Gives pixels `from..to` of a row one colour.
+#[inline]
+fn fill(row: &mut [u8; 160], from: u8, to: u8, colour: u8)
+    requires order { from ≤ to }
+    requires range { to ≤ 160 }
+    ensures { row.new ≡ filled row.old from (to - from) colour }
+{
+    for x in from..to {
+        row[x as usize] = colour;
     }
 }
 

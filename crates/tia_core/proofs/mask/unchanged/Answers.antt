@@ -1,0 +1,5 @@
+use Rattle.tia_core.proofs.Runs.{bits-before}
+use Rattle.tia_core.proofs.mask.unchanged.Goals as goal
+
+pub returns-clause-clear : goal.returns-clause-clear
+returns-clause-clear c = λ k pos lt. bits-before c.args.changes k c.ranges.changes.fits pos lt

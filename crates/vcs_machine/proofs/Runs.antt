@@ -1,0 +1,36 @@
+-- A run of pixels of one colour in a picture.
+use Rattle.std.proofs.Common.{◌≡◌, ℕ, zero, suc, ◌+◌, ◌-◌, ◌<◌, ◌≤◌, nat_lt, true, false, if◌then◌else◌, List, [], ◌∷◌, length, slice_set, slice_index_or, refl, sym, ap, ◌∙◌, arith}
+use Rattle.std.proofs.lemmas.Bool.Decides.{nat_tests}
+use Rattle.tia_core.specs.Runs.{run_drawn}
+use Rattle.vcs_machine.specs.Pictures.{Rows, with_pixel, filled}
+
+one_less : (n i : ℕ) → i < n → n - i ≡ suc (n - (i + 1))
+one_less n i h = omega arith
+
+pub filled-step : (row : List ℕ) (x to colour : ℕ) → x < to → filled row x (to - x) colour ≡ filled (slice_set row x colour) (x + 1) (to - (x + 1)) colour
+filled-step row x to colour h = rw (one_less to x h) refl
+
+pixel-inside : (rows : Rows) (line x colour : ℕ) → line < length rows → x < 160
+    → with_pixel rows line x colour ≡ slice_set rows line (slice_set (slice_index_or rows line []) x colour)
+pixel-inside rows line x colour h lt =
+    let a : nat_lt line (length rows) ≡ true = grind (arith, nat_tests) in
+    let b : nat_lt x 160 ≡ true = grind (arith, nat_tests) in
+    rw (a, b) refl
+
+pixel-outside : (rows : Rows) (line x colour : ℕ) → length rows ≤ line → with_pixel rows line x colour ≡ rows
+pixel-outside rows line x colour h = let a : nat_lt line (length rows) ≡ false = grind (arith, nat_tests) in rw a refl
+
+pub run-inside : (rows : Rows) (line x k colour : ℕ) → line < length rows → x + k ≤ 160
+    → run_drawn with_pixel rows line x k colour ≡ slice_set rows line (filled (slice_index_or rows line []) x k colour)
+run-inside rows line x zero colour h most = ?none
+run-inside rows line x (suc k) colour h most =
+    let row : List ℕ = slice_index_or rows line [] in
+    let next : Rows = slice_set rows line (slice_set row x colour) in
+    ap (λ (r : Rows). run_drawn with_pixel r line (x + 1) k colour) (pixel-inside rows line x colour h (omega arith))
+    ∙ run-inside next line (x + 1) k colour ?long (omega arith)
+    ∙ ?rest
+
+pub run-outside : (rows : Rows) (line x k colour : ℕ) → length rows ≤ line → run_drawn with_pixel rows line x k colour ≡ rows
+run-outside rows line x zero colour h = refl
+run-outside rows line x (suc k) colour h =
+    ap (λ (r : Rows). run_drawn with_pixel r line (x + 1) k colour) (pixel-outside rows line x colour h) ∙ run-outside rows line (x + 1) k colour h
