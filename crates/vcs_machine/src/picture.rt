@@ -53,8 +53,8 @@ fn fill(row: &mut [u8; 160], from: u8, to: u8, colour: u8)
     requires range { to ≤ 160 }
     ensures { row.new ≡ filled row.old from (to - from) colour }
 {
-    for x in from..to {
-        row[x as usize] = colour;
+    for place in from..to {
+        row[place as usize] = colour;
     }
 }
 

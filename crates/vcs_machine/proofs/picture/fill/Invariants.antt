@@ -2,5 +2,5 @@ use Rattle.std.proofs.Common.{◌≡◌, ◌-◌}
 use Rattle.vcs_machine.specs.Pictures.{filled}
 use Rattle.vcs_machine.proofs.picture.fill.Given as goal
 
-abbrev pub invariant-loop-x : goal.invariant-loop-x
-invariant-loop-x l = filled l.row l.x (l.to - l.x) l.colour ≡ filled l.fn.row l.from (l.to - l.from) l.colour
+abbrev pub invariant-loop-place : goal.invariant-loop-place
+invariant-loop-place l = filled l.row l.place (l.to - l.place) l.colour ≡ filled l.fn.row l.from (l.to - l.from) l.colour
