@@ -3,13 +3,10 @@ use Rattle.std.proofs.Common.{◌≡◌, ℕ, zero, suc, ◌+◌, ◌-◌, ◌<�
 use Rattle.tia_core.specs.Collision.{pairs_of}
 use Rattle.tia_core.specs.Mask.{any_from, covers}
 use Rattle.tia_core.specs.Objects.{objects_at}
-use Rattle.tia_core.specs.Spans.{bl, is_any, m0, m1, marked, met, nothing, objects_in, p0, p1, pf, touched_by, IsBound, IsMaskOf, MasksFit}
-use Rattle.tia_core.specs.Write.{fields_after}
+use Rattle.tia_core.specs.Spans.{bl, is_any, m0, m1, marked, merged, met, nothing, objects_in, p0, p1, pf, IsBound, IsMaskOf, MasksFit}
 use Rattle.tia_core.specs.declared.fields.TiaFields.{TiaFields}
 use Rattle.tia_core.specs.declared.masks.Masks.{Masks}
 use Rattle.tia_core.specs.declared.objects.Objects.{Objects}
-use Rattle.tia_core.specs.declared.register.Register.{Register}
-use Rattle.tia_core.specs.declared.register.Register.TheVariants.{Vsync, Vblank, Wsync, Nusiz0, Nusiz1, Colup0, Colup1, Colupf, Colubk, Ctrlpf, Refp0, Refp1, Pf0, Pf1, Pf2, Resp0, Resp1, Resm0, Resm1, Resbl, Grp0, Grp1, Enam0, Enam1, Enabl, Hmp0, Hmp1, Hmm0, Hmm1, Hmbl, Vdelp0, Vdelp1, Vdelbl, Resmp0, Resmp1, Hmove, Hmclr, Cxclr, Ignored}
 use Rattle.tia_core.proofs.Pairs.{all-bound}
 use Rattle.tia_core.proofs.Words.{meets-is}
 
@@ -28,17 +25,6 @@ objects_in-fit t m x f e h =
     rw (f.player0 (ap p0 e) x h, f.player1 (ap p1 e) x h, f.missile0 (ap m0 e) x h, f.missile1 (ap m1 e) x h, f.ball (ap bl e) x h, f.playfield (ap pf e) x h) refl
 
 -- ---- a write of a register
--- the objects of `new` where they were touched, else those of `old`
-abbrev merged : Objects → Objects → Objects → Objects
-merged o new old = record {
-  player0 = if o.player0 then new.player0 else old.player0;
-  player1 = if o.player1 then new.player1 else old.player1;
-  missile0 = if o.missile0 then new.missile0 else old.missile0;
-  missile1 = if o.missile1 then new.missile1 else old.missile1;
-  ball = if o.ball then new.ball else old.ball;
-  playfield = if o.playfield then new.playfield else old.playfield;
-}
-
 abbrev Untouched : TiaFields → TiaFields → Objects → Type 0
 Untouched t u o = (x : ℕ) → objects_at u x ≡ merged o (objects_at u x) (objects_at t x)
 
@@ -70,7 +56,8 @@ bound-kept t u o bound same h = either (is_any o) refl where
   either true e = all-bound u
   either false e = λ x lt. ap (λ (s : Objects). bit_or bound (pairs_of s)) (same x ∙ none-touched o e (objects_at u x) (objects_at t x)) ∙ h x lt
 
-fit-marked : (t u : TiaFields) (m : Masks) (o : Objects) → Untouched t u o → MasksFit t m → MasksFit u (marked m o)
+-- a write leaves masks that fit, once what it may change is marked
+pub fit-marked : (t u : TiaFields) (m : Masks) (o : Objects) → Untouched t u o → MasksFit t m → MasksFit u (marked m o)
 fit-marked t u m o same f = record {
   player0 = mask-kept t u o p0 m.player0 m.stale.player0 (λ new old e. rw e refl) same f.player0;
   player1 = mask-kept t u o p1 m.player1 m.stale.player1 (λ new old e. rw e refl) same f.player1;
@@ -80,52 +67,6 @@ fit-marked t u m o same f = record {
   playfield = mask-kept t u o pf m.playfield m.stale.playfield (λ new old e. rw e refl) same f.playfield;
   bound = bound-kept t u o m.bound same f.bound;
 }
-
-untouched : (t : TiaFields) (fire0 fire1 : Bool) (r : Register) (v : ℕ) → Untouched t (fields_after t fire0 fire1 r v) (touched_by r)
-unfolding objects_at
-untouched t fire0 fire1 Vsync v = λ x. refl
-untouched t fire0 fire1 Vblank v = λ x. refl
-untouched t fire0 fire1 Wsync v = λ x. refl
-untouched t fire0 fire1 Nusiz0 v = λ x. refl
-untouched t fire0 fire1 Nusiz1 v = λ x. refl
-untouched t fire0 fire1 Colup0 v = λ x. refl
-untouched t fire0 fire1 Colup1 v = λ x. refl
-untouched t fire0 fire1 Colupf v = λ x. refl
-untouched t fire0 fire1 Colubk v = λ x. refl
-untouched t fire0 fire1 Ctrlpf v = λ x. refl
-untouched t fire0 fire1 Refp0 v = λ x. refl
-untouched t fire0 fire1 Refp1 v = λ x. refl
-untouched t fire0 fire1 Pf0 v = λ x. refl
-untouched t fire0 fire1 Pf1 v = λ x. refl
-untouched t fire0 fire1 Pf2 v = λ x. refl
-untouched t fire0 fire1 Resp0 v = λ x. refl
-untouched t fire0 fire1 Resp1 v = λ x. refl
-untouched t fire0 fire1 Resm0 v = λ x. refl
-untouched t fire0 fire1 Resm1 v = λ x. refl
-untouched t fire0 fire1 Resbl v = λ x. refl
-untouched t fire0 fire1 Grp0 v = λ x. refl
-untouched t fire0 fire1 Grp1 v = λ x. refl
-untouched t fire0 fire1 Enam0 v = λ x. refl
-untouched t fire0 fire1 Enam1 v = λ x. refl
-untouched t fire0 fire1 Enabl v = λ x. refl
-untouched t fire0 fire1 Hmp0 v = λ x. refl
-untouched t fire0 fire1 Hmp1 v = λ x. refl
-untouched t fire0 fire1 Hmm0 v = λ x. refl
-untouched t fire0 fire1 Hmm1 v = λ x. refl
-untouched t fire0 fire1 Hmbl v = λ x. refl
-untouched t fire0 fire1 Vdelp0 v = λ x. refl
-untouched t fire0 fire1 Vdelp1 v = λ x. refl
-untouched t fire0 fire1 Vdelbl v = λ x. refl
-untouched t fire0 fire1 Resmp0 v = λ x. refl
-untouched t fire0 fire1 Resmp1 v = λ x. refl
-untouched t fire0 fire1 Hmove v = λ x. refl
-untouched t fire0 fire1 Hmclr v = λ x. refl
-untouched t fire0 fire1 Cxclr v = λ x. refl
-untouched t fire0 fire1 Ignored v = λ x. refl
-
--- a write leaves masks that fit, once what it may change is marked
-pub fit-written : (t : TiaFields) (fire0 fire1 : Bool) (r : Register) (v : ℕ) (m : Masks) → MasksFit t m → MasksFit (fields_after t fire0 fire1 r v) (marked m (touched_by r))
-fit-written t fire0 fire1 r v m f = fit-marked t (fields_after t fire0 fire1 r v) m (touched_by r) (untouched t fire0 fire1 r v) f
 
 -- ---- pairs of masks
 any_from-same : (p q : ℕ → Bool) (k x : ℕ) → ((y : ℕ) → y < x + k → p y ≡ q y) → any_from p x k ≡ any_from q x k

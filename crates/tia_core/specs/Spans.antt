@@ -8,8 +8,6 @@ use Rattle.tia_core.specs.Objects.{objects_at}
 use Rattle.tia_core.specs.declared.fields.TiaFields.{TiaFields}
 use Rattle.tia_core.specs.declared.masks.Masks.{Masks}
 use Rattle.tia_core.specs.declared.objects.Objects.{Objects}
-use Rattle.tia_core.specs.declared.register.Register.{Register}
-use Rattle.tia_core.specs.declared.register.Register.TheVariants.{Nusiz0, Nusiz1, Ctrlpf, Refp0, Refp1, Pf0, Pf1, Pf2, Resp0, Resp1, Resm0, Resm1, Resbl, Grp0, Grp1, Enam0, Enam1, Enabl, Vdelp0, Vdelp1, Vdelbl, Resmp0, Resmp1, Hmove}
 
 -- the objects, one by one
 abbrev pub p0 : Objects → Bool
@@ -67,33 +65,16 @@ joined a b = record {
 abbrev pub is_any : Objects → Bool
 is_any o = o.player0 || o.player1 || o.missile0 || o.missile1 || o.ball || o.playfield
 
--- the objects that a write of a register may change
-abbrev pub touched_by : Register → Objects
-touched_by Nusiz0 = record nothing { player0 = true; missile0 = true }
-touched_by Nusiz1 = record nothing { player1 = true; missile1 = true }
-touched_by Ctrlpf = record nothing { ball = true; playfield = true }
-touched_by Refp0 = record nothing { player0 = true }
-touched_by Refp1 = record nothing { player1 = true }
-touched_by Pf0 = record nothing { playfield = true }
-touched_by Pf1 = record nothing { playfield = true }
-touched_by Pf2 = record nothing { playfield = true }
-touched_by Resp0 = record nothing { player0 = true }
-touched_by Resp1 = record nothing { player1 = true }
-touched_by Resm0 = record nothing { missile0 = true }
-touched_by Resm1 = record nothing { missile1 = true }
-touched_by Resbl = record nothing { ball = true }
-touched_by Grp0 = record nothing { player0 = true; player1 = true }
-touched_by Grp1 = record nothing { player0 = true; player1 = true; ball = true }
-touched_by Enam0 = record nothing { missile0 = true }
-touched_by Enam1 = record nothing { missile1 = true }
-touched_by Enabl = record nothing { ball = true }
-touched_by Vdelp0 = record nothing { player0 = true }
-touched_by Vdelp1 = record nothing { player1 = true }
-touched_by Vdelbl = record nothing { ball = true }
-touched_by Resmp0 = record nothing { missile0 = true }
-touched_by Resmp1 = record nothing { missile1 = true }
-touched_by Hmove = record nothing { player0 = true; player1 = true; missile0 = true; missile1 = true; ball = true }
-touched_by _ = nothing
+-- the objects of `new` where they are of this set, else those of `old`
+abbrev pub merged : Objects → Objects → Objects → Objects
+merged o new old = record {
+  player0 = if o.player0 then new.player0 else old.player0;
+  player1 = if o.player1 then new.player1 else old.player1;
+  missile0 = if o.missile0 then new.missile0 else old.missile0;
+  missile1 = if o.missile1 then new.missile1 else old.missile1;
+  ball = if o.ball then new.ball else old.ball;
+  playfield = if o.playfield then new.playfield else old.playfield;
+}
 
 -- the masks once these objects have changed
 abbrev pub marked : Masks → Objects → Masks

@@ -4,7 +4,7 @@ ghost use Rattle.tia_core.specs.Clock.{painted};
 ghost use Rattle.tia_core.specs.Collision.{number_from, pairs_of};
 ghost use Rattle.tia_core.specs.Mask.{covers};
 ghost use Rattle.tia_core.specs.Objects.{ball_at, missile_at, objects_at};
-ghost use Rattle.tia_core.specs.Spans.{bl, has_object, marked, m0, m1, nothing, objects_in, p0, p1, pf, span_pairs, span_pixels, touched_by, IsBound, IsMaskOf, MasksFit};
+ghost use Rattle.tia_core.specs.Spans.{bl, has_object, marked, m0, m1, nothing, objects_in, p0, p1, pf, span_pairs, span_pixels, IsBound, IsMaskOf, MasksFit};
 ghost use Rattle.tia_core.specs.TiaState.{IsLawful};
 
 use crate::bits::bit;
@@ -14,8 +14,8 @@ use crate::fields::TiaFields;
 use crate::mask::{Mask, unchanged};
 use crate::objects::{Objects, is_shown, shown, size};
 use crate::paint::Paint;
-use crate::register::Register;
 use crate::shape::{ball_mask, missile_mask, player_mask, playfield_mask};
+use crate::write::NOTHING;
 
 /// The masks of the six objects.
 #[derive(Drop)]
@@ -31,16 +31,6 @@ pub struct Masks {
     /// Collision bits, among which are those of all pairs that meet on a line.
     pub bound: u16,
 }
-
-/// No object.
-const NOTHING: Objects = Objects {
-    player0: false,
-    player1: false,
-    missile0: false,
-    missile1: false,
-    ball: false,
-    playfield: false,
-};
 
 impl Masks {
     /// Masks that are all to be made anew.
@@ -407,73 +397,5 @@ fn ball(enabl: u8, ctrlpf: u8, position: u8) -> Mask
         ball_mask(size(ctrlpf), position)
     } else {
         Mask::empty()
-    }
-}
-
-/// The objects that a write of a register may change.
-#[inline]
-pub fn touched_by(register: Register) -> Objects
-    ensures { result ≡ touched_by register }
-{
-    match register {
-        Register::Nusiz0 => Objects {
-            player0: true,
-            missile0: true,
-            ..NOTHING
-        },
-        Register::Nusiz1 => Objects {
-            player1: true,
-            missile1: true,
-            ..NOTHING
-        },
-        Register::Ctrlpf => Objects {
-            ball: true,
-            playfield: true,
-            ..NOTHING
-        },
-        Register::Refp0 | Register::Resp0 | Register::Vdelp0 => Objects {
-            player0: true,
-            ..NOTHING
-        },
-        Register::Refp1 | Register::Resp1 | Register::Vdelp1 => Objects {
-            player1: true,
-            ..NOTHING
-        },
-        Register::Pf0 | Register::Pf1 | Register::Pf2 => Objects {
-            playfield: true,
-            ..NOTHING
-        },
-        Register::Resm0 | Register::Enam0 | Register::Resmp0 => Objects {
-            missile0: true,
-            ..NOTHING
-        },
-        Register::Resm1 | Register::Enam1 | Register::Resmp1 => Objects {
-            missile1: true,
-            ..NOTHING
-        },
-        Register::Resbl | Register::Enabl | Register::Vdelbl => Objects {
-            ball: true,
-            ..NOTHING
-        },
-        Register::Grp0 => Objects {
-            player0: true,
-            player1: true,
-            ..NOTHING
-        },
-        Register::Grp1 => Objects {
-            player0: true,
-            player1: true,
-            ball: true,
-            ..NOTHING
-        },
-        Register::Hmove => Objects {
-            player0: true,
-            player1: true,
-            missile0: true,
-            missile1: true,
-            ball: true,
-            ..NOTHING
-        },
-        _ => NOTHING,
     }
 }
