@@ -1,0 +1,13 @@
+use Rattle.tia_core.proofs.Moves.{moved-objects}
+use Rattle.tia_core.proofs.write.write_register.Goals as goal
+
+pub returns-in-Hmove-clause-changed : goal.returns-in-Hmove-clause-changed
+returns-in-Hmove-clause-changed c = λ x.
+    rw (
+      c.moved_position-t.ensures.value,
+      c.moved_position-t-in-Hmove.ensures.value,
+      c.moved_position-t-in-Hmove-2.ensures.value,
+      c.moved_position-t-in-Hmove-3.ensures.value,
+      c.moved_position-t-in-Hmove-4.ensures.value,
+      c.comb-t.ensures.value,
+    ) (moved-objects c.args.t.now c.args.fire0 c.args.fire1 c.args.value x c.requires)
