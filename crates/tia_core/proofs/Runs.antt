@@ -1,10 +1,10 @@
 -- A stretch of a line by runs of pixels of one colour.
-use Rattle.std.proofs.Common.{◌≡◌, ℕ, zero, suc, ◌+◌, ◌-◌, ◌*◌, ◌/◌, ◌%◌, ◌^◌, ◌<◌, ◌≤◌, ◌==◌, ◌⊎◌, inl, inr, ◌||◌, nat_lt, Bool, true, false, if◌then◌else◌, List, slice_index_or, bit_or, bit_and, bit_xor, refl, sym, ap, ◌∙◌, arith}
+use Rattle.std.proofs.Common.{◌≡◌, ℕ, zero, suc, ◌+◌, ◌-◌, ◌/◌, ◌%◌, ◌^◌, ◌<◌, ◌≤◌, ◌==◌, ◌⊎◌, inl, inr, ◌||◌, nat_lt, Bool, true, false, List, slice_index_or, bit_or, bit_and, bit_xor, refl, sym, ap, ◌∙◌, arith}
 use Rattle.std.specs.Int.{bit_at, trailing_zeros, w32}
 use Rattle.std.proofs.lemmas.Bool.Decides.{nat_tests}
 use Rattle.std.proofs.lemmas.Nat.Bits.{bit_at_xor, bit_at-lt, bit_at_ones, bit_at-trailing_zeros, shr_and_one}
 use Rattle.tia_core.specs.Bits.{bit}
-use Rattle.tia_core.specs.Clock.{Pixel, painted}
+use Rattle.tia_core.specs.Clock.{painted}
 use Rattle.tia_core.specs.Colour.{colour_at}
 use Rattle.tia_core.specs.Objects.{objects_at}
 use Rattle.tia_core.specs.Runs.{run_drawn}

@@ -149,7 +149,11 @@ fn changes(word: u32, first: u8) -> u32
     ensures { (k : ℕ) → k < 32 → bit result k ≡ false → bit word (first + k) ≡ bit word first }
 {
     let rest = word >> first;
-    if rest & 1 == 1 { rest ^ 0xFFFF_FFFF } else { rest }
+    if rest & 1 == 1 {
+        rest ^ 0xFFFF_FFFF
+    } else {
+        rest
+    }
 }
 
 /// How many bits from bit 0 on follow one another before the next set bit, whatever bit 0 is: at most 33.

@@ -1,5 +1,4 @@
-use Rattle.std.proofs.Common.{◌≡◌, ◌<◌, ◌≤◌, ◌+◌, ◌-◌, ◌%◌, ◌⊎◌, inl, inr, ℕ, false, ap, sym, ◌∙◌, arith}
-use Rattle.tia_core.specs.Bits.{bit}
+use Rattle.std.proofs.Common.{◌≡◌, ◌<◌, ◌≤◌, ◌+◌, ◌-◌, ◌%◌, ◌⊎◌, inl, inr, ℕ, ap, sym, ◌∙◌, arith}
 use Rattle.tia_core.specs.Spans.{objects_in}
 use Rattle.tia_core.proofs.Runs.{objects-alike, or-clear}
 use Rattle.tia_core.proofs.masks.Masks.run_end.Goals as goal
