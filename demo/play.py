@@ -1,9 +1,10 @@
 #!/usr/bin/env python3
-"""Writes demo.inputs: what is pressed in each frame of the demo, 3 bytes a frame.
+"""Writes what is pressed in each frame of a demo, 3 bytes a frame.
 
     python3 play.py > demo.inputs
+    python3 play.py harbour > harbour.inputs
 
-Each line of PLAY is a number of frames and what is held through them. 'left', 'right', 'up' and
+Each line of a play is a number of frames and what is held through them. 'left', 'right', 'up' and
 'down' are joystick 0 and 'fire' its button; 'reset' and 'select' are the console's buttons; 'grey'
 sets the colour switch to black and white, 'thin' difficulty switch 0 to A, and 'fast' difficulty
 switch 1 to A.
@@ -11,7 +12,7 @@ switch 1 to A.
 
 import sys
 
-PLAY = """
+SUNDOWN = """
     20
      3  reset
      1
@@ -66,6 +67,16 @@ PLAY = """
     24  up fire
 """
 
+HARBOUR = """
+    20
+    50  right
+    10  right fire
+    10  fire
+    90  left
+    30  left fire
+    30
+"""
+
 # The bits of the three bytes, and the bytes with nothing pressed. In the first two 0 is pressed, but
 # the switches of difficulty and colour are plain: 1 is A, and 1 is colour.
 REST = (0b1111_1111, 0b0011_1111, 0b0000_0000)
@@ -93,7 +104,8 @@ def frame(words):
 
 
 def main():
-    for line in PLAY.split("\n"):
+    play = HARBOUR if sys.argv[1:] == ["harbour"] else SUNDOWN
+    for line in play.split("\n"):
         if line.strip():
             count, *words = line.split()
             sys.stdout.buffer.write(frame(words) * int(count))

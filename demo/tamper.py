@@ -1,11 +1,11 @@
 #!/usr/bin/env python3
-"""Writes tampered copies of demo.a26, beside it or into the folder that is named.
+"""Writes tampered copies of demo.a26 and harbour.a26, beside them or into the folder that is named.
 
     python3 tamper.py [FOLDER]
 
 Each copy differs from the movie in one byte. What the verifier answers of it stands in expected.txt.
-The places are those of docs/MOVIE_FORMAT.md, and the addresses those of labels of demo.asm, as
-'dasm demo.asm -f3 -odemo.rom -sdemo.sym' writes them to demo.sym.
+The places are those of docs/MOVIE_FORMAT.md, and the addresses those of labels of demo.asm and
+harbour.asm, as 'dasm demo.asm -f3 -odemo.rom -sdemo.sym' writes them to demo.sym.
 """
 
 import pathlib
@@ -65,14 +65,36 @@ COPIES = {
     "flag-that-is-none": (claim(7, 4), 0b0001_0000),
 }
 
+# The harbour is a movie of version 2: two banks of 4096 bytes, and records of 188 bytes, whose last one is the bank.
+BANK = 187
+HARBOUR_FRAMES = 240
+HARBOUR_CHECKPOINTS = CARTRIDGE + 2 * LENGTH + 188 + 3 * HARBOUR_FRAMES
+TO_SEA = 0xF006  # ToSea0, in the first bank: BIT FFF9
+
+
+def harbour_bank(checkpoint):
+    """Where a checkpoint of the harbour claims the bank."""
+    return HARBOUR_CHECKPOINTS + (4 + 188) * (checkpoint - 1) + 4 + BANK
+
+
+HARBOUR_COPIES = {
+    # The claim after frame 120 has the first bank selected in place of the second.
+    "harbour-other-bank": (harbour_bank(4), 0b0000_0001),
+    # The claim after frame 180 has a bank 3, which no cartridge has.
+    "harbour-third-bank": (harbour_bank(6), 0b0000_0010),
+    # The way to the sea selects the first bank again.
+    "harbour-never-at-sea": (code(TO_SEA + 1), 0b0000_0001),
+}
+
 
 def main():
     folder = pathlib.Path(sys.argv[1]) if len(sys.argv) > 1 else HERE
-    movie = (HERE / "demo.a26").read_bytes()
-    for name, (place, bits) in COPIES.items():
-        copy = bytearray(movie)
-        copy[place] ^= bits
-        (folder / (name + ".a26")).write_bytes(copy)
+    for source, copies in (("demo.a26", COPIES), ("harbour.a26", HARBOUR_COPIES)):
+        movie = (HERE / source).read_bytes()
+        for name, (place, bits) in copies.items():
+            copy = bytearray(movie)
+            copy[place] ^= bits
+            (folder / (name + ".a26")).write_bytes(copy)
 
 
 if __name__ == "__main__":
