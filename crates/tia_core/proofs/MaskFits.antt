@@ -3,7 +3,7 @@ use Rattle.std.proofs.Common.{◌≡◌, ℕ, zero, suc, ◌+◌, ◌-◌, ◌<�
 use Rattle.tia_core.specs.Collision.{pairs_of}
 use Rattle.tia_core.specs.Mask.{any_from, covers}
 use Rattle.tia_core.specs.Objects.{objects_at}
-use Rattle.tia_core.specs.Spans.{bl, is_any, m0, m1, marked, merged, met, nothing, objects_in, p0, p1, pf, IsBound, IsMaskOf, MasksFit}
+use Rattle.tia_core.specs.Private.Stretches.{bl, is_any, m0, m1, marked, merged, met, nothing, objects_in, p0, p1, pf, IsBound, IsMaskOf, MasksFit}
 use Rattle.tia_core.specs.declared.fields.TiaFields.{TiaFields}
 use Rattle.tia_core.specs.declared.masks.Masks.{Masks}
 use Rattle.tia_core.specs.declared.objects.Objects.{Objects}

@@ -8,7 +8,7 @@ use lib.Arith.{bin_ind}
 use lib.Bits.{or_step}
 use Rattle.tia_core.specs.Collision.{number_from, pairs_list, pairs_of}
 use Rattle.tia_core.specs.Objects.{objects_at}
-use Rattle.tia_core.specs.Spans.{is_crowd, joined, span_pairs, IsBound}
+use Rattle.tia_core.specs.Private.Stretches.{has_two, joined, stretch_pairs, IsBound}
 use Rattle.tia_core.specs.declared.fields.TiaFields.{TiaFields}
 use Rattle.tia_core.specs.declared.objects.Objects.{Objects}
 use Rattle.tia_core.proofs.LawfulFields.{pairs_of-lt}
@@ -54,7 +54,7 @@ number_or m n [] (b ∷ qs) h = elim h [ ]
 number_or m n (a ∷ ps) [] h = elim h [ ]
 number_or m n (a ∷ ps) (b ∷ qs) (more _ _ _ _ s) = number_or (2 * m + (if a then 1 else 0)) (2 * n + (if b then 1 else 0)) ps qs s ∙ ap (λ (z : ℕ). number_from z (zip_or ps qs)) (or_digit m n a b)
 
--- the bits after a span, from those before it
+-- the bits after a stretch, from those before it
 unfoldable pub or_from : TiaFields → ℕ → ℕ → ℕ → ℕ
 or_from t x zero c = c
 or_from t x (suc k) c = or_from t (x + 1) k (bit_or c (pairs_of (objects_at t x)))
@@ -65,17 +65,17 @@ fifteen : (a b c d e f g h i j k l m n o a' b' c' d' e' f' g' h' i' j' k' l' m' 
 fifteen a b c d e f g h i j k l m n o a' b' c' d' e' f' g' h' i' j' k' l' m' n' o' =
     more _ _ _ _ (more _ _ _ _ (more _ _ _ _ (more _ _ _ _ (more _ _ _ _ (more _ _ _ _ (more _ _ _ _ (more _ _ _ _ (more _ _ _ _ (more _ _ _ _ (more _ _ _ _ (more _ _ _ _ (more _ _ _ _ (more _ _ _ _ (more _ _ _ _ none))))))))))))))
 
-pairs-then-span : (t : TiaFields) (x k : ℕ) → bit_or (pairs_of (objects_at t x)) (number_from 0 (span_pairs t (x + 1) k)) ≡ number_from 0 (span_pairs t x (suc k))
+pairs-then-stretch : (t : TiaFields) (x k : ℕ) → bit_or (pairs_of (objects_at t x)) (number_from 0 (stretch_pairs t (x + 1) k)) ≡ number_from 0 (stretch_pairs t x (suc k))
 unfolding pairs_of zip_or
-pairs-then-span t x k = number_or 0 0 (pairs_list (objects_at t x)) (span_pairs t (x + 1) k) (fifteen _ _ _ _ _ _ _ _ _ _ _ _ _ _ _ _ _ _ _ _ _ _ _ _ _ _ _ _ _ _)
+pairs-then-stretch t x k = number_or 0 0 (pairs_list (objects_at t x)) (stretch_pairs t (x + 1) k) (fifteen _ _ _ _ _ _ _ _ _ _ _ _ _ _ _ _ _ _ _ _ _ _ _ _ _ _ _ _ _ _)
 
-pub or_from-span : (t : TiaFields) (x k c : ℕ) → or_from t x k c ≡ bit_or c (number_from 0 (span_pairs t x k))
+pub or_from-stretch : (t : TiaFields) (x k c : ℕ) → or_from t x k c ≡ bit_or c (number_from 0 (stretch_pairs t x k))
 unfolding or_from
-or_from-span t x zero c = sym (or_zero_r c)
-or_from-span t x (suc k) c =
-    or_from-span t (x + 1) k (bit_or c (pairs_of (objects_at t x)))
-    ∙ or_assoc c (pairs_of (objects_at t x)) (number_from 0 (span_pairs t (x + 1) k))
-    ∙ ap (bit_or c) (pairs-then-span t x k)
+or_from-stretch t x zero c = sym (or_zero_r c)
+or_from-stretch t x (suc k) c =
+    or_from-stretch t (x + 1) k (bit_or c (pairs_of (objects_at t x)))
+    ∙ or_assoc c (pairs_of (objects_at t x)) (number_from 0 (stretch_pairs t (x + 1) k))
+    ∙ ap (bit_or c) (pairs-then-stretch t x k)
 
 -- ---- bounds
 or-all : (n : ℕ) → n < 2 ^ 15 → bit_or 32767 n ≡ 32767
@@ -101,8 +101,8 @@ or_from-bounded t bound c x (suc k) h e fits =
     ap (or_from t (x + 1) k) (or-within c bound (pairs_of (objects_at t x)) (h x (omega arith)) e) ∙ or_from-bounded t bound c (x + 1) k h e (omega arith)
 
 -- where a bound is latched already, a stretch latches nothing
-pub span-bounded : (t : TiaFields) (bound c x k : ℕ) → IsBound t bound → bit_or c bound ≡ c → x + k ≤ 160 → c ≡ bit_or c (number_from 0 (span_pairs t x k))
-span-bounded t bound c x k h e fits = sym (or_from-bounded t bound c x k h e fits) ∙ or_from-span t x k c
+pub stretch-bounded : (t : TiaFields) (bound c x k : ℕ) → IsBound t bound → bit_or c bound ≡ c → x + k ≤ 160 → c ≡ bit_or c (number_from 0 (stretch_pairs t x k))
+stretch-bounded t bound c x k h e fits = sym (or_from-bounded t bound c x k h e fits) ∙ or_from-stretch t x k c
 
 -- a stretch without pairs latches nothing
 or_from-none : (t : TiaFields) (c x k : ℕ) → ((y : ℕ) → x ≤ y → y < x + k → pairs_of (objects_at t y) ≡ 0) → or_from t x k c ≡ c
@@ -113,36 +113,36 @@ or_from-none t c x (suc k) h =
     ∙ ap (or_from t (x + 1) k) (or_zero_r c)
     ∙ or_from-none t c (x + 1) k (λ y le lt. h y (omega arith) (omega arith))
 
-pub span-none : (t : TiaFields) (c x k : ℕ) → ((y : ℕ) → x ≤ y → y < x + k → pairs_of (objects_at t y) ≡ 0) → c ≡ bit_or c (number_from 0 (span_pairs t x k))
-span-none t c x k h = sym (or_from-none t c x k h) ∙ or_from-span t x k c
+pub stretch-none : (t : TiaFields) (c x k : ℕ) → ((y : ℕ) → x ≤ y → y < x + k → pairs_of (objects_at t y) ≡ 0) → c ≡ bit_or c (number_from 0 (stretch_pairs t x k))
+stretch-none t c x k h = sym (or_from-none t c x k h) ∙ or_from-stretch t x k c
 
 -- where no two objects are there, no pair is
 abbrev six : Bool → Bool → Bool → Bool → Bool → Bool → Objects
 six a b c d e f = record { player0 = a; player1 = b; missile0 = c; missile1 = d; ball = e; playfield = f }
 
-pub no-crowd : (a b c d e f : Bool) → is_crowd a b c d e f ≡ false → pairs_of (six a b c d e f) ≡ 0
+pub no-two : (a b c d e f : Bool) → has_two a b c d e f ≡ false → pairs_of (six a b c d e f) ≡ 0
 unfolding pairs_of
-no-crowd false false false false false f h = refl
-no-crowd false false false false true false h = refl
-no-crowd false false false false true true h = cc
-no-crowd false false false true false false h = refl
-no-crowd false false false true false true h = cc
-no-crowd false false false true true f h = cc
-no-crowd false false true false false false h = refl
-no-crowd false false true false false true h = cc
-no-crowd false false true false true f h = cc
-no-crowd false false true true e f h = cc
-no-crowd false true false false false false h = refl
-no-crowd false true false false false true h = cc
-no-crowd false true false false true f h = cc
-no-crowd false true false true e f h = cc
-no-crowd false true true d e f h = cc
-no-crowd true false false false false false h = refl
-no-crowd true false false false false true h = cc
-no-crowd true false false false true f h = cc
-no-crowd true false false true e f h = cc
-no-crowd true false true d e f h = cc
-no-crowd true true c d e f h = cc
+no-two false false false false false f h = refl
+no-two false false false false true false h = refl
+no-two false false false false true true h = cc
+no-two false false false true false false h = refl
+no-two false false false true false true h = cc
+no-two false false false true true f h = cc
+no-two false false true false false false h = refl
+no-two false false true false false true h = cc
+no-two false false true false true f h = cc
+no-two false false true true e f h = cc
+no-two false true false false false false h = refl
+no-two false true false false false true h = cc
+no-two false true false false true f h = cc
+no-two false true false true e f h = cc
+no-two false true true d e f h = cc
+no-two true false false false false false h = refl
+no-two true false false false false true h = cc
+no-two true false false false true f h = cc
+no-two true false false true e f h = cc
+no-two true false true d e f h = cc
+no-two true true c d e f h = cc
 
 -- pairs of a set are among those of a greater set
 pair-within : (a b c d : Bool) → (a || c) ≡ a → (b || d) ≡ b → ((a && b) || (c && d)) ≡ (a && b)

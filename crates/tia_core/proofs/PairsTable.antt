@@ -1,7 +1,7 @@
 -- The table of the pairs of each set of objects.
 use Rattle.std.proofs.Common.{◌≡◌, ℕ, Bool, true, false, List, [], ◌∷◌, slice_index_or, refl}
 use Rattle.tia_core.specs.Collision.{pairs_of}
-use Rattle.tia_core.specs.Spans.{set_number}
+use Rattle.tia_core.specs.Private.Stretches.{set_number}
 
 abbrev pub pairs_table : List ℕ
 pairs_table =

@@ -8,8 +8,9 @@ use Rattle.tia_core.specs.Clock.{painted}
 use Rattle.tia_core.specs.Colour.{colour_at}
 use Rattle.tia_core.specs.Objects.{objects_at}
 use Rattle.tia_core.specs.Runs.{run_drawn}
-use Rattle.tia_core.specs.Mask.{covers, pixels_in}
-use Rattle.tia_core.specs.Spans.{objects_in, span_pixels}
+use Rattle.tia_core.specs.Mask.{covers}
+use Rattle.tia_core.specs.Private.Words.{pixels_in}
+use Rattle.tia_core.specs.Private.Stretches.{objects_in, stretch_pixels}
 use Rattle.tia_core.specs.declared.fields.TiaFields.{TiaFields}
 use Rattle.tia_core.specs.declared.masks.Masks.{Masks}
 use Rattle.tia_core.specs.declared.objects.Objects.{Objects}
@@ -24,14 +25,14 @@ pub run_drawn-step : {S : Type 0} (drawn : S → ℕ → ℕ → ℕ → S) (sin
 run_drawn-step drawn sink line x to colour h = rw (one_less to x h) refl
 
 -- pixels of one colour, and then others
-pub span-run : {S : Type 0} (drawn : S → ℕ → ℕ → ℕ → S) (sink : S) (t : TiaFields) (line x k n colour : ℕ)
+pub stretch-run : {S : Type 0} (drawn : S → ℕ → ℕ → ℕ → S) (sink : S) (t : TiaFields) (line x k n colour : ℕ)
     → ((y : ℕ) → x ≤ y → y < x + k → colour_at t (objects_at t y) y ≡ colour)
-    → painted drawn sink (span_pixels t line x (k + n)) ≡ painted drawn (run_drawn drawn sink line x k colour) (span_pixels t line (x + k) n)
-span-run drawn sink t line x zero n colour h = let e : x + 0 ≡ x = omega arith in let f : zero + n ≡ n = omega arith in rw (e, f) refl
-span-run drawn sink t line x (suc k) n colour h =
+    → painted drawn sink (stretch_pixels t line x (k + n)) ≡ painted drawn (run_drawn drawn sink line x k colour) (stretch_pixels t line (x + k) n)
+stretch-run drawn sink t line x zero n colour h = let e : x + 0 ≡ x = omega arith in let f : zero + n ≡ n = omega arith in rw (e, f) refl
+stretch-run drawn sink t line x (suc k) n colour h =
     let e : x + 1 + k ≡ x + suc k = omega arith in
     let f : suc k + n ≡ suc (k + n) = omega arith in
-    rw (f, h x (omega arith) (omega arith), ← e) (span-run drawn (drawn sink line x colour) t line (x + 1) k n colour (λ y le lt. h y (omega arith) (omega arith)))
+    rw (f, h x (omega arith) (omega arith), ← e) (stretch-run drawn (drawn sink line x colour) t line (x + 1) k n colour (λ y le lt. h y (omega arith) (omega arith)))
 
 -- the colour of a pixel is that of another that the same objects cover, on the same side of the comb and of the line's middle
 pub colour-same : (t : TiaFields) (o : Objects) (x y : ℕ) → nat_lt x 8 ≡ nat_lt y 8 → nat_lt x 80 ≡ nat_lt y 80 → colour_at t o y ≡ colour_at t o x
@@ -108,17 +109,17 @@ pub objects-alike : (m : Masks) (x y : ℕ) → covers m.player0 y ≡ covers m.
 objects-alike m x y a b c d e f = rw (a, b, c, d, e, f) refl
 
 -- ---- a stretch in two parts
-pub span-run-to : {S : Type 0} (drawn : S → ℕ → ℕ → ℕ → S) (sink : S) (t : TiaFields) (line x end to colour : ℕ) → x ≤ end → end ≤ to
+pub stretch-run-to : {S : Type 0} (drawn : S → ℕ → ℕ → ℕ → S) (sink : S) (t : TiaFields) (line x end to colour : ℕ) → x ≤ end → end ≤ to
     → ((y : ℕ) → x ≤ y → y < end → colour_at t (objects_at t y) y ≡ colour)
-    → painted drawn (run_drawn drawn sink line x (end - x) colour) (span_pixels t line end (to - end)) ≡ painted drawn sink (span_pixels t line x (to - x))
-span-run-to drawn sink t line x end to colour le most h =
+    → painted drawn (run_drawn drawn sink line x (end - x) colour) (stretch_pixels t line end (to - end)) ≡ painted drawn sink (stretch_pixels t line x (to - x))
+stretch-run-to drawn sink t line x end to colour le most h =
     let p : end - x + (to - end) ≡ to - x = omega arith in
     let q : x + (end - x) ≡ end = omega arith in
-    sym (ap (λ (n : ℕ). painted drawn sink (span_pixels t line x n)) (sym p)
-    ∙ span-run drawn sink t line x (end - x) (to - end) colour (λ y a b. h y a (omega arith))
-    ∙ ap (λ (n : ℕ). painted drawn (run_drawn drawn sink line x (end - x) colour) (span_pixels t line n (to - end))) q)
+    sym (ap (λ (n : ℕ). painted drawn sink (stretch_pixels t line x n)) (sym p)
+    ∙ stretch-run drawn sink t line x (end - x) (to - end) colour (λ y a b. h y a (omega arith))
+    ∙ ap (λ (n : ℕ). painted drawn (run_drawn drawn sink line x (end - x) colour) (stretch_pixels t line n (to - end))) q)
 
-pub span-one : {S : Type 0} (drawn : S → ℕ → ℕ → ℕ → S) (sink : S) (t : TiaFields) (line x k colour : ℕ) → ((y : ℕ) → colour_at t (objects_at t y) y ≡ colour)
-    → run_drawn drawn sink line x k colour ≡ painted drawn sink (span_pixels t line x k)
-span-one drawn sink t line x zero colour h = refl
-span-one drawn sink t line x (suc k) colour h = rw (h x) (span-one drawn (drawn sink line x colour) t line (x + 1) k colour h)
+pub stretch-one : {S : Type 0} (drawn : S → ℕ → ℕ → ℕ → S) (sink : S) (t : TiaFields) (line x k colour : ℕ) → ((y : ℕ) → colour_at t (objects_at t y) y ≡ colour)
+    → run_drawn drawn sink line x k colour ≡ painted drawn sink (stretch_pixels t line x k)
+stretch-one drawn sink t line x zero colour h = refl
+stretch-one drawn sink t line x (suc k) colour h = rw (h x) (stretch-one drawn (drawn sink line x colour) t line (x + 1) k colour h)

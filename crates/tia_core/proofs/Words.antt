@@ -9,8 +9,9 @@ use Rattle.std.proofs.lemmas.Nat.{shr_split, shr-shr, mul-le, pow_pos, and_le_l,
 use Rattle.std.proofs.lemmas.Nat.Bits.{bit_at_or, bit_at_and, bit_at-lt, bit_at_above, bit_at_cat_low, bit_at_cat_high, bit_at-zero, bit_at-trailing_zeros, bit_at_mask_inside, bit_at_mask_below, bit_at_mask_above}
 use Rattle.tia_core.specs.Bits.{bit}
 use Rattle.tia_core.specs.Coverage.{distance_of}
-use Rattle.tia_core.specs.Spans.{is_crowd}
-use Rattle.tia_core.specs.Mask.{any_from, covers, word_bit, pixels_in}
+use Rattle.tia_core.specs.Private.Stretches.{has_two}
+use Rattle.tia_core.specs.Mask.{any_from, covers}
+use Rattle.tia_core.specs.Private.Words.{word_bit, pixels_in}
 use Rattle.tia_core.proofs.Modulo.{modulo_160-is}
 
 -- ---- bits as truth values
@@ -295,21 +296,21 @@ meets-is true a b w from to most within some none = sym (meets-some a b w from t
 meets-is false a b w from to most within some none = sym (meets-none a b w from to most within (none refl))
 
 -- ---- two of six
-pub crowd-bit : (a b c d e f k : ℕ)
+pub set_twice-bit : (a b c d e f k : ℕ)
     → bit (bit_or (bit_or (bit_or (bit_or (bit_and a b) (bit_and (bit_or a b) c)) (bit_and (bit_or (bit_or a b) c) d)) (bit_and (bit_or (bit_or (bit_or a b) c) d) e)) (bit_and (bit_or (bit_or (bit_or (bit_or a b) c) d) e) f)) k
-    ≡ is_crowd (bit a k) (bit b k) (bit c k) (bit d k) (bit e k) (bit f k)
-crowd-bit a b c d e f k = simp (bit_or-is, bit_and-is)
+    ≡ has_two (bit a k) (bit b k) (bit c k) (bit d k) (bit e k) (bit f k)
+set_twice-bit a b c d e f k = simp (bit_or-is, bit_and-is)
 
 and-true : (a b : Bool) → (a && b) ≡ false → b ≡ true → a ≡ false
 and-true true b h e = let q : true ≡ false = sym e ∙ h in cc
 and-true false b h e = refl
 
--- where a word of crowds misses a word, no pixel of that word is crowded
-pub not-crowded : (a b c d e f : List ℕ) (w twice i x : ℕ)
-    → ((k : ℕ) → bit twice k ≡ is_crowd (bit (slice_index_or a i 0) k) (bit (slice_index_or b i 0) k) (bit (slice_index_or c i 0) k) (bit (slice_index_or d i 0) k) (bit (slice_index_or e i 0) k) (bit (slice_index_or f i 0) k))
+-- where a word has no bit that is set in two of six words, none of its pixels is covered by two masks
+pub none-twice : (a b c d e f : List ℕ) (w twice i x : ℕ)
+    → ((k : ℕ) → bit twice k ≡ has_two (bit (slice_index_or a i 0) k) (bit (slice_index_or b i 0) k) (bit (slice_index_or c i 0) k) (bit (slice_index_or d i 0) k) (bit (slice_index_or e i 0) k) (bit (slice_index_or f i 0) k))
     → bit_and twice w ≡ 0 → x / 32 ≡ i → x < 160 → bit w (x % 32) ≡ true
-    → is_crowd (covers (pixels_in a) x) (covers (pixels_in b) x) (covers (pixels_in c) x) (covers (pixels_in d) x) (covers (pixels_in e) x) (covers (pixels_in f) x) ≡ false
-not-crowded a b c d e f w twice i x two none at h there =
+    → has_two (covers (pixels_in a) x) (covers (pixels_in b) x) (covers (pixels_in c) x) (covers (pixels_in d) x) (covers (pixels_in e) x) (covers (pixels_in f) x) ≡ false
+none-twice a b c d e f w twice i x two none at h there =
     let k : ℕ = x % 32 in
     let miss : (bit twice k && bit w k) ≡ false = sym (bit_and-is twice w k) ∙ ap (λ (n : ℕ). bit n k) none ∙ bit-zero k in
     let clear : bit twice k ≡ false = and-true (bit twice k) (bit w k) miss there in

@@ -1,6 +1,6 @@
 -- The set of the six objects that cover a pixel.
 -- Stella Programmer's Guide: VDELP0, VDELP1, VDELBL, ENAM0 to ENABL, RESMP0 and RESMP1, sizes by NUSIZ and CTRLPF.
-use Rattle.std.specs.Prelude.{Bool, ℕ, ◌/◌, ◌%◌, ◌^◌, ◌&&◌, not, if◌then◌else◌}
+use Rattle.std.specs.Prelude.{Bool, ℕ, ◌/◌, ◌%◌, ◌^◌, ◌==◌, ◌&&◌, not, if◌then◌else◌}
 use Rattle.tia_core.specs.Bits.{bit}
 use Rattle.tia_core.specs.Coverage.{player_covers, missile_covers, ball_covers}
 use Rattle.tia_core.specs.Playfield.{playfield_bit, playfield_index}
@@ -33,3 +33,9 @@ objects_at t x = record {
   ball = ball_at (shown_of t.vdelbl t.enabl_old t.enabl_new) t.ctrlpf t.position_bl x;
   playfield = playfield_bit t.pf0 t.pf1 t.pf2 (playfield_index (bit t.ctrlpf 0) x);
 }
+
+-- whether the object with this number is in a set: 0 to 5 are player 0, player 1, missile 0, missile 1, the ball and the playfield
+abbrev pub has_object : ℕ → Objects → Bool
+has_object n o =
+    if n == 0 then o.player0 else if n == 1 then o.player1 else if n == 2 then o.missile0
+    else if n == 3 then o.missile1 else if n == 4 then o.ball else o.playfield

@@ -2,8 +2,9 @@
 ghost use Rattle.std.specs.Prelude.{◌≡◌, ◌<◌, ◌≤◌, ◌||◌, ◌&&◌, ◌-◌, ◌+◌, ◌%◌, ℕ, nat_le, nat_lt, bit_and, ◌^◌, true, false};
 ghost use Rattle.tia_core.specs.Bits.{bit};
 ghost use Rattle.tia_core.specs.Coverage.{distance_of};
-ghost use Rattle.tia_core.specs.Spans.{is_crowd};
-ghost use Rattle.tia_core.specs.Mask.{any_from, covers, word_bit, pixels_in};
+ghost use Rattle.tia_core.specs.Private.Stretches.{has_two};
+ghost use Rattle.tia_core.specs.Mask.{any_from, covers};
+ghost use Rattle.tia_core.specs.Private.Words.{word_bit, pixels_in};
 
 use std::marker::Model;
 
@@ -15,7 +16,7 @@ pub struct Mask {
 
 impl Model for Mask {
     ghost use Rattle.std.specs.Prelude.{Bool, List};
-    ghost use Rattle.tia_core.specs.Mask.{pixels_in};
+    ghost use Rattle.tia_core.specs.Private.Words.{pixels_in};
 
     ghost Value = { List Bool };
 
@@ -70,7 +71,8 @@ impl Mask {
         self.words[(x / 32) as usize] >> (x % 32) & 1 == 1
     }
 
-    /// Where the mask changes right of pixel `x`, up to the end of 32 pixels: bit k is set where pixel x + k isn't covered as x is.
+    /// Where the mask differs from its pixel `x`, up to the end of the word: bit k is set where one of pixels `x` and `x + k` is
+    /// covered and the other is not.
     #[inline]
     pub(crate) fn changes(&self, x: u8) -> u32
         requires { x < 160 }
@@ -101,7 +103,7 @@ impl Mask {
 
     /// Whether some pixel of `from..to` is covered by two of these masks.
     #[inline]
-    pub(crate) fn are_crowded(
+    pub(crate) fn any_two_meet(
         a: &Mask,
         b: &Mask,
         c: &Mask,
@@ -114,13 +116,13 @@ impl Mask {
         requires order { from ≤ to }
         requires range { to ≤ 160 }
         ensures { result ≡ false → (x : ℕ) → from ≤ x → x < to
-            → is_crowd (covers a.now x) (covers b.now x) (covers c.now x) (covers d.now x) (covers e.now x) (covers f.now x) ≡ false }
+            → has_two (covers a.now x) (covers b.now x) (covers c.now x) (covers d.now x) (covers e.now x) (covers f.now x) ≡ false }
     {
         for i in from as usize / 32..(to as usize + 31) / 32 {
-            let twice = crowd(
+            let twice = set_twice(
                 a.words[i], b.words[i], c.words[i], d.words[i], e.words[i], f.words[i],
             );
-            if touch(twice, ones(from, to, 32 * i as u8)) {
+            if overlap(twice, ones(from, to, 32 * i as u8)) {
                 return true;
             }
         }
@@ -134,7 +136,7 @@ impl Mask {
         ensures none { result ≡ false → (x : ℕ) → x < 160 → (covers self.now x && covers other.now x && covers within.now x) ≡ false }
     {
         for i in 0..5usize {
-            if overlap(self.words[i], other.words[i], within.words[i]) {
+            if all_overlap(self.words[i], other.words[i], within.words[i]) {
                 return true;
             }
         }
@@ -142,7 +144,7 @@ impl Mask {
     }
 }
 
-/// The bits of `word` from `first` on that aren't as the bit `first` is.
+/// Which bits of `word` from bit `first` on differ from bit `first`; bit 0 of the answer is that of bit `first`.
 #[inline]
 fn changes(word: u32, first: u8) -> u32
     requires { first < 32 }
@@ -156,9 +158,9 @@ fn changes(word: u32, first: u8) -> u32
     }
 }
 
-/// How many bits from bit 0 on follow one another before the next set bit, whatever bit 0 is: at most 33.
+/// The place of the lowest set bit above bit 0; 33 where none is set.
 #[inline]
-pub(crate) fn unchanged(changes: u32) -> u8
+pub(crate) fn first_change(changes: u32) -> u8
     ensures positive { 0 < result }
     ensures range { result ≤ 33 }
     ensures clear { (k : ℕ) → 0 < k → k < result → bit changes k ≡ false }
@@ -168,15 +170,15 @@ pub(crate) fn unchanged(changes: u32) -> u8
 
 /// The bits that are set in two of six words.
 #[inline]
-fn crowd(a: u32, b: u32, c: u32, d: u32, e: u32, f: u32) -> u32
-    ensures { (k : ℕ) → bit result k ≡ is_crowd (bit a k) (bit b k) (bit c k) (bit d k) (bit e k) (bit f k) }
+fn set_twice(a: u32, b: u32, c: u32, d: u32, e: u32, f: u32) -> u32
+    ensures { (k : ℕ) → bit result k ≡ has_two (bit a k) (bit b k) (bit c k) (bit d k) (bit e k) (bit f k) }
 {
     (a & b) | ((a | b) & c) | ((a | b | c) & d) | ((a | b | c | d) & e) | ((a | b | c | d | e) & f)
 }
 
 /// Whether two words have a bit in common.
 #[inline]
-fn touch(a: u32, b: u32) -> bool
+fn overlap(a: u32, b: u32) -> bool
     ensures { result ≡ false → bit_and a b ≡ 0 }
 {
     a & b != 0
@@ -184,7 +186,7 @@ fn touch(a: u32, b: u32) -> bool
 
 /// Whether three words have a bit in common.
 #[inline]
-fn overlap(a: u32, b: u32, c: u32) -> bool
+fn all_overlap(a: u32, b: u32, c: u32) -> bool
     ensures some { result ≡ true → (0 < bit_and (bit_and a b) c) × (a < 2 ^ 32) }
     ensures none { result ≡ false → bit_and (bit_and a b) c ≡ 0 }
 {

@@ -3,15 +3,16 @@ ghost use Rattle.std.specs.Prelude.{◌≡◌, ◌<◌, ◌≤◌, ◌-◌, ◌+
 ghost use Rattle.tia_core.specs.Clock.{painted};
 ghost use Rattle.tia_core.specs.Collision.{number_from, pairs_of};
 ghost use Rattle.tia_core.specs.Mask.{covers};
-ghost use Rattle.tia_core.specs.Objects.{ball_at, missile_at, objects_at};
-ghost use Rattle.tia_core.specs.Spans.{bl, has_object, marked, m0, m1, nothing, objects_in, p0, p1, pf, span_pairs, span_pixels, IsBound, IsMaskOf, MasksFit};
+ghost use Rattle.tia_core.specs.Objects.{ball_at, has_object, missile_at, objects_at};
+ghost use Rattle.tia_core.specs.Private.Stretches.{bl, marked, m0, m1, nothing, objects_in, p0, p1, pf, stretch_pairs, stretch_pixels, IsBound, IsMaskOf, MasksFit};
 ghost use Rattle.tia_core.specs.TiaState.{IsLawful};
 
 use crate::bits::bit;
 use crate::collision::{number_of, with_pairs};
 use crate::colour::{colour_at, is_dark};
 use crate::fields::TiaFields;
-use crate::mask::{Mask, unchanged};
+use crate::mask::{Mask, first_change};
+use crate::numbers::least;
 use crate::objects::{Objects, is_shown, shown, size};
 use crate::paint::Paint;
 use crate::shape::{ball_mask, missile_mask, player_mask, playfield_mask};
@@ -28,7 +29,7 @@ pub struct Masks {
     pub playfield: Mask,
     /// The objects whose masks are to be made anew.
     pub stale: Objects,
-    /// Collision bits, among which are those of all pairs that meet on a line.
+    /// Collision bits: those of all pairs that meet on a line, and perhaps others.
     pub bound: u16,
 }
 
@@ -89,25 +90,25 @@ impl Masks {
         requires fit { MasksFit t.now self.old }
         requires order { from ≤ to }
         requires range { to ≤ 160 }
-        ensures value { result ≡ bit_or t.now.collisions (number_from 0 (span_pairs t.now from (to - from))) }
+        ensures value { result ≡ bit_or t.now.collisions (number_from 0 (stretch_pairs t.now from (to - from))) }
         ensures range { result < 2 ^ 15 }
         ensures fit { MasksFit t.now self.new }
     {
-        self.tighten(t);
+        self.find_bound(t);
         if t.collisions | self.bound == t.collisions {
             return t.collisions;
         }
         self.renew(t);
-        if self.are_crowded(from, to) {
+        if self.any_two_meet(from, to) {
             with_pairs(t.collisions, self.pairs(t, from, to))
         } else {
             t.collisions
         }
     }
 
-    /// Bounds the pairs by those of the objects that may be seen at all, where nothing better is known.
+    /// Finds the bound where none is known: the pairs of the objects that may be visible.
     #[inline]
-    fn tighten(&mut self, t: &TiaFields)
+    fn find_bound(&mut self, t: &TiaFields)
         requires { MasksFit t.now self.old }
         ensures { MasksFit t.now self.new }
     {
@@ -118,12 +119,12 @@ impl Masks {
 
     /// Whether some pixel of `from..to` is covered by two objects.
     #[inline]
-    fn are_crowded(&self, from: u8, to: u8) -> bool
+    fn any_two_meet(&self, from: u8, to: u8) -> bool
         requires order { from ≤ to }
         requires range { to ≤ 160 }
         ensures { result ≡ false → (x : ℕ) → from ≤ x → x < to → pairs_of (objects_in self.now x) ≡ 0 }
     {
-        Mask::are_crowded(
+        Mask::any_two_meet(
             &self.player0,
             &self.player1,
             &self.missile0,
@@ -141,7 +142,7 @@ impl Masks {
         requires fresh { self.now.stale ≡ nothing }
         requires order { from ≤ to }
         requires range { to ≤ 160 }
-        ensures value { result ≡ number_from 0 (span_pairs t.now from (to - from)) }
+        ensures value { result ≡ number_from 0 (stretch_pairs t.now from (to - from)) }
         ensures range { result < 2 ^ 15 }
     {
         let within = Mask::between(from, to);
@@ -188,7 +189,7 @@ impl Masks {
         requires order { from ≤ to }
         requires range { to ≤ 160 }
         ensures fit { MasksFit t.now self.new }
-        ensures sink { sink.new ≡ painted S.drawn sink.old (span_pixels t.now line from (to - from)) }
+        ensures sink { sink.new ≡ painted S.drawn sink.old (stretch_pixels t.now line from (to - from)) }
     {
         if sink.keeps() {
             if is_dark(t) {
@@ -206,7 +207,7 @@ impl Masks {
         requires fresh { self.now.stale ≡ nothing }
         requires order { from ≤ to }
         requires range { to ≤ 160 }
-        ensures { sink.new ≡ painted S.drawn sink.old (span_pixels t.now line from (to - from)) }
+        ensures { sink.new ≡ painted S.drawn sink.old (stretch_pixels t.now line from (to - from)) }
     {
         let mut x = from;
         while x < to {
@@ -233,11 +234,11 @@ impl Masks {
             | self.missile1.changes(x)
             | self.ball.changes(x)
             | self.playfield.changes(x);
-        least(x + unchanged(changes), least(edge_after(x), to))
+        least(x + first_change(changes), least(edge_after(x), to))
     }
 }
 
-/// The next pixel at which a word of a mask, the picture's right half or what the comb leaves begins, or the line ends.
+/// The next pixel at which the comb ends, the picture's right half or a word of a mask begins, or the line ends.
 #[inline]
 fn edge_after(x: u8) -> u8
     requires { x < 160 }
@@ -253,16 +254,6 @@ fn edge_after(x: u8) -> u8
     } else {
         32 * (x / 32) + 32
     }
-}
-
-/// The smaller number.
-#[inline]
-fn least(a: u8, b: u8) -> u8
-    ensures first { result ≤ a }
-    ensures second { result ≤ b }
-    ensures greater { (n : ℕ) → n < a → n < b → n < result }
-{
-    if a < b { a } else { b }
 }
 
 /// The mask of an object: 0 to 5 are player 0, player 1, missile 0, missile 1, the ball and the playfield.
@@ -283,12 +274,12 @@ pub fn mask_of(t: &TiaFields, object: u8) -> Mask
     }
 }
 
-/// The collision bits of all pairs of the objects that may be seen at all.
+/// The collision bits of all pairs of the objects that may be visible.
 #[inline]
 fn most_pairs(t: &TiaFields) -> u16
     ensures { IsBound t.now result }
 {
-    Objects::live(t).pairs()
+    Objects::visible(t).pairs()
 }
 
 /// Makes the mask of player 0 anew where it is to be.

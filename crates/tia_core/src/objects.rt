@@ -3,7 +3,7 @@ ghost use Rattle.std.specs.Prelude.{◌≡◌, ◌<◌, ◌≤◌, ◌^◌, ◌&
 ghost use Rattle.tia_core.specs.Bits.{bit};
 ghost use Rattle.tia_core.specs.Collision.{pairs_of};
 ghost use Rattle.tia_core.specs.Objects.{objects_at, shown_of, size_of};
-ghost use Rattle.tia_core.specs.Spans.{is_any, joined, set_number};
+ghost use Rattle.tia_core.specs.Private.Stretches.{is_any, joined, set_number};
 
 use crate::bits::bit;
 use crate::fields::TiaFields;
@@ -30,9 +30,9 @@ pub struct Objects {
 }
 
 impl Objects {
-    /// The objects that may cover a pixel of a line: a player or playfield with a bit set, a missile or ball that is enabled.
+    /// The objects that may be visible: a player or a playfield with a bit set, a missile or a ball that is enabled.
     #[inline]
-    pub fn live(t: &TiaFields) -> Self
+    pub fn visible(t: &TiaFields) -> Self
         ensures { (x : ℕ) → joined result (objects_at t.now x) ≡ result }
     {
         Objects {

@@ -1,5 +1,5 @@
 use Rattle.std.proofs.Common.{◌≡◌, ap, arith}
-use Rattle.tia_core.specs.Spans.{p0, p1, m0, m1, bl, pf}
+use Rattle.tia_core.specs.Private.Stretches.{p0, p1, m0, m1, bl, pf}
 use Rattle.tia_core.proofs.masks.mask_of.Goals as goal
 
 pub returns-in-0 : goal.returns-in-0

@@ -1,15 +1,15 @@
 use Rattle.std.proofs.Common.{◌-◌, ◌∙◌, sym}
 use Rattle.tia_core.specs.Objects.{objects_at}
-use Rattle.tia_core.specs.Spans.{span_pixels}
-use Rattle.tia_core.proofs.Runs.{colour-dark, span-one}
-use Rattle.tia_core.proofs.Spans.{painted-nothing}
+use Rattle.tia_core.specs.Private.Stretches.{stretch_pixels}
+use Rattle.tia_core.proofs.Runs.{colour-dark, stretch-one}
+use Rattle.tia_core.proofs.Stretches.{painted-nothing}
 use Rattle.tia_core.proofs.masks.Masks.paint.Goals as goal
 
 pub returns-else-keeps-clause-sink : goal.returns-else-keeps-clause-sink
 returns-else-keeps-clause-sink g c =
-    sym (painted-nothing g.S.Paint.drawn c.args.sink.now (span_pixels c.args.t.now c.args.line c.args.from (c.args.to - c.args.from)) (c.keeps.ensures c.if-keeps.false))
+    sym (painted-nothing g.S.Paint.drawn c.args.sink.now (stretch_pixels c.args.t.now c.args.line c.args.from (c.args.to - c.args.from)) (c.keeps.ensures c.if-keeps.false))
 
 pub returns-then-is_dark-clause-sink : goal.returns-then-is_dark-clause-sink
 returns-then-is_dark-clause-sink g c =
     let t = c.args.t.now in
-    c.put_run.ensures ∙ span-one g.S.Paint.drawn c.args.sink.now t c.args.line c.args.from (c.args.to - c.args.from) 0 (λ y. colour-dark t (objects_at t y) y (sym c.is_dark.ensures ∙ c.if-is_dark.true))
+    c.put_run.ensures ∙ stretch-one g.S.Paint.drawn c.args.sink.now t c.args.line c.args.from (c.args.to - c.args.from) 0 (λ y. colour-dark t (objects_at t y) y (sym c.is_dark.ensures ∙ c.if-is_dark.true))

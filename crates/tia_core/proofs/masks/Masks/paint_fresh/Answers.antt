@@ -1,7 +1,7 @@
 use Rattle.std.proofs.Common.{sym, ◌∙◌, ap, arith}
 use Rattle.tia_core.specs.declared.objects.Objects.{Objects}
 use Rattle.tia_core.specs.Colour.{colour_at}
-use Rattle.tia_core.proofs.Runs.{colour-same, same_side, span-run-to}
+use Rattle.tia_core.proofs.Runs.{colour-same, same_side, stretch-run-to}
 use Rattle.tia_core.proofs.MaskFits.{objects_in-fit}
 use Rattle.tia_core.proofs.masks.Masks.paint_fresh.Goals as goal
 
@@ -13,7 +13,7 @@ loop-x-preserved g c =
     let run = c.run_end-end.ensures in
     record {
       order = run.range;
-      sink = rw c.put_run.ensures (span-run-to g.S.Paint.drawn c.loop-x.sink t c.args.line x end c.args.to c.colour_at.result (omega (arith, run.after)) run.range (λ y le lt.
+      sink = rw c.put_run.ensures (stretch-run-to g.S.Paint.drawn c.loop-x.sink t c.args.line x end c.args.to c.colour_at.result (omega (arith, run.after)) run.range (λ y le lt.
           ap (λ (o : Objects). colour_at t o y) (sym (objects_in-fit t c.args.self.now y c.requires.fit c.requires.fresh (omega (arith, run.range, c.requires.range))) ∙ run.same y le lt ∙ sym c.objects.ensures)
           ∙ colour-same t c.objects.result x y (same_side x y 8 end le lt run.comb) (same_side x y 80 end le lt run.half)
           ∙ sym c.colour_at.ensures) ∙ c.loop-x.invariant.sink);

@@ -1,5 +1,5 @@
 use Rattle.std.proofs.Common.{◌≡◌, ◌<◌, ◌≤◌, ◌+◌, ◌-◌, ◌%◌, ◌⊎◌, inl, inr, ℕ, ap, sym, ◌∙◌, arith}
-use Rattle.tia_core.specs.Spans.{objects_in}
+use Rattle.tia_core.specs.Private.Stretches.{objects_in}
 use Rattle.tia_core.proofs.Runs.{objects-alike, or-clear}
 use Rattle.tia_core.proofs.masks.Masks.run_end.Goals as goal
 
@@ -17,7 +17,7 @@ returns-clause-same c = λ y le lt. elim (first_or_later c.args.x y le) [
       let second = c.least-2.ensures.second in
       let e : x + (y - x) ≡ y = omega arith in
       let inside : x % 32 + (y - x) < 32 = omega arith in
-      let f = or-clear _ _ (y - x) (c.unchanged.ensures.clear (y - x) (omega arith) (omega arith)) in
+      let f = or-clear _ _ (y - x) (c.first_change.ensures.clear (y - x) (omega arith) (omega arith)) in
       let g = or-clear _ _ (y - x) f.0 in
       let h = or-clear _ _ (y - x) g.0 in
       let i = or-clear _ _ (y - x) h.0 in

@@ -1,5 +1,5 @@
 use Rattle.std.proofs.Common.{rules}
-use Rattle.tia_core.proofs.Spans.{blank-span}
+use Rattle.tia_core.proofs.Stretches.{blank-stretch}
 use Rattle.tia_core.proofs.MaskFits.{fit-placed}
 use Rattle.tia_core.proofs.tia.Tia.pass_blank.Goals as goal
 
@@ -7,4 +7,4 @@ pub invariant_of-self : goal.invariant_of-self
 invariant_of-self c = (search rules, fit-placed c.self.inside.fields c.self.inside.masks _ _ _ c.self.invariant.1)
 
 pub returns : goal.returns
-returns c = rw (blank-span c.args.count c.args.self.now c.requires, ← c.self.view_is)
+returns c = rw (blank-stretch c.args.count c.args.self.now c.requires, ← c.self.view_is)

@@ -1,4 +1,4 @@
--- What the masks of a line are to say, and what the pairs of objects do over a stretch of it. This project's own.
+-- What the masks of a line are to say, and which pairs of objects meet in a stretch of it. This project's own.
 use Rattle.std.specs.Prelude.{◌≡◌, ◌<◌, ℕ, zero, suc, ◌+◌, ◌*◌, ◌==◌, ◌&&◌, ◌||◌, Bool, false, if◌then◌else◌, List, [], ◌∷◌, bit_or}
 use Rattle.tia_core.specs.Clock.{Pixel}
 use Rattle.tia_core.specs.Collision.{pairs_of}
@@ -85,17 +85,17 @@ abbrev pub met : TiaFields → (Objects → Bool) → (Objects → Bool) → ℕ
 met t a b x k = any_from (λ y. a (objects_at t y) && b (objects_at t y)) x k
 
 -- the fifteen pairs over k pixels from x
-abbrev pub span_pairs : TiaFields → ℕ → ℕ → List Bool
-span_pairs t x k =
+abbrev pub stretch_pairs : TiaFields → ℕ → ℕ → List Bool
+stretch_pairs t x k =
     met t m0 p1 x k ∷ met t m0 p0 x k ∷ met t m1 p0 x k ∷ met t m1 p1 x k
     ∷ met t p0 pf x k ∷ met t p0 bl x k ∷ met t p1 pf x k ∷ met t p1 bl x k
     ∷ met t m0 pf x k ∷ met t m0 bl x k ∷ met t m1 pf x k ∷ met t m1 bl x k
     ∷ met t bl pf x k ∷ met t p0 p1 x k ∷ met t m0 m1 x k ∷ []
 
 -- the k pixels of a line from x on
-abbrev pub span_pixels : TiaFields → ℕ → ℕ → ℕ → List Pixel
-span_pixels t line x zero = []
-span_pixels t line x (suc k) = record { line = line; x = x; colour = colour_at t (objects_at t x) x } ∷ span_pixels t line (x + 1) k
+abbrev pub stretch_pixels : TiaFields → ℕ → ℕ → ℕ → List Pixel
+stretch_pixels t line x zero = []
+stretch_pixels t line x (suc k) = record { line = line; x = x; colour = colour_at t (objects_at t x) x } ∷ stretch_pixels t line (x + 1) k
 
 -- the objects whose masks cover pixel x
 abbrev pub objects_in : Masks → ℕ → Objects
@@ -109,16 +109,10 @@ objects_in m x = record {
 }
 
 -- whether two of six objects are there
-abbrev pub is_crowd : Bool → Bool → Bool → Bool → Bool → Bool → Bool
-is_crowd a b c d e f = (a && b) || ((a || b) && c) || ((a || b || c) && d) || ((a || b || c || d) && e) || ((a || b || c || d || e) && f)
+abbrev pub has_two : Bool → Bool → Bool → Bool → Bool → Bool → Bool
+has_two a b c d e f = (a && b) || ((a || b) && c) || ((a || b || c) && d) || ((a || b || c || d) && e) || ((a || b || c || d || e) && f)
 
 -- the number of a set of objects
 abbrev pub set_number : Bool → Bool → Bool → Bool → Bool → Bool → ℕ
 set_number a b c d e f =
     (if a then 1 else 0) + 2 * (if b then 1 else 0) + 4 * (if c then 1 else 0) + 8 * (if d then 1 else 0) + 16 * (if e then 1 else 0) + 32 * (if f then 1 else 0)
-
--- whether the object with this number is in a set: 0 to 5 are player 0, player 1, missile 0, missile 1, the ball and the playfield
-abbrev pub has_object : ℕ → Objects → Bool
-has_object n o =
-    if n == 0 then o.player0 else if n == 1 then o.player1 else if n == 2 then o.missile0
-    else if n == 3 then o.missile1 else if n == 4 then o.ball else o.playfield

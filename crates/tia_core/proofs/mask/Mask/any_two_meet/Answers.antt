@@ -1,7 +1,7 @@
 use Rattle.std.proofs.Common.{◌≡◌, ◌<◌, ◌+◌, ◌*◌, ◌/◌, ◌%◌, ◌∙◌, ◌⊎◌, inl, inr, true, ℕ, arith}
 use Rattle.tia_core.specs.Bits.{bit}
-use Rattle.tia_core.proofs.Words.{not-crowded, stretch-in}
-use Rattle.tia_core.proofs.mask.Mask.are_crowded.Goals as goal
+use Rattle.tia_core.proofs.Words.{none-twice, stretch-in}
+use Rattle.tia_core.proofs.mask.Mask.any_two_meet.Goals as goal
 
 earlier_or_here : (x i : ℕ) → x < 32 * (i + 1) → (x < 32 * i) ⊎ (x / 32 ≡ i)
 earlier_or_here x i h = grind arith
@@ -17,6 +17,6 @@ loop-i-preserved c = λ x le lt next. elim (earlier_or_here x c.loop-i.i next) [
       let at : 32 * c.loop-i.i + x % 32 ≡ x = omega arith in
       let there : bit c.ones.result (x % 32) ≡ true = c.ones.ensures (x % 32) (omega arith) ∙ stretch-in c.args.from c.args.to (32 * c.loop-i.i + x % 32) (omega arith) (omega arith) in
       rw (← c.a.view_is, ← c.b.view_is, ← c.c.view_is, ← c.d.view_is, ← c.e.view_is, ← c.f.view_is)
-      (not-crowded c.a.inside.words c.b.inside.words c.c.inside.words c.d.inside.words c.e.inside.words c.f.inside.words c.ones.result c.crowd-twice.result c.loop-i.i x
-      c.crowd-twice.ensures (c.touch.ensures c.if-touch.false) here h there))
+      (none-twice c.a.inside.words c.b.inside.words c.c.inside.words c.d.inside.words c.e.inside.words c.f.inside.words c.ones.result c.set_twice-twice.result c.loop-i.i x
+      c.set_twice-twice.ensures (c.overlap.ensures c.if-overlap.false) here h there))
 ]

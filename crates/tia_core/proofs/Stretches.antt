@@ -6,11 +6,11 @@ use Rattle.tia_core.specs.Clock.{Pixel, clocked, pixels, pixels_of, painted}
 use Rattle.tia_core.specs.Collision.{number_from, pairs_of}
 use Rattle.tia_core.specs.Colour.{colour_at}
 use Rattle.tia_core.specs.Objects.{objects_at}
-use Rattle.tia_core.specs.Spans.{span_pairs, span_pixels}
+use Rattle.tia_core.specs.Private.Stretches.{stretch_pairs, stretch_pixels}
 use Rattle.tia_core.specs.TiaState.{TiaState}
 use Rattle.tia_core.specs.declared.fields.TiaFields.{TiaFields}
 use Rattle.tia_core.specs.declared.objects.Objects.{Objects}
-use Rattle.tia_core.proofs.Pairs.{or_from, or_from-span}
+use Rattle.tia_core.proofs.Pairs.{or_from, or_from-stretch}
 
 -- ---- the beam
 -- a TIA after k clocks within a line, with these collision bits
@@ -49,10 +49,10 @@ unfolding or_from
 or_from-placed t c h x zero d = refl
 or_from-placed t c h x (suc k) d = rw (objects_at-placed t c h x) (or_from-placed t c h (x + 1) k (bit_or d (pairs_of (objects_at t x))))
 
-span_pixels-placed : (t : TiaFields) (c h line x k : ℕ) → span_pixels (with_place t c h) line x k ≡ span_pixels t line x k
-span_pixels-placed t c h line x zero = refl
-span_pixels-placed t c h line x (suc k) =
-    rw (objects_at-placed t c h x, colour_at-placed t c h (objects_at t x) x, span_pixels-placed t c h line (x + 1) k)
+stretch_pixels-placed : (t : TiaFields) (c h line x k : ℕ) → stretch_pixels (with_place t c h) line x k ≡ stretch_pixels t line x k
+stretch_pixels-placed t c h line x zero = refl
+stretch_pixels-placed t c h line x (suc k) =
+    rw (objects_at-placed t c h x, colour_at-placed t c h (objects_at t x) x, stretch_pixels-placed t c h line (x + 1) k)
 
 clocked-last : (s : TiaState) → s.fields.clock ≡ 227 → clocked s ≡ record s { fields = record s.fields { collisions = bit_or s.fields.collisions (pairs_of (objects_at s.fields (s.fields.clock - 68))); clock = 0; comb = 0 }; line = (s.line + 1) % 65536 }
 clocked-last s h = rw (no, yes) refl where
@@ -105,30 +105,30 @@ sweep (suc k) s lo hi fits = elim (at_end s hi) [
   | inr h ↦ sweep-more k s lo h (sweep k (inside_line s) (omega arith) (omega arith) (omega arith))
 ]
 
-pixels-last : (k : ℕ) (s : TiaState) → 68 ≤ s.fields.clock → s.fields.clock ≡ 227 → s.fields.clock + suc k ≤ 228 → pixels (suc k) s ≡ span_pixels s.fields s.line (s.fields.clock - 68) (suc k)
+pixels-last : (k : ℕ) (s : TiaState) → 68 ≤ s.fields.clock → s.fields.clock ≡ 227 → s.fields.clock + suc k ≤ 228 → pixels (suc k) s ≡ stretch_pixels s.fields s.line (s.fields.clock - 68) (suc k)
 pixels-last zero s lo h fits = ap (λ (ps : List Pixel). ps ++ []) (pixels_of-visible s lo)
 pixels-last (suc k) s lo h fits = absurd (omega arith)
 
-pixels-more : (k : ℕ) (s : TiaState) → 68 ≤ s.fields.clock → s.fields.clock < 227 → pixels k (inside_line s) ≡ span_pixels (inside_line s).fields s.line (s.fields.clock + 1 - 68) k
-    → pixels (suc k) s ≡ span_pixels s.fields s.line (s.fields.clock - 68) (suc k)
+pixels-more : (k : ℕ) (s : TiaState) → 68 ≤ s.fields.clock → s.fields.clock < 227 → pixels k (inside_line s) ≡ stretch_pixels (inside_line s).fields s.line (s.fields.clock + 1 - 68) k
+    → pixels (suc k) s ≡ stretch_pixels s.fields s.line (s.fields.clock - 68) (suc k)
 unfolding with_place
 pixels-more k s lo lt ih =
     let next : s.fields.clock + 1 - 68 ≡ s.fields.clock - 68 + 1 = omega arith in
-    let rest : pixels k (clocked s) ≡ span_pixels s.fields s.line (s.fields.clock - 68 + 1) k =
-    ap (pixels k) (clocked-inside s lo lt) ∙ ih ∙ rw next (span_pixels-placed s.fields (bit_or s.fields.collisions (pairs_of (objects_at s.fields (s.fields.clock - 68)))) (s.fields.clock + 1) s.line (s.fields.clock - 68 + 1) k) in
+    let rest : pixels k (clocked s) ≡ stretch_pixels s.fields s.line (s.fields.clock - 68 + 1) k =
+    ap (pixels k) (clocked-inside s lo lt) ∙ ih ∙ rw next (stretch_pixels-placed s.fields (bit_or s.fields.collisions (pairs_of (objects_at s.fields (s.fields.clock - 68)))) (s.fields.clock + 1) s.line (s.fields.clock - 68 + 1) k) in
     ap (λ (ps : List Pixel). ps ++ pixels k (clocked s)) (pixels_of-visible s lo) ∙ ap (λ (ps : List Pixel). record { line = s.line; x = s.fields.clock - 68; colour = colour_at s.fields (objects_at s.fields (s.fields.clock - 68)) (s.fields.clock - 68) } ∷ ps) rest
 
 -- k clocks within a line
-pub sweep-span : (k : ℕ) (s : TiaState) → 68 ≤ s.fields.clock → s.fields.clock < 228 → s.fields.clock + k ≤ 228
-    → iterate clocked k s ≡ swept s k (bit_or s.fields.collisions (number_from 0 (span_pairs s.fields (s.fields.clock - 68) k)))
-sweep-span k s lo hi fits = sweep k s lo hi fits ∙ ap (swept s k) (or_from-span s.fields (s.fields.clock - 68) k s.fields.collisions)
+pub sweep-stretch : (k : ℕ) (s : TiaState) → 68 ≤ s.fields.clock → s.fields.clock < 228 → s.fields.clock + k ≤ 228
+    → iterate clocked k s ≡ swept s k (bit_or s.fields.collisions (number_from 0 (stretch_pairs s.fields (s.fields.clock - 68) k)))
+sweep-stretch k s lo hi fits = sweep k s lo hi fits ∙ ap (swept s k) (or_from-stretch s.fields (s.fields.clock - 68) k s.fields.collisions)
 
-pub pixels-span : (k : ℕ) (s : TiaState) → 68 ≤ s.fields.clock → s.fields.clock < 228 → s.fields.clock + k ≤ 228
-    → pixels k s ≡ span_pixels s.fields s.line (s.fields.clock - 68) k
-pixels-span zero s lo hi fits = refl
-pixels-span (suc k) s lo hi fits = elim (at_end s hi) [
+pub pixels-stretch : (k : ℕ) (s : TiaState) → 68 ≤ s.fields.clock → s.fields.clock < 228 → s.fields.clock + k ≤ 228
+    → pixels k s ≡ stretch_pixels s.fields s.line (s.fields.clock - 68) k
+pixels-stretch zero s lo hi fits = refl
+pixels-stretch (suc k) s lo hi fits = elim (at_end s hi) [
   | inl h ↦ pixels-last k s lo h fits
-  | inr h ↦ pixels-more k s lo h (pixels-span k (inside_line s) (omega arith) (omega arith) (omega arith))
+  | inr h ↦ pixels-more k s lo h (pixels-stretch k (inside_line s) (omega arith) (omega arith) (omega arith))
 ]
 
 -- clocks of the blank change the beam's place alone
@@ -145,12 +145,12 @@ pixels_of-blank s h = rw yes refl where
   yes : nat_lt s.fields.clock 68 ≡ true
   yes = grind (arith, nat_tests)
 
-pub blank-span : (k : ℕ) (s : TiaState) → s.fields.clock + k ≤ 68 → iterate clocked k s ≡ record s { fields = record s.fields { clock = s.fields.clock + k } }
-blank-span zero s h = let e : s.fields.clock + 0 ≡ s.fields.clock = omega arith in rw e
-blank-span (suc k) s h =
+pub blank-stretch : (k : ℕ) (s : TiaState) → s.fields.clock + k ≤ 68 → iterate clocked k s ≡ record s { fields = record s.fields { clock = s.fields.clock + k } }
+blank-stretch zero s h = let e : s.fields.clock + 0 ≡ s.fields.clock = omega arith in rw e
+blank-stretch (suc k) s h =
     let e : s.fields.clock + 1 + k ≡ s.fields.clock + suc k = omega arith in
     let lt : s.fields.clock < 68 = omega arith in
-    ap (iterate clocked k) (clocked-blank s lt) ∙ blank-span k (record s { fields = record s.fields { clock = s.fields.clock + 1 } }) (omega arith) ∙ rw e
+    ap (iterate clocked k) (clocked-blank s lt) ∙ blank-stretch k (record s { fields = record s.fields { clock = s.fields.clock + 1 } }) (omega arith) ∙ rw e
 
 pub blank-pixels : (k : ℕ) (s : TiaState) → s.fields.clock + k ≤ 68 → pixels k s ≡ []
 blank-pixels zero s h = refl
@@ -158,38 +158,38 @@ blank-pixels (suc k) s h =
     let lt : s.fields.clock < 68 = omega arith in
     ap (λ (ps : List Pixel). ps ++ pixels k (clocked s)) (pixels_of-blank s lt) ∙ ap (pixels k) (clocked-blank s lt) ∙ blank-pixels k (record s { fields = record s.fields { clock = s.fields.clock + 1 } }) (omega arith)
 
--- a span's end, as the code finds it: `c` are the latches with the pairs of the span
+-- the end of a stretch, as the code finds it: `c` are the latches with the pairs of the stretch
 module _ (s : TiaState) (k c : ℕ) (lo : 68 ≤ s.fields.clock) (hi : s.fields.clock < 228) (fits : s.fields.clock + k ≤ 228)
-    (latches : c ≡ bit_or s.fields.collisions (number_from 0 (span_pairs s.fields (s.fields.clock - 68) (s.fields.clock - 68 + k - (s.fields.clock - 68))))) where
+    (latches : c ≡ bit_or s.fields.collisions (number_from 0 (stretch_pairs s.fields (s.fields.clock - 68) (s.fields.clock - 68 + k - (s.fields.clock - 68))))) where
   count_is : s.fields.clock - 68 + k - (s.fields.clock - 68) ≡ k
   count_is = omega arith
 
-  latched_is : c ≡ bit_or s.fields.collisions (number_from 0 (span_pairs s.fields (s.fields.clock - 68) k))
-  latched_is = latches ∙ ap (λ (n : ℕ). bit_or s.fields.collisions (number_from 0 (span_pairs s.fields (s.fields.clock - 68) n))) count_is
+  latched_is : c ≡ bit_or s.fields.collisions (number_from 0 (stretch_pairs s.fields (s.fields.clock - 68) k))
+  latched_is = latches ∙ ap (λ (n : ℕ). bit_or s.fields.collisions (number_from 0 (stretch_pairs s.fields (s.fields.clock - 68) n))) count_is
 
-  pub span-wraps : s.fields.clock - 68 + k ≡ 160 → record s { fields = record s.fields { collisions = c; clock = 0; comb = 0 }; line = (s.line + 1) % 65536 } ≡ iterate clocked k s
-  span-wraps h =
+  pub stretch-wraps : s.fields.clock - 68 + k ≡ 160 → record s { fields = record s.fields { collisions = c; clock = 0; comb = 0 }; line = (s.line + 1) % 65536 } ≡ iterate clocked k s
+  stretch-wraps h =
       let yes : (s.fields.clock + k == 228) ≡ true = grind (arith, nat_tests) in
-      sym (sweep-span k s lo hi fits ∙ ap (swept s k) (sym latched_is) ∙ rw yes)
+      sym (sweep-stretch k s lo hi fits ∙ ap (swept s k) (sym latched_is) ∙ rw yes)
 
-  pub span-stays : (s.fields.clock - 68 + k ≡ 160 → ⊥) → record s { fields = record s.fields { collisions = c; clock = s.fields.clock + k } } ≡ iterate clocked k s
-  span-stays h =
+  pub stretch-stays : (s.fields.clock - 68 + k ≡ 160 → ⊥) → record s { fields = record s.fields { collisions = c; clock = s.fields.clock + k } } ≡ iterate clocked k s
+  stretch-stays h =
       let no : (s.fields.clock + k == 228) ≡ false = grind (arith, nat_tests) in
-      sym (sweep-span k s lo hi fits ∙ ap (swept s k) (sym latched_is) ∙ rw no)
+      sym (sweep-stretch k s lo hi fits ∙ ap (swept s k) (sym latched_is) ∙ rw no)
 
-pub span-sink : {S : Type 0} (drawn : S → ℕ → ℕ → ℕ → S) (sink : S) (s : TiaState) (k : ℕ) → 68 ≤ s.fields.clock → s.fields.clock < 228 → s.fields.clock + k ≤ 228
-    → painted drawn sink (span_pixels s.fields s.line (s.fields.clock - 68) (s.fields.clock - 68 + k - (s.fields.clock - 68))) ≡ painted drawn sink (pixels k s)
-span-sink drawn sink s k lo hi fits =
+pub stretch-sink : {S : Type 0} (drawn : S → ℕ → ℕ → ℕ → S) (sink : S) (s : TiaState) (k : ℕ) → 68 ≤ s.fields.clock → s.fields.clock < 228 → s.fields.clock + k ≤ 228
+    → painted drawn sink (stretch_pixels s.fields s.line (s.fields.clock - 68) (s.fields.clock - 68 + k - (s.fields.clock - 68))) ≡ painted drawn sink (pixels k s)
+stretch-sink drawn sink s k lo hi fits =
     let e : s.fields.clock - 68 + k - (s.fields.clock - 68) ≡ k = omega arith in
-    rw (e, pixels-span k s lo hi fits)
+    rw (e, pixels-stretch k s lo hi fits)
 
 -- one pixel of a stretch
 one_less : (n i : ℕ) → i < n → n - i ≡ suc (n - (i + 1))
 one_less n i h = omega arith
 
-pub span_pixels-step : (t : TiaFields) (line x to : ℕ) → x < to
-    → span_pixels t line x (to - x) ≡ record { line = line; x = x; colour = colour_at t (objects_at t x) x } ∷ span_pixels t line (x + 1) (to - (x + 1))
-span_pixels-step t line x to h = rw (one_less to x h) refl
+pub stretch_pixels-step : (t : TiaFields) (line x to : ℕ) → x < to
+    → stretch_pixels t line x (to - x) ≡ record { line = line; x = x; colour = colour_at t (objects_at t x) x } ∷ stretch_pixels t line (x + 1) (to - (x + 1))
+stretch_pixels-step t line x to h = rw (one_less to x h) refl
 
 -- a sink that keeps nothing of a pixel keeps nothing of many
 pub painted-nothing : {S : Type 0} (drawn : S → ℕ → ℕ → ℕ → S) (sink : S) (ps : List Pixel) → ((line x colour : ℕ) → drawn sink line x colour ≡ sink) → painted drawn sink ps ≡ sink

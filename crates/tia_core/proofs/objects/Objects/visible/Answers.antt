@@ -3,13 +3,13 @@ use Rattle.tia_core.specs.Bits.{bit}
 use Rattle.tia_core.specs.Coverage.{missile_covers, ball_covers}
 use Rattle.tia_core.specs.Objects.{objects_at, shown_of, size_of}
 use Rattle.tia_core.specs.Playfield.{playfield_index}
-use Rattle.tia_core.specs.Spans.{joined}
+use Rattle.tia_core.specs.Private.Stretches.{joined}
 use Rattle.tia_core.specs.declared.fields.TiaFields.{TiaFields}
 use Rattle.tia_core.proofs.Shapes.{player-unseen, shown-or, playfield-unseen, missile-unseen}
-use Rattle.tia_core.proofs.objects.Objects.live.Goals as goal
+use Rattle.tia_core.proofs.objects.Objects.visible.Goals as goal
 
 -- what may be seen, and what is
-live-joined : (t : TiaFields) (x : ℕ)
+visible-joined : (t : TiaFields) (x : ℕ)
     → joined (record {
       player0 = not (shown_of t.vdelp0 t.grp0_old t.grp0_new == 0);
       player1 = not (shown_of t.vdelp1 t.grp1_old t.grp1_new == 0);
@@ -27,7 +27,7 @@ live-joined : (t : TiaFields) (x : ℕ)
       playfield = not (bit_or (bit_or t.pf0 t.pf1) t.pf2 == 0);
     }
 unfolding objects_at
-live-joined t x = rw (
+visible-joined t x = rw (
   player-unseen (t.nusiz0 % 8) (bit t.refp0 3) (shown_of t.vdelp0 t.grp0_old t.grp0_new) t.position_p0 x,
   player-unseen (t.nusiz1 % 8) (bit t.refp1 3) (shown_of t.vdelp1 t.grp1_old t.grp1_new) t.position_p1 x,
   missile-unseen (bit t.enam0 1) (not (bit t.resmp0 1)) (missile_covers (t.nusiz0 % 8) (size_of t.nusiz0) t.position_m0 x),
@@ -38,4 +38,4 @@ live-joined t x = rw (
 
 pub returns : goal.returns
 returns c = λ x.
-    rw (c.shown.ensures, c.shown-2.ensures, c.is_shown.ensures, c.is_shown-2.ensures, c.bit.ensures, c.shown-3.ensures) (live-joined c.args.t.now x)
+    rw (c.shown.ensures, c.shown-2.ensures, c.is_shown.ensures, c.is_shown-2.ensures, c.bit.ensures, c.shown-3.ensures) (visible-joined c.args.t.now x)

@@ -1,8 +1,0 @@
-use Rattle.tia_core.specs.Mask.{covers}
-use Rattle.tia_core.proofs.Pairs.{no-crowd}
-use Rattle.tia_core.proofs.masks.Masks.are_crowded.Goals as goal
-
-pub returns : goal.returns
-returns c = λ e x le lt.
-    let m = c.args.self.now in
-    no-crowd (covers m.player0 x) (covers m.player1 x) (covers m.missile0 x) (covers m.missile1 x) (covers m.ball x) (covers m.playfield x) (c.are_crowded.ensures e x le lt)
