@@ -31,7 +31,7 @@ impl fmt::Display for BadCartSize {
 
 /// A cartridge of 2048 or 4096 bytes, or of 8192 bytes in two banks, which contracts see as the
 /// list of its bytes.
-#[derive(Drop)]
+#[derive(Debug, Drop)]
 pub struct Cart {
     bytes: Vec<u8>,
 }
