@@ -13,7 +13,8 @@ use Rattle.tia_core.specs.Write.{fields_after, effect_after, effect_of, written}
 use Rattle.tia_core.specs.declared.effect.Effect.{Effect}
 use Rattle.tia_core.specs.declared.effect.Effect.TheVariants.{Nothing}
 use Rattle.tia_core.specs.declared.fields.TiaFields.{TiaFields}
-use Rattle.vcs_machine.specs.Consoles.{Console, tia_written, is_sync, is_frame_end, after_beam}
+use Rattle.vcs_machine.specs.Consoles.{Console, tia_written, is_sync, is_frame_end}
+use Rattle.vcs_machine.specs.Private.Owing.{after_beam}
 use Rattle.tia_core.proofs.Clocks.{iterate-add, painted-add, iterate-clocked-clock, iterate-clocked-others}
 
 -- ---- more cycles

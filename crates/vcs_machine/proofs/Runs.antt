@@ -3,7 +3,8 @@ use Rattle.std.proofs.Common.{◌≡◌, ℕ, zero, suc, ◌+◌, ◌-◌, ◌<�
 use Rattle.std.proofs.lemmas.Bool.Decides.{nat_tests}
 use Rattle.std.proofs.lemmas.List.{set-get_or, set-set, get_or-set_same, length-set}
 use Rattle.tia_core.specs.Runs.{run_drawn}
-use Rattle.vcs_machine.specs.Pictures.{Rows, with_pixel, filled}
+use Rattle.vcs_machine.specs.Pictures.{Rows, with_pixel}
+use Rattle.vcs_machine.specs.Private.Rows.{filled}
 
 one_less : (n i : ℕ) → i < n → n - i ≡ suc (n - (i + 1))
 one_less n i h = omega arith

@@ -1,5 +1,5 @@
 -- The console as its processor's bus: the address map, the RIOT and the TIA of the Stella Programmer's Guide, joined.
-use Rattle.std.specs.Prelude.{ℕ, ◌≤◌, ◌-◌, ◌*◌, ◌/◌, ◌%◌, ◌||◌, Bool, true, false, if◌then◌else◌, Option, Some, None, List, [], ◌∷◌, ◌++◌, slice_index}
+use Rattle.std.specs.Prelude.{ℕ, ◌-◌, ◌*◌, ◌/◌, ◌%◌, ◌||◌, Bool, true, false, if◌then◌else◌, Option, Some, None, List, [], ◌∷◌, ◌++◌, slice_index}
 use Rattle.std.specs.Fn.{iterate}
 use Rattle.mos_cpu.specs.Buses.{Meaning}
 use Rattle.riot_map.specs.Riot.{RiotState, after_cycles, after_read, after_write, with_ram, read_of as riot_read_of}
@@ -12,13 +12,11 @@ use Rattle.tia_core.specs.Clock.{Pixel, clocked, pixels, painted}
 use Rattle.tia_core.specs.Write.{written, effect_of}
 use Rattle.tia_core.specs.Read.{read_of as tia_read_of}
 use Rattle.tia_core.specs.declared.effect.Effect.{Effect}
-use Rattle.tia_core.specs.declared.fields.TiaFields.{TiaFields}
 use Rattle.tia_core.specs.declared.effect.Effect.TheVariants.{Sync, FrameEnd}
 use Rattle.vcs_machine.specs.Frame.{Rules}
-use Rattle.vcs_machine.specs.declared.devices.Devices.{Devices}
 
--- A console whose pixels go to a sink: the selected bank of its cartridge, whether WSYNC was written in this instruction, and whether VSYNC has fallen in this
--- frame.
+-- A console whose pixels go to a sink. `bank` is the selected bank of the cartridge, `synced` says whether WSYNC was written in
+-- this instruction, and `ended` whether VSYNC has fallen in this frame.
 pub record Console (S : Type 0) : Type 0 where
   pub cart : List ℕ
   pub bank : ℕ
@@ -91,26 +89,6 @@ module _ {S : Type 0} where
     peeked = λ c address. peeked_at c (place_of address);
     peeked_zero = λ c address. value_at c (place_of address);
   }
-
--- Devices once they have seen the cycles that they are owed.
-module _ {S : Type 0} where
-  abbrev pub riot_seen : Devices S → RiotState
-  riot_seen d = after_cycles (d.owed - d.paid) d.riot
-
-  abbrev pub tia_seen : Devices S → TiaState
-  tia_seen d = iterate clocked (3 * d.owed) d.tia
-
-  abbrev pub sink_seen : (S → ℕ → ℕ → ℕ → S) → Devices S → S
-  sink_seen drawn d = painted drawn d.sink (pixels (3 * d.owed) d.tia)
-
--- What is true of the cycles that devices are owed: the RIOT has seen no others, and they are at most those of a scanline.
-pub record IsBehind {S : Type 0} (d : Devices S) : Type 0 where
-  pub paid : d.paid ≤ d.owed
-  pub most : d.owed ≤ 76
-
--- The numbers of a TIA whose beam went on: nothing else of them changes.
-abbrev pub after_beam : TiaFields → ℕ → ℕ → ℕ → TiaFields
-after_beam t collisions clock comb = record t { collisions = collisions; clock = clock; comb = comb }
 
 -- The cycles until a scanline begins, none where one begins. That an instruction which wrote WSYNC waits so long, and only
 -- when it is over, is this project's own rule.

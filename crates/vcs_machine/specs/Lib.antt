@@ -4,5 +4,6 @@ pub mod Frame
 pub mod Inputs
 pub mod Outcomes
 pub mod Pictures
+pub mod Private
 pub mod SameStates
 pub mod States

@@ -31,8 +31,3 @@ with_pixel rows line x colour =
 -- So many rows of zeros.
 abbrev pub blank : ℕ → Rows
 blank n = replicate n (replicate 160 0)
-
--- A row after k of its pixels from x on got one colour.
-abbrev pub filled : List ℕ → ℕ → ℕ → ℕ → List ℕ
-filled row x zero colour = row
-filled row x (suc k) colour = filled (slice_set row x colour) (x + 1) k colour

@@ -34,7 +34,8 @@ pub struct Console<'a, S: Paint> {
 
 impl<'a, S: Paint> Model for Console<'a, S> {
     ghost use Rattle.std.specs.Prelude.{◌<◌};
-    ghost use Rattle.vcs_machine.specs.Consoles.{Console as ConsoleOf, riot_seen, tia_seen, sink_seen, IsBehind};
+    ghost use Rattle.vcs_machine.specs.Consoles.{Console as ConsoleOf};
+    ghost use Rattle.vcs_machine.specs.Private.Owing.{riot_seen, tia_seen, sink_seen, IsBehind};
 
     ghost Value = { ConsoleOf S };
 
@@ -115,7 +116,7 @@ impl<'a, S: Paint> Bus for Console<'a, S> {
     #[inline(always)]
     fn peek_zero(&self, addr: u8) -> u8 {
         match place(addr as u16) {
-            Place::Tia(register) => self.devices.glance(register),
+            Place::Tia(register) => self.devices.peek_tia(register),
             _ => self.devices.riot.ram(addr % 128),
         }
     }

@@ -2,7 +2,7 @@
 ghost use Rattle.std.specs.Prelude.{◌≡◌, ◌≤◌, ◌<◌, ◌+◌, ◌-◌, ◌*◌, ◌/◌};
 ghost use Rattle.std.specs.Fn.{iterate};
 ghost use Rattle.tia_core.specs.Read.{read_of};
-ghost use Rattle.vcs_machine.specs.Consoles.{riot_seen, tia_seen, sink_seen, IsBehind};
+ghost use Rattle.vcs_machine.specs.Private.Owing.{riot_seen, tia_seen, sink_seen, IsBehind};
 ghost use Rattle.riot_map.specs.Riot.{after_cycles};
 ghost use Rattle.tia_core.specs.Clock.{clocked, pixels, painted};
 
@@ -79,11 +79,12 @@ impl<S: Paint> Devices<S> {
 
     /// What a read of a register of the TIA would give, had the TIA seen all cycles.
     #[inline(never)]
-    pub fn glance(&self, register: u8) -> u8
+    pub fn peek_tia(&self, register: u8) -> u8
         requires { IsBehind self.now }
         ensures { result ≡ read_of (tia_seen self.now) register }
     {
         let fields = self.tia.fields();
+        // The buttons don't depend on the beam, only the collisions do.
         if register % 16 >= 8 {
             return self.tia.read(register);
         }

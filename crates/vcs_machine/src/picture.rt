@@ -1,6 +1,7 @@
 //! The picture of a frame.
 ghost use Rattle.std.specs.Prelude.{◌≡◌, ◌↔◌, ◌<◌, ◌≤◌, ◌-◌, [], length, take, slice_index, slice_index_or, IsTrue, IfOk};
-ghost use Rattle.vcs_machine.specs.Pictures.{with_pixel, filled, blank, rows_of};
+ghost use Rattle.vcs_machine.specs.Pictures.{with_pixel, blank, rows_of};
+ghost use Rattle.vcs_machine.specs.Private.Rows.{filled};
 
 use std::alloc::{AllocError, Global};
 use std::marker::Model;

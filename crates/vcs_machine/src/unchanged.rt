@@ -3,12 +3,12 @@ ghost use Rattle.std.specs.Prelude.{◌≡◌, ℕ, Bool, IsTrue};
 ghost use Rattle.tia_core.specs.Registers.{register_of};
 ghost use Rattle.tia_core.specs.Write.{fields_after, effect_after};
 ghost use Rattle.tia_core.specs.declared.effect.Effect.TheVariants.{Nothing};
-ghost use Rattle.vcs_machine.specs.Consoles.{after_beam};
+ghost use Rattle.vcs_machine.specs.Private.Owing.{after_beam};
 
 use tia_core::fields::TiaFields;
 
-/// Whether a write of a register leaves a TIA of these numbers as it is, wherever its beam is. Games write most registers in each
-/// scanline, and mostly what is there already.
+/// Whether a write of a register is known to leave a TIA of these numbers as it is, wherever its beam is. A register keeps the bits
+/// of its mask. Games write most registers in each scanline, and mostly what is there already.
 pub fn is_unchanged(fields: &TiaFields, register: u8, value: u8) -> bool
     ensures fields { IsTrue result → (fire0 fire1 : Bool) (collisions clock comb : ℕ) →
         fields_after (after_beam fields.now collisions clock comb) fire0 fire1 (register_of register) value

@@ -1,5 +1,5 @@
 use Rattle.std.proofs.Common.{◌≡◌, ◌-◌}
-use Rattle.vcs_machine.specs.Pictures.{filled}
+use Rattle.vcs_machine.specs.Private.Rows.{filled}
 use Rattle.vcs_machine.proofs.picture.fill.Given as goal
 
 abbrev pub invariant-loop-place : goal.invariant-loop-place

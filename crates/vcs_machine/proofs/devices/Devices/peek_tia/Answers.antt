@@ -2,7 +2,7 @@ use Rattle.std.proofs.Common.{◌*◌, ap, ◌∙◌}
 use Rattle.tia_core.specs.Read.{read_of}
 use Rattle.tia_core.specs.TiaState.{TiaState}
 use Rattle.vcs_machine.proofs.Owing.{read-buttons, read-pairs}
-use Rattle.vcs_machine.proofs.devices.Devices.glance.Goals as goal
+use Rattle.vcs_machine.proofs.devices.Devices.peek_tia.Goals as goal
 
 pub returns-then-register-ge8 : goal.returns-then-register-ge8
 returns-then-register-ge8 g c =

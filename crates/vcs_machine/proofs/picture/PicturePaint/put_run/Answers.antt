@@ -1,7 +1,8 @@
 use Rattle.std.proofs.Common.{◌≡◌, ◌<◌, ◌≤◌, ◌+◌, ◌-◌, List, ℕ, [], length, slice_set, slice_index_or, sym, ap, ◌∙◌, arith}
 use Rattle.std.proofs.lemmas.List.{get_or_default}
 use Rattle.tia_core.specs.Runs.{run_drawn}
-use Rattle.vcs_machine.specs.Pictures.{Rows, filled, with_pixel}
+use Rattle.vcs_machine.specs.Pictures.{Rows, with_pixel}
+use Rattle.vcs_machine.specs.Private.Rows.{filled}
 use Rattle.vcs_machine.proofs.Runs.{run-inside, run-outside}
 use Rattle.vcs_machine.proofs.picture.PicturePaint.put_run.Goals as goal
 

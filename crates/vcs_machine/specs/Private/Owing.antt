@@ -1,0 +1,28 @@
+-- Devices that are owed cycles: the processor is ahead of them. This project's own.
+use Rattle.std.specs.Prelude.{ℕ, ◌≤◌, ◌-◌, ◌*◌}
+use Rattle.std.specs.Fn.{iterate}
+use Rattle.riot_map.specs.Riot.{RiotState, after_cycles}
+use Rattle.tia_core.specs.Clock.{clocked, pixels, painted}
+use Rattle.tia_core.specs.TiaState.{TiaState}
+use Rattle.tia_core.specs.declared.fields.TiaFields.{TiaFields}
+use Rattle.vcs_machine.specs.declared.devices.Devices.{Devices}
+
+-- Devices once they have seen the cycles that they are owed.
+module _ {S : Type 0} where
+  abbrev pub riot_seen : Devices S → RiotState
+  riot_seen d = after_cycles (d.owed - d.paid) d.riot
+
+  abbrev pub tia_seen : Devices S → TiaState
+  tia_seen d = iterate clocked (3 * d.owed) d.tia
+
+  abbrev pub sink_seen : (S → ℕ → ℕ → ℕ → S) → Devices S → S
+  sink_seen drawn d = painted drawn d.sink (pixels (3 * d.owed) d.tia)
+
+-- What is true of the cycles that devices are owed: the RIOT has seen no others, and they are at most those of a scanline.
+pub record IsBehind {S : Type 0} (d : Devices S) : Type 0 where
+  pub paid : d.paid ≤ d.owed
+  pub most : d.owed ≤ 76
+
+-- The numbers of a TIA whose beam went on: nothing else of them changes.
+abbrev pub after_beam : TiaFields → ℕ → ℕ → ℕ → TiaFields
+after_beam t collisions clock comb = record t { collisions = collisions; clock = clock; comb = comb }
