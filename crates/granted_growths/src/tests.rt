@@ -1,10 +1,10 @@
-//! A movie of two frames, made, told, read, written, judged whole and judged in segments.
+//! A movie of two frames, made, told, converted, read, written, judged whole and judged in segments.
 
 use movie_file::{Movie, read_movie, write_movie};
 use replay_segments::{Cuts, Keep, Verdict, gather, replay, verify_one};
 use std::alloc::Global;
 use std::test::Fail;
-use vcs_engine::{Plan, RunError, Status, run, run_info, run_make};
+use vcs_engine::{Plan, RunError, Status, run, run_convert, run_info, run_make};
 use verify_pool::{Desk, Hand, NoGate, crew};
 
 /// LDA #02, STA 80, STA VSYNC, LDA #00, STA VSYNC, JMP F000: a frame of 13 cycles, then frames of 16.
@@ -70,6 +70,17 @@ fn a_movie_is_told(rt: HostRuntime) {
     assert_eq!(rt; status, Ok(Status::Done));
     let wanted = b"movie: version 1, cartridge 2048, 2 frames, 2 checkpoints\n";
     assert!(rt; line.as_slice() == wanted.as_slice());
+}
+
+#[test]
+fn a_movie_is_converted(rt: HostRuntime) {
+    let (_, movie, _) = made(rt.alloc());
+    let mut new = Vec::new(rt.alloc());
+    let mut line = Vec::new(rt.alloc());
+    let status = run_convert(rt.alloc(), &mut movie.as_slice(), &mut new, &mut line);
+    assert_eq!(rt; status, Ok(Status::Done));
+    assert_eq!(rt; new.len(), 14 + 2048 + 188 + 2 * 3 + 2 * 192);
+    assert!(rt; line.as_slice() == b"converted: 2 frames, 2 checkpoints\n".as_slice());
 }
 
 #[test]

@@ -44,7 +44,9 @@ fn banked_cart(rt: &impl Abort, alloc: Global, second: [u8; 3], last: [u8; 8]) -
         let in_second = byte_in(&second, 0x1000, i)
             | byte_in(&[0xA9, 0, 0x85, 0], 0x1F80, i)
             | byte_in(&last, 0x1FF6, i);
-        bytes.push(in_first | in_second).expect(rt, "room for a byte");
+        bytes
+            .push(in_first | in_second)
+            .expect(rt, "room for a byte");
     }
     Cart::new(bytes).expect(rt, "8192 bytes are a cartridge")
 }

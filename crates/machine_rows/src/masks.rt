@@ -135,18 +135,23 @@ fn one_call_is_as_many(rt: HostRuntime) -> Result<(), Fail> {
     fields.colubk = 0x40;
     fields.grp0_new = 0xFF;
     fields.pf0 = 0x10;
-    let mut one = made(fields)?;
-    let mut many = made(fields)?;
-    let mut row = Row {
-        pixels: [0xFF; 160],
-    };
-    let mut other = row;
-    one.clocks(228, &mut row);
-    for _clock in 0..228u8 {
-        many.clocks(1, &mut other);
+    for ctrlpf in [0x00, 0x01, 0x04] {
+        fields.ctrlpf = ctrlpf;
+        let mut one = made(fields)?;
+        let mut many = made(fields)?;
+        let mut row = Row {
+            pixels: [0xFF; 160],
+        };
+        let mut other = row;
+        one.clocks(228, &mut row);
+        for _clock in 0..228u8 {
+            many.clocks(1, &mut other);
+        }
+        assert!(rt; row.pixels == other.pixels);
+        assert!(rt; one.fields() == many.fields());
+        assert_eq!(rt; one.line(), many.line());
+        // Player 0 has met the playfield.
+        assert_eq!(rt; one.read(2), 0x80);
     }
-    assert!(rt; row.pixels == other.pixels);
-    assert!(rt; one.fields() == many.fields());
-    assert_eq!(rt; one.line(), many.line());
     Ok(())
 }

@@ -286,12 +286,12 @@ fn record_is_read_and_written(rt: HostRuntime) -> Result<(), Fail> {
 fn movie_of_two_banks_is_written_as_it_was_read(rt: HostRuntime) -> Result<(), Fail> {
     let bytes = banked_file(rt.alloc())?;
     assert_eq!(rt; bytes.len(), 8592);
-    let movie = read_movie(rt.alloc(), &bytes).ok().ok_or("a movie")?;
+    let movie = read_movie(rt.alloc(), &bytes)?;
     assert_eq!(rt; movie.version(), 2);
     assert_eq!(rt; movie.cart().len(), 8192);
     assert_eq!(rt; movie.start().fields().bank, 1);
     let mut written = Vec::new(rt.alloc());
-    write_movie(&movie, &mut written).ok().ok_or("written")?;
+    write_movie(&movie, &mut written)?;
     assert!(rt; written == bytes);
     Ok(())
 }
@@ -302,12 +302,27 @@ fn refusals_of_version_2(rt: HostRuntime) -> Result<(), Fail> {
     for (at, new, wanted) in [
         (4u16, [0x00u8, 0x01], MovieError::BadCartSize),
         (4, [0x00, 0x03], MovieError::BadVersion),
-        (8, [0x00, 0x04], MovieError::BadCounts),
         (8392, [0x00, 0x02], MovieError::BadState(0)),
         (8395, [0x3F, 0x04], MovieError::BadInput(1)),
         (8590, [0x00, 0x02], MovieError::BadState(1)),
     ] {
         let copy = changed(rt.alloc(), &bytes, at, &new)?;
+        assert_eq!(rt; refusal(rt.alloc(), &copy), Some(wanted));
+    }
+    Ok(())
+}
+
+#[test]
+fn each_version_has_its_most_frames(rt: HostRuntime) -> Result<(), Fail> {
+    let old = file(rt.alloc())?;
+    let new = banked_file(rt.alloc())?;
+    for (bytes, frames, wanted) in [
+        (&old, 65_535u32, MovieError::Short),
+        (&old, 65_536, MovieError::BadCounts),
+        (&new, 262_143, MovieError::Short),
+        (&new, 262_144, MovieError::BadCounts),
+    ] {
+        let copy = changed(rt.alloc(), bytes, 8, &frames.to_be_bytes())?;
         assert_eq!(rt; refusal(rt.alloc(), &copy), Some(wanted));
     }
     Ok(())
@@ -332,15 +347,20 @@ fn bank_1_is_refused_without_banks(rt: HostRuntime) -> Result<(), Fail> {
 
 #[test]
 fn movie_is_converted_once(rt: HostRuntime) -> Result<(), Fail> {
-    let movie = read_movie(rt.alloc(), &file(rt.alloc())?)
-        .ok()
-        .ok_or("a movie")?;
-    let new = convert(movie).ok().ok_or("converted")?;
-    let mut written = Vec::new(rt.alloc());
-    write_movie(&new, &mut written).ok().ok_or("written")?;
-    assert_eq!(rt; written.len(), 2448);
+    let old = file(rt.alloc())?;
+    let new = convert(read_movie(rt.alloc(), &old)?)?;
     assert_eq!(rt; new.version(), 2);
-    assert!(rt; new.start().equals(new.start()));
+    // Another version, and bank 0 after each of the two records.
+    let mut wanted = Vec::new(rt.alloc());
+    wanted.extend_from_slice(b"A26M\x00\x02")?;
+    wanted.extend_from_slice(old.get(6..2249).ok_or("a start state")?)?;
+    wanted.push(0)?;
+    wanted.extend_from_slice(old.get(2249..).ok_or("a checkpoint")?)?;
+    wanted.push(0)?;
+    let mut written = Vec::new(rt.alloc());
+    write_movie(&new, &mut written)?;
+    assert_eq!(rt; written.len(), 2448);
+    assert!(rt; written == wanted);
     match convert(new) {
         Ok(_) => Err("converted twice".into()),
         Err(ConvertError::AlreadyTwo(movie)) => {

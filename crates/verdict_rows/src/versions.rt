@@ -1,4 +1,4 @@
-//! Movies of version 2, with cartridges of two banks, and movies that are converted.
+//! Movies of version 2: cartridges of two banks, and movies that are converted.
 
 use crate::movies::{after_frame, first_of_two_false, power_on, two_frames};
 use replay_segments::Keep;
@@ -7,9 +7,10 @@ use std::io;
 use std::sync::Wait;
 use std::test::Fail;
 use std::thread::Threads;
-use vcs_engine::{Plan, RunError, Status, run, run_convert, run_info};
+use vcs_engine::{Plan, RunError, Status, run, run_convert, run_info, run_make};
 
-/// The cartridge of two banks of that movie.
+/// A cartridge of two banks. The second bank begins with LDA 1FF8, which has 5A there and selects
+/// the first; that goes on with STA 80, LDA #02, STA VSYNC, LDA #00, STA VSYNC, JMP F005.
 fn banked_rom() -> [u8; 8192] {
     let mut cart = [0; 8192];
     cart[0x0003..0x0010].copy_from_slice(&[
@@ -22,17 +23,16 @@ fn banked_rom() -> [u8; 8192] {
     cart
 }
 
-/// The state that it claims, but for the bank.
-fn claimed_state() -> [u8; 187] {
-    let mut claimed = after_frame(0xEF, 0x11);
-    claimed[6] = 0x0D;
-    claimed[7] = 0x5A;
-    claimed
+/// The record of its state after the first frame, of 17 cycles, but for the bank.
+fn banked_state() -> [u8; 187] {
+    let mut record = after_frame(0xEF, 0x11);
+    record[6] = 0x0D;
+    record[7] = 0x5A;
+    record
 }
 
-/// A movie of two frames of a cartridge of two banks, with a checkpoint after the first that claims
-/// a bank: 8,592 bytes. The second bank begins with LDA 1FF8, which has 5A there and selects the
-/// first; that goes on with STA 80, LDA #02, STA VSYNC, LDA #00, STA VSYNC, JMP F005.
+/// A movie of two frames of that cartridge, with a checkpoint after the first that claims this bank:
+/// 8,592 bytes.
 fn two_banks(alloc: Global, bank: u8) -> Result<Vec<u8>, Fail> {
     let mut bytes = Vec::new(alloc);
     bytes.extend_from_slice(b"A26M")?;
@@ -41,7 +41,7 @@ fn two_banks(alloc: Global, bank: u8) -> Result<Vec<u8>, Fail> {
     bytes.extend_from_slice(&power_on())?;
     bytes.push(1)?;
     bytes.extend_from_slice(&[0xFF, 0x3F, 0, 0xFF, 0x3F, 0, 0, 0, 0, 1])?;
-    bytes.extend_from_slice(&claimed_state())?;
+    bytes.extend_from_slice(&banked_state())?;
     bytes.push(bank)?;
     Ok(bytes)
 }
@@ -64,6 +64,25 @@ fn line_of<T: Threads + Wait + Sync + AllocGlobal>(
         &mut io::sink(),
     )?;
     Ok(line)
+}
+
+#[test]
+fn movie_of_two_banks_is_made(rt: HostRuntime) {
+    let inputs = [0xFF, 0x3F, 0, 0xFF, 0x3F, 0];
+    let mut movie = Vec::new(rt.alloc());
+    let mut line = Vec::new(rt.alloc());
+    let status = run_make(
+        rt.alloc(),
+        &mut banked_rom().as_slice(),
+        &mut inputs.as_slice(),
+        1,
+        &mut movie,
+        &mut line,
+    );
+    assert_eq!(rt; status, Ok(Status::Done));
+    assert_eq!(rt; movie.len(), 8784);
+    assert!(rt; line.as_slice() == b"made: 2 frames, 2 checkpoints\n".as_slice());
+    assert!(rt; movie.get(8404..8591) == Some(banked_state().as_slice()));
 }
 
 /// What a conversion over memory answers, its movie and its line.
@@ -102,11 +121,13 @@ fn converted_movie_has_its_verdict(rt: HostRuntime) -> Result<(), Fail> {
     assert_eq!(rt; status, Ok(Status::Done));
     assert_eq!(rt; movie.len(), 2448);
     assert!(rt; line.as_slice() == b"converted: 2 frames, 1 checkpoints\n".as_slice());
-    let line = line_of(&rt, &movie, 1)?;
-    assert!(rt; line.as_slice() == b"genuine: 2 frames, 1 checkpoints\n".as_slice());
-    let (_, movie, _) = converted(rt.alloc(), &first_of_two_false(rt.alloc())?);
-    let line = line_of(&rt, &movie, 2)?;
-    assert!(rt; line.as_slice() == b"false checkpoint 1 at frame 1\n".as_slice());
+    let (_, bad_movie, _) = converted(rt.alloc(), &first_of_two_false(rt.alloc())?);
+    for workers in [1, 2, 8] {
+        let line = line_of(&rt, &movie, workers)?;
+        assert!(rt; line.as_slice() == b"genuine: 2 frames, 1 checkpoints\n".as_slice());
+        let line = line_of(&rt, &bad_movie, workers)?;
+        assert!(rt; line.as_slice() == b"false checkpoint 1 at frame 1\n".as_slice());
+    }
     Ok(())
 }
 
