@@ -6,9 +6,9 @@ use Rattle.std.proofs.lemmas.Bool.Decides.{nat_tests}
 use Rattle.std.proofs.lemmas.List.{take_at, take_all, length-append, length-take, get_or_append_left, get_or-append_right}
 use Rattle.riot_map.specs.Cart.{has_banks}
 use Rattle.vcs_machine.specs.declared.fields.StateFields.{StateFields}
-use Rattle.movie_file.specs.Format.{takes_cart, most_frames, record_length}
+use Rattle.movie_file.specs.Format.{takes_cart, most_frames, record_length, whole_record}
 use Rattle.movie_file.specs.Movie.{IsState, IsStateWith}
-use Rattle.movie_file.specs.Record.{record_of, state_at, cpu_bytes, rest_bytes, movie_record, whole_record, fits_bank, with_fitting_bank, movie_state_at}
+use Rattle.movie_file.specs.Record.{record_of, state_at, cpu_bytes, rest_bytes, movie_record, fits_bank, with_fitting_bank, movie_state_at}
 use Rattle.movie_file.proofs.Cells.{IsBytes, chosen_some}
 use Rattle.movie_file.proofs.RecordLaws.{state_takes, state_again, length-record_of}
 

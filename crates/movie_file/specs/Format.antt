@@ -1,5 +1,6 @@
--- The numbers of the format, each in this one place. The format is this project's own; its numbers are big-endian.
-use Rattle.std.specs.Prelude.{ℕ, ◌+◌, ◌*◌, List, codes, Bool, ◌==◌, ◌&&◌, ◌||◌, not, if◌then◌else◌}
+-- The numbers of the format, and all that differs between its versions, each in this one place. The format is this project's own;
+-- its numbers are big-endian.
+use Rattle.std.specs.Prelude.{ℕ, ◌+◌, ◌*◌, List, [], ◌∷◌, ◌++◌, codes, Bool, ◌==◌, ◌&&◌, ◌||◌, not, if◌then◌else◌}
 use Rattle.riot_map.specs.Cart.{is_cart_length, has_banks}
 use Rattle.movie_file.specs.declared.reading.sizes.Sizes.{Sizes}
 
@@ -30,6 +31,10 @@ state_length = 188
 -- the bytes of one in a movie: version 1 leaves out the last, the bank
 abbrev pub record_length : ℕ → ℕ
 record_length version = if version == 1 then 187 else state_length
+
+-- the whole record of one in a movie: a bank that was left out is 0
+abbrev pub whole_record : ℕ → List ℕ → List ℕ
+whole_record version bytes = if version == 1 then bytes ++ 0 ∷ [] else bytes
 
 -- the bytes of an input
 abbrev pub input_length : ℕ

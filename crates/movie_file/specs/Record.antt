@@ -5,7 +5,7 @@ use Rattle.std.specs.Int.{w16, to_be_bytes, from_be_bytes}
 use Rattle.vcs_machine.specs.declared.fields.StateFields.{StateFields}
 use Rattle.vcs_machine.specs.States.{is_state}
 use Rattle.riot_map.specs.Cart.{has_banks}
-use Rattle.movie_file.specs.Format.{state_length, record_length}
+use Rattle.movie_file.specs.Format.{state_length, record_length, whole_record}
 
 -- the seven bytes of the processor
 abbrev pub cpu_bytes : StateFields → List ℕ
@@ -96,13 +96,9 @@ fields_at bytes = fields_of (take 7 bytes) (take 128 (drop 7 bytes)) (drop 128 (
 unfoldable pub state_at : List ℕ → Option StateFields
 state_at bytes = if (length bytes == state_length) && is_state (fields_at bytes) then Some (fields_at bytes) else None
 
--- the record of a state in a movie of this version: version 1 leaves out the last byte, the bank
+-- the record of a state in a movie of this version
 abbrev pub movie_record : ℕ → StateFields → List ℕ
 movie_record version f = take (record_length version) (record_of f)
-
--- the whole record: a bank that was left out is 0
-abbrev pub whole_record : ℕ → List ℕ → List ℕ
-whole_record version bytes = if version == 1 then bytes ++ 0 ∷ [] else bytes
 
 -- a bank other than 0 is there only where a cartridge of so many bytes has banks
 abbrev pub fits_bank : ℕ → StateFields → Bool

@@ -2,7 +2,7 @@
 use vcs_machine::State;
 
 /// A state that a movie claims.
-#[derive(Drop)]
+#[derive(Debug, Drop)]
 pub struct Checkpoint {
     /// The frame, counted from 1, after which the console is claimed to be in the state.
     pub frame: u32,

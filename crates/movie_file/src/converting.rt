@@ -5,11 +5,12 @@ ghost use Rattle.movie_file.specs.declared.converting.ConvertError.TheVariants.{
 
 use crate::movie::Movie;
 use std::fmt;
+use thiserror::Error;
 
 /// Why a movie is not converted.
-#[derive(Drop)]
+#[derive(Debug, Drop, Error)]
 pub enum ConvertError {
-    /// It has version 2, and is handed back.
+    /// The movie has version 2 already. It is handed back.
     AlreadyTwo(Movie),
 }
 
@@ -23,9 +24,9 @@ impl fmt::Display for ConvertError {
     }
 }
 
-/// The movie of version 2 with the same cartridge, start state, inputs and checkpoints.
+/// The movie of version 2 with the same cartridge, start state, inputs and checkpoints. Each bank is 0.
 ///
-/// It takes no memory. A movie that has version 2 already is handed back in the error.
+/// Takes no memory. `AlreadyTwo` comes for every movie of version 2, whatever its cartridge.
 pub fn convert(movie: Movie) -> Result<Movie, ConvertError>
     ensures converted { IfOk result (λ new. (movie.version ≡ 1) × (new ≡ converted movie)) }
     ensures refused { IfErr result (λ error. (movie.version ≡ 2) × (error ≡ AlreadyTwo movie)) }

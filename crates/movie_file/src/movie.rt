@@ -9,7 +9,7 @@ use std::marker::Model;
 use vcs_machine::{Input, State};
 
 /// A movie, lawful by its type: what the format says of a movie holds of each.
-#[derive(Drop)]
+#[derive(Debug, Drop)]
 pub struct Movie {
     version: u16,
     cart: Cart,
@@ -88,7 +88,7 @@ impl Movie {
         &self.start
     }
 
-    /// The number of its frames, 1 to 65,535, or to 262,143 in version 2.
+    /// The number of its frames: 1 to 65,535 in version 1, 1 to 262,143 in version 2.
     pub fn frames(&self) -> u32
         ensures value { result ≡ length self.now.inputs }
         ensures most { result ≤ MOST_FRAMES }

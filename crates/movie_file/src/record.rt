@@ -2,8 +2,8 @@
 ghost use Rattle.std.specs.Prelude.{◌≡◌, ◌+◌, ◌≤◌, ◌++◌, length, take, drop, IfSome, Some};
 ghost use Rattle.vcs_machine.specs.declared.fields.StateFields.{StateFields};
 ghost use Rattle.movie_file.specs.Movie.{IsState};
-ghost use Rattle.movie_file.specs.Format.{state_length, record_length};
-ghost use Rattle.movie_file.specs.Record.{record_of, state_at, whole_record, movie_state_at, fields_of, cpu_bytes, rest_bytes};
+ghost use Rattle.movie_file.specs.Format.{state_length, record_length, whole_record};
+ghost use Rattle.movie_file.specs.Record.{record_of, state_at, movie_state_at, fields_of, cpu_bytes, rest_bytes};
 
 use crate::format::STATE_LENGTH;
 use crate::reading::Sizes;

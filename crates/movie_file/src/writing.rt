@@ -93,7 +93,7 @@ fn put_checkpoints(
     Ok(())
 }
 
-/// Appends a movie. After a refusal the front of it may stand there.
+/// Appends a movie. After a refusal a prefix of it may stand there.
 #[tactic(auto, using(crate::proofs::Fronts::front_then))]
 fn put_movie(out: &mut Vec<u8>, movie: &Movie) -> Result<(), AllocError>
     ensures ok { OnOk result (out.new.items ≡ out.old.items ++ spelling movie.now) }
