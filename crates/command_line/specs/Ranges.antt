@@ -3,7 +3,7 @@ use Rattle.std.specs.Prelude.{◌≤◌}
 use Rattle.command_line.specs.declared.command.Command.{Command}
 use Rattle.command_line.specs.declared.command.Command.TheVariants.{Stdin, Verify, Make, Info, Convert}
 
--- 1 to 64 workers, cuts at each checkpoint or each so many, frames from 1 on, and at most 600 kept.
+-- 1 to 64 workers, a cut at every N-th checkpoint with N at least 1, frames from 1 on, and at most 600 kept.
 abbrev pub IsInRange : Command → Type 0
 IsInRange Stdin = Unit {0}
 IsInRange (Verify file workers every first count pictures) =

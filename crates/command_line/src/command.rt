@@ -13,7 +13,7 @@ pub enum Command {
         file: String,
         /// How many threads replay it, 1 to 64.
         workers: u8,
-        /// A cut at each so many checkpoints, at least 1.
+        /// A cut at every N-th checkpoint, N at least 1.
         every: u16,
         /// The first frame whose picture is kept, at least 1.
         first: u32,
@@ -26,7 +26,7 @@ pub enum Command {
     Make {
         rom: String,
         inputs: String,
-        /// A checkpoint after each so many frames, at least 1.
+        /// A checkpoint after every N frames, N at least 1.
         every: u32,
         out: String,
     },

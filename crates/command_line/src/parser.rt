@@ -16,7 +16,7 @@ fn workers<'a>(alloc: Global) -> Arg<'a> {
 fn cuts<'a>(alloc: Global) -> Arg<'a> {
     Arg::new(alloc, "every")
         .long("every")
-        .help("Cut the movie at each so many checkpoints")
+        .help("Cut the movie at every N-th checkpoint")
         .value_parser(value_parser!(u16).range(1..=65535))
         .default_value("1")
 }
@@ -63,7 +63,7 @@ fn verify<'a>(alloc: Global) -> Result<Command<'a>, AllocError> {
 fn checkpoints<'a>(alloc: Global) -> Arg<'a> {
     Arg::new(alloc, "every")
         .long("every")
-        .help("Claim the state after each so many frames")
+        .help("Claim the state after every N frames")
         .required(true)
         .value_parser(value_parser!(u32).range(1..=4294967295))
 }
@@ -105,7 +105,7 @@ fn info<'a>(alloc: Global) -> Result<Command<'a>, AllocError> {
 /// `convert OLD NEW`.
 fn convert<'a>(alloc: Global) -> Result<Command<'a>, AllocError> {
     Command::new(alloc, "convert")
-        .about("Write a movie of version 1 in version 2")
+        .about("Write a movie of version 1 again in version 2")
         .arg(Arg::new(alloc, "old").required(true).help("The movie"))?
         .arg(
             Arg::new(alloc, "new")

@@ -1,4 +1,4 @@
--- Making a movie: a run from power-on, with its state after each so many frames as a checkpoint. This project's own.
+-- Making a movie: a run from power-on, with its state after every so many frames as a checkpoint. This project's own.
 use Rattle.std.specs.Prelude.{◌≡◌, ℕ, ◌+◌, ◌*◌, ◌/◌, ◌<◌, List, [], length, Bool, ◌&&◌, ◌||◌, nat_le, nat_lt, IsTrue, if◌then◌else◌, Some, slice_get}
 use Rattle.riot_map.specs.Cart.{has_banks}
 use Rattle.vcs_machine.specs.Inputs.{Controls}

@@ -11,7 +11,7 @@ use thiserror::Error;
 #[error("write failed")]
 pub struct WriteFault;
 
-/// Writes all of some bytes, or with a fault a front of them.
+/// Writes all of some bytes, or with a fault a prefix of them.
 pub fn write_bytes<W: Write>(bytes: &[u8], writer: &mut W) -> Result<(), WriteFault>
     ensures ok { OnOk result (Appends (W.contents writer.old) (W.contents writer.new) bytes.now) }
     ensures err { OnErr result (AppendsFront (W.contents writer.old) (W.contents writer.new) bytes.now) }

@@ -62,7 +62,7 @@ fn write_row<W: Write>(row: &[u8], writer: &mut W) -> Result<(), WriteFault>
     Ok(())
 }
 
-/// Writes a picture as a portable pixmap (P6) of 160 columns, or with a fault a front of it. It takes no memory.
+/// Writes a picture as a portable pixmap (P6) of 160 columns, or with a fault a prefix of it. It takes no memory.
 pub fn ppm<W: Write>(picture: &Picture, writer: &mut W) -> Result<(), WriteFault>
     ensures ok { OnOk result (Appends (W.contents writer.old) (W.contents writer.new) (picture_bytes picture.now)) }
     ensures err { OnErr result (AppendsFront (W.contents writer.old) (W.contents writer.new) (picture_bytes picture.now)) }
@@ -74,7 +74,7 @@ pub fn ppm<W: Write>(picture: &Picture, writer: &mut W) -> Result<(), WriteFault
     Ok(())
 }
 
-/// Writes pictures one after another, or with a fault a front of them.
+/// Writes pictures one after another, or with a fault a prefix of them.
 pub fn write_pictures<W: Write>(frames: &Frames, writer: &mut W) -> Result<(), WriteFault>
     ensures ok { OnOk result (Appends (W.contents writer.old) (W.contents writer.new) (pictures_bytes frames.now)) }
     ensures err { OnErr result (AppendsFront (W.contents writer.old) (W.contents writer.new) (pictures_bytes frames.now)) }

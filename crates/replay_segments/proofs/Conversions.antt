@@ -1,7 +1,5 @@
 -- A movie in version 2 has the verdicts of the movie.
-use Rattle.std.proofs.Common.{◌≡◌, ℕ, zero, suc, ◌+◌, ◌<◌, Bool, List, [], ◌++◌, Option, Some, None, refl, sym, ◌∙◌}
-use Rattle.std.specs.Prelude.{if◌then◌else◌}
-use Rattle.vcs_machine.specs.Pictures.{Rows}
+use Rattle.std.proofs.Common.{◌≡◌, ℕ, zero, suc, ◌+◌, Option, Some, None, refl, sym, ◌∙◌}
 use Rattle.vcs_machine.specs.declared.fields.StateFields.{StateFields}
 use Rattle.movie_file.specs.Conversion.{converted}
 use Rattle.movie_file.specs.Movie.{MovieData}
@@ -10,7 +8,6 @@ use Rattle.movie_file.proofs.Conversions.{run-converted, sound-converted, sound-
 use Rattle.replay_segments.specs.declared.keep.Keep.{Keep}
 use Rattle.replay_segments.specs.declared.verdict.Verdict.{Verdict}
 use Rattle.replay_segments.specs.declared.verdict.Verdict.TheVariants.{Genuine, FalseCheckpoint, Fault}
-use Rattle.replay_segments.specs.Keeping.{is_kept}
 use Rattle.replay_segments.specs.KeptPictures.{picture_after, pictures}
 use Rattle.replay_segments.specs.Verdicts.{IsJudged}
 

@@ -32,7 +32,7 @@ pub record PieceData : Type 0 where
   pub outcome : Outcome
   pub job : Job
 
--- The outcome is that of the segment, or want of memory.
+-- The outcome is that of the segment, or that memory was refused.
 abbrev pub IsOutcome : Job → ℕ → Outcome → Type 0
 IsOutcome job number (Judged verdict) = IsSegment job.movie job.cuts job.keep number verdict
 IsOutcome job number NoMemory = Unit {0}

@@ -1,5 +1,5 @@
--- What the conversion of a movie writes for its bytes, and its status. This project's own.
-use Rattle.std.specs.Prelude.{ℕ, List, [], length, Result, Ok, Err, ◌==◌, if◌then◌else◌}
+-- What is written of the bytes of a movie that is to be converted, and the status. This project's own.
+use Rattle.std.specs.Prelude.{[], length, Result, Ok, Err, ◌==◌, if◌then◌else◌}
 use Rattle.movie_file.specs.Conversion.{converted}
 use Rattle.movie_file.specs.Movie.{MovieData}
 use Rattle.movie_file.specs.Spelling.{spelling}
@@ -10,18 +10,18 @@ use Rattle.vcs_engine.specs.declared.line.Line.TheVariants as lines
 use Rattle.vcs_engine.specs.declared.status.Status.TheVariants as statuses
 
 -- What is written of a movie that was converted,
-abbrev pub made_in_two : MovieData → Made
-made_in_two m = record {
+abbrev pub made_by_conversion : MovieData → Made
+made_by_conversion m = record {
   status = statuses.Done;
   movie = spelling m;
   line = line_bytes (lines.Converted (length m.inputs) (length m.checkpoints));
 }
 
 -- and of one that has version 2 already.
-abbrev pub made_already_two : Made
-made_already_two = record { status = statuses.Refused; movie = []; line = line_bytes lines.AlreadyTwo }
+abbrev pub made_of_version_2 : Made
+made_of_version_2 = record { status = statuses.Refused; movie = []; line = line_bytes lines.AlreadyTwo }
 
 -- What is written of what reading a movie found.
 abbrev pub converted_of : Result MovieData MovieError → Made
-converted_of (Ok m) = if m.version == 2 then made_already_two else made_in_two (converted m)
+converted_of (Ok m) = if m.version == 2 then made_of_version_2 else made_by_conversion (converted m)
 converted_of (Err error) = made_refused error

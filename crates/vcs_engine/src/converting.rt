@@ -2,7 +2,7 @@
 ghost use Rattle.std.specs.Prelude.{◌≡◌, ◌≢◌, List, ℕ, IfOk, OnErr};
 ghost use Rattle.std.specs.Io.KnownBytes.{Appends, Keeps};
 ghost use Rattle.movie_file.specs.Reading.{movie_at};
-ghost use Rattle.vcs_engine.specs.Conversions.{converted_of, made_in_two};
+ghost use Rattle.vcs_engine.specs.Conversions.{converted_of, made_by_conversion};
 ghost use Rattle.vcs_engine.specs.MakingViews.{made_by};
 ghost use Rattle.vcs_engine.specs.Streams.{ReadsAll, WritesPart, IsTooLong};
 
@@ -17,7 +17,7 @@ use std::io::{Read, Write};
 
 /// What is written of a movie that was converted.
 fn of_converted(alloc: Global, movie: &Movie) -> Result<Making, AllocError>
-    ensures { IfOk result (λ making. made_by making ≡ made_in_two movie.now) }
+    ensures { IfOk result (λ making. made_by making ≡ made_by_conversion movie.now) }
 {
     let frames = movie.frames();
     let checkpoints = movie.checkpoints();
@@ -57,7 +57,7 @@ fn of_bytes(alloc: Global, bytes: &[u8]) -> Result<Making, AllocError>
 /// Reads a movie, and writes the same movie in version 2 and then a line, which ends with a line feed.
 ///
 /// A movie that is refused, or has version 2 already, is a line and `Status::Refused` without a movie. After ReadFault, TooLong
-/// and NoMemory nothing was written; after WriteFault the new movie's writer has got a front of it, and the line's writer a front
+/// and NoMemory nothing was written; after WriteFault the new movie's writer has got a prefix of it, and the line's writer a prefix
 /// of the line only after the whole movie. At most 16,777,218 reads are made.
 pub fn run_convert<R: Read, W: Write, L: Write>(
     alloc: Global,

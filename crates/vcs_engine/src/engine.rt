@@ -19,7 +19,7 @@ use std::thread::Threads;
 /// a genuine movie.
 ///
 /// A movie that is refused is a line and `Status::Refused`. After ReadFault, TooLong, NoMemory and NoThread nothing was written.
-/// After WriteFault the line's writer has got a front of the line, or the whole line and the pictures' writer a front of the
+/// After WriteFault the line's writer has got a prefix of the line, or the whole line and the pictures' writer a prefix of the
 /// pictures. At most 16,777,218 reads are made. With more than one worker it joins the threads that it starts.
 pub fn run<T: Threads + Wait + Sync, R: Read, W: Write, P: Write>(
     rt: &T,

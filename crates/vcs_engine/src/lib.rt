@@ -1,5 +1,5 @@
-//! The engines of the verifier: from the bytes of a movie to its verdict or to what is in it, and from those of a ROM and of inputs to
-//! a movie.
+//! The engines of the verifier: from the bytes of a movie to its verdict, to what is in it or to the same movie in version 2, and from
+//! those of a ROM and of inputs to a movie.
 #![tactic(auto)]
 
 mod converting;

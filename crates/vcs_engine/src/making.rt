@@ -148,7 +148,7 @@ impl Making {
 ///
 /// The ROM is read and checked first; where it is refused the inputs are not read. Inputs or counts that are refused, and a run
 /// that faults, are a line and a status without a movie. After ReadFault, TooLong and NoMemory nothing was written; after
-/// WriteFault the movie's writer has got a front of the movie, and the line's writer a front of the line only after the whole
+/// WriteFault the movie's writer has got a prefix of the movie, and the line's writer a prefix of the line only after the whole
 /// movie. At most 16,777,218 reads of each input are made.
 pub fn run_make<R: Read, S: Read, W: Write, L: Write>(
     alloc: Global,

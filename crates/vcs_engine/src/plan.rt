@@ -5,7 +5,7 @@ use replay_segments::Keep;
 use thiserror::Error;
 use verify_pool::MOST_WORKERS;
 
-/// How a movie is to be judged: by how many workers, 1 to 64, with a cut at each so many checkpoints, at least 1, and which
+/// How a movie is to be judged: by how many workers, 1 to 64, with a cut at every N-th checkpoint, N at least 1, and which
 /// frames' pictures are kept.
 ///
 /// No output shows the workers and the cuts.

@@ -1,5 +1,5 @@
 -- Without banks a frame leaves the bank.
-use Rattle.std.proofs.Common.{◌≡◌, ℕ, ◌<◌, Bool, true, false, List, [], length, refl, ap, ◌∙◌}
+use Rattle.std.proofs.Common.{◌≡◌, ℕ, Bool, true, false, List, [], length, refl, ◌∙◌}
 use Rattle.std.specs.Prelude.{Result, Ok, Err, if◌then◌else◌}
 use Rattle.mos_cpu.specs.Buses.{IsKept}
 use Rattle.mos_cpu.specs.Registers.{Registers}
@@ -12,7 +12,7 @@ use Rattle.riot_map.specs.declared.places.Place.{Place}
 use Rattle.riot_map.specs.declared.places.Place.TheVariants.{Cart, Tia, Ram, Io}
 use Rattle.tia_core.specs.Clock.{Pixel}
 use Rattle.vcs_machine.specs.Consoles.{Console, meaning_of, passed, read_at, written_at, rested, wait_of, console_rules, logged}
-use Rattle.vcs_machine.specs.Frame.{Machine, Stop, Ended, Overlong, Faulted, Went, turn, turn_by, too_many_cycles, stop_of}
+use Rattle.vcs_machine.specs.Frame.{Machine, Stop, Ended, Overlong, Faulted, Went, turn, turn_by, stop_of}
 use Rattle.vcs_machine.specs.Inputs.{Controls}
 use Rattle.vcs_machine.specs.Outcomes.{frame_of, outcome_of, machine_of, left_by}
 use Rattle.vcs_machine.specs.declared.fields.StateFields.{StateFields}

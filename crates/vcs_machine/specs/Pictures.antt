@@ -1,5 +1,5 @@
 -- The picture of a frame: the colour last put at each place, else 0.
-use Rattle.std.specs.Prelude.{ℕ, zero, suc, ◌+◌, ◌/◌, ◌==◌, ◌&&◌, nat_lt, if◌then◌else◌, List, [], ◌∷◌, length, map, replicate, slice_set, slice_index_or}
+use Rattle.std.specs.Prelude.{ℕ, ◌+◌, ◌/◌, ◌==◌, ◌&&◌, nat_lt, if◌then◌else◌, List, [], ◌∷◌, length, map, replicate, slice_set, slice_index_or}
 use Rattle.std.specs.List.{range_with_len}
 use Rattle.tia_core.specs.Clock.{Pixel}
 

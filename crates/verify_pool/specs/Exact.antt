@@ -13,7 +13,7 @@ abbrev pub numbers : List PieceData → List ℕ
 numbers [] = []
 numbers (p ∷ ps) = p.number ∷ numbers ps
 
--- A number is bad unless its segment passed: want of memory is bad too.
+-- A number is bad unless its segment passed: refused memory is bad too.
 abbrev pub if_bad : ℕ → Outcome → List ℕ
 if_bad number (Judged (Genuine frames)) = []
 if_bad number (Judged (FalseCheckpoint checkpoint frame)) = number ∷ []
@@ -25,7 +25,7 @@ abbrev pub bad_numbers : List PieceData → List ℕ
 bad_numbers [] = []
 bad_numbers (p ∷ ps) = if_bad p.number p.outcome ++ bad_numbers ps
 
--- A piece wants memory only where its segment has a kept frame.
+-- Memory is refused to a piece only where its segment has a kept frame.
 abbrev pub WantsMemoryForPictures : PieceData → Type 0
 WantsMemoryForPictures p = p.outcome ≡ NoMemory → HasKept p.job p.number
 

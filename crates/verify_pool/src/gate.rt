@@ -1,7 +1,7 @@
-//! Who is told of a replay.
+//! What is called around each replay.
 
-/// It is told by a worker, on the worker's thread, of each segment that is replayed. Of a segment
-/// that is passed over it is told nothing.
+/// A worker calls it, on the worker's thread, for each segment that it replays, and not for one that
+/// it passes over.
 pub trait Gate {
     /// The worker has drawn this segment, and replays it next.
     fn enter(&self, segment: u32);
