@@ -1,5 +1,5 @@
 -- What an instruction does to the registers, by the MOS MCS6500 programming manual.
-use Rattle.std.specs.Prelude.{ℕ, ◌≡◌, ◌+◌, ◌*◌, ◌%◌, true, false, if◌then◌else◌, List, slice_index}
+use Rattle.std.specs.Prelude.{ℕ, ◌+◌, ◌*◌, ◌%◌, true, false, if◌then◌else◌, List, slice_index}
 use Rattle.mos_cpu.specs.Accesses.{is_taken}
 use Rattle.mos_cpu.specs.Arithmetic.{load_of, and_of, ora_of, eor_of, compare_of, bit_of, asl_of, lsr_of, rol_of, ror_of, inc_of, dec_of}
 use Rattle.mos_cpu.specs.Decimal.{adc_of, sbc_of}
@@ -42,12 +42,6 @@ worked_on (Place address crossed) register bytes = slice_index bytes 0
 -- The number of two bytes that were read, its low one first.
 abbrev pub word_in : List ℕ → ℕ → ℕ
 word_in bytes i = slice_index bytes i + 256 * slice_index bytes (i + 1)
-
--- Two lists have the same first three bytes, where 0 stands for one that is not there. No instruction reads more.
-pub record ShareBytes (bytes others : List ℕ) : Type 0 where
-  pub first : slice_index bytes 0 ≡ slice_index others 0
-  pub second : slice_index bytes 1 ≡ slice_index others 1
-  pub third : slice_index bytes 2 ≡ slice_index others 2
 
 -- Where an operand is.
 abbrev pub target_of : Operand → ℕ

@@ -1,7 +1,8 @@
 //! Where the operand of an instruction is.
 
-ghost use Rattle.std.specs.Prelude.{◌≡◌, ◌+◌, ◌*◌, ◌/◌, ◌%◌, false};
-ghost use Rattle.mos_cpu.specs.Operands.{byte_at, word_at, pointer_at, indexed_by, branch_target, next_in_page_of, named_by};
+ghost use Rattle.std.specs.Prelude.{◌≡◌, ◌+◌, ◌*◌, ◌/◌, ◌%◌, false, IfSome, IfNone, IsErr, Ok};
+ghost use Rattle.mos_cpu.specs.Operands.{byte_at, word_at, operand_word, pointer_at, indexed_by, branch_target, next_in_page_of, named_by};
+ghost use Rattle.mos_cpu.specs.Ways.{IsLow};
 
 use crate::bus::Bus;
 use crate::fault::CpuFault;
@@ -62,7 +63,7 @@ fn branch(base: u16, offset: u8) -> Operand
 /// The next address of the same page, or its first one after its last.
 #[tactic(auto, using(crate::proofs::OperandLemmas::page_next))]
 #[inline(always)]
-fn next_in_page(at: u16) -> u16
+pub fn next_in_page(at: u16) -> u16
     ensures { result ≡ next_in_page_of at }
 {
     at & 0xFF00 | at.wrapping_add(1) & 0xFF
@@ -117,6 +118,18 @@ pub struct Target {
     pub address: u16,
     pub crossed: bool,
     pub next: u16,
+}
+
+/// The number of the two bytes after the opcode. None where one of them isn't there.
+#[inline(always)]
+pub fn word_after<B: Bus>(cpu: &Cpu, bus: &B, low: Option<u8>) -> Option<u16>
+    requires { IsLow B.meaning (B.state bus.now) cpu.now low }
+    ensures some { IfSome result (λ word. operand_word B.meaning (B.state bus.now) cpu.now ≡ Ok word) }
+    ensures none { IfNone result (IsErr (operand_word B.meaning (B.state bus.now) cpu.now)) }
+{
+    let low = low?;
+    let high = bus.peek(cpu.pc.wrapping_add(2))?;
+    Some(u16::from_le_bytes([low, high]))
 }
 
 /// A place with an index added.

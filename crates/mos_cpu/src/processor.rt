@@ -1,342 +1,215 @@
 //! One instruction.
 
-ghost use Rattle.std.specs.Prelude.{◌≡◌, ℕ, ◌≤◌, IfOk, OnErr};
+ghost use Rattle.std.specs.Prelude.{◌≡◌, ℕ, ◌≤◌, IfOk, OnErr, Err, IsErr};
 ghost use Rattle.mos_cpu.specs.Buses.{IsClock};
 ghost use Rattle.mos_cpu.specs.Execution.{step_of};
 ghost use Rattle.mos_cpu.specs.Operands.{decoded};
 ghost use Rattle.mos_cpu.specs.Timing.{KeepsTime};
+ghost use Rattle.mos_cpu.specs.Ways.{IsWay};
 
-use crate::addressing::{branch_by, direct, offset_by, pointer};
+use crate::branches::{Bcc, Bcs, Beq, Bmi, Bne, Bpl, Bvc, Bvs, branch};
 use crate::bus::Bus;
+use crate::changes::{Asl, Dec, Inc, Lsr, Rol, Ror, change, change_a};
 use crate::decode::decode;
-use crate::execute::execute;
 use crate::fault::CpuFault;
-use crate::mode::Mode;
-use crate::opcode_table::{fixed, indexed};
-use crate::operation::Operation;
-use crate::registers::Cpu;
-use crate::usual::{
-    adc_place, adc_value, and_place, and_value, bcc_place, bcs_place, beq_place, bmi_place,
-    bne_place, bpl_place, bvc_place, bvs_place, clc_implied, cmp_place, cmp_value, cpx_value,
-    cpy_value, dec_place, dex_implied, dey_implied, eor_place, eor_value, inc_place, inx_implied,
-    iny_implied, lda_place, lda_value, ldx_place, ldx_value, ldy_place, ldy_value, ora_place,
-    ora_value, sbc_place, sbc_value, sec_implied, sta_place, stx_place, sty_place, tax_implied,
-    tay_implied, txa_implied, tya_implied,
+use crate::implied::{
+    Clc, Cld, Cli, Clv, Dex, Dey, Inx, Iny, Nop, Sec, Sed, Sei, Tax, Tay, Tsx, Txa, Txs, Tya,
+    implied,
 };
+use crate::places::{
+    Absolute, AbsoluteX, AbsoluteY, IndirectX, IndirectY, ZeroPage, ZeroPageX, ZeroPageY,
+};
+use crate::reads::{Adc, And, Bit, Cmp, Cpx, Cpy, Eor, Lda, Ldx, Ldy, Ora, Sbc, read, value};
+use crate::registers::Cpu;
+use crate::stack::{brk, jmp, jmp_indirect, jsr, pha, php, pla, plp, rti, rts};
+use crate::stores::{Sta, Stx, Sty, store};
 
-/// The instruction at the program counter, of any kind.
-#[inline(never)]
-fn step_any<B: Bus>(cpu: &mut Cpu, bus: &mut B) -> Result<u8, CpuFault>
-    ensures { step_of B.meaning cpu.old (B.state bus.old)
-        ≡ record { answer = result; registers = cpu.new; bus = B.state bus.new } }
+/// The instruction at the program counter, by its opcode. None, with nothing done, where it has a
+/// fault.
+#[inline(always)]
+fn run<B: Bus>(cpu: &mut Cpu, bus: &mut B) -> Option<u8>
+    ensures { IsWay B.meaning cpu.old (B.state bus.old) result cpu.new (B.state bus.new) }
 {
-    let instruction = decode(cpu, bus)?;
-    Ok(execute(cpu, bus, instruction))
+    let opcode = bus.peek(cpu.pc)?;
+    let low = bus.peek(cpu.pc.wrapping_add(1));
+    match opcode {
+        0x69 => value::<Adc, B>(cpu, bus, low),
+        0x65 => read::<Adc, ZeroPage, B>(cpu, bus, low),
+        0x75 => read::<Adc, ZeroPageX, B>(cpu, bus, low),
+        0x6D => read::<Adc, Absolute, B>(cpu, bus, low),
+        0x7D => read::<Adc, AbsoluteX, B>(cpu, bus, low),
+        0x79 => read::<Adc, AbsoluteY, B>(cpu, bus, low),
+        0x61 => read::<Adc, IndirectX, B>(cpu, bus, low),
+        0x71 => read::<Adc, IndirectY, B>(cpu, bus, low),
+        0x29 => value::<And, B>(cpu, bus, low),
+        0x25 => read::<And, ZeroPage, B>(cpu, bus, low),
+        0x35 => read::<And, ZeroPageX, B>(cpu, bus, low),
+        0x2D => read::<And, Absolute, B>(cpu, bus, low),
+        0x3D => read::<And, AbsoluteX, B>(cpu, bus, low),
+        0x39 => read::<And, AbsoluteY, B>(cpu, bus, low),
+        0x21 => read::<And, IndirectX, B>(cpu, bus, low),
+        0x31 => read::<And, IndirectY, B>(cpu, bus, low),
+        0xC9 => value::<Cmp, B>(cpu, bus, low),
+        0xC5 => read::<Cmp, ZeroPage, B>(cpu, bus, low),
+        0xD5 => read::<Cmp, ZeroPageX, B>(cpu, bus, low),
+        0xCD => read::<Cmp, Absolute, B>(cpu, bus, low),
+        0xDD => read::<Cmp, AbsoluteX, B>(cpu, bus, low),
+        0xD9 => read::<Cmp, AbsoluteY, B>(cpu, bus, low),
+        0xC1 => read::<Cmp, IndirectX, B>(cpu, bus, low),
+        0xD1 => read::<Cmp, IndirectY, B>(cpu, bus, low),
+        0x49 => value::<Eor, B>(cpu, bus, low),
+        0x45 => read::<Eor, ZeroPage, B>(cpu, bus, low),
+        0x55 => read::<Eor, ZeroPageX, B>(cpu, bus, low),
+        0x4D => read::<Eor, Absolute, B>(cpu, bus, low),
+        0x5D => read::<Eor, AbsoluteX, B>(cpu, bus, low),
+        0x59 => read::<Eor, AbsoluteY, B>(cpu, bus, low),
+        0x41 => read::<Eor, IndirectX, B>(cpu, bus, low),
+        0x51 => read::<Eor, IndirectY, B>(cpu, bus, low),
+        0xA9 => value::<Lda, B>(cpu, bus, low),
+        0xA5 => read::<Lda, ZeroPage, B>(cpu, bus, low),
+        0xB5 => read::<Lda, ZeroPageX, B>(cpu, bus, low),
+        0xAD => read::<Lda, Absolute, B>(cpu, bus, low),
+        0xBD => read::<Lda, AbsoluteX, B>(cpu, bus, low),
+        0xB9 => read::<Lda, AbsoluteY, B>(cpu, bus, low),
+        0xA1 => read::<Lda, IndirectX, B>(cpu, bus, low),
+        0xB1 => read::<Lda, IndirectY, B>(cpu, bus, low),
+        0x09 => value::<Ora, B>(cpu, bus, low),
+        0x05 => read::<Ora, ZeroPage, B>(cpu, bus, low),
+        0x15 => read::<Ora, ZeroPageX, B>(cpu, bus, low),
+        0x0D => read::<Ora, Absolute, B>(cpu, bus, low),
+        0x1D => read::<Ora, AbsoluteX, B>(cpu, bus, low),
+        0x19 => read::<Ora, AbsoluteY, B>(cpu, bus, low),
+        0x01 => read::<Ora, IndirectX, B>(cpu, bus, low),
+        0x11 => read::<Ora, IndirectY, B>(cpu, bus, low),
+        0xE9 => value::<Sbc, B>(cpu, bus, low),
+        0xE5 => read::<Sbc, ZeroPage, B>(cpu, bus, low),
+        0xF5 => read::<Sbc, ZeroPageX, B>(cpu, bus, low),
+        0xED => read::<Sbc, Absolute, B>(cpu, bus, low),
+        0xFD => read::<Sbc, AbsoluteX, B>(cpu, bus, low),
+        0xF9 => read::<Sbc, AbsoluteY, B>(cpu, bus, low),
+        0xE1 => read::<Sbc, IndirectX, B>(cpu, bus, low),
+        0xF1 => read::<Sbc, IndirectY, B>(cpu, bus, low),
+        0x85 => store::<Sta, ZeroPage, B>(cpu, bus, low),
+        0x95 => store::<Sta, ZeroPageX, B>(cpu, bus, low),
+        0x8D => store::<Sta, Absolute, B>(cpu, bus, low),
+        0x9D => store::<Sta, AbsoluteX, B>(cpu, bus, low),
+        0x99 => store::<Sta, AbsoluteY, B>(cpu, bus, low),
+        0x81 => store::<Sta, IndirectX, B>(cpu, bus, low),
+        0x91 => store::<Sta, IndirectY, B>(cpu, bus, low),
+        0x0A => change_a::<Asl, B>(cpu, bus),
+        0x06 => change::<Asl, ZeroPage, B>(cpu, bus, low),
+        0x16 => change::<Asl, ZeroPageX, B>(cpu, bus, low),
+        0x0E => change::<Asl, Absolute, B>(cpu, bus, low),
+        0x1E => change::<Asl, AbsoluteX, B>(cpu, bus, low),
+        0x4A => change_a::<Lsr, B>(cpu, bus),
+        0x46 => change::<Lsr, ZeroPage, B>(cpu, bus, low),
+        0x56 => change::<Lsr, ZeroPageX, B>(cpu, bus, low),
+        0x4E => change::<Lsr, Absolute, B>(cpu, bus, low),
+        0x5E => change::<Lsr, AbsoluteX, B>(cpu, bus, low),
+        0x2A => change_a::<Rol, B>(cpu, bus),
+        0x26 => change::<Rol, ZeroPage, B>(cpu, bus, low),
+        0x36 => change::<Rol, ZeroPageX, B>(cpu, bus, low),
+        0x2E => change::<Rol, Absolute, B>(cpu, bus, low),
+        0x3E => change::<Rol, AbsoluteX, B>(cpu, bus, low),
+        0x6A => change_a::<Ror, B>(cpu, bus),
+        0x66 => change::<Ror, ZeroPage, B>(cpu, bus, low),
+        0x76 => change::<Ror, ZeroPageX, B>(cpu, bus, low),
+        0x6E => change::<Ror, Absolute, B>(cpu, bus, low),
+        0x7E => change::<Ror, AbsoluteX, B>(cpu, bus, low),
+        0xC6 => change::<Dec, ZeroPage, B>(cpu, bus, low),
+        0xD6 => change::<Dec, ZeroPageX, B>(cpu, bus, low),
+        0xCE => change::<Dec, Absolute, B>(cpu, bus, low),
+        0xDE => change::<Dec, AbsoluteX, B>(cpu, bus, low),
+        0xE6 => change::<Inc, ZeroPage, B>(cpu, bus, low),
+        0xF6 => change::<Inc, ZeroPageX, B>(cpu, bus, low),
+        0xEE => change::<Inc, Absolute, B>(cpu, bus, low),
+        0xFE => change::<Inc, AbsoluteX, B>(cpu, bus, low),
+        0xA2 => value::<Ldx, B>(cpu, bus, low),
+        0xA6 => read::<Ldx, ZeroPage, B>(cpu, bus, low),
+        0xB6 => read::<Ldx, ZeroPageY, B>(cpu, bus, low),
+        0xAE => read::<Ldx, Absolute, B>(cpu, bus, low),
+        0xBE => read::<Ldx, AbsoluteY, B>(cpu, bus, low),
+        0xA0 => value::<Ldy, B>(cpu, bus, low),
+        0xA4 => read::<Ldy, ZeroPage, B>(cpu, bus, low),
+        0xB4 => read::<Ldy, ZeroPageX, B>(cpu, bus, low),
+        0xAC => read::<Ldy, Absolute, B>(cpu, bus, low),
+        0xBC => read::<Ldy, AbsoluteX, B>(cpu, bus, low),
+        0x86 => store::<Stx, ZeroPage, B>(cpu, bus, low),
+        0x96 => store::<Stx, ZeroPageY, B>(cpu, bus, low),
+        0x8E => store::<Stx, Absolute, B>(cpu, bus, low),
+        0x84 => store::<Sty, ZeroPage, B>(cpu, bus, low),
+        0x94 => store::<Sty, ZeroPageX, B>(cpu, bus, low),
+        0x8C => store::<Sty, Absolute, B>(cpu, bus, low),
+        0xE0 => value::<Cpx, B>(cpu, bus, low),
+        0xE4 => read::<Cpx, ZeroPage, B>(cpu, bus, low),
+        0xEC => read::<Cpx, Absolute, B>(cpu, bus, low),
+        0xC0 => value::<Cpy, B>(cpu, bus, low),
+        0xC4 => read::<Cpy, ZeroPage, B>(cpu, bus, low),
+        0xCC => read::<Cpy, Absolute, B>(cpu, bus, low),
+        0x24 => read::<Bit, ZeroPage, B>(cpu, bus, low),
+        0x2C => read::<Bit, Absolute, B>(cpu, bus, low),
+        0x4C => jmp(cpu, bus, low),
+        0x6C => jmp_indirect(cpu, bus, low),
+        0x20 => jsr(cpu, bus, low),
+        0x60 => rts(cpu, bus),
+        0x40 => rti(cpu, bus),
+        0x00 => brk(cpu, bus),
+        0x48 => pha(cpu, bus),
+        0x08 => php(cpu, bus),
+        0x68 => pla(cpu, bus),
+        0x28 => plp(cpu, bus),
+        0x10 => branch::<Bpl, B>(cpu, bus, low),
+        0x30 => branch::<Bmi, B>(cpu, bus, low),
+        0x50 => branch::<Bvc, B>(cpu, bus, low),
+        0x70 => branch::<Bvs, B>(cpu, bus, low),
+        0x90 => branch::<Bcc, B>(cpu, bus, low),
+        0xB0 => branch::<Bcs, B>(cpu, bus, low),
+        0xD0 => branch::<Bne, B>(cpu, bus, low),
+        0xF0 => branch::<Beq, B>(cpu, bus, low),
+        0x18 => implied::<Clc, B>(cpu, bus),
+        0x38 => implied::<Sec, B>(cpu, bus),
+        0x58 => implied::<Cli, B>(cpu, bus),
+        0x78 => implied::<Sei, B>(cpu, bus),
+        0xB8 => implied::<Clv, B>(cpu, bus),
+        0xD8 => implied::<Cld, B>(cpu, bus),
+        0xF8 => implied::<Sed, B>(cpu, bus),
+        0xAA => implied::<Tax, B>(cpu, bus),
+        0x8A => implied::<Txa, B>(cpu, bus),
+        0xA8 => implied::<Tay, B>(cpu, bus),
+        0x98 => implied::<Tya, B>(cpu, bus),
+        0xBA => implied::<Tsx, B>(cpu, bus),
+        0x9A => implied::<Txs, B>(cpu, bus),
+        0xE8 => implied::<Inx, B>(cpu, bus),
+        0xCA => implied::<Dex, B>(cpu, bus),
+        0xC8 => implied::<Iny, B>(cpu, bus),
+        0x88 => implied::<Dey, B>(cpu, bus),
+        0xEA => implied::<Nop, B>(cpu, bus),
+        _ => None,
+    }
 }
 
-/// The instruction at the program counter, by the way of its opcode where it is a usual one.
+/// The fault of the instruction at the program counter, which has one.
+#[cold]
+#[inline(never)]
+fn fault<B: Bus>(cpu: &Cpu, bus: &B) -> CpuFault
+    requires { IsErr (decoded B.meaning (B.state bus.now) cpu.now) }
+    ensures { decoded B.meaning (B.state bus.now) cpu.now ≡ Err result }
+{
+    match decode(cpu, bus) {
+        Ok(_) => unreachable!(),
+        Err(fault) => fault,
+    }
+}
+
+/// The instruction at the program counter, or its fault.
 #[inline(always)]
-fn run<B: Bus>(cpu: &mut Cpu, bus: &mut B) -> Result<u8, CpuFault>
+fn execute<B: Bus>(cpu: &mut Cpu, bus: &mut B) -> Result<u8, CpuFault>
     ensures { step_of B.meaning cpu.old (B.state bus.old)
         ≡ record { answer = result; registers = cpu.new; bus = B.state bus.new } }
 {
-    let first = cpu.pc.wrapping_add(1);
-    let second = cpu.pc.wrapping_add(2);
-    let third = cpu.pc.wrapping_add(3);
-    let Some(opcode) = bus.peek(cpu.pc) else {
-        return step_any(cpu, bus);
-    };
-    let Some(low) = bus.peek(first) else {
-        return step_any(cpu, bus);
-    };
-    match opcode {
-        0xA9 => {
-            let row = fixed(Operation::Lda, Mode::Immediate, 2);
-            Ok(lda_value(cpu, bus, row, low, second))
-        }
-        0xA2 => {
-            let row = fixed(Operation::Ldx, Mode::Immediate, 2);
-            Ok(ldx_value(cpu, bus, row, low, second))
-        }
-        0xA0 => {
-            let row = fixed(Operation::Ldy, Mode::Immediate, 2);
-            Ok(ldy_value(cpu, bus, row, low, second))
-        }
-        0xC9 => {
-            let row = fixed(Operation::Cmp, Mode::Immediate, 2);
-            Ok(cmp_value(cpu, bus, row, low, second))
-        }
-        0x29 => {
-            let row = fixed(Operation::And, Mode::Immediate, 2);
-            Ok(and_value(cpu, bus, row, low, second))
-        }
-        0x69 => {
-            let row = fixed(Operation::Adc, Mode::Immediate, 2);
-            Ok(adc_value(cpu, bus, row, low, second))
-        }
-        0xE9 => {
-            let row = fixed(Operation::Sbc, Mode::Immediate, 2);
-            Ok(sbc_value(cpu, bus, row, low, second))
-        }
-        0x09 => {
-            let row = fixed(Operation::Ora, Mode::Immediate, 2);
-            Ok(ora_value(cpu, bus, row, low, second))
-        }
-        0x49 => {
-            let row = fixed(Operation::Eor, Mode::Immediate, 2);
-            Ok(eor_value(cpu, bus, row, low, second))
-        }
-        0xE0 => {
-            let row = fixed(Operation::Cpx, Mode::Immediate, 2);
-            Ok(cpx_value(cpu, bus, row, low, second))
-        }
-        0xC0 => {
-            let row = fixed(Operation::Cpy, Mode::Immediate, 2);
-            Ok(cpy_value(cpu, bus, row, low, second))
-        }
-        0xA5 => {
-            let row = fixed(Operation::Lda, Mode::ZeroPage, 3);
-            let target = direct(low as u16, second);
-            Ok(lda_place(cpu, bus, row, target))
-        }
-        0xA6 => {
-            let row = fixed(Operation::Ldx, Mode::ZeroPage, 3);
-            let target = direct(low as u16, second);
-            Ok(ldx_place(cpu, bus, row, target))
-        }
-        0xA4 => {
-            let row = fixed(Operation::Ldy, Mode::ZeroPage, 3);
-            let target = direct(low as u16, second);
-            Ok(ldy_place(cpu, bus, row, target))
-        }
-        0x85 => {
-            let row = fixed(Operation::Sta, Mode::ZeroPage, 3);
-            let target = direct(low as u16, second);
-            Ok(sta_place(cpu, bus, row, target))
-        }
-        0x86 => {
-            let row = fixed(Operation::Stx, Mode::ZeroPage, 3);
-            let target = direct(low as u16, second);
-            Ok(stx_place(cpu, bus, row, target))
-        }
-        0x84 => {
-            let row = fixed(Operation::Sty, Mode::ZeroPage, 3);
-            let target = direct(low as u16, second);
-            Ok(sty_place(cpu, bus, row, target))
-        }
-        0xC5 => {
-            let row = fixed(Operation::Cmp, Mode::ZeroPage, 3);
-            let target = direct(low as u16, second);
-            Ok(cmp_place(cpu, bus, row, target))
-        }
-        0x65 => {
-            let row = fixed(Operation::Adc, Mode::ZeroPage, 3);
-            let target = direct(low as u16, second);
-            Ok(adc_place(cpu, bus, row, target))
-        }
-        0xE5 => {
-            let row = fixed(Operation::Sbc, Mode::ZeroPage, 3);
-            let target = direct(low as u16, second);
-            Ok(sbc_place(cpu, bus, row, target))
-        }
-        0x25 => {
-            let row = fixed(Operation::And, Mode::ZeroPage, 3);
-            let target = direct(low as u16, second);
-            Ok(and_place(cpu, bus, row, target))
-        }
-        0x05 => {
-            let row = fixed(Operation::Ora, Mode::ZeroPage, 3);
-            let target = direct(low as u16, second);
-            Ok(ora_place(cpu, bus, row, target))
-        }
-        0x45 => {
-            let row = fixed(Operation::Eor, Mode::ZeroPage, 3);
-            let target = direct(low as u16, second);
-            Ok(eor_place(cpu, bus, row, target))
-        }
-        0xC6 => {
-            let row = fixed(Operation::Dec, Mode::ZeroPage, 5);
-            let target = direct(low as u16, second);
-            Ok(dec_place(cpu, bus, row, target))
-        }
-        0xE6 => {
-            let row = fixed(Operation::Inc, Mode::ZeroPage, 5);
-            let target = direct(low as u16, second);
-            Ok(inc_place(cpu, bus, row, target))
-        }
-        0xB5 => {
-            let row = fixed(Operation::Lda, Mode::ZeroPageX, 4);
-            let target = direct(low.wrapping_add(cpu.x) as u16, second);
-            Ok(lda_place(cpu, bus, row, target))
-        }
-        0x95 => {
-            let row = fixed(Operation::Sta, Mode::ZeroPageX, 4);
-            let target = direct(low.wrapping_add(cpu.x) as u16, second);
-            Ok(sta_place(cpu, bus, row, target))
-        }
-        0xAD => {
-            let row = fixed(Operation::Lda, Mode::Absolute, 4);
-            let Some(high) = bus.peek(second) else {
-                return step_any(cpu, bus);
-            };
-            let target = direct(u16::from_le_bytes([low, high]), third);
-            Ok(lda_place(cpu, bus, row, target))
-        }
-        0x8D => {
-            let row = fixed(Operation::Sta, Mode::Absolute, 4);
-            let Some(high) = bus.peek(second) else {
-                return step_any(cpu, bus);
-            };
-            let target = direct(u16::from_le_bytes([low, high]), third);
-            Ok(sta_place(cpu, bus, row, target))
-        }
-        0xAE => {
-            let row = fixed(Operation::Ldx, Mode::Absolute, 4);
-            let Some(high) = bus.peek(second) else {
-                return step_any(cpu, bus);
-            };
-            let target = direct(u16::from_le_bytes([low, high]), third);
-            Ok(ldx_place(cpu, bus, row, target))
-        }
-        0xAC => {
-            let row = fixed(Operation::Ldy, Mode::Absolute, 4);
-            let Some(high) = bus.peek(second) else {
-                return step_any(cpu, bus);
-            };
-            let target = direct(u16::from_le_bytes([low, high]), third);
-            Ok(ldy_place(cpu, bus, row, target))
-        }
-        0xCD => {
-            let row = fixed(Operation::Cmp, Mode::Absolute, 4);
-            let Some(high) = bus.peek(second) else {
-                return step_any(cpu, bus);
-            };
-            let target = direct(u16::from_le_bytes([low, high]), third);
-            Ok(cmp_place(cpu, bus, row, target))
-        }
-        0xBD => {
-            let row = indexed(Operation::Lda, Mode::AbsoluteX, 4);
-            let Some(high) = bus.peek(second) else {
-                return step_any(cpu, bus);
-            };
-            let target = offset_by(u16::from_le_bytes([low, high]), cpu.x as u16, third);
-            Ok(lda_place(cpu, bus, row, target))
-        }
-        0x9D => {
-            let row = fixed(Operation::Sta, Mode::AbsoluteX, 5);
-            let Some(high) = bus.peek(second) else {
-                return step_any(cpu, bus);
-            };
-            let target = offset_by(u16::from_le_bytes([low, high]), cpu.x as u16, third);
-            Ok(sta_place(cpu, bus, row, target))
-        }
-        0xB9 => {
-            let row = indexed(Operation::Lda, Mode::AbsoluteY, 4);
-            let Some(high) = bus.peek(second) else {
-                return step_any(cpu, bus);
-            };
-            let target = offset_by(u16::from_le_bytes([low, high]), cpu.y as u16, third);
-            Ok(lda_place(cpu, bus, row, target))
-        }
-        0x99 => {
-            let row = fixed(Operation::Sta, Mode::AbsoluteY, 5);
-            let Some(high) = bus.peek(second) else {
-                return step_any(cpu, bus);
-            };
-            let target = offset_by(u16::from_le_bytes([low, high]), cpu.y as u16, third);
-            Ok(sta_place(cpu, bus, row, target))
-        }
-        0xB1 => {
-            let row = indexed(Operation::Lda, Mode::IndirectY, 5);
-            let target = offset_by(pointer(bus, low), cpu.y as u16, second);
-            Ok(lda_place(cpu, bus, row, target))
-        }
-        0x91 => {
-            let row = fixed(Operation::Sta, Mode::IndirectY, 6);
-            let target = offset_by(pointer(bus, low), cpu.y as u16, second);
-            Ok(sta_place(cpu, bus, row, target))
-        }
-        0x10 => {
-            let row = fixed(Operation::Bpl, Mode::Relative, 2);
-            let target = branch_by(second, low);
-            Ok(bpl_place(cpu, bus, row, target))
-        }
-        0x30 => {
-            let row = fixed(Operation::Bmi, Mode::Relative, 2);
-            let target = branch_by(second, low);
-            Ok(bmi_place(cpu, bus, row, target))
-        }
-        0x50 => {
-            let row = fixed(Operation::Bvc, Mode::Relative, 2);
-            let target = branch_by(second, low);
-            Ok(bvc_place(cpu, bus, row, target))
-        }
-        0x70 => {
-            let row = fixed(Operation::Bvs, Mode::Relative, 2);
-            let target = branch_by(second, low);
-            Ok(bvs_place(cpu, bus, row, target))
-        }
-        0x90 => {
-            let row = fixed(Operation::Bcc, Mode::Relative, 2);
-            let target = branch_by(second, low);
-            Ok(bcc_place(cpu, bus, row, target))
-        }
-        0xB0 => {
-            let row = fixed(Operation::Bcs, Mode::Relative, 2);
-            let target = branch_by(second, low);
-            Ok(bcs_place(cpu, bus, row, target))
-        }
-        0xD0 => {
-            let row = fixed(Operation::Bne, Mode::Relative, 2);
-            let target = branch_by(second, low);
-            Ok(bne_place(cpu, bus, row, target))
-        }
-        0xF0 => {
-            let row = fixed(Operation::Beq, Mode::Relative, 2);
-            let target = branch_by(second, low);
-            Ok(beq_place(cpu, bus, row, target))
-        }
-        0xCA => {
-            let row = fixed(Operation::Dex, Mode::Implied, 2);
-            Ok(dex_implied(cpu, bus, row, first))
-        }
-        0x88 => {
-            let row = fixed(Operation::Dey, Mode::Implied, 2);
-            Ok(dey_implied(cpu, bus, row, first))
-        }
-        0xE8 => {
-            let row = fixed(Operation::Inx, Mode::Implied, 2);
-            Ok(inx_implied(cpu, bus, row, first))
-        }
-        0xC8 => {
-            let row = fixed(Operation::Iny, Mode::Implied, 2);
-            Ok(iny_implied(cpu, bus, row, first))
-        }
-        0xAA => {
-            let row = fixed(Operation::Tax, Mode::Implied, 2);
-            Ok(tax_implied(cpu, bus, row, first))
-        }
-        0xA8 => {
-            let row = fixed(Operation::Tay, Mode::Implied, 2);
-            Ok(tay_implied(cpu, bus, row, first))
-        }
-        0x8A => {
-            let row = fixed(Operation::Txa, Mode::Implied, 2);
-            Ok(txa_implied(cpu, bus, row, first))
-        }
-        0x98 => {
-            let row = fixed(Operation::Tya, Mode::Implied, 2);
-            Ok(tya_implied(cpu, bus, row, first))
-        }
-        0x18 => {
-            let row = fixed(Operation::Clc, Mode::Implied, 2);
-            Ok(clc_implied(cpu, bus, row, first))
-        }
-        0x38 => {
-            let row = fixed(Operation::Sec, Mode::Implied, 2);
-            Ok(sec_implied(cpu, bus, row, first))
-        }
-        _ => step_any(cpu, bus),
+    match run(cpu, bus) {
+        Some(cycles) => Ok(cycles),
+        None => Err(fault(cpu, bus)),
     }
 }
 
@@ -362,5 +235,5 @@ pub fn step<B: Bus>(cpu: &mut Cpu, bus: &mut B) -> Result<u8, CpuFault>
     ensures times { let start = B.state bus.old in
         IfOk (decoded B.meaning start cpu.old) (KeepsTime B.meaning cpu.old start) }
 {
-    run(cpu, bus)
+    execute(cpu, bus)
 }

@@ -1,0 +1,139 @@
+-- A step where its row and its operand are known, by how the operation uses its operand.
+use Rattle.std.proofs.Common.{◌≡◌, ℕ, ◌+◌, ◌%◌, Bool, true, false, [], Option, Some, None, Result, Ok, Err, refl, rules, arith}
+use Rattle.std.proofs.Math.Nat.{sub-zero}
+use Rattle.std.specs.Prelude.{IsErr, if◌then◌else◌}
+use Rattle.mos_cpu.specs.Accesses.{Held, held, is_taken}
+use Rattle.mos_cpu.specs.Buses.{Meaning}
+use Rattle.mos_cpu.specs.Effects.{changed_of, effect, with_a, with_p, with_pc}
+use Rattle.mos_cpu.specs.Execution.{executed, step_of}
+use Rattle.mos_cpu.specs.Opcodes.{row_of, row_with}
+use Rattle.mos_cpu.specs.Operands.{and_then, byte_at, branch_target, documented, named_by, operand_of, takes_vector, decoded}
+use Rattle.mos_cpu.specs.Registers.{Registers}
+use Rattle.mos_cpu.specs.Ways.{row_here, IsRow, IsLow, IsTarget, IsStep, IsReader, IsStorer, IsChanger, IsBranch, IsInner}
+use Rattle.mos_cpu.specs.declared.addressing.Target.{Target}
+use Rattle.mos_cpu.specs.declared.fault.CpuFault.{CpuFault}
+use Rattle.mos_cpu.specs.declared.opcode_row.Row.{Row}
+use Rattle.mos_cpu.specs.declared.operation.Operation.{Operation}
+use Rattle.mos_cpu.specs.declared.mode.Mode.{Mode}
+use Rattle.mos_cpu.specs.declared.mode.Mode.TheVariants.{Implied, Accumulator, Immediate, Relative}
+use Rattle.mos_cpu.specs.declared.instruction.Operand.{Operand}
+use Rattle.mos_cpu.specs.declared.instruction.Operand.TheVariants.{Register, Value, Place}
+use Rattle.mos_cpu.specs.declared.instruction.Instruction.{Instruction}
+
+-- The third of three steps where the first two give a value.
+chained : {T U : Type 0} (x : Result ℕ CpuFault) (f : ℕ → Result T CpuFault) (g : T → Result U CpuFault) (t : T)
+    → ◌≡◌ {A = Result T CpuFault} (and_then x f) (Ok t) → and_then x (λ n. and_then (f n) g) ≡ g t
+chained (Ok n) f g t e = rw e refl
+chained (Err fault) f g t e = cc
+
+chained-err : {T U : Type 0} (x : Result ℕ CpuFault) (f : ℕ → Result T CpuFault) (g : T → Result U CpuFault) (t : T)
+    → ◌≡◌ {A = Result T CpuFault} (and_then x f) (Ok t) → IsErr (g t) → IsErr (and_then x (λ n. and_then (f n) g))
+chained-err x f g t e h = rw (chained x f g t e) h
+
+-- A chain is a fault where its first part is.
+pub and_then-err : {T U : Type 0} (x : Result T CpuFault) (f : T → Result U CpuFault) → IsErr x → IsErr (and_then x f)
+and_then-err (Ok t) f h = cc
+and_then-err (Err fault) f h = h
+
+module _ {S : Type 0} (m : Meaning S) (r : Registers) (s : S) where
+  pub step_of-operand : (row : Row) (operand : Operand) → ◌≡◌ {A = Result Row CpuFault} (row_here m s r) (Ok row)
+      → ◌≡◌ {A = Result Operand CpuFault} (operand_of m s r row) (Ok operand)
+      → step_of m r s ≡ executed m r s (record { row = row; operand = operand })
+  step_of-operand row operand here named =
+      rw (
+        chained {U = Instruction} (byte_at m s r.pc) (λ opcode. documented (row_of opcode) opcode r.pc)
+            (λ (row : Row). and_then (operand_of m s r row) (λ operand. Ok (record { row = row; operand = operand }))) row here,
+        named,
+      ) refl
+
+  pub step_of-known : (row : Row) (operand : Operand) → ◌≡◌ {A = Result Row CpuFault} (row_here m s r) (Ok row)
+      → takes_vector row.operation ≡ false → ◌≡◌ {A = Result Operand CpuFault} (named_by m s r row.mode) (Ok operand)
+      → step_of m r s ≡ executed m r s (record { row = row; operand = operand })
+  step_of-known row operand here plain named = step_of-operand row operand here (rw (plain, named) refl)
+
+  -- An instruction whose operand is a fault is one.
+  pub decoded-operand_err : (row : Row) → ◌≡◌ {A = Result Row CpuFault} (row_here m s r) (Ok row)
+      → IsErr (operand_of m s r row) → IsErr (decoded m s r)
+  decoded-operand_err row here err =
+      chained-err {U = Instruction} (byte_at m s r.pc) (λ opcode. documented (row_of opcode) opcode r.pc)
+      (λ (row : Row). and_then (operand_of m s r row) (λ operand. Ok (record { row = row; operand = operand }))) row here
+      (and_then-err (operand_of m s r row) _ err)
+
+  pub decoded-err : (row : Row) → ◌≡◌ {A = Result Row CpuFault} (row_here m s r) (Ok row)
+      → takes_vector row.operation ≡ false → IsErr (named_by m s r row.mode) → IsErr (decoded m s r)
+  decoded-err row here plain err = decoded-operand_err row here (rw plain err)
+
+  pub step_of-read : (o : Operation) (mode : Mode) (cycles : ℕ) (crossing : Bool) (t : Target) (n : ℕ)
+      → IsReader o → ◌≡◌ {A = Result Row CpuFault} (row_here m s r) (Ok (row_with o mode cycles crossing))
+      → IsTarget m s r mode t → n ≡ cycles + (if crossing then (if t.crossed then 1 else 0) else 0)
+      → (let reached = m.passed s n in
+      step_of m r s ≡ record {
+        answer = Ok n;
+        registers = effect o (Value (m.read_value reached t.address)) (with_pc r t.next) [];
+        bus = m.passed (m.after_read reached t.address) 0;
+      })
+  step_of-read o mode cycles crossing t n reads here target e =
+      let known = step_of-known (row_with o mode cycles crossing) (Place t.address t.crossed) here reads.plain target.named in
+      rw (known, reads.used, reads.straight, ← target.next, e, reads.same) (search rules)
+
+  pub step_of-value : (o : Operation) (low : ℕ) → IsReader o → IsRow m s r o Immediate 2 false → IsLow m s r (Some low)
+      → IsStep m r s 2 (effect o (Value low) (with_pc r ((r.pc + 2) % 65536)) []) (m.passed s 2)
+  step_of-value o low reads here e =
+      let named : ◌≡◌ {A = Result Operand CpuFault} (named_by m s r Immediate) (Ok (Value low)) = rw e refl in
+      let known = step_of-known (row_with o Immediate 2 false) (Value low) here reads.plain named in
+      rw (known, reads.used, reads.straight) refl
+
+  pub step_of-store : (o : Operation) (what : Held) (mode : Mode) (cycles : ℕ) (t : Target) → IsStorer o what
+      → IsRow m s r o mode cycles false → IsTarget m s r mode t
+      → IsStep m r s cycles (with_pc r t.next) (m.passed (m.after_write (m.passed s cycles) t.address (held what r)) 0)
+  step_of-store o what mode cycles t stores here target =
+      let known = step_of-known (row_with o mode cycles false) (Place t.address t.crossed) here stores.plain target.named in
+      rw (known, stores.used, stores.straight, ← target.next, stores.idle) (search rules)
+
+  pub step_of-change : (o : Operation) (mode : Mode) (reading : ℕ) (t : Target) → IsChanger o
+      → IsRow m s r o mode (reading + 2) false → IsTarget m s r mode t
+      → (let reached = m.passed s reading in
+      let byte = m.read_value reached t.address in
+      let written_back = m.after_write (m.passed (m.after_read reached t.address) 1) t.address byte in
+      let outcome = changed_of o byte r.p in
+      IsStep m r s (reading + 2) (with_p (with_pc r t.next) outcome.p)
+      (m.passed (m.after_write (m.passed written_back 1) t.address outcome.value) 0))
+  step_of-change o mode reading t changes here target =
+      let known = step_of-known (row_with o mode (reading + 2) false) (Place t.address t.crossed) here changes.plain target.named in
+      rw (known, changes.used, changes.straight, ← target.next, changes.in_memory) (search rules)
+
+  pub step_of-change_a : (o : Operation) → IsChanger o → IsRow m s r o Accumulator 2 false
+      → IsStep m r s 2 (with_a (with_pc r ((r.pc + 1) % 65536)) (changed_of o r.a r.p)) (m.passed s 2)
+  step_of-change_a o changes here =
+      let known = step_of-known (row_with o Accumulator 2 false) Register here changes.plain refl in
+      rw (known, changes.used, changes.straight, changes.in_a) refl
+
+  pub step_of-inner : (o : Operation) → IsInner o → IsRow m s r o Implied 2 false
+      → IsStep m r s 2 (effect o Register (with_pc r ((r.pc + 1) % 65536)) []) (m.passed s 2)
+  step_of-inner o inner here =
+      let known = step_of-known (row_with o Implied 2 false) Register here inner.plain refl in
+      rw (known, inner.used, inner.straight) refl
+
+  branch_named : (low : ℕ) → IsLow m s r (Some low)
+      → ◌≡◌ {A = Result Operand CpuFault} (named_by m s r Relative) (Ok (branch_target ((r.pc + 2) % 65536) low))
+  branch_named low e = rw e refl
+
+  pub step_of-taken : (o : Operation) (low : ℕ) (t : Target) (cycles : ℕ) → cycles ≡ 3 + (if t.crossed then 1 else 0) → IsBranch o → IsRow m s r o Relative 2 false → IsLow m s r (Some low)
+      → Place t.address t.crossed ≡ branch_target ((r.pc + 2) % 65536) low → is_taken o r.p ≡ true
+      → IsStep m r s cycles (with_pc r t.address) (m.passed s cycles)
+  step_of-taken o low t cycles sum goes here e place taken =
+      let named = rw (← place) at (branch_named low e) in
+      let known = step_of-known (row_with o Relative 2 false) (Place t.address t.crossed) here goes.plain named in
+      let sum : 2 + (1 + (if t.crossed then 1 else 0)) ≡ cycles = omega arith in
+      rw (known, goes.used, goes.goes, taken, sum, sub-zero cycles) refl
+
+  pub step_of-straight : (o : Operation) (low : ℕ) → IsBranch o → IsRow m s r o Relative 2 false → IsLow m s r (Some low)
+      → is_taken o r.p ≡ false → IsStep m r s 2 (with_pc r ((r.pc + 2) % 65536)) (m.passed s 2)
+  step_of-straight o low goes here e straight =
+      let known = step_of-known (row_with o Relative 2 false) (branch_target ((r.pc + 2) % 65536) low) here goes.plain (branch_named low e) in
+      rw (known, goes.used, goes.goes, straight) refl
+
+  -- An instruction whose opcode is none of the table is a fault.
+  pub decoded-unknown : (opcode : ℕ) → m.peeked s r.pc ≡ Some opcode → ◌≡◌ {A = Option Row} None (row_of opcode)
+      → IsErr (decoded m s r)
+  decoded-unknown opcode e absent = rw (e, ← absent) refl

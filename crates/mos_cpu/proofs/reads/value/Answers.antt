@@ -1,0 +1,8 @@
+use Rattle.std.proofs.Common.{rules}
+use Rattle.mos_cpu.proofs.WayLemmas.{step_of-value}
+use Rattle.mos_cpu.proofs.reads.value.Goals as goal
+
+pub returns : goal.returns
+returns g c =
+    let step = step_of-value g.B.Bus.meaning c.args.cpu.now (g.B.Bus.state c.args.bus.now) g.O.Reader.operation c.in_ok-m.m g.met.O.Reader.reads c.requires.row (search rules) in
+    rw step (search rules)

@@ -1,0 +1,12 @@
+use Rattle.std.proofs.Common.{rules, false, refl}
+use Rattle.mos_cpu.specs.Opcodes.{row_with}
+use Rattle.mos_cpu.specs.declared.operation.Operation.TheVariants.{Php}
+use Rattle.mos_cpu.specs.declared.mode.Mode.TheVariants.{Implied}
+use Rattle.mos_cpu.specs.declared.instruction.Operand.TheVariants.{Register}
+use Rattle.mos_cpu.proofs.WayLemmas.{step_of-known}
+use Rattle.mos_cpu.proofs.stack.php.Goals as goal
+
+pub returns : goal.returns
+returns g c =
+    let step = step_of-known g.B.Bus.meaning c.args.cpu.now (g.B.Bus.state c.args.bus.now) (row_with Php Implied 3 false) Register c.requires refl refl in
+    rw step (search rules)

@@ -1,0 +1,151 @@
+//! Branches, each a type of its own.
+
+ghost use Rattle.std.specs.Prelude.{◌≡◌, false, refl};
+ghost use Rattle.mos_cpu.specs.Accesses.{is_taken};
+ghost use Rattle.mos_cpu.specs.declared.operation.Operation.{Operation};
+ghost use Rattle.mos_cpu.specs.Ways.{IsBranch, IsRow, IsLow, IsWay};
+
+use crate::addressing::branch_by;
+use crate::bus::Bus;
+use crate::mode::Mode;
+use crate::operation::Operation;
+use crate::registers::Cpu;
+use crate::status::{Flag, has};
+
+/// A branch.
+pub trait Conditional {
+    ghost operation: { Operation };
+
+    /// Whether it is taken at a status.
+    fn is_taken(p: u8) -> bool
+        ensures { result ≡ is_taken operation p };
+
+    ghost goes: { IsBranch operation };
+}
+
+pub struct Bcc;
+
+impl Conditional for Bcc {
+    ghost operation = { Operation.Bcc };
+
+    ghost goes = { record { used = refl; plain = refl; goes = λ _ _ _. refl } };
+
+    #[inline(always)]
+    fn is_taken(p: u8) -> bool {
+        !has(p, Flag::Carry)
+    }
+}
+
+pub struct Bcs;
+
+impl Conditional for Bcs {
+    ghost operation = { Operation.Bcs };
+
+    ghost goes = { record { used = refl; plain = refl; goes = λ _ _ _. refl } };
+
+    #[inline(always)]
+    fn is_taken(p: u8) -> bool {
+        has(p, Flag::Carry)
+    }
+}
+
+pub struct Beq;
+
+impl Conditional for Beq {
+    ghost operation = { Operation.Beq };
+
+    ghost goes = { record { used = refl; plain = refl; goes = λ _ _ _. refl } };
+
+    #[inline(always)]
+    fn is_taken(p: u8) -> bool {
+        has(p, Flag::Zero)
+    }
+}
+
+pub struct Bmi;
+
+impl Conditional for Bmi {
+    ghost operation = { Operation.Bmi };
+
+    ghost goes = { record { used = refl; plain = refl; goes = λ _ _ _. refl } };
+
+    #[inline(always)]
+    fn is_taken(p: u8) -> bool {
+        has(p, Flag::Negative)
+    }
+}
+
+pub struct Bne;
+
+impl Conditional for Bne {
+    ghost operation = { Operation.Bne };
+
+    ghost goes = { record { used = refl; plain = refl; goes = λ _ _ _. refl } };
+
+    #[inline(always)]
+    fn is_taken(p: u8) -> bool {
+        !has(p, Flag::Zero)
+    }
+}
+
+pub struct Bpl;
+
+impl Conditional for Bpl {
+    ghost operation = { Operation.Bpl };
+
+    ghost goes = { record { used = refl; plain = refl; goes = λ _ _ _. refl } };
+
+    #[inline(always)]
+    fn is_taken(p: u8) -> bool {
+        !has(p, Flag::Negative)
+    }
+}
+
+pub struct Bvc;
+
+impl Conditional for Bvc {
+    ghost operation = { Operation.Bvc };
+
+    ghost goes = { record { used = refl; plain = refl; goes = λ _ _ _. refl } };
+
+    #[inline(always)]
+    fn is_taken(p: u8) -> bool {
+        !has(p, Flag::Overflow)
+    }
+}
+
+pub struct Bvs;
+
+impl Conditional for Bvs {
+    ghost operation = { Operation.Bvs };
+
+    ghost goes = { record { used = refl; plain = refl; goes = λ _ _ _. refl } };
+
+    #[inline(always)]
+    fn is_taken(p: u8) -> bool {
+        has(p, Flag::Overflow)
+    }
+}
+
+/// A branch by the byte after the opcode. Where it is taken it has one cycle more, and where its
+/// target is on another page than the next instruction, two.
+#[inline(always)]
+pub fn branch<O: Conditional, B: Bus>(cpu: &mut Cpu, bus: &mut B, low: Option<u8>) -> Option<u8>
+    requires row { IsRow B.meaning (B.state bus.old) cpu.old O.operation Mode.Relative 2 false }
+    requires low { IsLow B.meaning (B.state bus.old) cpu.old low }
+    ensures { IsWay B.meaning cpu.old (B.state bus.old) result cpu.new (B.state bus.new) }
+{
+    let offset = low?;
+    let next = cpu.pc.wrapping_add(2);
+    if O::is_taken(cpu.p) {
+        let target = branch_by(next, offset);
+        let cycles = 3 + u8::from(target.crossed);
+        cpu.set_pc(target.address);
+        bus.pass(cycles);
+        Some(cycles)
+    } else {
+        cpu.set_pc(next);
+        bus.pass(2);
+        Some(2)
+    }
+}

@@ -1,0 +1,222 @@
+//! Operations that read a byte, each a type of its own.
+
+ghost use Rattle.std.specs.Prelude.{◌≡◌, ◌+◌, [], false, refl};
+ghost use Rattle.mos_cpu.specs.Effects.{effect};
+ghost use Rattle.mos_cpu.specs.declared.operation.Operation.{Operation};
+ghost use Rattle.mos_cpu.specs.Ways.{IsReader, IsRow, IsLow, IsWay};
+
+use crate::addressing::Target;
+use crate::arithmetic::{and, bit, compare, eor, load, ora};
+use crate::bus::Bus;
+use crate::instruction::Operand;
+use crate::mode::Mode;
+use crate::operation::Operation;
+use crate::places::PlaceMode;
+use crate::registers::Cpu;
+use crate::sums::{adc, sbc};
+
+/// An operation that reads a byte.
+pub trait Reader {
+    ghost operation: { Operation };
+
+    /// What it does to the registers with a byte.
+    fn take(cpu: &mut Cpu, m: u8)
+        ensures { cpu.new ≡ effect operation (Operand.Value m) cpu.old [] };
+
+    ghost reads: { IsReader operation };
+}
+
+pub struct Adc;
+
+impl Reader for Adc {
+    ghost operation = { Operation.Adc };
+
+    ghost reads = { record { used = refl; straight = refl; plain = refl; same = λ _ _ _ _. refl } };
+
+    #[inline(always)]
+    fn take(cpu: &mut Cpu, m: u8) {
+        cpu.set_a(adc(cpu.a, m, cpu.p));
+    }
+}
+
+pub struct And;
+
+impl Reader for And {
+    ghost operation = { Operation.And };
+
+    ghost reads = { record { used = refl; straight = refl; plain = refl; same = λ _ _ _ _. refl } };
+
+    #[inline(always)]
+    fn take(cpu: &mut Cpu, m: u8) {
+        cpu.set_a(and(cpu.a, m, cpu.p));
+    }
+}
+
+pub struct Bit;
+
+impl Reader for Bit {
+    ghost operation = { Operation.Bit };
+
+    ghost reads = { record { used = refl; straight = refl; plain = refl; same = λ _ _ _ _. refl } };
+
+    #[inline(always)]
+    fn take(cpu: &mut Cpu, m: u8) {
+        cpu.set_p(bit(cpu.a, m, cpu.p).p);
+    }
+}
+
+pub struct Cmp;
+
+impl Reader for Cmp {
+    ghost operation = { Operation.Cmp };
+
+    ghost reads = { record { used = refl; straight = refl; plain = refl; same = λ _ _ _ _. refl } };
+
+    #[inline(always)]
+    fn take(cpu: &mut Cpu, m: u8) {
+        cpu.set_p(compare(cpu.a, m, cpu.p).p);
+    }
+}
+
+pub struct Cpx;
+
+impl Reader for Cpx {
+    ghost operation = { Operation.Cpx };
+
+    ghost reads = { record { used = refl; straight = refl; plain = refl; same = λ _ _ _ _. refl } };
+
+    #[inline(always)]
+    fn take(cpu: &mut Cpu, m: u8) {
+        cpu.set_p(compare(cpu.x, m, cpu.p).p);
+    }
+}
+
+pub struct Cpy;
+
+impl Reader for Cpy {
+    ghost operation = { Operation.Cpy };
+
+    ghost reads = { record { used = refl; straight = refl; plain = refl; same = λ _ _ _ _. refl } };
+
+    #[inline(always)]
+    fn take(cpu: &mut Cpu, m: u8) {
+        cpu.set_p(compare(cpu.y, m, cpu.p).p);
+    }
+}
+
+pub struct Eor;
+
+impl Reader for Eor {
+    ghost operation = { Operation.Eor };
+
+    ghost reads = { record { used = refl; straight = refl; plain = refl; same = λ _ _ _ _. refl } };
+
+    #[inline(always)]
+    fn take(cpu: &mut Cpu, m: u8) {
+        cpu.set_a(eor(cpu.a, m, cpu.p));
+    }
+}
+
+pub struct Lda;
+
+impl Reader for Lda {
+    ghost operation = { Operation.Lda };
+
+    ghost reads = { record { used = refl; straight = refl; plain = refl; same = λ _ _ _ _. refl } };
+
+    #[inline(always)]
+    fn take(cpu: &mut Cpu, m: u8) {
+        cpu.set_a(load(m, cpu.p));
+    }
+}
+
+pub struct Ldx;
+
+impl Reader for Ldx {
+    ghost operation = { Operation.Ldx };
+
+    ghost reads = { record { used = refl; straight = refl; plain = refl; same = λ _ _ _ _. refl } };
+
+    #[inline(always)]
+    fn take(cpu: &mut Cpu, m: u8) {
+        cpu.set_x(load(m, cpu.p));
+    }
+}
+
+pub struct Ldy;
+
+impl Reader for Ldy {
+    ghost operation = { Operation.Ldy };
+
+    ghost reads = { record { used = refl; straight = refl; plain = refl; same = λ _ _ _ _. refl } };
+
+    #[inline(always)]
+    fn take(cpu: &mut Cpu, m: u8) {
+        cpu.set_y(load(m, cpu.p));
+    }
+}
+
+pub struct Ora;
+
+impl Reader for Ora {
+    ghost operation = { Operation.Ora };
+
+    ghost reads = { record { used = refl; straight = refl; plain = refl; same = λ _ _ _ _. refl } };
+
+    #[inline(always)]
+    fn take(cpu: &mut Cpu, m: u8) {
+        cpu.set_a(ora(cpu.a, m, cpu.p));
+    }
+}
+
+pub struct Sbc;
+
+impl Reader for Sbc {
+    ghost operation = { Operation.Sbc };
+
+    ghost reads = { record { used = refl; straight = refl; plain = refl; same = λ _ _ _ _. refl } };
+
+    #[inline(always)]
+    fn take(cpu: &mut Cpu, m: u8) {
+        cpu.set_a(sbc(cpu.a, m, cpu.p));
+    }
+}
+
+/// An operation with the byte of a place, which is read in the last cycle.
+#[inline(always)]
+pub fn read<O: Reader, M: PlaceMode, B: Bus>(
+    cpu: &mut Cpu,
+    bus: &mut B,
+    low: Option<u8>,
+) -> Option<u8>
+    requires row { IsRow B.meaning (B.state bus.old) cpu.old O.operation M.mode M.CYCLES M.INDEXED }
+    requires low { IsLow B.meaning (B.state bus.old) cpu.old low }
+    ensures { IsWay B.meaning cpu.old (B.state bus.old) result cpu.new (B.state bus.new) }
+{
+    let Target {
+        address,
+        crossed,
+        next,
+    } = M::target(cpu, bus, low)?;
+    let cycles = M::CYCLES + u8::from(M::INDEXED & crossed);
+    cpu.set_pc(next);
+    bus.pass(cycles);
+    let m = bus.read(address);
+    bus.pass(0);
+    O::take(cpu, m);
+    Some(cycles)
+}
+
+/// An operation with the byte after the opcode.
+#[inline(always)]
+pub fn value<O: Reader, B: Bus>(cpu: &mut Cpu, bus: &mut B, low: Option<u8>) -> Option<u8>
+    requires row { IsRow B.meaning (B.state bus.old) cpu.old O.operation Mode.Immediate 2 false }
+    requires low { IsLow B.meaning (B.state bus.old) cpu.old low }
+    ensures { IsWay B.meaning cpu.old (B.state bus.old) result cpu.new (B.state bus.new) }
+{
+    let m = low?;
+    cpu.set_pc(cpu.pc.wrapping_add(2));
+    bus.pass(2);
+    O::take(cpu, m);
+    Some(2)
+}

@@ -1,0 +1,191 @@
+//! Jumps, and operations of the stack, which is page 1.
+
+ghost use Rattle.std.specs.Prelude.{◌≡◌, ◌+◌, false};
+ghost use Rattle.mos_cpu.specs.Registers.{after_pushes, after_pulls};
+ghost use Rattle.mos_cpu.specs.Ways.{IsRow, IsLow, IsWay};
+
+use crate::addressing::{next_in_page, word_after};
+use crate::arithmetic::load;
+use crate::bus::Bus;
+use crate::mode::Mode;
+use crate::operation::Operation;
+use crate::registers::Cpu;
+use crate::status::{Flag, pulled_status, pushed_status, with_flag};
+
+/// Where the n-th push goes, counted from 0.
+#[inline(always)]
+fn pushed_at(s: u8, n: u8) -> u16
+    ensures { result ≡ 256 + after_pushes s n }
+{
+    0x100 + s.wrapping_sub(n) as u16
+}
+
+/// Where the n-th pull comes from, counted from 1.
+#[inline(always)]
+fn pulled_at(s: u8, n: u8) -> u16
+    ensures { result ≡ 256 + after_pulls s n }
+{
+    0x100 + s.wrapping_add(n) as u16
+}
+
+/// JMP to the address after the opcode.
+#[inline(always)]
+pub fn jmp<B: Bus>(cpu: &mut Cpu, bus: &mut B, low: Option<u8>) -> Option<u8>
+    requires row { IsRow B.meaning (B.state bus.old) cpu.old Operation.Jmp Mode.Absolute 3 false }
+    requires low { IsLow B.meaning (B.state bus.old) cpu.old low }
+    ensures { IsWay B.meaning cpu.old (B.state bus.old) result cpu.new (B.state bus.new) }
+{
+    let target = word_after(cpu, bus, low)?;
+    cpu.set_pc(target);
+    bus.pass(3);
+    Some(3)
+}
+
+/// JSR: pushes the address of its last byte, high byte first, and jumps.
+#[inline(always)]
+pub fn jsr<B: Bus>(cpu: &mut Cpu, bus: &mut B, low: Option<u8>) -> Option<u8>
+    requires row { IsRow B.meaning (B.state bus.old) cpu.old Operation.Jsr Mode.Absolute 6 false }
+    requires low { IsLow B.meaning (B.state bus.old) cpu.old low }
+    ensures { IsWay B.meaning cpu.old (B.state bus.old) result cpu.new (B.state bus.new) }
+{
+    let target = word_after(cpu, bus, low)?;
+    let [return_low, return_high] = cpu.pc.wrapping_add(2).to_le_bytes();
+    bus.pass(4);
+    bus.write(pushed_at(cpu.s, 0), return_high);
+    bus.pass(1);
+    bus.write(pushed_at(cpu.s, 1), return_low);
+    bus.pass(1);
+    cpu.set_s(cpu.s.wrapping_sub(2));
+    cpu.set_pc(target);
+    Some(6)
+}
+
+/// RTS: pulls an address, and goes to the one after it.
+#[inline(always)]
+pub fn rts<B: Bus>(cpu: &mut Cpu, bus: &mut B) -> Option<u8>
+    requires { IsRow B.meaning (B.state bus.old) cpu.old Operation.Rts Mode.Implied 6 false }
+    ensures { IsWay B.meaning cpu.old (B.state bus.old) result cpu.new (B.state bus.new) }
+{
+    bus.pass(4);
+    let low = bus.read(pulled_at(cpu.s, 1));
+    bus.pass(1);
+    let high = bus.read(pulled_at(cpu.s, 2));
+    bus.pass(1);
+    cpu.set_s(cpu.s.wrapping_add(2));
+    cpu.set_pc(u16::from_le_bytes([low, high]).wrapping_add(1));
+    Some(6)
+}
+
+/// PHA: pushes A.
+#[inline(always)]
+pub fn pha<B: Bus>(cpu: &mut Cpu, bus: &mut B) -> Option<u8>
+    requires { IsRow B.meaning (B.state bus.old) cpu.old Operation.Pha Mode.Implied 3 false }
+    ensures { IsWay B.meaning cpu.old (B.state bus.old) result cpu.new (B.state bus.new) }
+{
+    bus.pass(3);
+    bus.write(pushed_at(cpu.s, 0), cpu.a);
+    bus.pass(0);
+    cpu.set_s(cpu.s.wrapping_sub(1));
+    cpu.set_pc(cpu.pc.wrapping_add(1));
+    Some(3)
+}
+
+/// PLA: pulls A, with N and Z.
+#[inline(always)]
+pub fn pla<B: Bus>(cpu: &mut Cpu, bus: &mut B) -> Option<u8>
+    requires { IsRow B.meaning (B.state bus.old) cpu.old Operation.Pla Mode.Implied 4 false }
+    ensures { IsWay B.meaning cpu.old (B.state bus.old) result cpu.new (B.state bus.new) }
+{
+    bus.pass(4);
+    let byte = bus.read(pulled_at(cpu.s, 1));
+    bus.pass(0);
+    cpu.set_s(cpu.s.wrapping_add(1));
+    cpu.set_a(load(byte, cpu.p));
+    cpu.set_pc(cpu.pc.wrapping_add(1));
+    Some(4)
+}
+
+/// PHP: pushes the status, with bits 5 and 4 set.
+#[inline(always)]
+pub fn php<B: Bus>(cpu: &mut Cpu, bus: &mut B) -> Option<u8>
+    requires { IsRow B.meaning (B.state bus.old) cpu.old Operation.Php Mode.Implied 3 false }
+    ensures { IsWay B.meaning cpu.old (B.state bus.old) result cpu.new (B.state bus.new) }
+{
+    bus.pass(3);
+    bus.write(pushed_at(cpu.s, 0), pushed_status(cpu.p));
+    bus.pass(0);
+    cpu.set_s(cpu.s.wrapping_sub(1));
+    cpu.set_pc(cpu.pc.wrapping_add(1));
+    Some(3)
+}
+
+/// PLP: pulls the status.
+#[inline(always)]
+pub fn plp<B: Bus>(cpu: &mut Cpu, bus: &mut B) -> Option<u8>
+    requires { IsRow B.meaning (B.state bus.old) cpu.old Operation.Plp Mode.Implied 4 false }
+    ensures { IsWay B.meaning cpu.old (B.state bus.old) result cpu.new (B.state bus.new) }
+{
+    bus.pass(4);
+    let byte = bus.read(pulled_at(cpu.s, 1));
+    bus.pass(0);
+    cpu.set_s(cpu.s.wrapping_add(1));
+    cpu.set_p(pulled_status(byte));
+    cpu.set_pc(cpu.pc.wrapping_add(1));
+    Some(4)
+}
+
+/// RTI: pulls the status and an address, and goes there.
+#[inline(always)]
+pub fn rti<B: Bus>(cpu: &mut Cpu, bus: &mut B) -> Option<u8>
+    requires { IsRow B.meaning (B.state bus.old) cpu.old Operation.Rti Mode.Implied 6 false }
+    ensures { IsWay B.meaning cpu.old (B.state bus.old) result cpu.new (B.state bus.new) }
+{
+    bus.pass(4);
+    let status = bus.read(pulled_at(cpu.s, 1));
+    bus.pass(1);
+    let low = bus.read(pulled_at(cpu.s, 2));
+    bus.pass(1);
+    let high = bus.read(pulled_at(cpu.s, 3));
+    bus.pass(0);
+    cpu.set_s(cpu.s.wrapping_add(3));
+    cpu.set_p(pulled_status(status));
+    cpu.set_pc(u16::from_le_bytes([low, high]));
+    Some(6)
+}
+
+/// BRK: pushes the address two bytes on and the status, sets I, and goes where the vector says.
+#[inline(always)]
+pub fn brk<B: Bus>(cpu: &mut Cpu, bus: &mut B) -> Option<u8>
+    requires { IsRow B.meaning (B.state bus.old) cpu.old Operation.Brk Mode.Implied 7 false }
+    ensures { IsWay B.meaning cpu.old (B.state bus.old) result cpu.new (B.state bus.new) }
+{
+    let low = bus.peek(0xFFFE)?;
+    let high = bus.peek(0xFFFF)?;
+    let [return_low, return_high] = cpu.pc.wrapping_add(2).to_le_bytes();
+    bus.pass(3);
+    bus.write(pushed_at(cpu.s, 0), return_high);
+    bus.pass(1);
+    bus.write(pushed_at(cpu.s, 1), return_low);
+    bus.pass(1);
+    bus.write(pushed_at(cpu.s, 2), pushed_status(cpu.p));
+    bus.pass(2);
+    cpu.set_s(cpu.s.wrapping_sub(3));
+    cpu.set_p(with_flag(cpu.p, Flag::Interrupt, true));
+    cpu.set_pc(u16::from_le_bytes([low, high]));
+    Some(7)
+}
+
+/// JMP to the address that stands at the one after the opcode.
+#[inline(always)]
+pub fn jmp_indirect<B: Bus>(cpu: &mut Cpu, bus: &mut B, low: Option<u8>) -> Option<u8>
+    requires row { IsRow B.meaning (B.state bus.old) cpu.old Operation.Jmp Mode.Indirect 5 false }
+    requires low { IsLow B.meaning (B.state bus.old) cpu.old low }
+    ensures { IsWay B.meaning cpu.old (B.state bus.old) result cpu.new (B.state bus.new) }
+{
+    let at = word_after(cpu, bus, low)?;
+    let target_low = bus.peek(at)?;
+    let target_high = bus.peek(next_in_page(at))?;
+    cpu.set_pc(u16::from_le_bytes([target_low, target_high]));
+    bus.pass(5);
+    Some(5)
+}
