@@ -1,0 +1,124 @@
+//! What the program's commands do, over bytes in place of files.
+
+use crate::failure::{Failure, right};
+use crate::movies::{CONVERTED_LENGTH, LENGTH, converted, two_frames, two_frames_to_the_end};
+use replay_segments::Keep;
+use std::alloc::Global;
+use std::sync::Wait;
+use std::thread::Threads;
+use vcs_engine::{Plan, RunError, Status, run, run_convert, run_info, run_make};
+
+/// The room for a line.
+const ROOM: usize = 64;
+
+/// The length of two pictures of one row: P6, 160 1, 255, and three bytes for each of 160 pixels.
+const PICTURES: usize = 2 * (13 + 480);
+
+/// The failure after an error. But for a failed write, nothing may be written.
+fn failed(error: RunError, is_untouched: bool) -> Failure {
+    if is_untouched || error == RunError::WriteFault {
+        Failure::Run(error)
+    } else {
+        Failure::Wrong
+    }
+}
+
+/// Two frames judged by so many workers, with a cut after the first, and their pictures.
+pub(crate) fn is_judged<R: Threads + Wait + Sync>(
+    rt: &R,
+    alloc: Global,
+    workers: u8,
+) -> Result<(), Failure> {
+    let plan = Plan::new(workers, 1, Keep::new(1, 2)?)?;
+    let mut line = [0u8; ROOM];
+    let mut pictures = [0u8; PICTURES];
+    let mut line_left = line.as_mut_slice();
+    let mut pictures_left = pictures.as_mut_slice();
+    let answer = run(
+        rt,
+        alloc,
+        &mut two_frames().as_slice(),
+        &plan,
+        &mut line_left,
+        &mut pictures_left,
+    );
+    let is_untouched = line_left.len() == ROOM && pictures_left.len() == PICTURES;
+    let is_whole = pictures_left.is_empty() && line_left.len() == ROOM - 33;
+    match answer {
+        Ok(status) => right(
+            status == Status::Done
+                && is_whole
+                && line.starts_with(b"genuine: 2 frames, 1 checkpoints\n"),
+        ),
+        Err(error) => Err(failed(error, is_untouched)),
+    }
+}
+
+/// A movie with a checkpoint at every two frames, byte by byte.
+pub(crate) fn is_made(alloc: Global) -> Result<(), Failure> {
+    let wanted = two_frames_to_the_end();
+    let mut movie = [0u8; LENGTH];
+    let mut line = [0u8; ROOM];
+    let mut movie_left = movie.as_mut_slice();
+    let mut line_left = line.as_mut_slice();
+    let answer = run_make(
+        alloc,
+        &mut &wanted[14..2062],
+        &mut &wanted[2249..2255],
+        2,
+        &mut movie_left,
+        &mut line_left,
+    );
+    let is_untouched = movie_left.len() == LENGTH && line_left.len() == ROOM;
+    let is_whole = movie_left.is_empty() && line_left.len() == ROOM - 30;
+    match answer {
+        Ok(status) => right(
+            status == Status::Done
+                && is_whole
+                && movie == wanted
+                && line.starts_with(b"made: 2 frames, 1 checkpoints\n"),
+        ),
+        Err(error) => Err(failed(error, is_untouched)),
+    }
+}
+
+pub(crate) fn is_told(alloc: Global) -> Result<(), Failure> {
+    let mut line = [0u8; ROOM];
+    let mut left = line.as_mut_slice();
+    let answer = run_info(alloc, &mut two_frames().as_slice(), &mut left);
+    let is_untouched = left.len() == ROOM;
+    let is_whole = left.len() == ROOM - 58;
+    match answer {
+        Ok(status) => right(
+            status == Status::Done
+                && is_whole
+                && line.starts_with(b"movie: version 1, cartridge 2048, 2 frames, 1 checkpoints\n"),
+        ),
+        Err(error) => Err(failed(error, is_untouched)),
+    }
+}
+
+/// The movie of two frames in version 2, byte by byte.
+pub(crate) fn is_converted(alloc: Global) -> Result<(), Failure> {
+    let mut movie = [0u8; CONVERTED_LENGTH];
+    let mut line = [0u8; ROOM];
+    let mut movie_left = movie.as_mut_slice();
+    let mut line_left = line.as_mut_slice();
+    let answer = run_convert(
+        alloc,
+        &mut two_frames().as_slice(),
+        &mut movie_left,
+        &mut line_left,
+    );
+    let is_untouched = movie_left.len() == CONVERTED_LENGTH && line_left.len() == ROOM;
+    let is_whole = movie_left.is_empty() && line_left.len() == ROOM - 35;
+    match answer {
+        Ok(status) => right(
+            status == Status::Done
+                && is_whole
+                && movie == converted()
+                && line.starts_with(b"converted: 2 frames, 1 checkpoints\n"),
+        ),
+        Err(error) => Err(failed(error, is_untouched)),
+    }
+}

@@ -1,0 +1,106 @@
+//! A program that tries each call which takes memory, reads or writes: with memory enough, or with one growth of memory refused.
+//!
+//! Each line of standard input names a call, and is answered by a line: the call is right, or failed with out of memory or another
+//! error, or is wrong, which means any other value, or something written where nothing was to be.
+//!
+//! A line `CALL N` is for a process whose thousandth growth is refused (`rt try --fail-alloc 1000`). The program makes so many
+//! growths before the call that it is the call's N-th one, and says whether the call came so far. `ci/refused-growths` walks
+//! through N. Without N, and where nothing is refused, each call has to be right; `ci/wrong-bodies` has bodies that keep their
+//! contracts and are not.
+#![tactic(auto)]
+
+mod engine;
+mod failure;
+mod movies;
+mod segments;
+mod workers;
+
+use failure::Failure;
+use std::alloc::Global;
+use std::io::{self, Print, Read};
+use std::process::ExitCode;
+use std::sync::Wait;
+use std::thread::Threads;
+
+/// The number of the growth that is refused.
+const REFUSED: usize = 1000;
+
+/// Makes growths and gives them back. Whether none of them was refused.
+fn grow(alloc: Global, count: usize) -> bool {
+    let mut granted = true;
+    for _growth in 0..count {
+        let mut bytes: Vec<u8> = Vec::new(alloc);
+        if bytes.push(0).is_err() {
+            granted = false;
+        }
+    }
+    granted
+}
+
+/// Tries a call; none has another name.
+fn tried<R: Threads + Wait + Sync>(
+    rt: &R,
+    alloc: Global,
+    call: &str,
+) -> Option<Result<(), Failure>> {
+    Some(match call {
+        "read_movie" => movies::is_read(alloc),
+        "write_movie" => movies::is_written(alloc),
+        "make_movie" => movies::is_made(alloc),
+        "verify_one" => segments::is_judged_whole(alloc),
+        "verify_one_without_pictures" => segments::is_judged_without_pictures(alloc),
+        "cuts" => segments::is_cut(alloc),
+        "replay" => segments::is_replayed(alloc),
+        "gather" => segments::is_gathered(alloc),
+        "desk" => workers::has_desk(alloc),
+        "crew" => workers::is_worked_on(rt, alloc),
+        "verify_by_two" => workers::is_judged_by_two(rt, alloc),
+        "verify_by_eight" => workers::is_judged_by_eight(rt, alloc),
+        "verify_600_pictures" => workers::is_judged_once(rt, alloc),
+        "run" => engine::is_judged(rt, alloc, 1),
+        "run_by_two" => engine::is_judged(rt, alloc, 2),
+        "run_make" => engine::is_made(alloc),
+        "run_info" => engine::is_told(alloc),
+        "run_convert" => engine::is_converted(alloc),
+        _ => return None,
+    })
+}
+
+/// Does what a line asks for, and prints the answer.
+fn answer<R: Threads + Wait + Sync + Print>(rt: &R, alloc: Global, line: &str) -> io::Result<()> {
+    let (call, number) = match line.split_once(' ') {
+        Some((call, number)) => (call, number.parse::<usize>().ok()),
+        None => (line, None),
+    };
+    if let Some(number) = number {
+        grow(alloc, REFUSED.saturating_sub(number));
+    }
+    let outcome = tried(rt, alloc, call);
+    // The refused growth is still to come.
+    let later = if number.is_some() && !grow(alloc, REFUSED) {
+        ", in fewer growths"
+    } else {
+        ""
+    };
+    match outcome {
+        Some(Ok(())) => println!(rt; "{line}: right{later}"),
+        Some(Err(failure)) => println!(rt; "{line}: {failure}{later}"),
+        None => println!(rt; "{line}: no such call"),
+    }
+}
+
+fn main(rt: HostRuntime) -> ExitCode {
+    let mut room = [0u8; 1024];
+    let Ok(length) = rt.stdin().read(&mut room) else {
+        return ExitCode::FAILURE;
+    };
+    let Ok(text) = str::from_utf8(&room[..length]) else {
+        return ExitCode::FAILURE;
+    };
+    for line in text.lines() {
+        if answer(&rt, rt.alloc(), line).is_err() {
+            return ExitCode::FAILURE;
+        }
+    }
+    ExitCode::SUCCESS
+}

@@ -1,0 +1,63 @@
+//! Verdicts of one thread: of the whole movie, and of its segments.
+
+use crate::failure::{Failure, OUT_OF_MEMORY, right};
+use crate::movies::movie;
+use replay_segments::{Cuts, Keep, Verdict, gather, replay, verify_one};
+use std::alloc::Global;
+
+/// Right for a genuine verdict with so many pictures.
+pub(crate) fn is_genuine(verdict: &Verdict, pictures: usize) -> Result<(), Failure> {
+    match verdict {
+        Verdict::Genuine { frames } => right(frames.len() == pictures),
+        _ => Err(Failure::Wrong),
+    }
+}
+
+pub(crate) fn is_judged_whole(alloc: Global) -> Result<(), Failure> {
+    let movie = movie(alloc)?;
+    match verify_one(alloc, &movie, Keep::new(1, 2)?) {
+        Ok(verdict) => is_genuine(&verdict, 2),
+        Err(_) => Err(OUT_OF_MEMORY),
+    }
+}
+
+/// Only the movie takes memory: its verdict is never out of it.
+pub(crate) fn is_judged_without_pictures(alloc: Global) -> Result<(), Failure> {
+    let movie = movie(alloc)?;
+    match verify_one(alloc, &movie, Keep::new(1, 0)?) {
+        Ok(verdict) => is_genuine(&verdict, 0),
+        Err(_) => Err(Failure::Wrong),
+    }
+}
+
+pub(crate) fn is_cut(alloc: Global) -> Result<(), Failure> {
+    let movie = movie(alloc)?;
+    let cuts = Cuts::every(alloc, &movie, 1)?;
+    right(cuts.segments() == 2)
+}
+
+/// The first segment, with its picture. That a piece is out of memory is seen by the verdict that it decides.
+pub(crate) fn is_replayed(alloc: Global) -> Result<(), Failure> {
+    let movie = movie(alloc)?;
+    let cuts = Cuts::new(&movie, vec![in alloc; 1u16]?)?;
+    let mut pieces = Vec::with_capacity(alloc, 1)?;
+    let piece = replay(alloc, &movie, &cuts, Keep::new(1, 2)?, 0);
+    if piece.passed() {
+        return right(piece.number() == 0);
+    }
+    pieces.push(piece)?;
+    let _verdict = gather(alloc, pieces, 1)?;
+    Err(Failure::Wrong)
+}
+
+pub(crate) fn is_gathered(alloc: Global) -> Result<(), Failure> {
+    let movie = movie(alloc)?;
+    let cuts = Cuts::every(alloc, &movie, 1)?;
+    let keep = Keep::new(1, 2)?;
+    let mut pieces = Vec::new(alloc);
+    for number in 0..cuts.segments() {
+        pieces.push(replay(alloc, &movie, &cuts, keep, number))?;
+    }
+    let verdict = gather(alloc, pieces, cuts.segments())?;
+    is_genuine(&verdict, 2)
+}

@@ -1,0 +1,100 @@
+//! Verdicts by workers at one desk.
+
+use crate::failure::{Failure, OUT_OF_MEMORY, right};
+use crate::movies::{made, movie};
+use crate::segments::is_genuine;
+use movie_file::Movie;
+use replay_segments::{Cuts, Keep, gather};
+use std::alloc::Global;
+use std::sync::Wait;
+use std::thread::Threads;
+use verify_pool::{Desk, Hand, NoGate, NoMemory, crew, verify};
+
+pub(crate) fn has_desk(alloc: Global) -> Result<(), Failure> {
+    let (desk, mut tickets) = match Desk::new(alloc, 2, 3) {
+        Ok(made) => made,
+        Err(NoMemory) => return Err(OUT_OF_MEMORY),
+    };
+    let all = tickets.len() == 3;
+    match tickets.pop() {
+        Some(mut ticket) => right(all && desk.draw(&mut ticket) == Some(0)),
+        None => Err(Failure::Wrong),
+    }
+}
+
+/// One hand gets the pieces of both segments, in order, and no thread is started.
+pub(crate) fn is_worked_on<R: Threads + Wait + Sync>(rt: &R, alloc: Global) -> Result<(), Failure> {
+    let movie = movie(alloc)?;
+    let cuts = Cuts::every(alloc, &movie, 1)?;
+    let (desk, mut tickets) = match Desk::new(alloc, cuts.segments(), 1) {
+        Ok(made) => made,
+        Err(NoMemory) => return Err(OUT_OF_MEMORY),
+    };
+    let Some(ticket) = tickets.pop() else {
+        return Err(Failure::Wrong);
+    };
+    let pieces = Vec::with_capacity(alloc, cuts.segments() as usize)?;
+    let mut hands = Vec::with_capacity(alloc, 1)?;
+    hands.push_reserved(Hand { ticket, pieces });
+    let hand = crew(
+        rt,
+        alloc,
+        &movie,
+        &cuts,
+        Keep::new(1, 2)?,
+        &desk,
+        hands,
+        &NoGate,
+    )?;
+    let numbers = hand.pieces.iter().map(|piece| piece.number());
+    let in_order = numbers.zip(0..2).all(|(number, wanted)| number == wanted);
+    let all = in_order && hand.pieces.len() == 2;
+    let verdict = gather(alloc, hand.pieces, cuts.segments())?;
+    right(all)?;
+    is_genuine(&verdict, 2)
+}
+
+/// The verdict with all pictures, with a cut at each checkpoint.
+fn judged<R: Threads + Wait + Sync>(
+    rt: &R,
+    alloc: Global,
+    movie: &Movie,
+    workers: u8,
+) -> Result<(), Failure> {
+    let cuts = Cuts::every(alloc, movie, 1)?;
+    let verdict = verify(
+        rt,
+        alloc,
+        movie,
+        &cuts,
+        workers,
+        Keep::new(1, 600)?,
+        &NoGate,
+    )?;
+    is_genuine(&verdict, movie.frames() as usize)
+}
+
+/// Two segments of a frame each.
+pub(crate) fn is_judged_by_two<R: Threads + Wait + Sync>(
+    rt: &R,
+    alloc: Global,
+) -> Result<(), Failure> {
+    judged(rt, alloc, &movie(alloc)?, 2)
+}
+
+/// Ten segments, of which each but the last has two frames.
+pub(crate) fn is_judged_by_eight<R: Threads + Wait + Sync>(
+    rt: &R,
+    alloc: Global,
+) -> Result<(), Failure> {
+    judged(rt, alloc, &made(alloc, 19, 2)?, 8)
+}
+
+/// Two segments of 300 frames each, and an empty one: a growth for each picture, and few besides. A second replay would need 600
+/// more.
+pub(crate) fn is_judged_once<R: Threads + Wait + Sync>(
+    rt: &R,
+    alloc: Global,
+) -> Result<(), Failure> {
+    judged(rt, alloc, &made(alloc, 600, 300)?, 2)
+}
