@@ -46,7 +46,10 @@ impl Case {
         bus.device_page = NO_PAGE;
         let mut cpu = self.before;
         let answer = step(&mut cpu, &mut bus);
-        let writes = bus.events.iter().filter(|event| matches!(event, Event::Write(..)));
+        let writes = bus
+            .events
+            .iter()
+            .filter(|event| matches!(event, Event::Write(..)));
         answer == Ok(self.cycles)
             && bus.clock == self.cycles as u32
             && cpu == self.after
