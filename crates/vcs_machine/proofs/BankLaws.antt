@@ -12,11 +12,11 @@ use Rattle.riot_map.specs.declared.places.Place.{Place}
 use Rattle.riot_map.specs.declared.places.Place.TheVariants.{Cart, Tia, Ram, Io}
 use Rattle.tia_core.specs.Clock.{Pixel}
 use Rattle.vcs_machine.specs.Consoles.{Console, meaning_of, passed, read_at, written_at, rested, wait_of, console_rules, logged}
-use Rattle.vcs_machine.specs.Frame.{Machine, Stop, Ended, Overlong, Faulted, Went, turn, turn_by, stop_of}
+use Rattle.vcs_machine.specs.Frame.{Machine, machine_at, Stop, Ended, Overlong, Faulted, Went, turn, turn_by, stop_of}
 use Rattle.vcs_machine.specs.Inputs.{Controls}
 use Rattle.vcs_machine.specs.Outcomes.{frame_of, outcome_of, machine_of, left_by}
 use Rattle.vcs_machine.specs.declared.fields.StateFields.{StateFields}
-use Rattle.vcs_machine.proofs.OneStop.{machine_at, stop_of-keeps}
+use Rattle.vcs_machine.proofs.OneStop.{stop_of-keeps}
 
 module _ {S : Type 0} (drawn : S → ℕ → ℕ → ℕ → S) (cart : List ℕ) (bank : ℕ) (single : has_banks (length cart) ≡ false) where
   -- The cartridge and the bank of a console.

@@ -19,9 +19,9 @@ use Rattle.tia_core.specs.declared.register.Register.{Register}
 use Rattle.tia_core.specs.declared.register.Register.TheVariants.{Vsync}
 use Rattle.tia_core.proofs.Clocks.{iterate-clocked-clock}
 use Rattle.vcs_machine.specs.Consoles.{Console, meaning_of, passed, read_at, written_at, rested, wait_of, wait_cycles, console_rules}
-use Rattle.vcs_machine.specs.Frame.{Machine, Went, turn, turn_by, too_many_cycles, stop_of}
+use Rattle.vcs_machine.specs.Frame.{Machine, Went, machine_at, turn, turn_by, too_many_cycles, stop_of}
 use Rattle.vcs_machine.specs.Pictures.{rows_of}
-use Rattle.vcs_machine.proofs.OneStop.{machine_at, stop_of-keeps}
+use Rattle.vcs_machine.proofs.OneStop.{stop_of-keeps}
 
 -- One clock, wherever the beam is.
 clocked-count : (s : TiaState) → (clocked s).fields.clock % 228 ≡ (s.fields.clock % 228 + 1) % 228

@@ -6,7 +6,7 @@ use Rattle.std.proofs.lemmas.Bool.Decides.{nat_tests}
 use Rattle.mos_cpu.specs.Registers.{Registers}
 use Rattle.mos_cpu.specs.Execution.{step_of}
 use Rattle.mos_cpu.specs.declared.fault.CpuFault.{CpuFault}
-use Rattle.vcs_machine.specs.Frame.{Rules, Machine, Turn, Failed, Went, turn, turn_by, turns, is_over, Reaches, Ends, IsTooLong, Faults, Stop, Ended, Overlong, Faulted, StopsAs, stop_after, stop_within, stop_of, most_turns, too_many_cycles}
+use Rattle.vcs_machine.specs.Frame.{Rules, Machine, Turn, Failed, Went, turn, turn_by, turns, is_over, Reaches, Ends, IsTooLong, Faults, Stop, Ended, Overlong, Faulted, machine_at, StopsAs, stop_after, stop_within, stop_of, most_turns, too_many_cycles}
 
 module _ {B : Type 0} (rules : Rules B) where
   -- A turn takes at least two cycles.
@@ -193,12 +193,6 @@ module _ {B : Type 0} (rules : Rules B) where
           let not : nat_le too_many_cycles m.cycles ≡ false = grind (arith, nat_tests) in
           let same : stop_within rules (suc fuel) m ≡ stop_within rules fuel next = rw (not, e, unended) refl in
           record { fuel = fuel; enough = omega arith; finds = sym same ∙ finds }
-
--- Where a frame stops.
-abbrev pub machine_at : {B : Type 0} → Stop B → Machine B
-machine_at (Ended m) = m
-machine_at (Overlong m) = m
-machine_at (Faulted fault m) = m
 
 -- What each turn keeps that begins before a frame is too long holds where the frame stops.
 module _ {B : Type 0} (rules : Rules B) (Fact : Machine B → Type 0)

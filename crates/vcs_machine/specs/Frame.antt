@@ -86,6 +86,12 @@ pub data Stop (B : Type 0) : Type 0 where
   Overlong : Machine B → Stop B
   Faulted : CpuFault → Machine B → Stop B
 
+-- Where a frame stops.
+abbrev pub machine_at : {B : Type 0} → Stop B → Machine B
+machine_at (Ended m) = m
+machine_at (Overlong m) = m
+machine_at (Faulted fault m) = m
+
 -- A frame from this start stops so.
 abbrev pub StopsAs : {B : Type 0} → Rules B → Machine B → Stop B → Type 0
 StopsAs rules start (Ended here) = Ends rules start here

@@ -3,7 +3,7 @@ ghost use Rattle.std.specs.Prelude.{◌≡◌, ◌↔◌, ℕ, ◌+◌, ◌*◌,
 ghost use Rattle.riot_map.specs.Cart.{has_banks};
 ghost use Rattle.tia_core.specs.Clock.{Pixel};
 ghost use Rattle.vcs_machine.specs.Consoles.{Console, console_rules, logged, rested, wait_cycles};
-ghost use Rattle.vcs_machine.specs.Frame.{Rules, Machine, Stop, Ended, StopsAs, stop_of, turn, Went};
+ghost use Rattle.vcs_machine.specs.Frame.{Rules, Machine, Stop, Ended, machine_at, StopsAs, stop_of, turn, Went};
 ghost use Rattle.vcs_machine.specs.Inputs.{Controls};
 ghost use Rattle.vcs_machine.specs.Outcomes.{frame_of, left_by, machine_of, state_at};
 ghost use Rattle.vcs_machine.specs.Pictures.{rows_of};
@@ -25,15 +25,19 @@ pub const fn law_of_waits<S>()
         → (rested drawn c).tia.fields.clock ≡ 0 }
 {}
 
-/// A law: a frame takes at most 24,401 cycles, its picture has at most 322 rows, and the state that it leaves keeps the beam.
+/// A law: however a frame stops, it takes at most 24,401 cycles, its picture has at most 322 rows, and the state that it leaves
+/// has the beam's place: three clocks a cycle on from where it began.
 pub const fn law_of_frame_lengths()
-    ensures cycles { (cart : List ℕ) (s : StateFields) (i : Controls) (here : Machine (Console (List Pixel))) → s.line_cycle < 76
-        → stop_of (console_rules logged) (machine_of cart s i []) ≡ Ended here → here.cycles ≤ 24401 }
-    ensures rows { (cart : List ℕ) (s : StateFields) (i : Controls) (here : Machine (Console (List Pixel))) → s.line_cycle < 76
-        → stop_of (console_rules logged) (machine_of cart s i []) ≡ Ended here → rows_of s.line_cycle here.cycles ≤ 322 }
-    ensures beam { (cart : List ℕ) (s : StateFields) (i : Controls) (here : Machine (Console (List Pixel))) → s.line_cycle < 76
-        → stop_of (console_rules logged) (machine_of cart s i []) ≡ Ended here
-        → 3 * (state_at here).line_cycle ≡ here.bus.tia.fields.clock }
+    ensures cycles { (cart : List ℕ) (s : StateFields) (i : Controls) → s.line_cycle < 76
+        → (machine_at (stop_of (console_rules logged) (machine_of cart s i []))).cycles ≤ 24401 }
+    ensures rows { (cart : List ℕ) (s : StateFields) (i : Controls) → s.line_cycle < 76
+        → rows_of s.line_cycle (machine_at (stop_of (console_rules logged) (machine_of cart s i []))).cycles ≤ 322 }
+    ensures beam { (cart : List ℕ) (s : StateFields) (i : Controls) → s.line_cycle < 76
+        → let here = machine_at (stop_of (console_rules logged) (machine_of cart s i [])) in
+        here.bus.tia.fields.clock ≡ 3 * (state_at here).line_cycle }
+    ensures line_cycle { (cart : List ℕ) (s : StateFields) (i : Controls) → s.line_cycle < 76
+        → let here = machine_at (stop_of (console_rules logged) (machine_of cart s i [])) in
+        (state_at here).line_cycle ≡ (s.line_cycle + here.cycles) % 76 }
 {}
 
 /// A law: on a cartridge without banks a frame leaves the bank as it was.
