@@ -1,5 +1,5 @@
 //! Pictures as Netpbm files.
-ghost use Rattle.std.specs.Prelude.{◌≡◌, ◌≤◌, ◌<◌, OnOk, OnErr, drop};
+ghost use Rattle.std.specs.Prelude.{◌≡◌, ◌≤◌, ◌<◌, OnOk, OnErr, drop, length};
 ghost use Rattle.std.specs.Fmt.{decimal};
 ghost use Rattle.std.specs.Io.KnownBytes.{Appends};
 ghost use Rattle.picture_file.specs.PictureBytes.{header_bytes, picture_bytes, pictures_bytes, row_bytes};
@@ -7,9 +7,13 @@ ghost use Rattle.picture_file.specs.Fronts.{AppendsFront};
 
 use crate::bytes::{WriteFault, write_bytes};
 use crate::palette::rgb;
+use arrayvec::ArrayVec;
 use replay_segments::Frames;
 use std::io::Write;
 use vcs_machine::Picture;
+
+/// The bytes of a row of 160 pixels.
+const ROW_BYTES: usize = 480;
 
 /// The decimal digits of a number, from a place on.
 fn digits(n: u16) -> ([u8; 3], usize)
@@ -52,14 +56,27 @@ fn write_header<W: Write>(rows: u16, writer: &mut W) -> Result<(), WriteFault>
     Ok(())
 }
 
+/// The bytes of a row, three for each of its pixels.
+fn bytes_of_row(row: &[u8]) -> ArrayVec<u8, ROW_BYTES>
+    requires { length row.now ≤ 160 }
+    ensures { result.items ≡ row_bytes row.now }
+{
+    let mut bytes = ArrayVec::new();
+    for colour in row {
+        let [red, green, blue] = rgb(*colour);
+        bytes.push(red);
+        bytes.push(green);
+        bytes.push(blue);
+    }
+    bytes
+}
+
 fn write_row<W: Write>(row: &[u8], writer: &mut W) -> Result<(), WriteFault>
+    requires { length row.now ≤ 160 }
     ensures ok { OnOk result (Appends (W.contents writer.old) (W.contents writer.new) (row_bytes row.now)) }
     ensures err { OnErr result (AppendsFront (W.contents writer.old) (W.contents writer.new) (row_bytes row.now)) }
 {
-    for colour in row {
-        write_bytes(&rgb(*colour), writer)?;
-    }
-    Ok(())
+    write_bytes(bytes_of_row(row).as_slice(), writer)
 }
 
 /// Writes a picture as a portable pixmap (P6) of 160 columns, or with a fault a prefix of it. It takes no memory.
