@@ -27,9 +27,10 @@ and_weight Negative p h = agree_below_at (tests Negative) (has_flag Negative) 25
 
 -- The bit of a flag set.
 abbrev sets : Flag → ℕ → Bool
-sets flag q = nat_eq (bit_or q (weight flag)) (put_flag flag true q)
+sets flag q = nat_eq (bit_or (bit_and q (255 - weight flag)) (weight flag)) (put_flag flag true q)
 
-pub or_weight : (flag : Flag) (p : ℕ) → p < 256 → bit_or p (weight flag) ≡ put_flag flag true p
+pub or_weight : (flag : Flag) (p : ℕ) → p < 256
+    → bit_or (bit_and p (255 - weight flag)) (weight flag) ≡ put_flag flag true p
 or_weight Carry p h = eqb-true _ _ (at_byte (sets Carry) p refl h)
 or_weight Zero p h = eqb-true _ _ (at_byte (sets Zero) p refl h)
 or_weight Interrupt p h = eqb-true _ _ (at_byte (sets Interrupt) p refl h)

@@ -1,21 +1,23 @@
 -- A step where its row and its operand are known, by how the operation uses its operand.
-use Rattle.std.proofs.Common.{◌≡◌, ℕ, ◌+◌, ◌%◌, Bool, true, false, [], Option, Some, None, Result, Ok, Err, refl, rules, arith}
+use Rattle.std.proofs.Common.{◌≡◌, ℕ, ◌+◌, ◌%◌, Bool, true, false, [], Option, Some, None, Result, Ok, Err, refl, sym, rules, arith, tests}
 use Rattle.std.proofs.Math.Nat.{sub-zero}
-use Rattle.std.specs.Prelude.{IsErr, if◌then◌else◌}
+use Rattle.std.proofs.lemmas.Bool.{and_parts}
+use Rattle.std.specs.Prelude.{IsErr, IfSome, not, if◌then◌else◌}
 use Rattle.mos_cpu.specs.Accesses.{Held, held, is_taken}
+use Rattle.mos_cpu.proofs.OpcodeLemmas.{names_low, needs_low, row_of-needs}
 use Rattle.mos_cpu.specs.Buses.{Meaning}
 use Rattle.mos_cpu.specs.Effects.{changed_of, effect, with_a, with_p, with_pc}
 use Rattle.mos_cpu.specs.Execution.{executed, step_of}
 use Rattle.mos_cpu.specs.Opcodes.{row_of, row_with}
 use Rattle.mos_cpu.specs.Operands.{and_then, byte_at, branch_target, documented, named_by, operand_of, takes_vector, decoded}
 use Rattle.mos_cpu.specs.Registers.{Registers}
-use Rattle.mos_cpu.specs.Ways.{row_here, IsRow, IsLow, IsTarget, IsStep, IsReader, IsStorer, IsChanger, IsBranch, IsInner}
+use Rattle.mos_cpu.specs.Ways.{has_low, row_here, IsRow, IsLow, IsTarget, IsStep, IsReader, IsStorer, IsChanger, IsBranch, IsInner}
 use Rattle.mos_cpu.specs.declared.addressing.Target.{Target}
 use Rattle.mos_cpu.specs.declared.fault.CpuFault.{CpuFault}
 use Rattle.mos_cpu.specs.declared.opcode_row.Row.{Row}
 use Rattle.mos_cpu.specs.declared.operation.Operation.{Operation}
 use Rattle.mos_cpu.specs.declared.mode.Mode.{Mode}
-use Rattle.mos_cpu.specs.declared.mode.Mode.TheVariants.{Implied, Accumulator, Immediate, Relative}
+use Rattle.mos_cpu.specs.declared.mode.Mode.TheVariants.{Implied, Accumulator, Immediate, ZeroPage, ZeroPageX, ZeroPageY, Absolute, AbsoluteX, AbsoluteY, Relative, Indirect, IndirectX, IndirectY}
 use Rattle.mos_cpu.specs.declared.instruction.Operand.{Operand}
 use Rattle.mos_cpu.specs.declared.instruction.Operand.TheVariants.{Register, Value, Place}
 use Rattle.mos_cpu.specs.declared.instruction.Instruction.{Instruction}
@@ -76,7 +78,7 @@ module _ {S : Type 0} (m : Meaning S) (r : Registers) (s : S) where
       let known = step_of-known (row_with o mode cycles crossing) (Place t.address t.crossed) here reads.plain target.named in
       rw (known, reads.used, reads.straight, ← target.next, e, reads.same) (search rules)
 
-  pub step_of-value : (o : Operation) (low : ℕ) → IsReader o → IsRow m s r o Immediate 2 false → IsLow m s r (Some low)
+  pub step_of-value : (o : Operation) (low : ℕ) → IsReader o → IsRow m s r o Immediate 2 false → IsLow m s r low
       → IsStep m r s 2 (effect o (Value low) (with_pc r ((r.pc + 2) % 65536)) []) (m.passed s 2)
   step_of-value o low reads here e =
       let named : ◌≡◌ {A = Result Operand CpuFault} (named_by m s r Immediate) (Ok (Value low)) = rw e refl in
@@ -114,11 +116,11 @@ module _ {S : Type 0} (m : Meaning S) (r : Registers) (s : S) where
       let known = step_of-known (row_with o Implied 2 false) Register here inner.plain refl in
       rw (known, inner.used, inner.straight) refl
 
-  branch_named : (low : ℕ) → IsLow m s r (Some low)
+  branch_named : (low : ℕ) → IsLow m s r low
       → ◌≡◌ {A = Result Operand CpuFault} (named_by m s r Relative) (Ok (branch_target ((r.pc + 2) % 65536) low))
   branch_named low e = rw e refl
 
-  pub step_of-taken : (o : Operation) (low : ℕ) (t : Target) (cycles : ℕ) → cycles ≡ 3 + (if t.crossed then 1 else 0) → IsBranch o → IsRow m s r o Relative 2 false → IsLow m s r (Some low)
+  pub step_of-taken : (o : Operation) (low : ℕ) (t : Target) (cycles : ℕ) → cycles ≡ 3 + (if t.crossed then 1 else 0) → IsBranch o → IsRow m s r o Relative 2 false → IsLow m s r low
       → Place t.address t.crossed ≡ branch_target ((r.pc + 2) % 65536) low → is_taken o r.p ≡ true
       → IsStep m r s cycles (with_pc r t.address) (m.passed s cycles)
   step_of-taken o low t cycles sum goes here e place taken =
@@ -127,7 +129,7 @@ module _ {S : Type 0} (m : Meaning S) (r : Registers) (s : S) where
       let sum : 2 + (1 + (if t.crossed then 1 else 0)) ≡ cycles = omega arith in
       rw (known, goes.used, goes.goes, taken, sum, sub-zero cycles) refl
 
-  pub step_of-straight : (o : Operation) (low : ℕ) → IsBranch o → IsRow m s r o Relative 2 false → IsLow m s r (Some low)
+  pub step_of-straight : (o : Operation) (low : ℕ) → IsBranch o → IsRow m s r o Relative 2 false → IsLow m s r low
       → is_taken o r.p ≡ false → IsStep m r s 2 (with_pc r ((r.pc + 2) % 65536)) (m.passed s 2)
   step_of-straight o low goes here e straight =
       let known = step_of-known (row_with o Relative 2 false) (branch_target ((r.pc + 2) % 65536) low) here goes.plain (branch_named low e) in
@@ -137,3 +139,34 @@ module _ {S : Type 0} (m : Meaning S) (r : Registers) (s : S) where
   pub decoded-unknown : (opcode : ℕ) → m.peeked s r.pc ≡ Some opcode → ◌≡◌ {A = Option Row} None (row_of opcode)
       → IsErr (decoded m s r)
   decoded-unknown opcode e absent = rw (e, ← absent) refl
+
+  named-err : (mode : Mode) → names_low mode ≡ true → m.peeked s ((r.pc + 1) % 65536) ≡ None → IsErr (named_by m s r mode)
+  named-err Implied e none = cc
+  named-err Accumulator e none = cc
+  named-err Immediate e none = rw none refl
+  named-err ZeroPage e none = rw none refl
+  named-err ZeroPageX e none = rw none refl
+  named-err ZeroPageY e none = rw none refl
+  named-err Absolute e none = rw none refl
+  named-err AbsoluteX e none = rw none refl
+  named-err AbsoluteY e none = rw none refl
+  named-err Relative e none = rw none refl
+  named-err Indirect e none = rw none refl
+  named-err IndirectX e none = rw none refl
+  named-err IndirectY e none = rw none refl
+
+  operand-err : (row : Row) → needs_low row ≡ true → m.peeked s ((r.pc + 1) % 65536) ≡ None → IsErr (operand_of m s r row)
+  operand-err row e none =
+      let parts = and_parts (not (takes_vector row.operation)) (names_low row.mode) e in
+      let plain : takes_vector row.operation ≡ false = search (rules, tests) in
+      rw plain (named-err row.mode parts.1 none)
+
+  -- An instruction whose opcode is there and the byte after it isn't is a fault.
+  pub decoded-short : (opcode : ℕ) → m.peeked s r.pc ≡ Some opcode → has_low opcode ≡ true
+      → m.peeked s ((r.pc + 1) % 65536) ≡ None → IsErr (decoded m s r)
+  decoded-short opcode e low none = by (row_of opcode) refl (row_of-needs opcode low)
+    where
+      by : (x : Option Row) → row_of opcode ≡ x → IfSome x (λ row. needs_low row ≡ true) → IsErr (decoded m s r)
+      by (Some row) found needs =
+          decoded-operand_err row (rw (e, found) refl) (operand-err row needs none)
+      by None found needs = decoded-unknown opcode e (sym found)

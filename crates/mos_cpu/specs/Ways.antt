@@ -1,6 +1,6 @@
 -- What the ways of opcodes stand on: an opcode's row and operand, each known by itself, and how an
 -- operation uses its operand. These are helpers of proofs: no public contract names them.
-use Rattle.std.specs.Prelude.{ℕ, ◌≡◌, ◌+◌, ◌%◌, Bool, false, if◌then◌else◌, List, [], Option, Some, None, Result, Ok, IsErr, slice_index}
+use Rattle.std.specs.Prelude.{ℕ, ◌≡◌, ◌+◌, ◌%◌, Bool, false, not, ◌==◌, ◌||◌, if◌then◌else◌, List, [], Option, Some, None, Result, Ok, IsErr, slice_index}
 use Rattle.mos_cpu.specs.Accesses.{Held, Nothing, Reads, Stores, Modifies, use_of, branch_test, is_taken}
 use Rattle.mos_cpu.specs.Buses.{Meaning}
 use Rattle.mos_cpu.specs.Effects.{changed_of, target_of, with_a, with_p, with_pc, effect}
@@ -26,9 +26,15 @@ abbrev pub IsRow : {S : Type 0} → Meaning S → S → Registers → Operation 
 IsRow m s r operation mode cycles crossing =
     ◌≡◌ {A = Result Row CpuFault} (row_here m s r) (Ok (row_with operation mode cycles crossing))
 
--- What is looked at after the opcode: a byte, or none.
-abbrev pub IsLow : {S : Type 0} → Meaning S → S → Registers → Option ℕ → Type 0
-IsLow m s r low = m.peeked s ((r.pc + 1) % 65536) ≡ low
+-- The byte after the opcode is this one.
+abbrev pub IsLow : {S : Type 0} → Meaning S → S → Registers → ℕ → Type 0
+IsLow m s r low = m.peeked s ((r.pc + 1) % 65536) ≡ Some low
+
+-- Whether an opcode is one with a byte after it, by its bits. Of opcodes that aren't documented it
+-- says nothing.
+abbrev pub has_low : ℕ → Bool
+has_low opcode =
+    not (opcode % 16 == 8 || opcode % 16 == 10 || opcode == 0 || opcode == 64 || opcode == 96)
 
 -- A mode names this place.
 pub record IsTarget {S : Type 0} (m : Meaning S) (s : S) (r : Registers) (mode : Mode) (t : Target) : Type 0 where

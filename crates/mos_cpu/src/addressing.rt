@@ -120,14 +120,13 @@ pub struct Target {
     pub next: u16,
 }
 
-/// The number of the two bytes after the opcode. None where one of them isn't there.
+/// The number of the two bytes after the opcode. None where the second isn't there.
 #[inline(always)]
-pub fn word_after<B: Bus>(cpu: &Cpu, bus: &B, low: Option<u8>) -> Option<u16>
+pub fn word_after<B: Bus>(cpu: &Cpu, bus: &B, low: u8) -> Option<u16>
     requires { IsLow B.meaning (B.state bus.now) cpu.now low }
     ensures some { IfSome result (λ word. operand_word B.meaning (B.state bus.now) cpu.now ≡ Ok word) }
     ensures none { IfNone result (IsErr (operand_word B.meaning (B.state bus.now) cpu.now)) }
 {
-    let low = low?;
     let high = bus.peek(cpu.pc.wrapping_add(2))?;
     Some(u16::from_le_bytes([low, high]))
 }

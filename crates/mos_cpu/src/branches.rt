@@ -129,16 +129,15 @@ impl Conditional for Bvs {
 
 /// A branch by the byte after the opcode. Where it is taken it has one cycle more, and where its
 /// target is on another page than the next instruction, two.
-#[inline(always)]
-pub fn branch<O: Conditional, B: Bus>(cpu: &mut Cpu, bus: &mut B, low: Option<u8>) -> Option<u8>
+#[inline(never)]
+pub fn branch<O: Conditional, B: Bus>(cpu: &mut Cpu, bus: &mut B, low: u8) -> Option<u8>
     requires row { IsRow B.meaning (B.state bus.old) cpu.old O.operation Mode.Relative 2 false }
     requires low { IsLow B.meaning (B.state bus.old) cpu.old low }
     ensures { IsWay B.meaning cpu.old (B.state bus.old) result cpu.new (B.state bus.new) }
 {
-    let offset = low?;
     let next = cpu.pc.wrapping_add(2);
     if O::is_taken(cpu.p) {
-        let target = branch_by(next, offset);
+        let target = branch_by(next, low);
         let cycles = 3 + u8::from(target.crossed);
         cpu.set_pc(target.address);
         bus.pass(cycles);

@@ -1,11 +1,11 @@
 //! One instruction.
 
-ghost use Rattle.std.specs.Prelude.{◌≡◌, ℕ, ◌≤◌, IfOk, OnErr, Err, IsErr};
+ghost use Rattle.std.specs.Prelude.{◌≡◌, ℕ, ◌≤◌, ◌+◌, ◌%◌, true, None, IfSome, IfNone, IfOk, OnErr, Err, IsErr};
 ghost use Rattle.mos_cpu.specs.Buses.{IsClock};
 ghost use Rattle.mos_cpu.specs.Execution.{step_of};
 ghost use Rattle.mos_cpu.specs.Operands.{decoded};
 ghost use Rattle.mos_cpu.specs.Timing.{KeepsTime};
-ghost use Rattle.mos_cpu.specs.Ways.{IsWay};
+ghost use Rattle.mos_cpu.specs.Ways.{IsLow, IsWay, has_low};
 
 use crate::branches::{Bcc, Bcs, Beq, Bmi, Bne, Bpl, Bvc, Bvs, branch};
 use crate::bus::Bus;
@@ -24,6 +24,32 @@ use crate::registers::Cpu;
 use crate::stack::{brk, jmp, jmp_indirect, jsr, pha, php, pla, plp, rti, rts};
 use crate::stores::{Sta, Stx, Sty, store};
 
+/// Whether an opcode is one with a byte after it. Of opcodes that aren't documented it says nothing.
+fn has_low(opcode: u8) -> bool
+    ensures { result ≡ has_low opcode }
+{
+    !(opcode % 16 == 8 || opcode % 16 == 10 || opcode == 0 || opcode == 0x40 || opcode == 0x60)
+}
+
+/// The byte after an opcode. None where it isn't there, and 0 where it need not be.
+#[inline(always)]
+fn low_byte<B: Bus>(cpu: &Cpu, bus: &B, opcode: u8) -> Option<u8>
+    ensures some { IfSome result (λ low. has_low opcode ≡ true → IsLow B.meaning (B.state bus.now) cpu.now low) }
+    ensures none { IfNone result (has_low opcode ≡ true) }
+    ensures nowhere { IfNone result (B.meaning.peeked (B.state bus.now) ((cpu.now.pc + 1) % 65536) ≡ None) }
+{
+    match bus.peek(cpu.pc.wrapping_add(1)) {
+        Some(low) => Some(low),
+        None => {
+            if has_low(opcode) {
+                None
+            } else {
+                Some(0)
+            }
+        }
+    }
+}
+
 /// The instruction at the program counter, by its opcode. None, with nothing done, where it has a
 /// fault.
 #[inline(always)]
@@ -31,7 +57,7 @@ fn run<B: Bus>(cpu: &mut Cpu, bus: &mut B) -> Option<u8>
     ensures { IsWay B.meaning cpu.old (B.state bus.old) result cpu.new (B.state bus.new) }
 {
     let opcode = bus.peek(cpu.pc)?;
-    let low = bus.peek(cpu.pc.wrapping_add(1));
+    let low = low_byte(cpu, bus, opcode)?;
     match opcode {
         0x69 => value::<Adc, B>(cpu, bus, low),
         0x65 => read::<Adc, ZeroPage, B>(cpu, bus, low),

@@ -183,11 +183,11 @@ impl Reader for Sbc {
 }
 
 /// An operation with the byte of a place, which is read in the last cycle.
-#[inline(always)]
+#[inline(never)]
 pub fn read<O: Reader, M: PlaceMode, B: Bus>(
     cpu: &mut Cpu,
     bus: &mut B,
-    low: Option<u8>,
+    low: u8,
 ) -> Option<u8>
     requires row { IsRow B.meaning (B.state bus.old) cpu.old O.operation M.mode M.CYCLES M.INDEXED }
     requires low { IsLow B.meaning (B.state bus.old) cpu.old low }
@@ -208,15 +208,14 @@ pub fn read<O: Reader, M: PlaceMode, B: Bus>(
 }
 
 /// An operation with the byte after the opcode.
-#[inline(always)]
-pub fn value<O: Reader, B: Bus>(cpu: &mut Cpu, bus: &mut B, low: Option<u8>) -> Option<u8>
+#[inline(never)]
+pub fn value<O: Reader, B: Bus>(cpu: &mut Cpu, bus: &mut B, low: u8) -> Option<u8>
     requires row { IsRow B.meaning (B.state bus.old) cpu.old O.operation Mode.Immediate 2 false }
     requires low { IsLow B.meaning (B.state bus.old) cpu.old low }
     ensures { IsWay B.meaning cpu.old (B.state bus.old) result cpu.new (B.state bus.new) }
 {
-    let m = low?;
     cpu.set_pc(cpu.pc.wrapping_add(2));
     bus.pass(2);
-    O::take(cpu, m);
+    O::take(cpu, low);
     Some(2)
 }

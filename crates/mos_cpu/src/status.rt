@@ -45,7 +45,8 @@ pub const fn with_flag(p: u8, flag: Flag, on: bool) -> u8
     ensures value { result ≡ put_flag flag on p }
     ensures status { result / 16 % 4 ≡ p / 16 % 4 }
 {
-    if on { p | mask(flag) } else { p & !mask(flag) }
+    let others = p & !mask(flag);
+    if on { others | mask(flag) } else { others }
 }
 
 /// The status with N and Z of a value.
