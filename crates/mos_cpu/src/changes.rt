@@ -137,7 +137,7 @@ pub fn change_a<O: Changer, B: Bus>(cpu: &mut Cpu, bus: &mut B) -> Option<u8>
     ensures { IsWay B.meaning cpu.old (B.state bus.old) result cpu.new (B.state bus.new) }
 {
     cpu.set_pc(cpu.pc.wrapping_add(1));
-    bus.pass(2);
     cpu.set_a(O::change(cpu.a, cpu.p));
+    bus.pass(2);
     Some(2)
 }

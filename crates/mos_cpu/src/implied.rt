@@ -263,7 +263,7 @@ pub fn implied<O: OnRegisters, B: Bus>(cpu: &mut Cpu, bus: &mut B) -> Option<u8>
     ensures { IsWay B.meaning cpu.old (B.state bus.old) result cpu.new (B.state bus.new) }
 {
     cpu.set_pc(cpu.pc.wrapping_add(1));
-    bus.pass(2);
     O::act(cpu);
+    bus.pass(2);
     Some(2)
 }

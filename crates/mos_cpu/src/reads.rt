@@ -215,7 +215,7 @@ pub fn value<O: Reader, B: Bus>(cpu: &mut Cpu, bus: &mut B, low: u8) -> Option<u
     ensures { IsWay B.meaning cpu.old (B.state bus.old) result cpu.new (B.state bus.new) }
 {
     cpu.set_pc(cpu.pc.wrapping_add(2));
-    bus.pass(2);
     O::take(cpu, low);
+    bus.pass(2);
     Some(2)
 }
