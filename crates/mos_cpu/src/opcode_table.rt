@@ -9,7 +9,7 @@ use crate::operation::Operation;
 
 /// A row whose indexing costs no more cycles.
 #[inline(always)]
-pub const fn fixed(operation: Operation, mode: Mode, cycles: u8) -> Row
+const fn fixed(operation: Operation, mode: Mode, cycles: u8) -> Row
     ensures { result ≡ row_with operation mode cycles false }
 {
     Row {
@@ -22,7 +22,7 @@ pub const fn fixed(operation: Operation, mode: Mode, cycles: u8) -> Row
 
 /// A row with one more cycle where indexing crosses a page.
 #[inline(always)]
-pub const fn indexed(operation: Operation, mode: Mode, cycles: u8) -> Row
+const fn indexed(operation: Operation, mode: Mode, cycles: u8) -> Row
     ensures { result ≡ row_with operation mode cycles true }
 {
     Row {

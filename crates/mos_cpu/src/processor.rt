@@ -40,13 +40,7 @@ fn low_byte<B: Bus>(cpu: &Cpu, bus: &B, opcode: u8) -> Option<u8>
 {
     match bus.peek(cpu.pc.wrapping_add(1)) {
         Some(low) => Some(low),
-        None => {
-            if has_low(opcode) {
-                None
-            } else {
-                Some(0)
-            }
-        }
+        None => { if has_low(opcode) { None } else { Some(0) } }
     }
 }
 

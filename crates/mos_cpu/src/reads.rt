@@ -184,11 +184,7 @@ impl Reader for Sbc {
 
 /// An operation with the byte of a place, which is read in the last cycle.
 #[inline(never)]
-pub fn read<O: Reader, M: PlaceMode, B: Bus>(
-    cpu: &mut Cpu,
-    bus: &mut B,
-    low: u8,
-) -> Option<u8>
+pub fn read<O: Reader, M: PlaceMode, B: Bus>(cpu: &mut Cpu, bus: &mut B, low: u8) -> Option<u8>
     requires row { IsRow B.meaning (B.state bus.old) cpu.old O.operation M.mode M.CYCLES M.INDEXED }
     requires low { IsLow B.meaning (B.state bus.old) cpu.old low }
     ensures { IsWay B.meaning cpu.old (B.state bus.old) result cpu.new (B.state bus.new) }
