@@ -8,3 +8,4 @@ pub mod Owing
 pub mod PictureTable
 pub mod Runs
 pub mod Sinks
+pub mod Windows

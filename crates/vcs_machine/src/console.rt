@@ -8,6 +8,7 @@ ghost use Rattle.vcs_machine.specs.Inputs.{is_pressed};
 
 use crate::devices::Devices;
 use crate::input::Input;
+use crate::socket::Socket;
 use crate::state::State;
 use crate::unchanged::is_unchanged;
 use mos_cpu::{Bus, Cpu};
@@ -22,9 +23,7 @@ const WSYNC: u8 = 2;
 
 /// A console in a frame, whose pixels go to a sink.
 pub struct Console<'a, S: Paint> {
-    cart: &'a Cart,
-    /// The selected bank of the cartridge.
-    bank: u8,
+    socket: Socket<'a>,
     devices: Devices<S>,
     /// WSYNC was written in this instruction.
     synced: bool,
@@ -33,15 +32,14 @@ pub struct Console<'a, S: Paint> {
 }
 
 impl<'a, S: Paint> Model for Console<'a, S> {
-    ghost use Rattle.std.specs.Prelude.{◌<◌};
     ghost use Rattle.vcs_machine.specs.Consoles.{Console as ConsoleOf};
     ghost use Rattle.vcs_machine.specs.Private.Owing.{riot_seen, tia_seen, sink_seen, IsBehind};
 
     ghost Value = { ConsoleOf S };
 
     ghost view = { λ c. record {
-      cart = c.cart.now;
-      bank = c.bank;
+      cart = c.socket.cart.now;
+      bank = c.socket.bank;
       riot = riot_seen c.devices;
       tia = tia_seen c.devices;
       synced = c.synced;
@@ -49,7 +47,7 @@ impl<'a, S: Paint> Model for Console<'a, S> {
       sink = sink_seen S.drawn c.devices;
     } };
 
-    ghost invariant = { λ c. IsBehind c.devices × (c.bank < 2) };
+    ghost invariant = { λ c. IsBehind c.devices };
 }
 
 impl<'a, S: Paint> Bus for Console<'a, S> {
@@ -72,8 +70,8 @@ impl<'a, S: Paint> Bus for Console<'a, S> {
     fn read(&mut self, addr: u16) -> u8 {
         match place(addr) {
             Place::Cart(address) => {
-                let byte = self.cart.at(self.bank, address);
-                self.bank = self.cart.select(self.bank, address);
+                let byte = self.socket.at(address);
+                self.socket.select(address);
                 byte
             }
             Place::Tia(register) => {
@@ -92,7 +90,7 @@ impl<'a, S: Paint> Bus for Console<'a, S> {
     #[inline(always)]
     fn write(&mut self, addr: u16, value: u8) {
         match place(addr) {
-            Place::Cart(address) => self.bank = self.cart.select(self.bank, address),
+            Place::Cart(address) => self.socket.select(address),
             Place::Tia(register) => self.write_tia(register, value),
             Place::Ram(index) => self.devices.riot.set_ram(index, value),
             Place::Io(register) => {
@@ -106,7 +104,7 @@ impl<'a, S: Paint> Bus for Console<'a, S> {
     #[inline(always)]
     fn peek(&self, addr: u16) -> Option<u8> {
         match place(addr) {
-            Place::Cart(address) => Some(self.cart.at(self.bank, address)),
+            Place::Cart(address) => Some(self.socket.at(address)),
             Place::Ram(index) => Some(self.devices.riot.ram(index)),
             Place::Tia(_) | Place::Io(_) => None,
         }
@@ -137,8 +135,7 @@ impl<'a, S: Paint> Console<'a, S> {
         tia.set_fire(input.fire0(), input.fire1());
         tia.new_frame();
         Console {
-            cart,
-            bank: state.bank(),
+            socket: Socket::new(cart, state.bank()),
             devices: Devices {
                 riot,
                 tia,
@@ -157,8 +154,7 @@ impl<'a, S: Paint> Console<'a, S> {
         ensures sink { result.1 ≡ self.entry.sink }
     {
         let Console {
-            cart: _,
-            bank,
+            socket,
             mut devices,
             synced: _,
             ended: _,
@@ -171,7 +167,7 @@ impl<'a, S: Paint> Console<'a, S> {
             owed: _,
             paid: _,
         } = devices;
-        (State::of_parts(cpu, &riot, &tia, bank), sink)
+        (State::of_parts(cpu, &riot, &tia, socket.bank), sink)
     }
 
     /// A write of a register of the TIA.

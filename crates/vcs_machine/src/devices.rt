@@ -72,9 +72,25 @@ impl<S: Paint> Devices<S> {
         if cycles <= MOST_OWED - self.owed {
             self.owed += cycles;
         } else {
-            self.settle();
-            self.owed = cycles;
+            self.settle_and_owe(cycles);
         }
+    }
+
+    /// Lets both see the cycles that they have not seen, and owes them others.
+    #[cold]
+    #[inline(never)]
+    fn settle_and_owe(&mut self, cycles: u8)
+        requires { IsBehind self.old }
+        ensures { self.new ≡ record self.old {
+          riot = riot_seen self.old;
+          tia = tia_seen self.old;
+          sink = sink_seen S.drawn self.old;
+          owed = cycles;
+          paid = 0;
+        } }
+    {
+        self.settle();
+        self.owed = cycles;
     }
 
     /// What a read of a register of the TIA would give, had the TIA seen all cycles.

@@ -13,6 +13,7 @@ mod parts;
 mod picture;
 mod run;
 mod same;
+mod socket;
 mod state;
 mod unchanged;
 
