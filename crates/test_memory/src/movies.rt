@@ -59,10 +59,11 @@ pub(crate) fn two_frames_to_the_end() -> [u8; LENGTH] {
 /// The movie of two frames in version 2: another version, and a last byte of each state, the bank, which is 0.
 pub(crate) fn converted() -> [u8; CONVERTED_LENGTH] {
     let old = two_frames();
+    let (to_the_start, rest) = old.split_at(2249);
     let mut bytes = [0; CONVERTED_LENGTH];
-    put(&mut bytes, 0, &old[..2249]);
+    put(&mut bytes, 0, to_the_start);
     put(&mut bytes, 5, &[2]);
-    put(&mut bytes, 2250, &old[2249..]);
+    put(&mut bytes, 2250, rest);
     bytes
 }
 
