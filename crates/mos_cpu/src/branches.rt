@@ -136,15 +136,18 @@ pub fn branch<O: Conditional, B: Bus>(cpu: &mut Cpu, bus: &mut B, low: u8) -> Op
     ensures { IsWay B.meaning cpu.old (B.state bus.old) result cpu.new (B.state bus.new) }
 {
     let next = cpu.pc.wrapping_add(2);
-    if O::is_taken(cpu.p) {
-        let target = branch_by(next, low);
-        let cycles = 3 + u8::from(target.crossed);
-        cpu.set_pc(target.address);
-        bus.pass(cycles);
-        Some(cycles)
-    } else {
+    if !O::is_taken(cpu.p) {
         cpu.set_pc(next);
         bus.pass(2);
-        Some(2)
+        return Some(2);
+    }
+    let target = branch_by(next, low);
+    cpu.set_pc(target.address);
+    if target.crossed {
+        bus.pass(4);
+        Some(4)
+    } else {
+        bus.pass(3);
+        Some(3)
     }
 }
