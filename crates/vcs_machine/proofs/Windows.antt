@@ -1,11 +1,10 @@
 -- The bytes of a selected bank, found by a mask.
-use Rattle.std.proofs.Common.{◌≡◌, ℕ, ◌+◌, ◌-◌, ◌*◌, ◌%◌, ◌^◌, ◌<◌, ◌≤◌, ◌∙◌, List, length, take, drop, length-drop, true, false, arith, bit_and, inl, inr, refl, ap}
-use Rattle.std.specs.Prelude.{◌⊎◌, slice_index}
-use Rattle.std.proofs.lemmas.Bool.Decides.{nat_tests}
+use Rattle.std.proofs.Common.{◌≡◌, ℕ, ◌+◌, ◌-◌, ◌*◌, ◌%◌, ◌<◌, List, length, take, drop, length-drop, true, arith, bit_and, refl}
+use Rattle.std.specs.Prelude.{slice_index}
 use Rattle.std.proofs.lemmas.Bool.{eqb-true}
 use Rattle.std.proofs.lemmas.List.{get_or-take, get_or-drop, length-take}
 use Rattle.std.proofs.lemmas.Nat.{and_mask}
-use Rattle.riot_map.specs.Cart.{is_cart_length, has_banks, byte_at}
+use Rattle.riot_map.specs.Cart.{has_banks, byte_at}
 
 -- Of two banks one is shown.
 pub window-banked : (cart : List ℕ) (bank : ℕ) → has_banks (length cart) ≡ true → (address : ℕ)
