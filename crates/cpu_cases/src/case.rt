@@ -65,7 +65,7 @@ fn registers(words: &mut SplitWhitespace) -> Option<Cpu> {
     let y = byte(words.next()?)?;
     let s = byte(words.next()?)?;
     let p = byte(words.next()?)?;
-    if p & 0x30 != 0 {
+    if p / 16 % 4 != 0 {
         return None;
     }
     Some(Cpu { a, x, y, s, p, pc })
