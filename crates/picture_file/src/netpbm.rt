@@ -62,8 +62,15 @@ fn bytes_of_row(row: &[u8]) -> ArrayVec<u8, ROW_BYTES>
     ensures { result.items ≡ row_bytes row.now }
 {
     let mut bytes = ArrayVec::new();
+    let mut last = 0;
+    let mut parts = rgb(last);
     for colour in row {
-        let [red, green, blue] = rgb(*colour);
+        // Most pixels have the colour of the one before.
+        if *colour != last {
+            last = *colour;
+            parts = rgb(last);
+        }
+        let [red, green, blue] = parts;
         bytes.push(red);
         bytes.push(green);
         bytes.push(blue);
