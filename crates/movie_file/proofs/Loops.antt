@@ -31,7 +31,7 @@ fails_is (BadOrder k) x y e h = sym e ∙ h
 fails_is Trailing x y e h = sym e ∙ h
 fails_is NoMemory x y e h = tt
 
--- a refusal that is no want of memory is exact
+-- a refusal other than out of memory is exact
 pub fails_exact : {A : Type 0} (e : MovieError) (x : Result A MovieError) → Fails e x → e ≢ NoMemory → x ≡ Err e
 fails_exact Short x h n = h
 fails_exact BadMagic x h n = h

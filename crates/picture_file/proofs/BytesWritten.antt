@@ -52,7 +52,7 @@ pieces_at f xs i d lt =
     ap (flat_map f) (sym (take-append-drop i xs)) ∙ flat_map-append f (take i xs) (drop i xs)
     ∙ ap (λ (w : List _). flat_map f (take i xs) ++ flat_map f w) (drop-cons xs i d lt) ∙ ap (λ (w : List ℕ). flat_map f (take i xs) ++ w) (flat_map-cons f (get_or xs i d) (drop (suc i) xs))
 
--- a front of one piece, behind a head and the pieces before it
+-- a prefix of one piece, after a head and the pieces before it
 pub front_behind : {X : Type 0} (f : X → List ℕ) (h : List ℕ) (xs : List X) (i : ℕ) (d : X) (a b c : Option (List ℕ)) → i < length xs → Appends a b (h ++ flat_map f (take i xs)) → AppendsFront b c (f (get_or xs i d)) → AppendsFront a c (h ++ flat_map f xs)
 front_behind f h xs i d a b c lt before k =
     let piece = f (get_or xs i d) in

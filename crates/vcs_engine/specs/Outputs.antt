@@ -19,7 +19,7 @@ pub record Told : Type 0 where
   pub line : List ℕ
   pub pictures : List Rows
 
--- What is told of a movie with this verdict,
+-- The status, line and pictures of a movie with this verdict,
 abbrev pub told_of : MovieData → Verdict → Told
 told_of m (Genuine frames) = record { status = statuses.Done; line = line_bytes (lines.Genuine (length m.inputs) (length m.checkpoints)); pictures = frames }
 told_of m (FalseCheckpoint number frame) = record { status = statuses.False; line = line_bytes (lines.FalseCheckpoint number frame); pictures = [] }
@@ -29,11 +29,11 @@ told_of m (Fault frame kind) = record { status = statuses.Fault; line = line_byt
 abbrev pub told_refused : MovieError → Told
 told_refused error = record { status = statuses.Refused; line = line_bytes (lines.Refused error); pictures = [] }
 
--- What is told of what reading found: a movie by its verdict, a refusal by its name.
+-- Those of what reading found: a movie by its verdict, a refusal by its name.
 abbrev pub TellsOf : Keep → Result MovieData MovieError → Told → Type 0
 TellsOf keep (Ok m) told = (verdict : Verdict) × IsVerdict m keep verdict × (told ≡ told_of m verdict)
 TellsOf keep (Err error) told = told ≡ told_refused error
 
--- What is told of the bytes of an input.
+-- Those of the bytes of an input.
 abbrev pub Tells : Keep → List ℕ → Told → Type 0
 Tells keep bytes told = TellsOf keep (movie_at bytes) told
