@@ -10,7 +10,7 @@ const NO_PAGE: u16 = 256;
 
 /// An instruction with what it finds, and what another processor left.
 #[derive(Drop)]
-pub struct Case {
+pub(crate) struct Case {
     before: Cpu,
     bytes: ArrayVec<(u16, u8), 8>,
     after: Cpu,
@@ -20,7 +20,7 @@ pub struct Case {
 
 impl Case {
     /// The instruction of a line; none where the line is no instruction.
-    pub fn parse(line: &str) -> Option<Case> {
+    pub(crate) fn parse(line: &str) -> Option<Case> {
         let mut parts = line.split('|');
         let before = parts.next()?;
         let bytes = parts.next()?;
@@ -41,7 +41,7 @@ impl Case {
     }
 
     /// Whether the processor leaves the same registers in as many cycles, and makes the same writes in theirs.
-    pub fn is_met(&self) -> bool {
+    pub(crate) fn is_met(&self) -> bool {
         let mut bus = LogBus::holding(self.bytes.as_slice());
         bus.device_page = NO_PAGE;
         let mut cpu = self.before;
