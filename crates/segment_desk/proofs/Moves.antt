@@ -7,7 +7,7 @@ use lib.ListN.{get_elem?}
 use lib.Seq.{set-get_or}
 use Rattle.atomic_table.specs.Table.{step, keeps, opening, Allows, Splits, Joins}
 use Rattle.atomic_table.proofs.Lists.{set_here, set_again, set_else}
-use Rattle.segment_desk.specs.Desk.{times, fresh_part, spent_part, with_drawn, at_end, with_number, with_passed, draw_at, look_at, report_at, kept_of, split_of, with_handed_in, Reached, opened, went_on, desk_at, Event}
+use Rattle.segment_desk.specs.Desk.{times, fresh_part, spent_part, with_drawn, at_end, with_number, with_passed, draw_at, look_at, report_at, kept_of, split_of, with_handed_in, Reached, opened, went_on, DeskState, desk_at, Event, StandsIn}
 use Rattle.segment_desk.specs.Desk as event
 use Rattle.segment_desk.specs.Kept.{IsKnown}
 use Rattle.segment_desk.proofs.Invariant.{IsSound, IsLawful}
@@ -45,6 +45,13 @@ module _ (n w : ℕ) where
   seats c l ps j u v at pos r =
       knows n w c l (set ps j v) (law c l (set ps j v) r) j v (set_here ps j v (within ps j u at)) pos
 
+  -- The part that a seat has in such a state.
+  stands : (c l : ℕ) (ps : List Part) (j : ℕ) (v : Part) (holds : DeskState → Type 0) → At c l ps → get_elem? ps j ≡ some v → 0 < v.share
+      → holds (desk_at c l ps) → StandsIn holds v
+  stands c l ps j v holds r at pos h =
+      let size = size_of n w c l v ((law c l ps r).each j v at) pos in
+      (desk_at c l ps, j, rw (size.0, size.1) r, (slice_get-of_some ps j v at, pos), h)
+
   -- A draw by a seat that has not ended.
   pub allows_draw : (slots id : ℕ) (m : Seat) → m.1 ≡ [] → 0 < m.0.share → m.0.ended ≡ false
       → Allows (IsRuled n w) slots id m 0 (λ x. (x + 1) % 2 ^ 64) (Drew (step slots 0 1 0 none) m)
@@ -64,7 +71,7 @@ module _ (n w : ℕ) where
           at_words (x + 1) y (get_or (set ws 0 z) 0 0) (get_or (set ws 0 z) 1 0) (set s.views id v)
               (get_or-set_same ws 0 z 0 (omega arith) ∙ is) (get_or-set_other ws 0 1 z 0 (λ e. omega arith)) r',
         ),
-        ((empty, refl, seats (x + 1) y s.views id m.0 v at (let same = draw_at-share x m.0 in omega arith) r'), drawn_below n w x y s.views o id m.0 at pos),
+        ((empty, refl, seats (x + 1) y s.views id m.0 v at (let same = draw_at-share x m.0 in omega arith) r'), drawn_below n w x y s.views o id m.0 at pos, stands x y s.views id m.0 (λ t. t.count ≡ x) r.1 at pos refl),
       )
 
   -- A load leaves the words.
@@ -90,6 +97,7 @@ module _ (n w : ℕ) where
           (empty, refl, seats x y s.views id m.0 v at pos r'),
           (let le = o.least_le in omega arith),
           (sound.seen_above, reported_above n w x y s.views o id m.0 at pos),
+          stands x y s.views id m.0 (λ t. t.least ≡ y) r.1 at pos refl,
         ),
       )
 
@@ -115,6 +123,7 @@ module _ (n w : ℕ) where
           (empty, refl, seats x z s.views id m.0 v at pos r'),
           (let le = o.least_le in omega arith),
           (sound.seen_above, reported_above n w x y s.views o id m.0 at pos),
+          stands x y s.views id m.0 (λ t. t.least ≡ y) r.1 at pos refl,
         ),
       )
 

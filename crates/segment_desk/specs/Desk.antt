@@ -119,9 +119,14 @@ pub data Event (n w : ℕ) : DeskState → DeskState → Type 0 where
       → Event n w (desk_at c l parts) (desk_at c l (slice_set (slice_set parts j (with_handed_in v u)) i spent_part))
 
 -- The states that events reach from the first one, in which the count is 0, the least number n, and one ticket stands for all.
+-- There are at most 2^32 - 1 numbers and 255 tickets, so that a word of 64 bits holds every count: a draw never comes round to 0.
 pub data Reached (n w : ℕ) : DeskState → Type 0 where
   opened : n + w < 2 ^ 33 → 0 < w → Reached n w (desk_at 0 n (fresh_part n w w ∷ []))
   went_on : (s t : DeskState) → Reached n w s → Event n w s t → Reached n w t
+
+-- The part v is that of a ticket in some state that events reach, of which this holds.
+abbrev pub StandsIn : (DeskState → Type 0) → Part → Type 0
+StandsIn holds v = (s : DeskState) × (j : ℕ) × Reached v.segments v.workers s × IsTicket s.parts j v × holds s
 
 -- How many draws a ticket has at most, the one that finds no number included. It falls at each number drawn.
 abbrev pub to_draw : ℕ → Option ℕ → ℕ

@@ -2,7 +2,7 @@
 use Rattle.std.specs.Prelude.{◌≡◌, ℕ, ◌<◌, ◌≤◌, [], length, slice_index}
 use Rattle.atomic_table.specs.Table.{State, Me, Step}
 use Rattle.segment_desk.specs.declared.part.Part.{Part}
-use Rattle.segment_desk.specs.Desk.{times, draw_at, look_at, report_at, DeskState, desk_at, Reached}
+use Rattle.segment_desk.specs.Desk.{times, draw_at, look_at, report_at, DeskState, desk_at, Reached, StandsIn}
 use Rattle.segment_desk.specs.Kept.{IsKnown}
 use Rattle.segment_desk.specs.Views.{IsBelowSeen}
 
@@ -32,15 +32,18 @@ HasPart seat v = (seat.1 ≡ []) × (seat.0 ≡ v) × IsKnown v
 
 -- A draw, which found the count k: it is above all numbers that this ticket has drawn.
 abbrev pub Drew : Play
-Drew step before k after = HasPart after (draw_at k before.0) × ((j : ℕ) → 0 < times j before.0.drawn → j < k)
+Drew step before k after =
+    HasPart after (draw_at k before.0) × ((j : ℕ) → 0 < times j before.0.drawn → j < k) × StandsIn (λ s. s.count ≡ k) before.0
 
 -- A look, which found the least number x.
 abbrev pub Looked : Play
-Looked step before x after = HasPart after (look_at x before.0) × (x ≤ before.0.segments) × IsBelowSeen x before.0
+Looked step before x after =
+    HasPart after (look_at x before.0) × (x ≤ before.0.segments) × IsBelowSeen x before.0 × StandsIn (λ s. s.least ≡ x) before.0
 
 -- A report of the step's operand, which found the least number x.
 abbrev pub Reported : Play
-Reported step before x after = HasPart after (report_at x step.first before.0) × (x ≤ before.0.segments) × IsBelowSeen x before.0
+Reported step before x after =
+    HasPart after (report_at x step.first before.0) × (x ≤ before.0.segments) × IsBelowSeen x before.0 × StandsIn (λ s. s.least ≡ x) before.0
 
 -- A load that changes no part.
 abbrev pub Settled : Play

@@ -36,7 +36,7 @@ impl Model for Desk {
 }
 
 impl Desk {
-    ghost use Rattle.segment_desk.specs.Desk.{times, with_drawn, at_end, look_at, report_at, with_handed_in};
+    ghost use Rattle.segment_desk.specs.Desk.{times, with_drawn, at_end, look_at, report_at, with_handed_in, StandsIn};
     ghost use Rattle.segment_desk.specs.Kept.{IsKnown};
     ghost use Rattle.segment_desk.specs.Views.{IsOf, IsBelowSeen, first_ticket, shared_ticket};
 
@@ -82,6 +82,9 @@ impl Desk {
         ensures event { MatchOption result (ticket.new.part ≡ at_end ticket.old.part)
             (λ k. (ticket.old.part.ended ≡ false) × (k < self.now.segments)
             × (ticket.new.part ≡ with_drawn k ticket.old.part)) }
+
+        // The number is the count in a state that events reach, where the ticket has this part.
+        ensures state { IfSome result (λ k. StandsIn (λ s. s.count ≡ k) ticket.old.part) }
         ensures rising { IfSome result (λ k. (j : ℕ) → 0 < times j ticket.old.part.drawn → j < k) }
         ensures not_passed { IfSome result (λ k. times k ticket.new.part.passed_over ≡ 0) }
         ensures after_last { IfSome result (λ k. (j : ℕ) → ticket.old.part.last ≡ Some j → j < k) }
@@ -105,6 +108,9 @@ impl Desk {
         requires { IsOf self.now ticket.old }
         ensures own { IsOf self.now ticket.new }
         ensures event { ticket.new.part ≡ look_at result ticket.old.part }
+
+        // It is the least number in a state that events reach, where the ticket has this part.
+        ensures state { StandsIn (λ s. s.least ≡ result) ticket.old.part }
         ensures still { (k : ℕ) → ticket.old.part.last ≡ Some k → k ≤ result
             → ticket.new.part.passed_over ≡ ticket.old.part.passed_over }
         ensures passes { (k : ℕ) → ticket.old.part.last ≡ Some k → result < k
@@ -122,9 +128,10 @@ impl Desk {
             × (times number ticket.old.part.passed_over ≡ 0) }
         ensures own { IsOf self.now ticket.new }
 
-        // x is the least number as the report found it.
+        // x is the least number as the report found it, in a state that events reach.
         ensures event { (x : ℕ) × (ticket.new.part ≡ report_at x number ticket.old.part)
-            × (x ≤ self.now.segments) × IsBelowSeen x ticket.old.part }
+            × (x ≤ self.now.segments) × IsBelowSeen x ticket.old.part
+            × StandsIn (λ s. s.least ≡ x) ticket.old.part }
         ensures known { IsKnown ticket.new.part }
     {
         self.table
