@@ -1,5 +1,5 @@
 //! Reading movies.
-ghost use Rattle.std.specs.Prelude.{◌≡◌, ◌≢◌, ◌≤◌, length, IfErr, IfOk, IsOk, IsTrue, Ok};
+ghost use Rattle.std.specs.Prelude.{◌≡◌, ◌≢◌, ◌≤◌, [], length, take, IfErr, IfOk, IsOk, IsTrue, Ok, vec_capacity};
 ghost use Rattle.movie_file.specs.Format.{takes_cart, most_frames, most_checkpoints, body_length};
 ghost use Rattle.movie_file.specs.Movie.{MovieData};
 ghost use Rattle.movie_file.specs.MovieError.{Gives};
@@ -12,6 +12,7 @@ mod inputs;
 mod items;
 mod sizes;
 
+use crate::checkpoint::Checkpoint;
 use crate::error::MovieError;
 use crate::format::record_length;
 use crate::movie::Movie;
@@ -22,40 +23,72 @@ pub use inputs::read_inputs;
 use items::{checkpoints_in, inputs_in};
 use riot_map::Cart;
 pub(crate) use sizes::Sizes;
-use std::alloc::Global;
+use std::alloc::{AllocError, Global};
+use vcs_machine::Input;
 
-/// What follows a header. Memory is taken before the first byte is looked at.
-#[tactic(auto, unfolding(crate::specs::Reading::body_at))]
-fn body_in(alloc: Global, sizes: Sizes, bytes: &[u8]) -> Result<MovieParts, MovieError>
-    requires cart { IsTrue (takes_cart sizes.version sizes.cart) }
-    requires frames { sizes.frames ≤ most_frames sizes.version }
-    requires checkpoints { sizes.checkpoints ≤ most_checkpoints }
-    requires long { body_length sizes ≤ length bytes.now }
-    ensures { Gives data_of result (body_at sizes bytes.now) }
-{
-    let (cart, rest) = bytes.split_at(sizes.cart as usize);
-    let cart = Vec::from_slice(alloc, cart)?;
-    let inputs = Vec::with_capacity(alloc, sizes.frames as usize)?;
-    let checkpoints = Vec::with_capacity(alloc, sizes.checkpoints as usize)?;
-    let (start, rest) = rest.split_at(record_length(sizes.version));
-    let Some(start) = movie_state_in(sizes, start) else {
-        return Err(MovieError::BadState(0));
-    };
-    let (inputs, rest) = inputs_in(inputs, sizes.frames as usize, rest)?;
-    let (checkpoints, rest) = checkpoints_in(checkpoints, sizes, rest)?;
-    if !rest.is_empty() {
-        return Err(MovieError::Trailing);
+/// All the memory that a movie takes, from before its first state is judged.
+#[derive(Drop)]
+struct Room {
+    cart: Vec<u8>,
+    inputs: Vec<Input>,
+    checkpoints: Vec<Checkpoint>,
+}
+
+impl Room {
+    /// The bytes of a cartridge, and room for the inputs and checkpoints of a movie of these sizes.
+    fn new(alloc: Global, cart: &[u8], sizes: Sizes) -> Result<Room, AllocError>
+        ensures cart { IfOk result (λ room. room.cart.items ≡ cart.now) }
+        ensures inputs { IfOk result (λ room. (room.inputs.items ≡ [])
+            × (sizes.frames ≤ vec_capacity room.inputs)) }
+        ensures checkpoints { IfOk result (λ room. (room.checkpoints.items ≡ [])
+            × (sizes.checkpoints ≤ vec_capacity room.checkpoints)) }
+    {
+        let cart = Vec::from_slice(alloc, cart)?;
+        let inputs = Vec::with_capacity(alloc, sizes.frames as usize)?;
+        let checkpoints = Vec::with_capacity(alloc, sizes.checkpoints as usize)?;
+        Ok(Room {
+            cart,
+            inputs,
+            checkpoints,
+        })
     }
-    let Ok(cart) = Cart::new(cart) else {
-        return Err(MovieError::BadCartSize);
-    };
-    Ok(MovieParts {
-        version: sizes.version,
-        cart,
-        start,
-        inputs,
-        checkpoints,
-    })
+
+    /// What follows a header: the cartridge, whose bytes are in this room, and the rest.
+    #[tactic(auto, unfolding(crate::specs::Reading::body_at))]
+    fn filled(self, sizes: Sizes, bytes: &[u8]) -> Result<MovieParts, MovieError>
+        requires takes { IsTrue (takes_cart sizes.version sizes.cart) }
+        requires frames { sizes.frames ≤ most_frames sizes.version }
+        requires checkpoints { sizes.checkpoints ≤ most_checkpoints }
+        requires long { body_length sizes ≤ length bytes.now }
+        requires cart { self.cart.items ≡ take sizes.cart bytes.now }
+        requires inputs_room { (self.inputs.items ≡ [])
+            × (sizes.frames ≤ vec_capacity self.inputs) }
+        requires checkpoints_room { (self.checkpoints.items ≡ [])
+            × (sizes.checkpoints ≤ vec_capacity self.checkpoints) }
+        ensures gives { Gives data_of result (body_at sizes bytes.now) }
+        ensures never { IfErr result (λ e. e ≢ MovieError.NoMemory) }
+    {
+        let (_, rest) = bytes.split_at(sizes.cart as usize);
+        let (start, rest) = rest.split_at(record_length(sizes.version));
+        let Some(start) = movie_state_in(sizes, start) else {
+            return Err(MovieError::BadState(0));
+        };
+        let (inputs, rest) = inputs_in(self.inputs, sizes.frames as usize, rest)?;
+        let (checkpoints, rest) = checkpoints_in(self.checkpoints, sizes, rest)?;
+        if !rest.is_empty() {
+            return Err(MovieError::Trailing);
+        }
+        let Ok(cart) = Cart::new(self.cart) else {
+            unreachable!()
+        };
+        Ok(MovieParts {
+            version: sizes.version,
+            cart,
+            start,
+            inputs,
+            checkpoints,
+        })
+    }
 }
 
 /// The parts of the movie that the bytes spell.
@@ -64,10 +97,9 @@ fn parts_in(alloc: Global, bytes: &[u8]) -> Result<MovieParts, MovieError>
     ensures gives { Gives data_of result (movie_at bytes.now) }
     ensures memory { result ≡ Err MovieError.NoMemory → IsOk (sizes_at bytes.now) }
 {
-    match sizes_in(bytes) {
-        Ok((sizes, rest)) => body_in(alloc, sizes, rest),
-        Err(e) => Err(e),
-    }
+    let (sizes, rest) = sizes_in(bytes)?;
+    let room = Room::new(alloc, &rest[..sizes.cart as usize], sizes)?;
+    room.filled(sizes, rest)
 }
 
 /// The movie that the bytes spell, all of the bytes; else the first refusal in the order of the

@@ -1,5 +1,5 @@
 //! Reading inputs and checkpoints.
-ghost use Rattle.std.specs.Prelude.{◌≡◌, ◌≤◌, ◌<◌, ◌+◌, ◌*◌, ◌^◌, [], IfOk, length};
+ghost use Rattle.std.specs.Prelude.{◌≡◌, ◌≢◌, ◌≤◌, ◌+◌, ◌*◌, [], IfErr, IfOk, length, vec_capacity};
 ghost use Rattle.movie_file.specs.Format.{input_length, record_length, checkpoint_length, most_checkpoints};
 ghost use Rattle.movie_file.specs.MovieError.{Gives};
 ghost use Rattle.movie_file.specs.Reading.{input_at, inputs_at, head_state_at, checkpoint_at, checkpoints_at};
@@ -15,7 +15,8 @@ use vcs_machine::{Input, State};
 #[tactic(auto, unfolding(crate::specs::Reading::input_at))]
 fn input_in(number: u64, bytes: &[u8]) -> Result<Input, MovieError>
     requires { input_length ≤ length bytes.now }
-    ensures { Gives (λ x. x) result (input_at number bytes.now) }
+    ensures gives { Gives (λ x. x) result (input_at number bytes.now) }
+    ensures never { IfErr result (λ e. e ≢ MovieError.NoMemory) }
 {
     match Input::new(bytes[0], bytes[1], bytes[2]) {
         Some(input) => Ok(input),
@@ -23,22 +24,23 @@ fn input_in(number: u64, bytes: &[u8]) -> Result<Input, MovieError>
     }
 }
 
-/// So many inputs, put into an empty list, and what follows them.
+/// So many inputs, put into an empty list that has room for them, and what follows them.
 pub(super) fn inputs_in(
     mut inputs: Vec<Input>,
     count: usize,
     bytes: &[u8],
 ) -> Result<(Vec<Input>, &[u8]), MovieError>
     requires empty { inputs.items ≡ [] }
+    requires room { count ≤ vec_capacity inputs }
     requires long { input_length * count ≤ length bytes.now }
     ensures gives { Gives (λ x. (x.0.items, x.1.now)) result (inputs_at count 1 bytes.now) }
+    ensures never { IfErr result (λ e. e ≢ MovieError.NoMemory) }
     ensures rest { IfOk result (λ x. length x.1.now + input_length * count ≡ length bytes.now) }
-    ensures memory { result ≡ Err MovieError.NoMemory → 0 < count }
 {
     let mut rest = bytes;
     for i in 0..count {
         let input = input_in(i as u64 + 1, rest)?;
-        inputs.push(input)?;
+        inputs.push_reserved(input);
         let (_, after) = rest.split_at(INPUT_LENGTH);
         rest = after;
     }
@@ -63,7 +65,8 @@ fn checkpoint_in(
     bytes: &[u8],
 ) -> Result<Checkpoint, MovieError>
     requires { checkpoint_length sizes.version ≤ length bytes.now }
-    ensures { Gives (λ x. x) result (checkpoint_at sizes number last bytes.now) }
+    ensures gives { Gives (λ x. x) result (checkpoint_at sizes number last bytes.now) }
+    ensures never { IfErr result (λ e. e ≢ MovieError.NoMemory) }
 {
     let frame = u32::from_be_bytes([bytes[0], bytes[1], bytes[2], bytes[3]]);
     if frame <= last || sizes.frames < frame {
@@ -75,24 +78,27 @@ fn checkpoint_in(
     }
 }
 
-/// The checkpoints of a movie, put into an empty list, and what follows them.
+/// The checkpoints of a movie, put into an empty list that has room for them, and what follows
+/// them.
 pub(super) fn checkpoints_in(
     mut checkpoints: Vec<Checkpoint>,
     sizes: Sizes,
     bytes: &[u8],
 ) -> Result<(Vec<Checkpoint>, &[u8]), MovieError>
     requires empty { checkpoints.items ≡ [] }
+    requires room { sizes.checkpoints ≤ vec_capacity checkpoints }
     requires few { sizes.checkpoints ≤ most_checkpoints }
     requires long { checkpoint_length sizes.version * sizes.checkpoints ≤ length bytes.now }
-    ensures { Gives (λ x. (x.0.items, x.1.now)) result
+    ensures gives { Gives (λ x. (x.0.items, x.1.now)) result
         (checkpoints_at sizes sizes.checkpoints 1 0 bytes.now) }
+    ensures never { IfErr result (λ e. e ≢ MovieError.NoMemory) }
 {
     let mut rest = bytes;
     let mut last = 0;
     for i in 0..sizes.checkpoints {
         let checkpoint = checkpoint_in(sizes, i + 1, last, rest)?;
         last = checkpoint.frame;
-        checkpoints.push(checkpoint)?;
+        checkpoints.push_reserved(checkpoint);
         let (_, after) = rest.split_at(4 + record_length(sizes.version));
         rest = after;
     }
