@@ -5,5 +5,6 @@ pub mod Conversions
 pub mod MakingViews
 pub mod OutputViews
 pub mod Outputs
+pub mod Private
 pub mod Status
 pub mod Streams

@@ -1,7 +1,7 @@
 -- What a making writes, as contracts see it.
-use Rattle.vcs_engine.specs.Lines.{line_bytes}
+use Rattle.std.specs.Prelude.{string_bytes}
 use Rattle.vcs_engine.specs.Makings.{Made}
 use Rattle.vcs_engine.specs.declared.making.Making.{Making}
 
 abbrev pub made_by : Making → Made
-made_by m = record { status = m.status; movie = m.movie.items; line = line_bytes m.line }
+made_by m = record { status = m.status; movie = m.movie.items; line = string_bytes m.line }

@@ -2,7 +2,7 @@
 ghost use Rattle.std.specs.Prelude.{◌≡◌, ◌≢◌, List, ℕ, IfOk, OnErr};
 ghost use Rattle.std.specs.Io.KnownBytes.{Appends, Keeps};
 ghost use Rattle.movie_file.specs.Reading.{movie_at};
-ghost use Rattle.vcs_engine.specs.Conversions.{converted_of, made_by_conversion};
+ghost use Rattle.vcs_engine.specs.Conversions.{converted_of};
 ghost use Rattle.vcs_engine.specs.MakingViews.{made_by};
 ghost use Rattle.vcs_engine.specs.Streams.{ReadsAll, WritesPart, IsTooLong};
 
@@ -11,29 +11,9 @@ use crate::making::Making;
 use crate::run_error::RunError;
 use crate::status::Status;
 use crate::streams::read_all;
-use movie_file::{ConvertError, Movie, MovieError, convert, read_movie, write_movie};
+use movie_file::{ConvertError, MovieError, convert, read_movie};
 use std::alloc::{AllocError, Global};
 use std::io::{Read, Write};
-
-/// What is written of a movie that was converted.
-fn of_converted(alloc: Global, movie: &Movie) -> Result<Making, AllocError>
-    ensures { IfOk result (λ making. made_by making ≡ made_by_conversion movie.now) }
-{
-    let frames = movie.frames();
-    let checkpoints = movie.checkpoints();
-    let mut bytes = Vec::new(alloc);
-    if write_movie(movie, &mut bytes).is_err() {
-        return Err(AllocError);
-    }
-    Ok(Making {
-        status: Status::Done,
-        movie: bytes,
-        line: Line::Converted {
-            frames,
-            checkpoints,
-        },
-    })
-}
 
 /// What is written of the bytes of a movie.
 fn of_bytes(alloc: Global, bytes: &[u8]) -> Result<Making, AllocError>
@@ -42,15 +22,21 @@ fn of_bytes(alloc: Global, bytes: &[u8]) -> Result<Making, AllocError>
     let movie = match read_movie(alloc, bytes) {
         Ok(movie) => movie,
         Err(MovieError::NoMemory) => return Err(AllocError),
-        Err(error) => return Ok(Making::refused(alloc, error)),
+        Err(error) => return Making::refused(alloc, error),
     };
     match convert(movie) {
-        Ok(movie) => of_converted(alloc, &movie),
-        Err(ConvertError::AlreadyTwo(_)) => Ok(Making {
-            status: Status::Refused,
-            movie: Vec::new(alloc),
-            line: Line::AlreadyTwo,
-        }),
+        Ok(movie) => {
+            let frames = movie.frames();
+            let checkpoints = movie.checkpoints();
+            let line = Line::Converted {
+                frames,
+                checkpoints,
+            };
+            Making::of_movie(alloc, &movie, line)
+        }
+        Err(ConvertError::AlreadyTwo(_)) => {
+            Making::new(alloc, Status::Refused, Vec::new(alloc), Line::AlreadyTwo)
+        }
     }
 }
 
@@ -58,7 +44,7 @@ fn of_bytes(alloc: Global, bytes: &[u8]) -> Result<Making, AllocError>
 ///
 /// A movie that is refused, or has version 2 already, is a line and `Status::Refused` without a movie. After ReadFault, TooLong
 /// and NoMemory nothing was written; after WriteFault the new movie's writer has got a prefix of it, and the line's writer a prefix
-/// of the line only after the whole movie. At most 16,777,218 reads are made.
+/// of the line only after the whole movie. At most 16,777,217 reads are made.
 pub fn run_convert<R: Read, W: Write, L: Write>(
     alloc: Global,
     movie: &mut R,
@@ -79,12 +65,7 @@ pub fn run_convert<R: Read, W: Write, L: Write>(
     ensures too_long { result ≡ Err RunError.TooLong → IsTooLong (R.remaining movie.old) }
     ensures no_thread { result ≢ Err RunError.NoThread }
 {
-    let bytes = match read_all(alloc, movie) {
-        Ok(bytes) => bytes,
-        Err(error) => return Err(error),
-    };
-    match of_bytes(alloc, &bytes) {
-        Ok(making) => making.write(alloc, new, line),
-        Err(_) => Err(RunError::NoMemory),
-    }
+    let bytes = read_all(alloc, movie)?;
+    let making = of_bytes(alloc, &bytes)?;
+    Ok(making.write(new, line)?)
 }

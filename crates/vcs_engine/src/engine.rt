@@ -20,7 +20,7 @@ use std::thread::Threads;
 ///
 /// A movie that is refused is a line and `Status::Refused`. After ReadFault, TooLong, NoMemory and NoThread nothing was written.
 /// After WriteFault the line's writer has got a prefix of the line, or the whole line and the pictures' writer a prefix of the
-/// pictures. At most 16,777,218 reads are made. With more than one worker it joins the threads that it starts.
+/// pictures. At most 16,777,217 reads are made. With more than one worker it joins the threads that it starts.
 pub fn run<T: Threads + Wait + Sync, R: Read, W: Write, P: Write>(
     rt: &T,
     alloc: Global,
@@ -43,12 +43,7 @@ pub fn run<T: Threads + Wait + Sync, R: Read, W: Write, P: Write>(
     ensures too_long { result ≡ Err RunError.TooLong → IsTooLong (R.remaining movie.old) }
     ensures no_thread { result ≡ Err RunError.NoThread → 2 ≤ plan.now.workers }
 {
-    let bytes = match read_all(alloc, movie) {
-        Ok(bytes) => bytes,
-        Err(error) => return Err(error),
-    };
-    match Output::of_bytes(rt, alloc, &bytes, plan) {
-        Ok(output) => output.write(verdict, pictures),
-        Err(error) => Err(error),
-    }
+    let bytes = read_all(alloc, movie)?;
+    let output = Output::of_bytes(rt, alloc, &bytes, plan)?;
+    Ok(output.write(verdict, pictures)?)
 }

@@ -1,10 +1,9 @@
 //! From the bytes of a movie to what is in it.
-ghost use Rattle.std.specs.Prelude.{◌≡◌, ◌≢◌, List, ℕ, IfOk, OnErr};
+ghost use Rattle.std.specs.Prelude.{◌≡◌, ◌≢◌, List, ℕ, IfOk, OnErr, string_bytes};
 ghost use Rattle.std.specs.Io.KnownBytes.{Appends, Keeps};
 ghost use Rattle.movie_file.specs.Reading.{movie_at};
 ghost use Rattle.picture_file.specs.Fronts.{AppendsFront};
 ghost use Rattle.vcs_engine.specs.Information.{information_of};
-ghost use Rattle.vcs_engine.specs.Lines.{line_bytes};
 ghost use Rattle.vcs_engine.specs.Streams.{ReadsAll, IsTooLong};
 
 use crate::line::Line;
@@ -16,35 +15,34 @@ use picture_file::write_bytes;
 use std::alloc::{AllocError, Global};
 use std::io::{Read, Write};
 
-/// What is told about the bytes of an input.
-fn told(alloc: Global, bytes: &[u8]) -> Result<(Status, Line), AllocError>
-    ensures { IfOk result (λ told. information_of (movie_at bytes.now) ≡ record { status = told.0; line = line_bytes told.1 }) }
+/// A status, and the line about the bytes of an input, with its end.
+fn told(alloc: Global, bytes: &[u8]) -> Result<(Status, String), AllocError>
+    ensures { IfOk result (λ told. information_of (movie_at bytes.now) ≡ record { status = told.0; line = string_bytes told.1 }) }
 {
-    match read_movie(alloc, bytes) {
+    let (status, line) = match read_movie(alloc, bytes) {
         Ok(movie) => {
             let version = movie.version();
             let cartridge = movie.cart().len();
             let frames = movie.frames();
             let checkpoints = movie.checkpoints();
-            Ok((
-                Status::Done,
-                Line::Movie {
-                    version,
-                    cartridge,
-                    frames,
-                    checkpoints,
-                },
-            ))
+            let line = Line::Movie {
+                version,
+                cartridge,
+                frames,
+                checkpoints,
+            };
+            (Status::Done, line)
         }
-        Err(MovieError::NoMemory) => Err(AllocError),
-        Err(error) => Ok((Status::Refused, Line::Refused(error))),
-    }
+        Err(MovieError::NoMemory) => return Err(AllocError),
+        Err(error) => (Status::Refused, Line::Refused(error)),
+    };
+    Ok((status, line.text(alloc)?))
 }
 
 /// Reads a movie, and writes a line about it, which ends with a line feed. The movie is not replayed.
 ///
 /// A movie that is refused is a line and `Status::Refused`. After ReadFault, TooLong and NoMemory nothing was written; after
-/// WriteFault the line's writer has got a prefix of the line. At most 16,777,218 reads are made.
+/// WriteFault the line's writer has got a prefix of the line. At most 16,777,217 reads are made.
 pub fn run_info<R: Read, W: Write>(
     alloc: Global,
     movie: &mut R,
@@ -61,20 +59,8 @@ pub fn run_info<R: Read, W: Write>(
     ensures too_long { result ≡ Err RunError.TooLong → IsTooLong (R.remaining movie.old) }
     ensures no_thread { result ≢ Err RunError.NoThread }
 {
-    let bytes = match read_all(alloc, movie) {
-        Ok(bytes) => bytes,
-        Err(error) => return Err(error),
-    };
-    let (status, told_line) = match told(alloc, &bytes) {
-        Ok(told) => told,
-        Err(_) => return Err(RunError::NoMemory),
-    };
-    let text = match told_line.text(alloc) {
-        Ok(text) => text,
-        Err(_) => return Err(RunError::NoMemory),
-    };
-    match write_bytes(text.as_bytes(), line) {
-        Ok(()) => Ok(status),
-        Err(_) => Err(RunError::WriteFault),
-    }
+    let bytes = read_all(alloc, movie)?;
+    let (status, text) = told(alloc, &bytes)?;
+    write_bytes(text.as_bytes(), line)?;
+    Ok(status)
 }

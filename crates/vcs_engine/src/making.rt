@@ -7,36 +7,70 @@ ghost use Rattle.vcs_engine.specs.MakingViews.{made_by};
 ghost use Rattle.vcs_engine.specs.Streams.{ReadsAll, WritesPart, IsTooLong};
 
 use crate::line::Line;
-use crate::run_error::RunError;
+use crate::run_error::{ReadError, RunError};
 use crate::status::Status;
 use crate::streams::read_all;
-use movie_file::{MakeError, MovieError, make_movie, read_inputs, write_movie};
-use picture_file::write_bytes;
+use movie_file::{MakeError, Movie, MovieError, make_movie, read_inputs, write_movie};
+use picture_file::{WriteFault, write_bytes};
 use riot_map::Cart;
 use std::alloc::{AllocError, Global};
 use std::io::{Read, Write};
 use vcs_machine::Input;
 
-/// A status, the bytes of a movie, and a line.
+/// A status, the bytes of a movie, and a line with its end.
 #[derive(Drop)]
 pub(crate) struct Making {
-    pub status: Status,
-    pub movie: Vec<u8>,
-    pub line: Line,
+    status: Status,
+    movie: Vec<u8>,
+    line: String,
 }
 
 impl Making {
+    ghost use Rattle.movie_file.specs.Spelling.{spelling};
+    ghost use Rattle.vcs_engine.specs.Lines.{line_bytes};
     ghost use Rattle.vcs_engine.specs.Makings.{made_refused};
+    ghost use Rattle.vcs_engine.specs.declared.status.Status.TheVariants.{Done};
+
+    /// What is written of these bytes of a movie.
+    pub(crate) fn new(
+        alloc: Global,
+        status: Status,
+        movie: Vec<u8>,
+        line: Line,
+    ) -> Result<Making, AllocError>
+        ensures { IfOk result (λ making. made_by making
+            ≡ record { status = status; movie = movie.items; line = line_bytes line }) }
+    {
+        let line = line.text(alloc)?;
+        Ok(Making {
+            status,
+            movie,
+            line,
+        })
+    }
 
     /// What is written of what is refused.
-    pub(crate) fn refused(alloc: Global, error: MovieError) -> Making
-        ensures { made_by result ≡ made_refused error }
+    pub(crate) fn refused(alloc: Global, error: MovieError) -> Result<Making, AllocError>
+        ensures { IfOk result (λ making. made_by making ≡ made_refused error) }
     {
-        Making {
-            status: Status::Refused,
-            movie: Vec::new(alloc),
-            line: Line::Refused(error),
+        Making::new(
+            alloc,
+            Status::Refused,
+            Vec::new(alloc),
+            Line::Refused(error),
+        )
+    }
+
+    /// What is written of a movie, with this line.
+    pub(crate) fn of_movie(alloc: Global, movie: &Movie, line: Line) -> Result<Making, AllocError>
+        ensures { IfOk result (λ making. made_by making
+            ≡ record { status = Done; movie = spelling movie.now; line = line_bytes line }) }
+    {
+        let mut bytes = Vec::new(alloc);
+        if write_movie(movie, &mut bytes).is_err() {
+            return Err(AllocError);
         }
+        Making::new(alloc, Status::Done, bytes, line)
     }
 
     /// What is written of a cartridge and inputs.
@@ -48,31 +82,21 @@ impl Making {
     ) -> Result<Making, AllocError>
         ensures { IfOk result (λ making. MakesOf cart inputs.items every (made_by making)) }
     {
-        let mut bytes = Vec::new(alloc);
         match make_movie(alloc, cart, inputs, every) {
             Ok(movie) => {
                 let frames = movie.frames();
                 let checkpoints = movie.checkpoints();
-                if write_movie(&movie, &mut bytes).is_err() {
-                    return Err(AllocError);
-                }
-                Ok(Making {
-                    status: Status::Done,
-                    movie: bytes,
-                    line: Line::Made {
-                        frames,
-                        checkpoints,
-                    },
-                })
+                let line = Line::Made {
+                    frames,
+                    checkpoints,
+                };
+                Making::of_movie(alloc, &movie, line)
             }
             Err(MakeError::Fault { frame, kind }) => {
-                Ok(Making {
-                    status: Status::Fault,
-                    movie: bytes,
-                    line: Line::Fault { frame, kind },
-                })
+                let line = Line::Fault { frame, kind };
+                Making::new(alloc, Status::Fault, Vec::new(alloc), line)
             }
-            Err(MakeError::BadCounts) => Ok(Making::refused(alloc, MovieError::BadCounts)),
+            Err(MakeError::BadCounts) => Making::refused(alloc, MovieError::BadCounts),
             Err(MakeError::NoMemory) => Err(AllocError),
         }
     }
@@ -84,7 +108,7 @@ impl Making {
         match read_inputs(alloc, inputs) {
             Ok(inputs) => Making::of_inputs(alloc, cart, inputs, every),
             Err(MovieError::NoMemory) => Err(AllocError),
-            Err(error) => Ok(Making::refused(alloc, error)),
+            Err(error) => Making::refused(alloc, error),
         }
     }
 
@@ -94,52 +118,31 @@ impl Making {
         rom: Vec<u8>,
         inputs: &mut S,
         every: u32,
-    ) -> Result<Making, RunError>
+    ) -> Result<Making, ReadError>
         ensures makes { IfOk result (λ making. Makes rom.items (S.remaining inputs.old) (S.remaining inputs.new) every (made_by making)) }
-        ensures too_long { result ≡ Err RunError.TooLong → IsTooLong (S.remaining inputs.old) }
-        ensures no_thread { result ≢ Err RunError.NoThread }
-        ensures no_write { result ≢ Err RunError.WriteFault }
+        ensures too_long { result ≡ Err ReadError.TooLong → IsTooLong (S.remaining inputs.old) }
     {
         let Ok(cart) = Cart::new(rom) else {
-            return Ok(Making::refused(alloc, MovieError::BadCartSize));
+            return Ok(Making::refused(alloc, MovieError::BadCartSize)?);
         };
-        let bytes = match read_all(alloc, inputs) {
-            Ok(bytes) => bytes,
-            Err(error) => return Err(error),
-        };
-        match Making::of_bytes(alloc, cart, &bytes, every) {
-            Ok(making) => Ok(making),
-            Err(_) => Err(RunError::NoMemory),
-        }
+        let bytes = read_all(alloc, inputs)?;
+        Ok(Making::of_bytes(alloc, cart, &bytes, every)?)
     }
 
     /// Writes a movie, then a line.
     pub(crate) fn write<W: Write, L: Write>(
         &self,
-        alloc: Global,
         movie: &mut W,
         line: &mut L,
-    ) -> Result<Status, RunError>
+    ) -> Result<Status, WriteFault>
         ensures ok { IfOk result (λ status. (status ≡ self.now.status) × Appends (W.contents movie.old) (W.contents movie.new) (made_by self.now).movie
             × Appends (L.contents line.old) (L.contents line.new) (made_by self.now).line) }
-        ensures write_fault { result ≡ Err RunError.WriteFault → WritesPart (W.contents movie.old) (W.contents movie.new) (made_by self.now).movie
-            (L.contents line.old) (L.contents line.new) (made_by self.now).line }
-        ensures quiet { OnErr result (result ≢ Err RunError.WriteFault
-            → Keeps (W.contents movie.old) (W.contents movie.new) × Keeps (L.contents line.old) (L.contents line.new)) }
-        ensures no_read { result ≢ Err RunError.TooLong }
-        ensures no_thread { result ≢ Err RunError.NoThread }
+        ensures fault { OnErr result (WritesPart (W.contents movie.old) (W.contents movie.new) (made_by self.now).movie
+            (L.contents line.old) (L.contents line.new) (made_by self.now).line) }
     {
-        let text = match self.line.text(alloc) {
-            Ok(text) => text,
-            Err(_) => return Err(RunError::NoMemory),
-        };
-        if write_bytes(&self.movie, movie).is_err() {
-            return Err(RunError::WriteFault);
-        }
-        match write_bytes(text.as_bytes(), line) {
-            Ok(()) => Ok(self.status),
-            Err(_) => Err(RunError::WriteFault),
-        }
+        write_bytes(&self.movie, movie)?;
+        write_bytes(self.line.as_bytes(), line)?;
+        Ok(self.status)
     }
 }
 
@@ -149,7 +152,7 @@ impl Making {
 /// The ROM is read and checked first; where it is refused the inputs are not read. Inputs or counts that are refused, and a run
 /// that faults, are a line and a status without a movie. After ReadFault, TooLong and NoMemory nothing was written; after
 /// WriteFault the movie's writer has got a prefix of the movie, and the line's writer a prefix of the line only after the whole
-/// movie. At most 16,777,218 reads of each input are made.
+/// movie. At most 16,777,217 reads of each input are made.
 pub fn run_make<R: Read, S: Read, W: Write, L: Write>(
     alloc: Global,
     rom: &mut R,
@@ -172,12 +175,7 @@ pub fn run_make<R: Read, S: Read, W: Write, L: Write>(
     ensures too_long { result ≡ Err RunError.TooLong → IsTooLong (R.remaining rom.old) ⊎ IsTooLong (S.remaining inputs.old) }
     ensures no_thread { result ≢ Err RunError.NoThread }
 {
-    let bytes = match read_all(alloc, rom) {
-        Ok(bytes) => bytes,
-        Err(error) => return Err(error),
-    };
-    match Making::of_rom(alloc, bytes, inputs, every) {
-        Ok(making) => making.write(alloc, movie, line),
-        Err(error) => Err(error),
-    }
+    let bytes = read_all(alloc, rom)?;
+    let making = Making::of_rom(alloc, bytes, inputs, every)?;
+    Ok(making.write(movie, line)?)
 }

@@ -187,7 +187,7 @@ fn making_of_endless_inputs_is_too_long(rt: HostRuntime) {
     );
     assert_eq!(rt; status, Err(RunError::TooLong));
     assert!(rt; movie.is_empty() && line.is_empty());
-    assert!(rt; inputs.reads <= 16_777_218, "{} reads", inputs.reads);
+    assert_eq!(rt; inputs.reads, 16_777_217);
 }
 
 /// What a making answers over writers that take so many bytes, and what they took.

@@ -1,0 +1,16 @@
+-- The error of a run for that of one of its parts. This project's own.
+use Rattle.vcs_engine.specs.declared.run_error.JudgeError.{JudgeError}
+use Rattle.vcs_engine.specs.declared.run_error.JudgeError.TheVariants.{NoMemory as NoMemoryToJudge, NoThread as NoThreadToJudge}
+use Rattle.vcs_engine.specs.declared.run_error.ReadError.{ReadError}
+use Rattle.vcs_engine.specs.declared.run_error.ReadError.TheVariants.{Fault as FaultToRead, TooLong as TooLongToRead, NoMemory as NoMemoryToRead}
+use Rattle.vcs_engine.specs.declared.run_error.RunError.{RunError}
+use Rattle.vcs_engine.specs.declared.run_error.RunError.TheVariants.{ReadFault, TooLong, NoMemory, NoThread}
+
+abbrev pub of_reading : ReadError → RunError
+of_reading FaultToRead = ReadFault
+of_reading TooLongToRead = TooLong
+of_reading NoMemoryToRead = NoMemory
+
+abbrev pub of_judging : JudgeError → RunError
+of_judging NoMemoryToJudge = NoMemory
+of_judging NoThreadToJudge = NoThread
