@@ -1,5 +1,8 @@
 //! What each command does with files.
-ghost use Rattle.std.specs.Prelude.{◌≡◌, ◌≤◌};
+ghost use Rattle.std.specs.Prelude.{◌≡◌, ◌≢◌, ◌≤◌, List, ℕ, Err, IfOk, OnErr};
+ghost use Rattle.std.specs.Io.KnownBytes.{Appends, Keeps};
+ghost use Rattle.vcs_check.specs.Commands.{IsConverted, IsInformation, IsJudged, IsMade};
+ghost use Rattle.vcs_engine.specs.Streams.{ReadsAll};
 
 use replay_segments::Keep;
 use std::alloc::Global;
@@ -22,19 +25,27 @@ pub(crate) enum Failure {
 }
 
 impl From<RunError> for Failure {
+    ghost use Rattle.vcs_check.specs.declared.commands.Failure.TheVariants.{Run};
+
+    ghost from_gives = { λ error failure. failure ≡ Run error };
+
     fn from(error: RunError) -> Failure {
         Failure::Run(error)
     }
 }
 
-fn open<R: Files>(rt: &R, name: &str) -> Result<R::File, Failure> {
+fn open<R: Files>(rt: &R, name: &str) -> Result<R::File, Failure>
+    ensures { OnErr result (result ≡ Err Failure.Open) }
+{
     match fs::open(rt, name) {
         Ok(file) => Ok(file),
         Err(_) => Err(Failure::Open),
     }
 }
 
-fn create<R: Files>(rt: &R, name: &str) -> Result<R::File, Failure> {
+fn create<R: Files>(rt: &R, name: &str) -> Result<R::File, Failure>
+    ensures { OnErr result (result ≡ Err Failure.Open) }
+{
     match fs::create(rt, name) {
         Ok(file) => Ok(file),
         Err(_) => Err(Failure::Open),
@@ -42,7 +53,9 @@ fn create<R: Files>(rt: &R, name: &str) -> Result<R::File, Failure> {
 }
 
 /// A writer that gathers small writes.
-fn buffered<W: Write + Drop>(alloc: Global, writer: W) -> Result<BufWriter<W>, Failure> {
+fn buffered<W: Write + Drop>(alloc: Global, writer: W) -> Result<BufWriter<W>, Failure>
+    ensures { OnErr result (result ≡ Err (Failure.Run RunError.NoMemory)) }
+{
     match BufWriter::new(alloc, writer) {
         Ok(writer) => Ok(writer),
         Err(_) => Err(Failure::Run(RunError::NoMemory)),
@@ -50,7 +63,9 @@ fn buffered<W: Write + Drop>(alloc: Global, writer: W) -> Result<BufWriter<W>, F
 }
 
 /// Empties a buffer. That its last write failed shows only here.
-fn flushed<W: Write>(writer: &mut W) -> Result<(), Failure> {
+fn flushed<W: Write>(writer: &mut W) -> Result<(), Failure>
+    ensures { OnErr result (result ≡ Err (Failure.Run RunError.WriteFault)) }
+{
     match writer.flush() {
         Ok(()) => Ok(()),
         Err(_) => Err(Failure::Run(RunError::WriteFault)),
@@ -73,13 +88,27 @@ pub(crate) fn plan_of(workers: u8, every: u16, first: u32, count: u32) -> Plan
     Plan::new(workers, every, keep).unwrap()
 }
 
+/// The plan by which standard input is judged: one worker, and no picture is kept.
+pub(crate) fn plan_of_standard_input() -> Plan
+    ensures workers { result.workers ≡ 1 }
+    ensures every { result.every ≡ 1 }
+    ensures keep { (result.keep.first ≡ 1) × (result.keep.count ≡ 0) }
+{
+    plan_of(1, 1, 1, 0)
+}
+
 /// Judges a movie without pictures.
 pub(crate) fn judge<T: Threads + Wait + Sync + AllocGlobal, R: Read, W: Write>(
     rt: &T,
     movie: &mut R,
     plan: &Plan,
     line: &mut W,
-) -> Result<Status, Failure> {
+) -> Result<Status, Failure>
+    ensures ok { IfOk result (λ status. (input : List ℕ) × (text : List ℕ) × ReadsAll (R.remaining movie.old) (R.remaining movie.new) input
+        × IsJudged plan.now.keep.first plan.now.keep.count input status text × Appends (W.contents line.old) (W.contents line.new) text) }
+    ensures quiet { OnErr result (result ≢ Err (Failure.Run RunError.WriteFault) → Keeps (W.contents line.old) (W.contents line.new)) }
+    ensures no_thread { result ≡ Err (Failure.Run RunError.NoThread) → 2 ≤ plan.now.workers }
+{
     Ok(run(rt, rt.alloc(), movie, plan, line, &mut io::sink())?)
 }
 
@@ -89,7 +118,12 @@ pub(crate) fn verify<R: Files + Threads + Wait + Sync + AllocGlobal, W: Write>(
     file: &str,
     plan: &Plan,
     line: &mut W,
-) -> Result<Status, Failure> {
+) -> Result<Status, Failure>
+    ensures ok { IfOk result (λ status. (input : List ℕ) × (text : List ℕ)
+        × IsJudged plan.now.keep.first plan.now.keep.count input status text × Appends (W.contents line.old) (W.contents line.new) text) }
+    ensures quiet { OnErr result (result ≢ Err (Failure.Run RunError.WriteFault) → Keeps (W.contents line.old) (W.contents line.new)) }
+    ensures no_thread { result ≡ Err (Failure.Run RunError.NoThread) → 2 ≤ plan.now.workers }
+{
     judge(rt, &mut open(rt, file)?, plan, line)
 }
 
@@ -100,7 +134,12 @@ pub(crate) fn verify_with_pictures<R: Files + Threads + Wait + Sync + AllocGloba
     plan: &Plan,
     pictures: &str,
     line: &mut W,
-) -> Result<Status, Failure> {
+) -> Result<Status, Failure>
+    ensures ok { IfOk result (λ status. (input : List ℕ) × (text : List ℕ)
+        × IsJudged plan.now.keep.first plan.now.keep.count input status text × Appends (W.contents line.old) (W.contents line.new) text) }
+    ensures quiet { OnErr result (result ≢ Err (Failure.Run RunError.WriteFault) → Keeps (W.contents line.old) (W.contents line.new)) }
+    ensures no_thread { result ≡ Err (Failure.Run RunError.NoThread) → 2 ≤ plan.now.workers }
+{
     let mut movie = open(rt, file)?;
     let mut pictures = buffered(rt.alloc(), create(rt, pictures)?)?;
     let status = run(rt, rt.alloc(), &mut movie, plan, line, &mut pictures)?;
@@ -116,7 +155,11 @@ pub(crate) fn make<R: Files + AllocGlobal, W: Write>(
     every: u32,
     out: &str,
     line: &mut W,
-) -> Result<Status, Failure> {
+) -> Result<Status, Failure>
+    ensures ok { IfOk result (λ status. (text : List ℕ) × IsMade every status text × Appends (W.contents line.old) (W.contents line.new) text) }
+    ensures quiet { OnErr result (result ≢ Err (Failure.Run RunError.WriteFault) → Keeps (W.contents line.old) (W.contents line.new)) }
+    ensures no_thread { result ≢ Err (Failure.Run RunError.NoThread) }
+{
     let mut rom = open(rt, rom)?;
     let mut inputs = open(rt, inputs)?;
     let mut movie = create(rt, out)?;
@@ -128,7 +171,11 @@ pub(crate) fn info<R: Files + AllocGlobal, W: Write>(
     rt: &R,
     file: &str,
     line: &mut W,
-) -> Result<Status, Failure> {
+) -> Result<Status, Failure>
+    ensures ok { IfOk result (λ status. (text : List ℕ) × IsInformation status text × Appends (W.contents line.old) (W.contents line.new) text) }
+    ensures quiet { OnErr result (result ≢ Err (Failure.Run RunError.WriteFault) → Keeps (W.contents line.old) (W.contents line.new)) }
+    ensures no_thread { result ≢ Err (Failure.Run RunError.NoThread) }
+{
     Ok(run_info(rt.alloc(), &mut open(rt, file)?, line)?)
 }
 
@@ -138,7 +185,11 @@ pub(crate) fn convert<R: Files + AllocGlobal, W: Write>(
     old: &str,
     new: &str,
     line: &mut W,
-) -> Result<Status, Failure> {
+) -> Result<Status, Failure>
+    ensures ok { IfOk result (λ status. (text : List ℕ) × IsConverted status text × Appends (W.contents line.old) (W.contents line.new) text) }
+    ensures quiet { OnErr result (result ≢ Err (Failure.Run RunError.WriteFault) → Keeps (W.contents line.old) (W.contents line.new)) }
+    ensures no_thread { result ≢ Err (Failure.Run RunError.NoThread) }
+{
     let mut movie = open(rt, old)?;
     let mut converted = create(rt, new)?;
     Ok(run_convert(rt.alloc(), &mut movie, &mut converted, line)?)

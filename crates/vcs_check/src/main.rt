@@ -6,10 +6,16 @@
 
 mod commands;
 
+ghost use Rattle.std.specs.Prelude.{◌≡◌, ◌≢◌, List, ℕ, Err, IfOk, OnErr};
+ghost use Rattle.std.specs.Io.KnownBytes.{Appends, Keeps};
 ghost use Rattle.command_line.specs.Ranges.{IsInRange};
+ghost use Rattle.vcs_check.specs.Commands.{Answers, StartsThreads};
 
 use command_line::{Command, LineFault, parse_line};
-use commands::{Failure, convert, info, judge, make, plan_of, verify, verify_with_pictures};
+use commands::{
+    Failure, convert, info, judge, make, plan_of, plan_of_standard_input, verify,
+    verify_with_pictures,
+};
 use std::alloc::AllocError;
 use std::io::{Eprint, Read, Write};
 use std::process::ExitCode;
@@ -33,9 +39,13 @@ fn execute<R: Files + Threads + Wait + Sync + AllocGlobal, I: Read, W: Write>(
     command: &Command,
 ) -> Result<Status, Failure>
     requires { IsInRange command.now }
+    ensures ok { IfOk result (λ status. (text : List ℕ) × Answers command.now (I.remaining input.old) (I.remaining input.new) status text
+        × Appends (W.contents line.old) (W.contents line.new) text) }
+    ensures quiet { OnErr result (result ≢ Err (Failure.Run RunError.WriteFault) → Keeps (W.contents line.old) (W.contents line.new)) }
+    ensures no_thread { result ≡ Err (Failure.Run RunError.NoThread) → StartsThreads command.now }
 {
     match command {
-        Command::Stdin => judge(rt, input, &plan_of(1, 1, 1, 0), line),
+        Command::Stdin => judge(rt, input, &plan_of_standard_input(), line),
         Command::Verify {
             file,
             workers,

@@ -1,0 +1,50 @@
+-- What a command reads of standard input and writes to standard output, and its status. This project's own.
+use Rattle.std.specs.Prelude.{◌≡◌, ◌≤◌, ℕ, List, Option}
+use Rattle.std.specs.Io.KnownBytes.{Keeps}
+use Rattle.command_line.specs.declared.command.Command.{Command}
+use Rattle.command_line.specs.declared.command.Command.TheVariants.{Stdin, Verify, Make, Info, Convert}
+use Rattle.movie_file.specs.Reading.{movie_at}
+use Rattle.replay_segments.specs.declared.keep.Keep.{Keep}
+use Rattle.vcs_engine.specs.Conversions.{converted_of}
+use Rattle.vcs_engine.specs.Information.{information_of}
+use Rattle.vcs_engine.specs.Makings.{Made, Makes}
+use Rattle.vcs_engine.specs.Outputs.{Told, Tells}
+use Rattle.vcs_engine.specs.Streams.{ReadsAll}
+use Rattle.vcs_engine.specs.declared.status.Status.{Status}
+
+-- The line of these bytes' verdict, with the pictures of `count` frames from `first` on kept.
+abbrev pub IsJudged : ℕ → ℕ → List ℕ → Status → List ℕ → Type 0
+IsJudged first count input status line =
+    (keep : Keep) × (told : Told) × (keep.first ≡ first) × (keep.count ≡ count) × Tells keep input told × (status ≡ told.status) × (line ≡ told.line)
+
+-- The line of a movie that was made of some bytes, or of why there is none.
+abbrev pub IsMade : ℕ → Status → List ℕ → Type 0
+IsMade every status line =
+    (rom : List ℕ) × (old new : Option (List ℕ)) × (made : Made) × Makes rom old new every made × (status ≡ made.status) × (line ≡ made.line)
+
+-- The line about some bytes.
+abbrev pub IsInformation : Status → List ℕ → Type 0
+IsInformation status line =
+    (input : List ℕ) × (status ≡ (information_of (movie_at input)).status) × (line ≡ (information_of (movie_at input)).line)
+
+-- The line of a conversion of some bytes.
+abbrev pub IsConverted : Status → List ℕ → Type 0
+IsConverted status line =
+    (input : List ℕ) × (status ≡ (converted_of (movie_at input)).status) × (line ≡ (converted_of (movie_at input)).line)
+
+-- What a command answers, where standard input has the bytes `old` before it and `new` after it: only without arguments is
+-- standard input read, to its end, and judged, and then no picture is kept.
+abbrev pub Answers : Command → Option (List ℕ) → Option (List ℕ) → Status → List ℕ → Type 0
+Answers Stdin old new status line = (input : List ℕ) × ReadsAll old new input × IsJudged 1 0 input status line
+Answers (Verify file workers every first count pictures) old new status line = Keeps old new × ((input : List ℕ) × IsJudged first count input status line)
+Answers (Make rom inputs every out) old new status line = Keeps old new × IsMade every status line
+Answers (Info file) old new status line = Keeps old new × IsInformation status line
+Answers (Convert older newer) old new status line = Keeps old new × IsConverted status line
+
+-- More than one worker judges: only `verify` with more than one starts threads.
+abbrev pub StartsThreads : Command → Type 0
+StartsThreads Stdin = ⊥
+StartsThreads (Verify file workers every first count pictures) = 2 ≤ workers
+StartsThreads (Make rom inputs every out) = ⊥
+StartsThreads (Info file) = ⊥
+StartsThreads (Convert older newer) = ⊥
