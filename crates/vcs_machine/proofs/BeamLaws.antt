@@ -19,7 +19,7 @@ use Rattle.tia_core.specs.declared.register.Register.{Register}
 use Rattle.tia_core.specs.declared.register.Register.TheVariants.{Vsync}
 use Rattle.tia_core.proofs.Clocks.{iterate-clocked-clock}
 use Rattle.vcs_machine.specs.Consoles.{Console, meaning_of, passed, read_at, written_at, rested, wait_of, wait_cycles, console_rules}
-use Rattle.vcs_machine.specs.Frame.{Machine, Went, machine_at, turn, turn_by, too_many_cycles, stop_of}
+use Rattle.vcs_machine.specs.Frame.{Machine, Turn, Failed, Went, machine_at, turn, turn_by, turn_after, turns, too_many_cycles, stop_of}
 use Rattle.vcs_machine.specs.Pictures.{rows_of}
 use Rattle.vcs_machine.proofs.OneStop.{stop_of-keeps}
 
@@ -165,6 +165,36 @@ module _ {S : Type 0} (drawn : S → ℕ → ℕ → ℕ → S) where
       (step_of-kept (meaning_of drawn) (λ c. clock_of c < 228) is_in_line m.registers m.bus before)
       (step_of-clock (meaning_of drawn) (λ t n. (t + 3 * n) % 228) (λ c. clock_of c % 228) is_clock m.registers m.bus)
       e
+
+  -- The beam is in a scanline, a whole number of cycles after its begin.
+  abbrev pub IsWhole : Console S → Type 0
+  IsWhole c = (clock_of c < 228) × (clock_of c % 3 ≡ 0)
+
+  keeps_whole : IsKept (meaning_of drawn) IsWhole
+  unfolding meaning_of
+  keeps_whole = record {
+    passed = λ c n whole. rw (iterate-clocked-clock (3 * n) c.tia whole.0) (let aligned = whole.1 in (omega arith, omega arith));
+    read = λ c address whole. rw (read_at-clock c (place_of address)) whole;
+    written = λ c address v whole. rw (written_at-clock c (place_of address) v) whole;
+  }
+
+  turn-whole : (m next : Machine (Console S)) → IsWhole m.bus → turn (console_rules drawn) m ≡ Went next → IsWhole next.bus
+  turn-whole m next whole e =
+      let b = turn-beam m next whole.0 e in let aligned = whole.1 in (b.inside, let moved = b.moved in omega arith)
+
+  turns-whole : (count : ℕ) (start m : Machine (Console S)) → IsWhole start.bus → turns (console_rules drawn) count start ≡ Went m → IsWhole m.bus
+  turns-whole zero start m whole e = let same : start ≡ m = cc in rw (← same) whole
+  turns-whole (suc n) start m whole e = by (turns (console_rules drawn) n start) (λ k same. turns-whole n start k whole same) e
+    where
+      by : (t : Turn (Console S)) → ((k : Machine (Console S)) → t ≡ Went k → IsWhole k.bus) → turn_after (console_rules drawn) t ≡ Went m → IsWhole m.bus
+      by (Failed fault) before after = absurd (cc)
+      by (Went k) before after = turn-whole k m (before k refl) after
+
+  -- So it is after an instruction that has yet to wait.
+  pub step-whole : (count : ℕ) (start m : Machine (Console S)) → IsWhole start.bus → turns (console_rules drawn) count start ≡ Went m
+      → IsWhole (step_of (meaning_of drawn) m.registers m.bus).bus
+  step-whole count start m whole e =
+      step_of-kept (meaning_of drawn) IsWhole keeps_whole m.registers m.bus (turns-whole count start m whole e)
 
   -- A frame that began at this cycle of its scanline, on its way: so far it took so many cycles, by which the beam has moved.
   pub record OnItsWay (line_cycle : ℕ) (m : Machine (Console S)) : Type 0 where

@@ -1,9 +1,10 @@
 //! Laws about the definitions of a frame.
 ghost use Rattle.std.specs.Prelude.{◌≡◌, ◌↔◌, ℕ, ◌+◌, ◌*◌, ◌%◌, ◌<◌, ◌≤◌, List, [], length, true, false};
+ghost use Rattle.mos_cpu.specs.Execution.{step_of};
 ghost use Rattle.riot_map.specs.Cart.{has_banks};
 ghost use Rattle.tia_core.specs.Clock.{Pixel};
-ghost use Rattle.vcs_machine.specs.Consoles.{Console, console_rules, logged, rested, wait_cycles};
-ghost use Rattle.vcs_machine.specs.Frame.{Rules, Machine, Stop, Ended, machine_at, StopsAs, stop_of, turn, Went};
+ghost use Rattle.vcs_machine.specs.Consoles.{Console, console_rules, logged, meaning_of, rested, wait_cycles};
+ghost use Rattle.vcs_machine.specs.Frame.{Rules, Machine, Stop, Ended, machine_at, StopsAs, stop_of, turn, turns, Went};
 ghost use Rattle.vcs_machine.specs.Inputs.{Controls};
 ghost use Rattle.vcs_machine.specs.Outcomes.{frame_of, left_by, machine_of, state_at};
 ghost use Rattle.vcs_machine.specs.Pictures.{rows_of};
@@ -23,6 +24,15 @@ pub const fn law_of_waits<S>()
     ensures most { (c : Console S) → wait_cycles c ≤ 75 }
     ensures line { (drawn : S → ℕ → ℕ → ℕ → S) (c : Console S) → c.synced ≡ true → c.tia.fields.clock < 228 → c.tia.fields.clock % 3 ≡ 0
         → (rested drawn c).tia.fields.clock ≡ 0 }
+{}
+
+/// A law: what the law of waits asks for holds in each frame. After so many instructions with their waits, and one more without
+/// its wait, the beam stands at one of the 228 clocks of a scanline, and a whole number of cycles after its begin.
+pub const fn law_of_whole_cycles()
+    ensures { (cart : List ℕ) (s : StateFields) (i : Controls) (count : ℕ) (m : Machine (Console (List Pixel))) → s.line_cycle < 76
+        → turns (console_rules logged) count (machine_of cart s i []) ≡ Went m
+        → let c = (step_of (meaning_of logged) m.registers m.bus).bus in
+        (c.tia.fields.clock < 228) × (c.tia.fields.clock % 3 ≡ 0) }
 {}
 
 /// A law: however a frame stops, it takes at most 24,401 cycles, its picture has at most 322 rows, and the state that it leaves
