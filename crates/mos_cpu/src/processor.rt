@@ -4,7 +4,6 @@ ghost use Rattle.std.specs.Prelude.{◌≡◌, ℕ, ◌≤◌, ◌+◌, ◌%◌,
 ghost use Rattle.mos_cpu.specs.Buses.{IsClock};
 ghost use Rattle.mos_cpu.specs.Execution.{step_of};
 ghost use Rattle.mos_cpu.specs.Operands.{decoded};
-ghost use Rattle.mos_cpu.specs.Timing.{KeepsTime};
 ghost use Rattle.mos_cpu.specs.Ways.{IsLow, IsWay, has_low};
 
 use crate::branches::{Bcc, Bcs, Beq, Bmi, Bne, Bpl, Bvc, Bvs, branch};
@@ -237,7 +236,7 @@ fn execute<B: Bus>(cpu: &mut Cpu, bus: &mut B) -> Result<u8, CpuFault>
 /// waiting that the bus asks for.
 ///
 /// The bytes of the instruction are looked at before it does anything, so a fault changes nothing.
-/// Each access is made when exactly the cycles up to its own have passed.
+/// Each access is made when exactly the cycles up to its own have passed (`law_of_access_times`).
 #[inline(always)]
 pub fn step<B: Bus>(cpu: &mut Cpu, bus: &mut B) -> Result<u8, CpuFault>
     ensures answer { result ≡ (step_of B.meaning cpu.old (B.state bus.old)).answer }
@@ -252,8 +251,6 @@ pub fn step<B: Bus>(cpu: &mut Cpu, bus: &mut B) -> Result<u8, CpuFault>
     ensures clock { (advance : ℕ → ℕ → ℕ) (clock : B.State → ℕ) → IsClock B.meaning advance clock →
         let start = clock (B.state bus.old) in
         IfOk result (λ cycles. clock (B.state bus.new) ≡ advance start cycles) }
-    ensures times { let start = B.state bus.old in
-        IfOk (decoded B.meaning start cpu.old) (KeepsTime B.meaning cpu.old start) }
 {
     execute(cpu, bus)
 }

@@ -1,4 +1,4 @@
-use Rattle.mos_cpu.proofs.StepLaws.{decoded-keeps, told-fault_registers, told-fault_bus, told-least, told-most, told-clock}
+use Rattle.mos_cpu.proofs.StepLaws.{told-fault_registers, told-fault_bus, told-least, told-most, told-clock}
 use Rattle.mos_cpu.proofs.processor.step.Goals as goal
 
 pub returns-clause-fault_cpu : goal.returns-clause-fault_cpu
@@ -20,6 +20,3 @@ returns-clause-most g c =
 pub returns-clause-clock : goal.returns-clause-clock
 returns-clause-clock g c =
     told-clock g.B.Bus.meaning c.args.cpu.now (g.B.Bus.state c.args.bus.now) _ c.execute.ensures
-
-pub returns-clause-times : goal.returns-clause-times
-returns-clause-times g c = decoded-keeps g.B.Bus.meaning c.args.cpu.now (g.B.Bus.state c.args.bus.now)
