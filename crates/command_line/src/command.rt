@@ -1,7 +1,6 @@
 //! What a command line asks for.
 
 use std::alloc::AllocError;
-use thiserror::Error;
 
 /// What a command line asks for.
 #[derive(Debug, Drop)]
@@ -42,16 +41,13 @@ pub enum Command {
 }
 
 /// Why there is no command.
-#[derive(Debug, Drop, Error)]
+#[derive(Debug, Drop)]
 pub enum LineFault {
     /// The words are no command; the text says why.
-    #[error("{text}")]
     Usage { text: String },
     /// The words ask for help, or for the version; the text is that.
-    #[error("{text}")]
     Help { text: String },
     /// A growth of memory was refused.
-    #[error("out of memory")]
     Memory,
 }
 

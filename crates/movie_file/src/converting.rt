@@ -4,24 +4,12 @@ ghost use Rattle.movie_file.specs.Conversion.{converted};
 ghost use Rattle.movie_file.specs.declared.converting.ConvertError.TheVariants.{AlreadyTwo};
 
 use crate::movie::Movie;
-use std::fmt;
-use thiserror::Error;
 
 /// Why a movie is not converted.
-#[derive(Debug, Drop, Error)]
+#[derive(Debug, Drop)]
 pub enum ConvertError {
     /// The movie has version 2 already. It is handed back.
     AlreadyTwo(Movie),
-}
-
-impl fmt::Display for ConvertError {
-    ghost use Rattle.std.specs.Prelude.{Some, codes};
-
-    ghost output = { λ _. Some (codes "AlreadyTwo") };
-
-    fn fmt<W: fmt::Write>(&self, f: &mut fmt::Formatter<W>) -> fmt::Result {
-        write!(f, "AlreadyTwo")
-    }
 }
 
 /// The movie of version 2 with the same cartridge, start state, inputs and checkpoints. Each bank is 0.

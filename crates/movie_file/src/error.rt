@@ -74,20 +74,16 @@ impl<T: Drop> From<AllocFailed<T>> for MovieError {
 }
 
 /// Why no movie was made.
-#[derive(Clone, Copy, Debug, PartialEq, Eq, Error)]
+#[derive(Clone, Copy, Debug, PartialEq, Eq)]
 pub enum MakeError {
     /// The frame of this number, from 1, faults.
-    #[error("fault at frame {frame}: {kind}")]
     Fault { frame: u32, kind: FaultKind },
     /// No frame or too many, a checkpoint after each 0 frames, or too many checkpoints.
-    #[error("no movie has these counts")]
     BadCounts,
     /// A growth for the checkpoints was refused.
-    #[error("out of memory")]
     NoMemory,
 }
 
 /// A growth was refused.
-#[derive(Clone, Copy, Debug, PartialEq, Eq, Error)]
-#[error("out of memory")]
+#[derive(Clone, Copy, Debug, PartialEq, Eq)]
 pub struct NoMemory;

@@ -5,7 +5,6 @@ ghost use Rattle.movie_file.specs.Format.{most_checkpoints};
 use movie_file::Movie;
 use std::alloc::Global;
 use std::marker::Model;
-use thiserror::Error;
 
 /// Numbers of checkpoints, counted from 1, in rising order. The movie is cut after the frame of
 /// each.
@@ -27,18 +26,15 @@ impl Model for Cuts {
 }
 
 /// The numbers are not strictly rising, or one of them is no checkpoint of the movie.
-#[derive(Clone, Copy, Debug, PartialEq, Eq, Error)]
-#[error("the cuts are not rising numbers of checkpoints")]
+#[derive(Clone, Copy, Debug, PartialEq, Eq)]
 pub struct BadCuts;
 
 /// Why a movie is not cut at every so many checkpoints.
-#[derive(Clone, Copy, Debug, PartialEq, Eq, Error)]
+#[derive(Clone, Copy, Debug, PartialEq, Eq)]
 pub enum CutsError {
     /// At every 0 checkpoints.
-    #[error("a cut at each 0 checkpoints")]
     BadCuts,
     /// The growth of the list of the numbers was refused.
-    #[error("out of memory")]
     NoMemory,
 }
 

@@ -10,17 +10,14 @@ use crate::piece::Piece;
 use crate::verdict::Verdict;
 use movie_file::NoMemory;
 use std::alloc::Global;
-use thiserror::Error;
 
 /// Why pieces give no verdict.
-#[derive(Clone, Copy, Debug, PartialEq, Eq, Error)]
+#[derive(Clone, Copy, Debug, PartialEq, Eq)]
 pub enum GatherError {
     /// The first segment without a piece that passed has pieces, all of them without memory; or the
     /// growth of the list of all pictures was refused.
-    #[error("out of memory")]
     NoMemory,
     /// The first segment without a piece that passed, which is named, has no piece.
-    #[error("no piece of segment {0}")]
     Missing(u32),
 }
 

@@ -1,8 +1,6 @@
 //! Which pictures are kept.
 ghost use Rattle.std.specs.Prelude.{◌≡◌, ℕ, ◌+◌, ◌<◌, ◌≤◌, ◌↔◌, IsOk, IfOk};
 
-use thiserror::Error;
-
 /// The most frames whose pictures are kept.
 pub const MOST_KEPT: u32 = 600;
 
@@ -16,8 +14,7 @@ pub struct Keep {
 }
 
 /// The first frame is 0, or the count is above 600.
-#[derive(Clone, Copy, Debug, PartialEq, Eq, Error)]
-#[error("no such frames can be kept")]
+#[derive(Clone, Copy, Debug, PartialEq, Eq)]
 pub struct BadKeep;
 
 impl Keep {

@@ -5,9 +5,7 @@ ghost use Rattle.std.specs.Cmp.Lexicographic.{pointwise};
 ghost use Rattle.std.proofs.Common.{rules};
 ghost use Rattle.riot_map.specs.Cart.{is_cart_length, has_banks, byte_at, bank_after, bank_at_power_on};
 
-use std::fmt;
 use std::marker::Model;
-use thiserror::Error;
 
 /// The bytes of a bank.
 const BANK_LENGTH: usize = 4096;
@@ -16,18 +14,8 @@ const BANK_LENGTH: usize = 4096;
 const BANKED_LENGTH: usize = 2 * BANK_LENGTH;
 
 /// The bytes of a cartridge are neither 2048 nor 4096 nor 8192.
-#[derive(Clone, Copy, Debug, PartialEq, Eq, Error)]
+#[derive(Clone, Copy, Debug, PartialEq, Eq)]
 pub struct BadCartSize;
-
-impl fmt::Display for BadCartSize {
-    ghost use Rattle.std.specs.Prelude.{Some, codes};
-
-    ghost output = { λ _. Some (codes "BadCartSize") };
-
-    fn fmt<W: fmt::Write>(&self, f: &mut fmt::Formatter<W>) -> fmt::Result {
-        write!(f, "BadCartSize")
-    }
-}
 
 /// A cartridge of 2048 or 4096 bytes, or of 8192 bytes in two banks, which contracts see as the
 /// list of its bytes.

@@ -1,11 +1,9 @@
 //! Out of memory.
 
 use std::alloc::AllocError;
-use thiserror::Error;
 
 /// A growth of memory was refused.
-#[derive(Clone, Copy, Debug, PartialEq, Eq, Error)]
-#[error("out of memory")]
+#[derive(Clone, Copy, Debug, PartialEq, Eq)]
 pub struct NoMemory;
 
 impl From<AllocError> for NoMemory {

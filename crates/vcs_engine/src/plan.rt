@@ -2,7 +2,6 @@
 ghost use Rattle.std.specs.Prelude.{◌≡◌, ◌≢◌, ◌<◌, ◌≤◌, ◌↔◌, IsOk, IfOk};
 
 use replay_segments::Keep;
-use thiserror::Error;
 use verify_pool::MOST_WORKERS;
 
 /// How a movie is to be judged: by how many workers, 1 to 64, with a cut at every N-th checkpoint, N at least 1, and which
@@ -20,13 +19,11 @@ pub struct Plan {
 }
 
 /// Why there is no such plan.
-#[derive(Clone, Copy, Debug, PartialEq, Eq, Error)]
+#[derive(Clone, Copy, Debug, PartialEq, Eq)]
 pub enum BadPlan {
     /// The workers are not 1 to 64.
-    #[error("the workers are not 1 to 64")]
     Workers,
     /// A cut at each 0 checkpoints.
-    #[error("a cut at each 0 checkpoints")]
     Every,
 }
 

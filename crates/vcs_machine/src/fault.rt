@@ -103,11 +103,9 @@ impl From<CpuFault> for FaultKind {
 }
 
 /// Why a frame has no picture and no state after it.
-#[derive(Clone, Copy, Debug, PartialEq, Eq, Error)]
+#[derive(Clone, Copy, Debug, PartialEq, Eq)]
 pub enum FrameError {
-    #[error("{0}")]
     Fault(FaultKind),
     /// The memory of its picture was refused.
-    #[error("out of memory")]
     NoMemory,
 }

@@ -21,6 +21,8 @@ pub use fault::{FaultKind, FrameError};
 pub use fields::StateFields;
 pub use frames::frame;
 pub use input::Input;
-pub use laws::{law_of_banks, law_of_frame_lengths, law_of_one_stop, law_of_waits, law_of_whole_cycles};
+pub use laws::{
+    law_of_banks, law_of_frame_lengths, law_of_one_stop, law_of_waits, law_of_whole_cycles,
+};
 pub use picture::{MOST_ROWS, Picture};
 pub use state::State;

@@ -14,22 +14,18 @@ use segment_desk::{Desk, Ticket};
 use std::alloc::{AllocError, Global};
 use std::sync::Wait;
 use std::thread::Threads;
-use thiserror::Error;
 
 /// The most workers.
 pub const MOST_WORKERS: u8 = 64;
 
 /// Why a movie gets no verdict.
-#[derive(Clone, Copy, Debug, PartialEq, Eq, Error)]
+#[derive(Clone, Copy, Debug, PartialEq, Eq)]
 pub enum VerifyError {
     /// No worker, or more than 64.
-    #[error("not 1 to 64 workers")]
     BadWorkers,
     /// The start of a thread was refused.
-    #[error("no thread could be started")]
     NoThread,
     /// A growth was refused: for the desk, for the lists of pieces, or for pictures.
-    #[error("out of memory")]
     NoMemory,
 }
 

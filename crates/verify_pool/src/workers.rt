@@ -16,11 +16,9 @@ use std::snapshot::Snapshot;
 use std::sync::Wait;
 use std::thread;
 use std::thread::{Promise, Scope, Threads};
-use thiserror::Error;
 
 /// A thread could not be started.
-#[derive(Clone, Copy, Debug, PartialEq, Eq, Error)]
-#[error("no thread could be started")]
+#[derive(Clone, Copy, Debug, PartialEq, Eq)]
 pub struct NoThread;
 
 /// What a worker promises of the hand that it gives back.
