@@ -287,6 +287,18 @@ fn fetch_outside_names_its_address(rt: HostRuntime) {
 }
 
 #[test]
+fn pointer_of_a_jump_is_no_register(rt: HostRuntime) {
+    // JMP ($0010): its pointer would come from a register of the TIA.
+    let jump = cart_of(&rt, rt.alloc(), &[0x6C, 0x10, 0x00], 0x7FF, &[0xA9]);
+    let mut state = State::power_on(&jump);
+    assert_eq!(rt;
+        fault_of(&rt, rt.alloc(), &jump, &mut state),
+        Some(FaultKind::FetchOutside { at: 0x0010 })
+    );
+    assert_eq!(rt; state.fields().pc, 0xF000);
+}
+
+#[test]
 fn frame_without_an_end_is_too_long(rt: HostRuntime) {
     let jump = cart_of(&rt, rt.alloc(), &[0x4C, 0, 0xF0], 0x800, &[]);
     let mut state = State::power_on(&jump);

@@ -1,5 +1,5 @@
 -- What is said of the frames of a run: that they are sound, that one faults, or that a checkpoint is false. Checkpoints
--- are found by look-ups, so that no definition needs their order.
+-- are found by look-ups, so that no definition needs their order. This project's own.
 use Rattle.std.specs.Prelude.{◌≡◌, ◌≢◌, ℕ, ◌+◌, ◌<◌, length, Some, slice_get}
 use Rattle.vcs_machine.specs.Outcomes.{Failed}
 use Rattle.vcs_machine.specs.declared.fault.FaultKind.{FaultKind}

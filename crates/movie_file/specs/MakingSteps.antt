@@ -1,4 +1,4 @@
--- The making of a movie frame by frame.
+-- The making of a movie frame by frame. This project's own.
 use Rattle.std.specs.Prelude.{◌≡◌, ℕ, ◌+◌, ◌*◌, ◌/◌, ◌%◌, List, [], ◌∷◌, length, Some, slice_get, ◌==◌, if◌then◌else◌}
 use Rattle.vcs_machine.specs.Inputs.{Controls}
 use Rattle.vcs_machine.specs.States.{power_on}

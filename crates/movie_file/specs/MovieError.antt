@@ -1,4 +1,4 @@
--- Refusals: their names, and what it is to answer what reading gives unless memory is refused.
+-- Refusals: their names, and what it is to answer what reading gives unless memory is refused. This project's own.
 use Rattle.std.specs.Prelude.{◌≡◌, ℕ, List, ◌++◌, Result, Ok, Err, codes}
 use Rattle.std.specs.Fmt.{decimal}
 use Rattle.movie_file.specs.declared.error.MovieError.{MovieError}

@@ -1,4 +1,4 @@
--- The movie that its parts make.
+-- The movie that its parts make. This project's own.
 use Rattle.movie_file.specs.declared.parts.MovieParts.{MovieParts}
 use Rattle.movie_file.specs.Movie.{MovieData}
 

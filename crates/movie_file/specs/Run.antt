@@ -1,4 +1,4 @@
--- The run of a movie: one frame after another, from one state.
+-- The run of a movie: one frame after another, from one state. This project's own.
 use Rattle.std.specs.Prelude.{ℕ, zero, suc, ◌+◌, List, [], ◌∷◌, Option, Some, None, slice_get, option_and_then}
 use Rattle.std.specs.Option.{option_map}
 use Rattle.vcs_machine.specs.Outcomes.{Outcome, Played, Failed, frame_of}

@@ -1,4 +1,4 @@
--- Pieces that are looked for by number, and whose pictures are taken.
+-- Pieces that are looked for by number, and whose pictures are taken. This project's own.
 use Rattle.std.specs.Prelude.{ℕ, ◌+◌, ◌<◌, ◌≡◌, ◌≢◌, List, length, Some, Result, Ok, Err, slice_get}
 use Rattle.vcs_machine.specs.Pictures.{Rows}
 use Rattle.replay_segments.specs.declared.gathering.GatherError.{GatherError}

@@ -1,4 +1,4 @@
--- Numbers by their bits; bit 0 is the lowest.
+-- Numbers by their bits; bit 0 is the lowest. This project's own.
 use Rattle.std.specs.Prelude.{ℕ, ◌+◌, ◌/◌, ◌%◌, ◌^◌, Bool, ◌==◌, if◌then◌else◌}
 
 -- bit k of a number is 1

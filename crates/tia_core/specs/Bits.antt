@@ -1,4 +1,4 @@
--- Bits of a register.
+-- Bits of a register. This project's own.
 use Rattle.std.specs.Prelude.{ℕ, ◌+◌, ◌==◌, Bool, if◌then◌else◌}
 use Rattle.std.specs.Int.{bit_at}
 

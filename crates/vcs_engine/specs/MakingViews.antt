@@ -1,4 +1,4 @@
--- What a making writes, as contracts see it.
+-- What a making writes, as contracts see it. This project's own.
 use Rattle.std.specs.Prelude.{string_bytes}
 use Rattle.vcs_engine.specs.Makings.{Made}
 use Rattle.vcs_engine.specs.declared.making.Making.{Making}

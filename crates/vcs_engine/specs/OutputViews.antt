@@ -1,4 +1,4 @@
--- An output as contracts see it.
+-- An output as contracts see it. This project's own.
 use Rattle.std.specs.Prelude.{List, [], Option, Some, None, string_bytes}
 use Rattle.vcs_machine.specs.Pictures.{Rows}
 use Rattle.vcs_engine.specs.declared.output.Output.{Output}

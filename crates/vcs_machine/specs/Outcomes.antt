@@ -1,4 +1,4 @@
--- What one frame does to a state.
+-- What one frame does to a state. This project's own: the Stella Programmer's Guide has no frames.
 use Rattle.std.specs.Prelude.{ℕ, ◌≡◌, false, List, []}
 use Rattle.riot_map.specs.Riot.{riot_of, fields_of, with_pins}
 use Rattle.tia_core.specs.TiaState.{state_of as tia_state_of, fire_set, frame_begun}
@@ -25,7 +25,7 @@ abbrev pub left_by : Outcome → StateFields
 left_by (Played s rows) = s
 left_by (Failed kind s) = s
 
--- The console of a state at a frame's start: the pins and the latches are those of the input, then a pressed button sets its
+-- The console of a state at a frame's start: the pins and the buttons are those of the input, then a pressed button sets its
 -- latch where VBLANK has bit 6, and the line is 0.
 abbrev pub console_of : {S : Type 0} → List ℕ → StateFields → Controls → S → Console S
 console_of cart s i sink =

@@ -124,7 +124,7 @@ impl<'a, S: Paint> Console<'a, S> {
     ghost use Rattle.vcs_machine.specs.Consoles.{tia_written};
     ghost use Rattle.vcs_machine.specs.Outcomes.{console_of, state_at};
 
-    /// The console of a state as a frame begins: the pins and latches are those of the input.
+    /// The console of a state as a frame begins: the pins and the buttons are those of the input.
     #[tactic(auto, unfolding(riot_map::specs::Riot::after_cycles))]
     pub fn begin(cart: &'a Cart, state: &State, input: Input, sink: S) -> Self
         ensures { result ≡ console_of cart.now state.now input sink }

@@ -3,7 +3,7 @@
 /// The numbers of a console between two frames, in the order of a state record.
 ///
 /// A register of the TIA keeps only the bits that the console uses; the names are those of the
-/// Stella Programmer's Guide. Pins and latches are no part of a state.
+/// Stella Programmer's Guide. Pins and buttons are no part of a state: each frame's input has them.
 #[derive(Clone, Copy, Debug, PartialEq, Eq)]
 pub struct StateFields {
     pub a: u8,
