@@ -56,8 +56,9 @@ fn hands_of(
 }
 
 /// The verdict of a movie, which is that of one unbroken run from its start state, by 1 to 64
-/// workers, each in a thread of its own, who replay the segments between the cuts. The cuts fit the
-/// movie. Where there is one worker, or one segment, no thread is started.
+/// workers, who replay the segments between the cuts: one on the calling thread, each other one in a
+/// thread of its own. The cuts fit the movie. Where there is one worker, or one segment, no thread is
+/// started.
 ///
 /// It joins its threads, so it returns where each of them does. It is refused in this order:
 /// BadWorkers; NoMemory for the desk or the lists of pieces; NoThread; and NoMemory, where that was
