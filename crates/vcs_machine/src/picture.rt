@@ -1,5 +1,5 @@
 //! The picture of a frame.
-ghost use Rattle.std.specs.Prelude.{◌≡◌, ◌↔◌, ◌<◌, ◌≤◌, ◌-◌, [], length, take, slice_index, slice_index_or, IsTrue, IfOk};
+ghost use Rattle.std.specs.Prelude.{◌≡◌, ◌↔◌, ◌<◌, ◌≤◌, ◌-◌, [], length, take, slice_index, slice_index_or, vec_capacity, IsTrue, IfOk};
 ghost use Rattle.vcs_machine.specs.Pictures.{with_pixel, blank, rows_of};
 ghost use Rattle.vcs_machine.specs.Private.Rows.{filled};
 
@@ -59,15 +59,24 @@ fn fill(row: &mut [u8; 160], from: u8, to: u8, colour: u8)
     }
 }
 
+/// The most rows, all zeros, in a list that was grown once, to their number.
+fn blank_rows(alloc: Global) -> Result<Vec<[u8; 160]>, AllocError>
+    ensures value { IfOk result (λ rows. rows.items ≡ blank MOST_ROWS) }
+    ensures room { IfOk result (λ rows. vec_capacity rows ≡ MOST_ROWS) }
+{
+    let mut rows = Vec::with_capacity(alloc, MOST_ROWS as usize)?;
+    for _row in 0..MOST_ROWS {
+        rows.push_reserved([0; 160]);
+    }
+    Ok(rows)
+}
+
 impl Picture {
     /// A picture of the most rows, all zeros. Its memory is taken in one growth.
     pub(crate) fn blank(alloc: Global) -> Result<Picture, AllocError>
         ensures { IfOk result (λ p. p ≡ blank MOST_ROWS) }
     {
-        let mut rows = Vec::with_capacity(alloc, MOST_ROWS as usize)?;
-        for _row in 0..MOST_ROWS {
-            rows.push([0; 160])?;
-        }
+        let rows = blank_rows(alloc)?;
         Ok(Picture { rows })
     }
 
