@@ -1,17 +1,21 @@
 //! Gates that note which segments are replayed, and hold workers for a while.
 
+use replay_segments::Piece;
 use std::sync::atomic::{AtomicU64, Ordering};
-use verify_pool::Gate;
+use std::thread;
+use verify_pool::{Gate, Ticket};
 
 /// How often a gate looks before it gives up.
-const LOOKS: u32 = 100_000_000;
+const LOOKS: u32 = 10_000_000;
 
-/// Looks until a counter is not 0. False where it stays 0.
-fn comes(counter: &AtomicU64) -> bool {
+/// Looks until a counter has come to a number, and lets others run between the looks. False where it
+/// stays below.
+fn comes(counter: &AtomicU64, to: u64) -> bool {
     for _look in 0..LOOKS {
-        if counter.load(Ordering::SeqCst) != 0 {
+        if counter.load(Ordering::SeqCst) >= to {
             return true;
         }
+        thread::yield_now();
     }
     false
 }
@@ -64,12 +68,12 @@ impl Counts {
 }
 
 impl Gate for Counts {
-    fn enter(&self, segment: u32) {
+    fn enter(&self, _ticket: &Ticket, segment: u32) {
         self.entered[segment.min(3) as usize].fetch_add(1, Ordering::SeqCst);
     }
 
-    fn leave(&self, segment: u32) {
-        self.left[segment.min(3) as usize].fetch_add(1, Ordering::SeqCst);
+    fn leave(&self, _ticket: &Ticket, piece: &Piece) {
+        self.left[piece.number().min(3) as usize].fetch_add(1, Ordering::SeqCst);
     }
 }
 
@@ -90,43 +94,45 @@ impl SecondFirst {
 }
 
 impl Gate for SecondFirst {
-    fn enter(&self, segment: u32) {
-        if segment == 0 && !comes(&self.left) {
+    fn enter(&self, _ticket: &Ticket, segment: u32) {
+        if segment == 0 && !comes(&self.left, 1) {
             self.missed.store(1, Ordering::SeqCst);
         }
     }
 
-    fn leave(&self, segment: u32) {
-        if segment == 1 {
+    fn leave(&self, _ticket: &Ticket, piece: &Piece) {
+        if piece.number() == 1 {
             self.left.store(1, Ordering::SeqCst);
         }
     }
 }
 
-/// A gate where each of two segments, once entered, waits for the entry of the other.
+/// A gate where each segment, once entered, waits until so many have been.
 #[derive(Drop)]
 pub(crate) struct Meeting {
-    pub entered: [AtomicU64; 2],
+    pub wanted: u64,
+    pub entered: AtomicU64,
     pub missed: AtomicU64,
 }
 
 impl Meeting {
-    pub(crate) fn new() -> Meeting {
+    pub(crate) fn of(wanted: u64) -> Meeting {
         Meeting {
-            entered: [AtomicU64::new(0), AtomicU64::new(0)],
+            wanted,
+            entered: AtomicU64::new(0),
             missed: AtomicU64::new(0),
         }
     }
 }
 
 impl Gate for Meeting {
-    fn enter(&self, segment: u32) {
-        let here = (segment % 2) as usize;
-        self.entered[here].store(1, Ordering::SeqCst);
-        if !comes(&self.entered[1 - here]) {
+    /// Once one has waited in vain, none waits.
+    fn enter(&self, _ticket: &Ticket, _segment: u32) {
+        self.entered.fetch_add(1, Ordering::SeqCst);
+        if self.missed.load(Ordering::SeqCst) == 0 && !comes(&self.entered, self.wanted) {
             self.missed.store(1, Ordering::SeqCst);
         }
     }
 
-    fn leave(&self, _segment: u32) {}
+    fn leave(&self, _ticket: &Ticket, _piece: &Piece) {}
 }

@@ -1,8 +1,10 @@
 //! Worked movies as the format spells them, byte by byte.
 
-use movie_file::{Movie, read_movie};
+use movie_file::{Movie, make_movie, read_movie};
+use riot_map::Cart;
 use std::alloc::Global;
 use std::test::Fail;
+use vcs_machine::Input;
 
 /// LDA #02, STA 80, STA VSYNC, LDA #00, STA VSYNC, JMP F000: a frame of 13 cycles, then frames of 16.
 pub(crate) const ENDLESS_FRAMES: [u8; 13] = [
@@ -12,6 +14,12 @@ pub(crate) const ENDLESS_FRAMES: [u8; 13] = [
 /// INX, CPX #07, BEQ F010, LDA #02, STA VSYNC, LDA #00, STA VSYNC, JMP F000: byte 02 stands at F010.
 pub(crate) const SEVEN_FRAMES: [u8; 16] = [
     0xE8, 0xE0, 7, 0xF0, 0x0B, 0xA9, 2, 0x85, 0, 0xA9, 0, 0x85, 0, 0x4C, 0, 0xF0,
+];
+
+/// INX, INX, STX COLUBK, STA WSYNC, LDA #02, STA VSYNC, STY VSYNC, JMP F000: line 0 of frame k has
+/// the colour 2k from its left edge on, since each frame ends 8 cycles after a line's beginning.
+pub(crate) const COLOURED_FRAMES: [u8; 15] = [
+    0xE8, 0xE8, 0x86, 9, 0x85, 2, 0xA9, 2, 0x85, 0, 0x84, 0, 0x4C, 0, 0xF0,
 ];
 
 /// The record of power-on: all 0 but S, P, PC, the timer's part and its interval.
@@ -115,6 +123,36 @@ pub(crate) fn first_of_two_false(alloc: Global) -> Result<Vec<u8>, Fail> {
         1,
         &[wrong, after_frame(0xE3, 0x1D)],
     )
+}
+
+/// Six frames with checkpoints after the first five, of which the fourth claims another byte in
+/// memory. Nothing looks at the fifth.
+pub(crate) fn fourth_of_five_false(alloc: Global) -> Result<Movie, Fail> {
+    let mut wrong = after_frame(0xC3, 0x3D);
+    wrong[7] = 7;
+    let checkpoints = [
+        after_frame(0xF3, 0x0D),
+        after_frame(0xE3, 0x1D),
+        after_frame(0xD3, 0x2D),
+        wrong,
+        after_frame(0xC3, 0x3D),
+    ];
+    endless(alloc, 6, &checkpoints)
+}
+
+/// The cartridge of a program.
+fn cartridge(alloc: Global, program: &[u8]) -> Result<Cart, Fail> {
+    let mut bytes = Vec::new(alloc);
+    bytes.extend_from_slice(&rom(program))?;
+    Ok(Cart::new(bytes).ok().ok_or("a cartridge")?)
+}
+
+/// The run of a program from power-on, with idle inputs and a checkpoint after each frame.
+pub(crate) fn run_of(alloc: Global, program: &[u8], frames: usize) -> Result<Movie, Fail> {
+    let idle = Input::new(0xFF, 0x3F, 0).ok_or("an input")?;
+    let cart = cartridge(alloc, program)?;
+    let inputs = vec![in alloc; idle; frames]?;
+    Ok(make_movie(alloc, cart, inputs, 1)?)
 }
 
 /// One frame of 13 cycles that begins 100 cycles before its timer goes on from 5, with a checkpoint

@@ -4,6 +4,7 @@ use crate::movies::{
     SEVEN_FRAMES, after_frame, endless, going_on_at_no_opcode, movie, power_on, read, two,
 };
 use replay_segments::{BadKeep, Keep, Verdict, verify_one};
+use std::alloc::Global;
 use std::test::Fail;
 use vcs_machine::FaultKind;
 
@@ -32,6 +33,20 @@ pub(crate) fn are_rows_of_zeros(verdict: &Verdict) -> bool {
         }
     }
     true
+}
+
+/// The colours of line 0 of each kept picture, where that has one colour.
+pub(crate) fn colours(alloc: Global, verdict: &Verdict) -> Result<Vec<u8>, Fail> {
+    let mut colours = Vec::new(alloc);
+    if let Verdict::Genuine { frames } = verdict {
+        for i in 0..frames.len() {
+            let picture = frames.at(i);
+            if picture.rows() > 0 && *picture.row(0) == [picture.at(0, 0); 160] {
+                colours.push(picture.at(0, 0))?;
+            }
+        }
+    }
+    Ok(colours)
 }
 
 #[test]

@@ -2,10 +2,10 @@
 
 use crate::gates::{Counts, Meeting, SecondFirst};
 use crate::movies::{
-    endless, first_of_two_false, going_on_at_no_opcode, read, timer_part_left, two,
-    two_frames_with_a_last_checkpoint,
+    COLOURED_FRAMES, ENDLESS_FRAMES, endless, first_of_two_false, fourth_of_five_false,
+    going_on_at_no_opcode, read, run_of, timer_part_left, two, two_frames_with_a_last_checkpoint,
 };
-use crate::verdicts::{FIRST_FALSE, are_rows_of_zeros, kept};
+use crate::verdicts::{FIRST_FALSE, colours, kept};
 use movie_file::Movie;
 use replay_segments::{Cuts, Keep, Verdict, verify_one};
 use std::alloc::Global;
@@ -71,20 +71,26 @@ fn no_workers_and_65_are_refused(rt: HostRuntime) -> Result<(), Fail> {
     Ok(())
 }
 
+/// The verdict of workers who keep all pictures, with a cut at each checkpoint.
+fn answer_of_all<G: Gate + Sync, R: Threads + Wait + Sync>(
+    rt: &R,
+    alloc: Global,
+    movie: &Movie,
+    workers: u8,
+    gate: &G,
+) -> Result<Verdict, Fail> {
+    let cuts = Cuts::every(alloc, movie, 1)?;
+    let keep = Keep::new(1, 600)?;
+    Ok(verify(rt, alloc, movie, &cuts, workers, keep, gate)?)
+}
+
 #[test]
 fn two_workers_give_the_pictures_in_order(rt: HostRuntime) -> Result<(), Fail> {
-    let genuine = two(rt.alloc())?;
-    let verdict = answer(
-        &rt,
-        rt.alloc(),
-        &genuine,
-        &[1],
-        2,
-        Keep::new(1, 2)?,
-        &NoGate,
-    )?;
-    assert_eq!(rt; kept(&verdict), Some(2));
-    assert!(rt; are_rows_of_zeros(&verdict));
+    let coloured = run_of(rt.alloc(), &COLOURED_FRAMES, 4)?;
+    let gate = SecondFirst::new();
+    let verdict = answer_of_all(&rt, rt.alloc(), &coloured, 2, &gate)?;
+    assert!(rt; colours(rt.alloc(), &verdict)?.as_slice() == [2, 4, 6, 8].as_slice());
+    assert_eq!(rt; gate.missed.load(Ordering::SeqCst), 0);
     Ok(())
 }
 
@@ -112,13 +118,21 @@ fn segment_that_comes_first_is_no_verdict(rt: HostRuntime) -> Result<(), Fail> {
     Ok(())
 }
 
+/// Whether as many workers as segments all replay at once. There are one more than frames.
+fn meet<R: Threads + Wait + Sync>(rt: &R, alloc: Global, frames: u8) -> Result<bool, Fail> {
+    let movie = run_of(alloc, &ENDLESS_FRAMES, usize::from(frames))?;
+    let workers = frames.saturating_add(1);
+    let gate = Meeting::of(u64::from(workers));
+    let verdict = answer_of_all(rt, alloc, &movie, workers, &gate)?;
+    let met = gate.missed.load(Ordering::SeqCst) == 0;
+    Ok(met && kept(&verdict) == Some(usize::from(frames)))
+}
+
 #[test]
-fn two_segments_are_replayed_at_once(rt: HostRuntime) -> Result<(), Fail> {
-    let genuine = two(rt.alloc())?;
-    let gate = Meeting::new();
-    let verdict = answer(&rt, rt.alloc(), &genuine, &[1], 2, Keep::new(1, 2)?, &gate)?;
-    assert_eq!(rt; kept(&verdict), Some(2));
-    assert_eq!(rt; gate.missed.load(Ordering::SeqCst), 0);
+fn all_workers_replay_at_once(rt: HostRuntime) -> Result<(), Fail> {
+    for frames in [1, 2, 63] {
+        assert!(rt; meet(&rt, rt.alloc(), frames)?);
+    }
     Ok(())
 }
 
@@ -144,5 +158,20 @@ fn segments_after_a_false_one_are_passed_over(rt: HostRuntime) -> Result<(), Fai
     assert!(rt; verdict.equals(&FIRST_FALSE));
     assert_eq!(rt; counts.entries(), [1, 0, 0, 0]);
     assert_eq!(rt; counts.leaves(), [1, 0, 0, 0]);
+    Ok(())
+}
+
+#[test]
+fn late_segments_are_passed_over_too(rt: HostRuntime) -> Result<(), Fail> {
+    let false_movie = fourth_of_five_false(rt.alloc())?;
+    let counts = Counts::new();
+    let verdict = answer_of_all(&rt, rt.alloc(), &false_movie, 1, &counts)?;
+    let fourth_false = Verdict::FalseCheckpoint {
+        number: 4,
+        frame: 4,
+    };
+    assert!(rt; verdict.equals(&fourth_false));
+    assert_eq!(rt; counts.entries(), [1, 1, 1, 1]);
+    assert_eq!(rt; counts.leaves(), [1, 1, 1, 1]);
     Ok(())
 }

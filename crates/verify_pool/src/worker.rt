@@ -1,7 +1,7 @@
 //! One worker, which draws segments and replays them.
-ghost use Rattle.std.specs.Prelude.{◌≡◌, ◌+◌, ◌<◌, ◌≤◌, length, true, false, Some, vec_len, vec_capacity};
+ghost use Rattle.std.specs.Prelude.{◌≡◌, ◌+◌, ◌<◌, ◌≤◌, ◌⊎◌, length, true, false, Some, vec_len, vec_capacity};
 ghost use Rattle.replay_segments.specs.Cuts.{Fits};
-ghost use Rattle.replay_segments.specs.Pieces.{job_of, HasKept};
+ghost use Rattle.replay_segments.specs.Pieces.{job_of, HasKept, IsPassed};
 ghost use Rattle.replay_segments.specs.declared.outcome.Outcome.{Outcome};
 ghost use Rattle.verify_pool.specs.Crew.{IsReady, IsWorked};
 ghost use Rattle.segment_desk.specs.Desk.{times, left_of};
@@ -15,6 +15,23 @@ use movie_file::Movie;
 use replay_segments::{Cuts, Keep, Piece, replay};
 use segment_desk::{Desk, Ticket};
 use std::alloc::Global;
+
+/// Reports the segment that the ticket drew last, which has this piece, unless that passed.
+fn report_unless_passed(desk: &Desk, ticket: &mut Ticket, piece: &Piece)
+    requires own { IsOf desk.now ticket.old }
+    requires last { ticket.old.part.last ≡ Some piece.now.number }
+    requires not_passed_over { times piece.now.number ticket.old.part.passed_over ≡ 0 }
+    ensures own { IsOf desk.now ticket.new }
+    ensures last { ticket.new.part.last ≡ ticket.old.part.last }
+    ensures known { IsKnown ticket.old.part → IsKnown ticket.new.part }
+    ensures replayed { IsReplayed piece.now.outcome piece.now.number ticket.old.part ticket.new.part }
+    ensures reported { IsPassed piece.now.outcome ⊎ (0 < times piece.now.number ticket.new.part.reported) }
+{
+    let number = piece.number();
+    if !piece.passed() {
+        desk.report_bad(ticket, number);
+    }
+}
 
 /// Replays the segment that the ticket drew last, and reports it unless it passes.
 fn replay_drawn<G: Gate>(
@@ -38,12 +55,10 @@ fn replay_drawn<G: Gate>(
     ensures memory { result.outcome ≡ Outcome.NoMemory → HasKept (job_of movie.now cuts.now keep) number }
     ensures replayed { IsReplayed result.outcome number ticket.old.part ticket.new.part }
 {
-    gate.enter(number);
+    gate.enter(ticket, number);
     let piece = replay(alloc, movie, cuts, keep, number);
-    if !piece.passed() {
-        desk.report_bad(ticket, number);
-    }
-    gate.leave(number);
+    report_unless_passed(desk, ticket, &piece);
+    gate.leave(ticket, &piece);
     piece
 }
 
