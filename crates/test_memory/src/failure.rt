@@ -7,7 +7,7 @@ use thiserror::Error;
 use vcs_engine::{BadPlan, RunError};
 use verify_pool::{NoThread, VerifyError};
 
-/// Why a call is not right.
+/// Why a call is not right, or not with a growth of its own refused.
 #[derive(Clone, Copy, Debug, Error)]
 pub(crate) enum Failure {
     /// It failed with an error that nothing in its arguments calls for.
@@ -16,6 +16,9 @@ pub(crate) enum Failure {
     /// It gave another value, wrote what it shouldn't, or failed as if its arguments were bad.
     #[error("wrong")]
     Wrong,
+    /// It is right, and a gate of its own met the refused growth after the last one of the call's that could be refused.
+    #[error("right, in fewer growths")]
+    Fewer,
 }
 
 /// Right where it holds.

@@ -11,31 +11,18 @@
 
 mod engine;
 mod failure;
+mod growths;
 mod movies;
 mod segments;
 mod workers;
 
 use failure::Failure;
+use growths::{REFUSED, grow};
 use std::alloc::Global;
 use std::io::{self, Print, Read};
 use std::process::ExitCode;
 use std::sync::Wait;
 use std::thread::Threads;
-
-/// The number of the growth that is refused.
-const REFUSED: usize = 1000;
-
-/// Makes growths and gives them back. Whether none of them was refused.
-fn grow(alloc: Global, count: usize) -> bool {
-    let mut granted = true;
-    for _growth in 0..count {
-        let mut bytes: Vec<u8> = Vec::new(alloc);
-        if bytes.push(0).is_err() {
-            granted = false;
-        }
-    }
-    granted
-}
 
 /// Tries a call; none has another name.
 fn tried<R: Threads + Wait + Sync>(
@@ -56,6 +43,7 @@ fn tried<R: Threads + Wait + Sync>(
         "crew" => workers::is_worked_on(rt, alloc),
         "verify_by_two" => workers::is_judged_by_two(rt, alloc),
         "verify_by_eight" => workers::is_judged_by_eight(rt, alloc),
+        "verify_with_gate" => workers::is_entered_before_replay(rt, alloc),
         "verify_600_pictures" => workers::is_judged_once(rt, alloc),
         "run" => engine::is_judged(rt, alloc, 1),
         "run_by_two" => engine::is_judged(rt, alloc, 2),

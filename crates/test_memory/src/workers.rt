@@ -1,6 +1,7 @@
 //! Verdicts by workers at one desk.
 
 use crate::failure::{Failure, OUT_OF_MEMORY, right};
+use crate::growths::TakesRefused;
 use crate::movies::{made, movie};
 use crate::segments::is_genuine;
 use movie_file::Movie;
@@ -8,7 +9,7 @@ use replay_segments::{Cuts, Keep, gather};
 use std::alloc::Global;
 use std::sync::Wait;
 use std::thread::Threads;
-use verify_pool::{Desk, Hand, NoGate, NoMemory, crew, verify};
+use verify_pool::{Desk, Gate, Hand, NoGate, NoMemory, crew, verify};
 
 pub(crate) fn has_desk(alloc: Global) -> Result<(), Failure> {
     let (desk, mut tickets) = match Desk::new(alloc, 2, 3) {
@@ -54,24 +55,47 @@ pub(crate) fn is_worked_on<R: Threads + Wait + Sync>(rt: &R, alloc: Global) -> R
     is_genuine(&verdict, 2)
 }
 
-/// The verdict with all pictures, with a cut at each checkpoint.
+/// The verdict with all pictures, with a cut at each checkpoint, and a gate.
+fn judged_with<G: Gate + Sync, R: Threads + Wait + Sync>(
+    rt: &R,
+    alloc: Global,
+    movie: &Movie,
+    workers: u8,
+    gate: &G,
+) -> Result<(), Failure> {
+    let cuts = Cuts::every(alloc, movie, 1)?;
+    let keep = Keep::new(1, 600)?;
+    let verdict = verify(rt, alloc, movie, &cuts, workers, keep, gate)?;
+    is_genuine(&verdict, movie.frames() as usize)
+}
+
+/// The same with a gate that does nothing.
 fn judged<R: Threads + Wait + Sync>(
     rt: &R,
     alloc: Global,
     movie: &Movie,
     workers: u8,
 ) -> Result<(), Failure> {
-    let cuts = Cuts::every(alloc, movie, 1)?;
-    let verdict = verify(
-        rt,
-        alloc,
-        movie,
-        &cuts,
-        workers,
-        Keep::new(1, 600)?,
-        &NoGate,
-    )?;
-    is_genuine(&verdict, movie.frames() as usize)
+    judged_with(rt, alloc, movie, workers, &NoGate)
+}
+
+/// One worker, whose gate meets the refused growth unless that came before the first entry. So no growth of a replay is refused:
+/// where one is, the replay came before the entry.
+pub(crate) fn is_entered_before_replay<R: Threads + Wait + Sync>(
+    rt: &R,
+    alloc: Global,
+) -> Result<(), Failure> {
+    let gate = TakesRefused::new(alloc);
+    let outcome = judged_with(rt, alloc, &movie(alloc)?, 1, &gate);
+    if !gate.was_entered() {
+        return outcome.and(Err(Failure::Wrong));
+    }
+    right(outcome.is_ok())?;
+    if gate.has_met() {
+        Err(Failure::Fewer)
+    } else {
+        Ok(())
+    }
 }
 
 /// Two segments of a frame each.
