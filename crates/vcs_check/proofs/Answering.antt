@@ -1,8 +1,9 @@
 -- From what a command's function answers to what the command does.
-use Rattle.std.proofs.Common.{◌≡◌, ℕ, List, refl, subst, Result, Ok, Err, IfOk, Option, Some, None, String, Global}
-use Rattle.std.specs.Io.KnownBytes.{Appends, Keeps}
+use Rattle.std.proofs.Common.{◌≡◌, ℕ, List, refl, subst, Result, Ok, Err, Option, Some, None, String, Global}
+use Rattle.std.specs.Io.KnownBytes.{Keeps}
 use Rattle.command_line.specs.declared.command.Command.TheVariants.{Stdin, Verify, Make}
-use Rattle.vcs_check.specs.Commands.{Answers, IsJudged, IsMade}
+use Rattle.vcs_check.specs.Commands.{Answers, IsJudged, IsMade, Writes}
+use Rattle.vcs_check.specs.declared.commands.Failure.{Failure}
 use Rattle.vcs_engine.specs.Streams.{ReadsAll}
 use Rattle.vcs_engine.specs.declared.status.Status.{Status}
 
@@ -15,27 +16,27 @@ keeps (Some xs) = refl
 numbered : (a b c d : ℕ) (input line : List ℕ) (status : Status) → a ≡ c → b ≡ d → IsJudged a b input status line → IsJudged c d input status line
 numbered a b c d input line status e f h = subst (λ (z : ℕ × ℕ). IsJudged z.0 z.1 input status line) (λ i. (e i, f i)) h
 
-module _ {E : Type 0} (old new before after : Option (List ℕ)) where
-  -- What a command's function answers: a status, and a line that it has written.
-  abbrev Writes : Result Status E → (Status → List ℕ → Type 0) → Type 0
-  Writes r Says = IfOk r (λ status. (text : List ℕ) × Says status text × Appends before after text)
+module _ (before after : Option (List ℕ)) where
+  -- What is said of the line that was written, for what was said of it.
+  says : (Says Then : Status → List ℕ → Type 0) → ((status : Status) (line : List ℕ) → Says status line → Then status line)
+      → (answer : Result Status Failure) → Writes before after Says answer → Writes before after Then answer
+  says Says Then so (Ok status) h = (h.0, so status h.0 h.1, h.2)
+  says Says Then so (Err failure) h = tt
 
-  pub standard_input_answers : (first count : ℕ) → first ≡ 1 → count ≡ 0 → (r : Result Status E)
-      → IfOk r (λ status. (input : List ℕ) × (text : List ℕ) × ReadsAll old new input × IsJudged first count input status text × Appends before after text)
-      → Writes r (Answers Stdin old new)
-  standard_input_answers first count e f (Ok status) h = (h.1, (h.0, h.2, numbered first count 1 0 h.0 h.1 status e f h.3), h.4)
-  standard_input_answers first count e f (Err error) h = tt
+  pub standard_input_answers : (old new : Option (List ℕ)) (first count : ℕ) → first ≡ 1 → count ≡ 0 → (answer : Result Status Failure)
+      → Writes before after (λ status line. (input : List ℕ) × ReadsAll old new input × IsJudged first count input status line) answer
+      → Writes before after (Answers Stdin old new) answer
+  standard_input_answers old new first count e f =
+      says _ (Answers Stdin old new) (λ status line h. (h.0, h.1, numbered first count 1 0 h.0 line status e f h.2))
 
-module _ {E : Type 0} (known before after : Option (List ℕ)) where
-  pub verify_answers : (file : String Global) (workers every first count a b : ℕ) (pictures : Option (String Global)) → a ≡ first → b ≡ count → (r : Result Status E)
-      → IfOk r (λ status. (input : List ℕ) × (text : List ℕ) × IsJudged a b input status text × Appends before after text)
-      → IfOk r (λ status. (text : List ℕ) × Answers (Verify file workers every first count pictures) known known status text × Appends before after text)
-  verify_answers file workers every first count a b pictures e f (Ok status) h =
-      (h.1, (keeps known, (h.0, numbered a b first count h.0 h.1 status e f h.2)), h.3)
-  verify_answers file workers every first count a b pictures e f (Err error) h = tt
+  module _ (known : Option (List ℕ)) where
+    pub verify_answers : (file : String Global) (workers every first count a b : ℕ) (pictures : Option (String Global)) → a ≡ first → b ≡ count
+        → (answer : Result Status Failure) → Writes before after (λ status line. (input : List ℕ) × IsJudged a b input status line) answer
+        → Writes before after (Answers (Verify file workers every first count pictures) known known) answer
+    verify_answers file workers every first count a b pictures e f =
+        says _ (Answers (Verify file workers every first count pictures) known known)
+        (λ status line h. (keeps known, (h.0, numbered a b first count h.0 line status e f h.1)))
 
-  pub make_answers : (rom inputs : String Global) (every : ℕ) (out : String Global) (r : Result Status E)
-      → IfOk r (λ status. (text : List ℕ) × IsMade every status text × Appends before after text)
-      → IfOk r (λ status. (text : List ℕ) × Answers (Make rom inputs every out) known known status text × Appends before after text)
-  make_answers rom inputs every out (Ok status) h = (h.0, (keeps known, h.1), h.2)
-  make_answers rom inputs every out (Err error) h = tt
+    pub make_answers : (rom inputs : String Global) (every : ℕ) (out : String Global) (answer : Result Status Failure)
+        → Writes before after (IsMade every) answer → Writes before after (Answers (Make rom inputs every out) known known) answer
+    make_answers rom inputs every out = says _ (Answers (Make rom inputs every out) known known) (λ status line h. (keeps known, h))

@@ -1,16 +1,27 @@
 -- What a command reads of standard input and writes to standard output, and its status. This project's own.
-use Rattle.std.specs.Prelude.{◌≡◌, ◌≤◌, ℕ, List, Option}
-use Rattle.std.specs.Io.KnownBytes.{Keeps}
+use Rattle.std.specs.Prelude.{◌≡◌, ◌≢◌, ◌≤◌, ℕ, List, Option, Result, Err, IfOk, OnErr}
+use Rattle.std.specs.Io.KnownBytes.{Appends, Keeps}
 use Rattle.command_line.specs.declared.command.Command.{Command}
 use Rattle.command_line.specs.declared.command.Command.TheVariants.{Stdin, Verify, Make, Info, Convert}
 use Rattle.movie_file.specs.Reading.{movie_at}
 use Rattle.replay_segments.specs.declared.keep.Keep.{Keep}
+use Rattle.vcs_check.specs.declared.commands.Failure.{Failure}
+use Rattle.vcs_check.specs.declared.commands.Failure.TheVariants.{Run}
 use Rattle.vcs_engine.specs.Conversions.{converted_of}
 use Rattle.vcs_engine.specs.Information.{information_of}
 use Rattle.vcs_engine.specs.Makings.{Made, Makes}
 use Rattle.vcs_engine.specs.Outputs.{Told, Tells}
 use Rattle.vcs_engine.specs.Streams.{ReadsAll}
+use Rattle.vcs_engine.specs.declared.run_error.RunError.TheVariants.{WriteFault}
 use Rattle.vcs_engine.specs.declared.status.Status.{Status}
+
+-- With a status, a line was written of which this holds, and nothing else.
+abbrev pub Writes : Option (List ℕ) → Option (List ℕ) → (Status → List ℕ → Type 0) → Result Status Failure → Type 0
+Writes old new Says answer = IfOk answer (λ status. (line : List ℕ) × Says status line × Appends old new line)
+
+-- After an error other than a failed write, nothing was written.
+abbrev pub IsQuiet : Option (List ℕ) → Option (List ℕ) → Result Status Failure → Type 0
+IsQuiet old new answer = OnErr answer (answer ≢ Err (Run WriteFault) → Keeps old new)
 
 -- The line of these bytes' verdict, with the pictures of `count` frames from `first` on kept.
 abbrev pub IsJudged : ℕ → ℕ → List ℕ → Status → List ℕ → Type 0

@@ -1,7 +1,6 @@
 //! What each command does with files.
-ghost use Rattle.std.specs.Prelude.{◌≡◌, ◌≢◌, ◌≤◌, List, ℕ, Err, IfOk, OnErr};
-ghost use Rattle.std.specs.Io.KnownBytes.{Appends, Keeps};
-ghost use Rattle.vcs_check.specs.Commands.{IsConverted, IsInformation, IsJudged, IsMade};
+ghost use Rattle.std.specs.Prelude.{◌≡◌, ◌≢◌, ◌≤◌, List, ℕ, Err, OnErr};
+ghost use Rattle.vcs_check.specs.Commands.{IsConverted, IsInformation, IsJudged, IsMade, IsQuiet, Writes};
 ghost use Rattle.vcs_engine.specs.Streams.{ReadsAll};
 
 use replay_segments::Keep;
@@ -104,9 +103,10 @@ pub(crate) fn judge<T: Threads + Wait + Sync + AllocGlobal, R: Read, W: Write>(
     plan: &Plan,
     line: &mut W,
 ) -> Result<Status, Failure>
-    ensures ok { IfOk result (λ status. (input : List ℕ) × (text : List ℕ) × ReadsAll (R.remaining movie.old) (R.remaining movie.new) input
-        × IsJudged plan.now.keep.first plan.now.keep.count input status text × Appends (W.contents line.old) (W.contents line.new) text) }
-    ensures quiet { OnErr result (result ≢ Err (Failure.Run RunError.WriteFault) → Keeps (W.contents line.old) (W.contents line.new)) }
+    ensures ok { Writes (W.contents line.old) (W.contents line.new) (λ status text.
+        (input : List ℕ) × ReadsAll (R.remaining movie.old) (R.remaining movie.new) input
+        × IsJudged plan.now.keep.first plan.now.keep.count input status text) result }
+    ensures quiet { IsQuiet (W.contents line.old) (W.contents line.new) result }
     ensures no_thread { result ≡ Err (Failure.Run RunError.NoThread) → 2 ≤ plan.now.workers }
 {
     Ok(run(rt, rt.alloc(), movie, plan, line, &mut io::sink())?)
@@ -119,9 +119,9 @@ pub(crate) fn verify<R: Files + Threads + Wait + Sync + AllocGlobal, W: Write>(
     plan: &Plan,
     line: &mut W,
 ) -> Result<Status, Failure>
-    ensures ok { IfOk result (λ status. (input : List ℕ) × (text : List ℕ)
-        × IsJudged plan.now.keep.first plan.now.keep.count input status text × Appends (W.contents line.old) (W.contents line.new) text) }
-    ensures quiet { OnErr result (result ≢ Err (Failure.Run RunError.WriteFault) → Keeps (W.contents line.old) (W.contents line.new)) }
+    ensures ok { Writes (W.contents line.old) (W.contents line.new) (λ status text.
+        (input : List ℕ) × IsJudged plan.now.keep.first plan.now.keep.count input status text) result }
+    ensures quiet { IsQuiet (W.contents line.old) (W.contents line.new) result }
     ensures no_thread { result ≡ Err (Failure.Run RunError.NoThread) → 2 ≤ plan.now.workers }
 {
     judge(rt, &mut open(rt, file)?, plan, line)
@@ -135,9 +135,9 @@ pub(crate) fn verify_with_pictures<R: Files + Threads + Wait + Sync + AllocGloba
     pictures: &str,
     line: &mut W,
 ) -> Result<Status, Failure>
-    ensures ok { IfOk result (λ status. (input : List ℕ) × (text : List ℕ)
-        × IsJudged plan.now.keep.first plan.now.keep.count input status text × Appends (W.contents line.old) (W.contents line.new) text) }
-    ensures quiet { OnErr result (result ≢ Err (Failure.Run RunError.WriteFault) → Keeps (W.contents line.old) (W.contents line.new)) }
+    ensures ok { Writes (W.contents line.old) (W.contents line.new) (λ status text.
+        (input : List ℕ) × IsJudged plan.now.keep.first plan.now.keep.count input status text) result }
+    ensures quiet { IsQuiet (W.contents line.old) (W.contents line.new) result }
     ensures no_thread { result ≡ Err (Failure.Run RunError.NoThread) → 2 ≤ plan.now.workers }
 {
     let mut movie = open(rt, file)?;
@@ -156,8 +156,8 @@ pub(crate) fn make<R: Files + AllocGlobal, W: Write>(
     out: &str,
     line: &mut W,
 ) -> Result<Status, Failure>
-    ensures ok { IfOk result (λ status. (text : List ℕ) × IsMade every status text × Appends (W.contents line.old) (W.contents line.new) text) }
-    ensures quiet { OnErr result (result ≢ Err (Failure.Run RunError.WriteFault) → Keeps (W.contents line.old) (W.contents line.new)) }
+    ensures ok { Writes (W.contents line.old) (W.contents line.new) (IsMade every) result }
+    ensures quiet { IsQuiet (W.contents line.old) (W.contents line.new) result }
     ensures no_thread { result ≢ Err (Failure.Run RunError.NoThread) }
 {
     let mut rom = open(rt, rom)?;
@@ -172,8 +172,8 @@ pub(crate) fn info<R: Files + AllocGlobal, W: Write>(
     file: &str,
     line: &mut W,
 ) -> Result<Status, Failure>
-    ensures ok { IfOk result (λ status. (text : List ℕ) × IsInformation status text × Appends (W.contents line.old) (W.contents line.new) text) }
-    ensures quiet { OnErr result (result ≢ Err (Failure.Run RunError.WriteFault) → Keeps (W.contents line.old) (W.contents line.new)) }
+    ensures ok { Writes (W.contents line.old) (W.contents line.new) IsInformation result }
+    ensures quiet { IsQuiet (W.contents line.old) (W.contents line.new) result }
     ensures no_thread { result ≢ Err (Failure.Run RunError.NoThread) }
 {
     Ok(run_info(rt.alloc(), &mut open(rt, file)?, line)?)
@@ -186,8 +186,8 @@ pub(crate) fn convert<R: Files + AllocGlobal, W: Write>(
     new: &str,
     line: &mut W,
 ) -> Result<Status, Failure>
-    ensures ok { IfOk result (λ status. (text : List ℕ) × IsConverted status text × Appends (W.contents line.old) (W.contents line.new) text) }
-    ensures quiet { OnErr result (result ≢ Err (Failure.Run RunError.WriteFault) → Keeps (W.contents line.old) (W.contents line.new)) }
+    ensures ok { Writes (W.contents line.old) (W.contents line.new) IsConverted result }
+    ensures quiet { IsQuiet (W.contents line.old) (W.contents line.new) result }
     ensures no_thread { result ≢ Err (Failure.Run RunError.NoThread) }
 {
     let mut movie = open(rt, old)?;

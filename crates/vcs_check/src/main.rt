@@ -6,10 +6,9 @@
 
 mod commands;
 
-ghost use Rattle.std.specs.Prelude.{◌≡◌, ◌≢◌, List, ℕ, Err, IfOk, OnErr};
-ghost use Rattle.std.specs.Io.KnownBytes.{Appends, Keeps};
+ghost use Rattle.std.specs.Prelude.{◌≡◌, Err};
 ghost use Rattle.command_line.specs.Ranges.{IsInRange};
-ghost use Rattle.vcs_check.specs.Commands.{Answers, StartsThreads};
+ghost use Rattle.vcs_check.specs.Commands.{Answers, IsQuiet, StartsThreads, Writes};
 
 use command_line::{Command, LineFault, parse_line};
 use commands::{
@@ -39,9 +38,8 @@ fn execute<R: Files + Threads + Wait + Sync + AllocGlobal, I: Read, W: Write>(
     command: &Command,
 ) -> Result<Status, Failure>
     requires { IsInRange command.now }
-    ensures ok { IfOk result (λ status. (text : List ℕ) × Answers command.now (I.remaining input.old) (I.remaining input.new) status text
-        × Appends (W.contents line.old) (W.contents line.new) text) }
-    ensures quiet { OnErr result (result ≢ Err (Failure.Run RunError.WriteFault) → Keeps (W.contents line.old) (W.contents line.new)) }
+    ensures ok { Writes (W.contents line.old) (W.contents line.new) (Answers command.now (I.remaining input.old) (I.remaining input.new)) result }
+    ensures quiet { IsQuiet (W.contents line.old) (W.contents line.new) result }
     ensures no_thread { result ≡ Err (Failure.Run RunError.NoThread) → StartsThreads command.now }
 {
     match command {
