@@ -8,9 +8,12 @@ use std::str::SplitWhitespace;
 /// No page of the address space, so that each byte can be fetched.
 const NO_PAGE: u16 = 256;
 
+/// What is at addresses that an instruction doesn't use. It isn't 0, which some of the named bytes are.
+const UNUSED: u8 = 0xA5;
+
 /// An instruction with what it finds, and what another processor left.
 #[derive(Drop)]
-pub(crate) struct Case {
+pub(crate) struct Instruction {
     before: Cpu,
     bytes: ArrayVec<(u16, u8), 8>,
     after: Cpu,
@@ -18,9 +21,9 @@ pub(crate) struct Case {
     writes: ArrayVec<Event, 8>,
 }
 
-impl Case {
+impl Instruction {
     /// The instruction of a line; none where the line is no instruction.
-    pub(crate) fn parse(line: &str) -> Option<Case> {
+    pub(crate) fn parse(line: &str) -> Option<Instruction> {
         let mut parts = line.split('|');
         let before = parts.next()?;
         let bytes = parts.next()?;
@@ -31,7 +34,7 @@ impl Case {
         let cycles = words.next()?.parse().ok()?;
         let mut words = before.split_whitespace();
         let _opcode = words.next()?;
-        Some(Case {
+        Some(Instruction {
             before: registers(&mut words)?,
             bytes: named_bytes(bytes)?,
             after,
@@ -42,8 +45,7 @@ impl Case {
 
     /// Whether the processor leaves the same registers in as many cycles, and makes the same writes in theirs.
     pub(crate) fn is_met(&self) -> bool {
-        let mut bus = LogBus::holding(self.bytes.as_slice());
-        bus.device_page = NO_PAGE;
+        let mut bus = self.bus();
         let mut cpu = self.before;
         let answer = step(&mut cpu, &mut bus);
         let writes = bus
@@ -54,6 +56,20 @@ impl Case {
             && bus.clock == self.cycles as u32
             && cpu == self.after
             && writes.eq(self.writes.iter())
+    }
+
+    /// A memory that holds its bytes.
+    fn bus(&self) -> LogBus {
+        let mut memory = [UNUSED; 65536];
+        for (address, value) in self.bytes.iter() {
+            memory[*address as usize] = *value;
+        }
+        LogBus {
+            memory,
+            clock: 0,
+            events: ArrayVec::new(),
+            device_page: NO_PAGE,
+        }
     }
 }
 
