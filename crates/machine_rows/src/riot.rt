@@ -12,56 +12,7 @@ const SWCHB: u8 = 0x02;
 
 const SWBCNT: u8 = 0x03;
 
-const INTIM: u8 = 0x04;
-
-const FLAG: u8 = 0x05;
-
-const TIM1T: u8 = 0x14;
-
 const TIM64T: u8 = 0x16;
-
-#[test]
-fn timer_holds_zero_for_one_interval(rt: HostRuntime) {
-    let mut riot = Riot::power_on();
-    riot.write(TIM64T, 1);
-    riot.cycles(1);
-    assert_eq!(rt; riot.read(INTIM), 0x00);
-    riot.cycles(63);
-    assert_eq!(rt; riot.read(INTIM), 0x00);
-    riot.cycles(1);
-    assert_eq!(rt; riot.read(INTIM), 0xFF);
-}
-
-#[test]
-fn timer_from_zero_is_past_it_after_one_cycle(rt: HostRuntime) {
-    let mut riot = Riot::power_on();
-    riot.write(TIM1T, 0);
-    riot.cycles(1);
-    assert_eq!(rt; riot.read(INTIM), 0xFF);
-}
-
-#[test]
-fn flag_is_set_past_zero_and_cleared_by_a_read(rt: HostRuntime) {
-    let mut riot = Riot::power_on();
-    riot.write(TIM1T, 2);
-    riot.cycles(2);
-    assert_eq!(rt; riot.read(FLAG), 0x00);
-    riot.cycles(1);
-    assert_eq!(rt; riot.read(FLAG), 0x80);
-    assert_eq!(rt; riot.read(INTIM), 0xFF);
-    assert_eq!(rt; riot.read(FLAG), 0x00);
-}
-
-#[test]
-fn timer_comes_round_after_256_cycles(rt: HostRuntime) {
-    let mut riot = Riot::power_on();
-    riot.write(TIM1T, 0);
-    riot.cycles(255);
-    riot.cycles(1);
-    assert_eq!(rt; riot.read(INTIM), 0x00);
-    riot.cycles(1);
-    assert_eq!(rt; riot.read(INTIM), 0xFF);
-}
 
 #[test]
 fn ports_mix_pins_and_outputs(rt: HostRuntime) {

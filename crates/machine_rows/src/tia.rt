@@ -1,17 +1,10 @@
 //! Worked examples, whose results were written down by hand.
 ghost use Rattle.std.specs.Prelude.{◌≡◌, nat_lt, slice_set, if◌then◌else◌};
 
-use std::test::Fail;
-use tia_core::effect::Effect;
-use tia_core::fields::TiaFields;
 use tia_core::paint::Paint;
 use tia_core::tia::Tia;
 
-const VSYNC: u8 = 0x00;
-
 const VBLANK: u8 = 0x01;
-
-const WSYNC: u8 = 0x02;
 
 const COLUP0: u8 = 0x06;
 
@@ -23,19 +16,7 @@ const CTRLPF: u8 = 0x0A;
 
 const PF0: u8 = 0x0D;
 
-const RESP0: u8 = 0x10;
-
-const RESM0: u8 = 0x12;
-
 const GRP0: u8 = 0x1B;
-
-const GRP1: u8 = 0x1C;
-
-const HMP0: u8 = 0x20;
-
-const VDELP0: u8 = 0x25;
-
-const RESMP0: u8 = 0x28;
 
 const HMOVE: u8 = 0x2A;
 
@@ -83,29 +64,6 @@ fn row_of(background: u8, stretches: &[(u8, u8, u8)]) -> [u8; 160] {
     pixels
 }
 
-/// A TIA with these numbers.
-fn made(change: TiaFields) -> Result<Tia, Fail> {
-    Ok(Tia::from_fields(change).ok_or("these numbers are lawful")?)
-}
-
-#[test]
-fn player_wraps_and_moves(rt: HostRuntime) -> Result<(), Fail> {
-    let mut fields = Tia::power_on().fields();
-    fields.position_p0 = 156;
-    let mut tia = made(fields)?;
-    tia.write(COLUP0, 0x0E);
-    tia.write(GRP0, 0xFF);
-    assert!(rt; drawn(&mut tia, 228) == row_of(0, &[(0, 4, 0x0E), (156, 160, 0x0E)]));
-    for (motion, from, to) in [(0x70, 3, 156), (0x80, 156, 4)] {
-        fields.position_p0 = from;
-        let mut tia = made(fields)?;
-        tia.write(HMP0, motion);
-        tia.write(HMOVE, 0);
-        assert_eq!(rt; tia.fields().position_p0, to);
-    }
-    Ok(())
-}
-
 #[test]
 fn playfield_and_player_by_priority(rt: HostRuntime) {
     let rows = [
@@ -129,47 +87,6 @@ fn playfield_and_player_by_priority(rt: HostRuntime) {
         tia.write(CXCLR, 0);
         assert_eq!(rt; tia.read(CXP0FB), 0);
     }
-}
-
-#[test]
-fn strobes_place_objects(rt: HostRuntime) {
-    for (clock, position) in [(66, 3), (69, 6), (225, 2)] {
-        let mut tia = Tia::power_on();
-        drawn(&mut tia, clock);
-        tia.write(RESP0, 0);
-        assert_eq!(rt; tia.fields().position_p0, position);
-    }
-    let mut tia = Tia::power_on();
-    drawn(&mut tia, 225);
-    tia.write(RESM0, 0);
-    assert_eq!(rt; tia.fields().position_m0, 1);
-}
-
-#[test]
-fn missile_is_released_by_its_player(rt: HostRuntime) -> Result<(), Fail> {
-    for (player, mode, missile) in [(100, 5, 108), (100, 7, 116), (158, 0, 2)] {
-        let mut fields = Tia::power_on().fields();
-        fields.position_p0 = player;
-        fields.nusiz0 = mode;
-        fields.resmp0 = 2;
-        let mut tia = made(fields)?;
-        tia.write(RESMP0, 0);
-        assert_eq!(rt; tia.fields().position_m0, missile);
-    }
-    Ok(())
-}
-
-#[test]
-fn delayed_graphic_is_shown(rt: HostRuntime) {
-    let mut tia = Tia::power_on();
-    tia.write(COLUP0, 0x0E);
-    tia.write(VDELP0, 1);
-    tia.write(GRP0, 0xAA);
-    tia.write(GRP1, 0x55);
-    tia.write(GRP0, 0x0F);
-    assert!(rt;
-        drawn(&mut tia, 228) == row_of(0, &[(0, 1, 0x0E), (2, 3, 0x0E), (4, 5, 0x0E), (6, 7, 0x0E)])
-    );
 }
 
 #[test]
@@ -201,14 +118,4 @@ fn buttons_are_latched(rt: HostRuntime) {
     tia.set_fire(false, false);
     assert_eq!(rt; tia.read(INPT4), 0x00);
     assert_eq!(rt; tia.line(), 0);
-}
-
-#[test]
-fn writes_ask_for_waits_and_frame_ends(rt: HostRuntime) {
-    let mut tia = Tia::power_on();
-    assert_eq!(rt; tia.write(VSYNC, 0x02), Effect::Nothing);
-    assert_eq!(rt; tia.write(VSYNC, 0x02), Effect::Nothing);
-    assert_eq!(rt; tia.write(VSYNC, 0x00), Effect::FrameEnd);
-    assert_eq!(rt; tia.write(VSYNC, 0x00), Effect::Nothing);
-    assert_eq!(rt; tia.write(WSYNC, 0x00), Effect::Sync);
 }
