@@ -5,15 +5,18 @@ use std::sync::atomic::{AtomicU64, Ordering};
 use std::thread;
 use verify_pool::{Gate, Ticket};
 
-/// How often a gate looks before it gives up.
-const LOOKS: u32 = 10_000_000;
+/// How often the workers at a gate look, all together, before it gives up.
+const LOOKS: u64 = 10_000_000;
 
-/// Looks until a counter has come to a number, and lets others run between the looks. False where it
-/// stays below.
-fn comes(counter: &AtomicU64, to: u64) -> bool {
+/// Looks until a counter has come to a number, counts its looks, and lets others run between them.
+/// False where the counter stays below.
+fn comes(counter: &AtomicU64, to: u64, looks: &AtomicU64) -> bool {
     for _look in 0..LOOKS {
         if counter.load(Ordering::SeqCst) >= to {
             return true;
+        }
+        if looks.fetch_add(1, Ordering::SeqCst) >= LOOKS {
+            return false;
         }
         thread::yield_now();
     }
@@ -95,7 +98,7 @@ impl SecondFirst {
 
 impl Gate for SecondFirst {
     fn enter(&self, _ticket: &Ticket, segment: u32) {
-        if segment == 0 && !comes(&self.left, 1) {
+        if segment == 0 && !comes(&self.left, 1, &AtomicU64::new(0)) {
             self.missed.store(1, Ordering::SeqCst);
         }
     }
@@ -112,6 +115,7 @@ impl Gate for SecondFirst {
 pub(crate) struct Meeting {
     pub wanted: u64,
     pub entered: AtomicU64,
+    pub looks: AtomicU64,
     pub missed: AtomicU64,
 }
 
@@ -120,16 +124,16 @@ impl Meeting {
         Meeting {
             wanted,
             entered: AtomicU64::new(0),
+            looks: AtomicU64::new(0),
             missed: AtomicU64::new(0),
         }
     }
 }
 
 impl Gate for Meeting {
-    /// Once one has waited in vain, none waits.
     fn enter(&self, _ticket: &Ticket, _segment: u32) {
         self.entered.fetch_add(1, Ordering::SeqCst);
-        if self.missed.load(Ordering::SeqCst) == 0 && !comes(&self.entered, self.wanted) {
+        if !comes(&self.entered, self.wanted, &self.looks) {
             self.missed.store(1, Ordering::SeqCst);
         }
     }
