@@ -3,20 +3,20 @@ ghost use Rattle.std.specs.Prelude.{◌≡◌, ◌≢◌, ◌≤◌, List, ℕ, 
 ghost use Rattle.vcs_check.specs.Commands.{IsConverted, IsInformation, IsJudged, IsMade, IsQuiet, Writes};
 ghost use Rattle.vcs_engine.specs.Streams.{ReadsAll};
 
+use crate::files::{create, open};
 use replay_segments::Keep;
 use std::alloc::Global;
-use std::io::{BufWriter, Read, Write};
+use std::io::{self, BufWriter, Read, Write};
 use std::rt::Files;
 use std::sync::Wait;
 use std::thread::Threads;
-use std::{fs, io};
 use thiserror::Error;
 use vcs_engine::{Plan, RunError, Status, run, run_convert, run_info, run_make};
 
 /// Why a command did not reach its end, as the program prints it after `error: `.
 #[derive(Clone, Copy, Debug, PartialEq, Eq, Error)]
 pub(crate) enum Failure {
-    /// A file can't be opened, or can't be created.
+    /// A file can't be opened or created, or an output is one of the inputs.
     #[error("cannot open")]
     Open,
     #[error("{0}")]
@@ -30,24 +30,6 @@ impl From<RunError> for Failure {
 
     fn from(error: RunError) -> Failure {
         Failure::Run(error)
-    }
-}
-
-fn open<R: Files>(rt: &R, name: &str) -> Result<R::File, Failure>
-    ensures { OnErr result (result ≡ Err Failure.Open) }
-{
-    match fs::open(rt, name) {
-        Ok(file) => Ok(file),
-        Err(_) => Err(Failure::Open),
-    }
-}
-
-fn create<R: Files>(rt: &R, name: &str) -> Result<R::File, Failure>
-    ensures { OnErr result (result ≡ Err Failure.Open) }
-{
-    match fs::create(rt, name) {
-        Ok(file) => Ok(file),
-        Err(_) => Err(Failure::Open),
     }
 }
 
@@ -141,7 +123,8 @@ pub(crate) fn verify_with_pictures<R: Files + Threads + Wait + Sync + AllocGloba
     ensures no_thread { result ≡ Err (Failure.Run RunError.NoThread) → 2 ≤ plan.now.workers }
 {
     let mut movie = open(rt, file)?;
-    let mut pictures = buffered(rt.alloc(), create(rt, pictures)?)?;
+    let pictures = create(rt, pictures, &[&movie])?;
+    let mut pictures = buffered(rt.alloc(), pictures)?;
     let status = run(rt, rt.alloc(), &mut movie, plan, line, &mut pictures)?;
     flushed(&mut pictures)?;
     Ok(status)
@@ -162,7 +145,7 @@ pub(crate) fn make<R: Files + AllocGlobal, W: Write>(
 {
     let mut rom = open(rt, rom)?;
     let mut inputs = open(rt, inputs)?;
-    let mut movie = create(rt, out)?;
+    let mut movie = create(rt, out, &[&rom, &inputs])?;
     Ok(run_make(rt.alloc(), &mut rom, &mut inputs, every, &mut movie, line)?)
 }
 
@@ -191,6 +174,6 @@ pub(crate) fn convert<R: Files + AllocGlobal, W: Write>(
     ensures no_thread { result ≢ Err (Failure.Run RunError.NoThread) }
 {
     let mut movie = open(rt, old)?;
-    let mut converted = create(rt, new)?;
+    let mut converted = create(rt, new, &[&movie])?;
     Ok(run_convert(rt.alloc(), &mut movie, &mut converted, line)?)
 }

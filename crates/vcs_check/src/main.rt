@@ -5,6 +5,7 @@
 #![tactic(auto)]
 
 mod commands;
+mod files;
 
 ghost use Rattle.std.specs.Prelude.{◌≡◌, Err};
 ghost use Rattle.command_line.specs.Ranges.{IsInRange};
