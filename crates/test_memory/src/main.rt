@@ -31,6 +31,7 @@ fn tried<R: Threads + Wait + Sync>(
     call: &str,
 ) -> Option<Result<(), Failure>> {
     Some(match call {
+        "cartridge" => movies::is_cartridge(alloc),
         "read_movie" => movies::is_read(alloc),
         "write_movie" => movies::is_written(alloc),
         "make_movie" => movies::is_made(alloc),
@@ -38,7 +39,8 @@ fn tried<R: Threads + Wait + Sync>(
         "verify_one_without_pictures" => segments::is_judged_without_pictures(alloc),
         "cuts" => segments::is_cut(alloc),
         "replay" => segments::is_replayed(alloc),
-        "gather" => segments::is_gathered(alloc),
+        "gather" => segments::is_gathered(alloc, 2),
+        "gather_without_pictures" => segments::is_gathered(alloc, 0),
         "desk" => workers::has_desk(alloc),
         "crew" => workers::is_worked_on(rt, alloc),
         "verify_by_two" => workers::is_judged_by_two(rt, alloc),

@@ -92,6 +92,12 @@ pub(crate) fn made(alloc: Global, frames: usize, every: u32) -> Result<Movie, Fa
     Ok(make_movie(alloc, cart, inputs, every)?)
 }
 
+/// A cartridge of two banks, which takes no memory beside its bytes.
+pub(crate) fn is_cartridge(alloc: Global) -> Result<(), Failure> {
+    let bytes = vec![in alloc; 0u8; 8192]?;
+    right(Cart::new(bytes).is_ok())
+}
+
 pub(crate) fn is_read(alloc: Global) -> Result<(), Failure> {
     let movie = movie(alloc)?;
     right(movie.frames() == 2 && movie.checkpoints() == 1)

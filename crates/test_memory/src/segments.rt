@@ -50,14 +50,15 @@ pub(crate) fn is_replayed(alloc: Global) -> Result<(), Failure> {
     Err(Failure::Wrong)
 }
 
-pub(crate) fn is_gathered(alloc: Global) -> Result<(), Failure> {
+/// Two segments of a frame each, with the pictures of so many frames.
+pub(crate) fn is_gathered(alloc: Global, pictures: u32) -> Result<(), Failure> {
     let movie = movie(alloc)?;
     let cuts = Cuts::every(alloc, &movie, 1)?;
-    let keep = Keep::new(1, 2)?;
-    let mut pieces = Vec::new(alloc);
+    let keep = Keep::new(1, pictures)?;
+    let mut pieces = Vec::with_capacity(alloc, 2)?;
     for number in 0..cuts.segments() {
         pieces.push(replay(alloc, &movie, &cuts, keep, number))?;
     }
     let verdict = gather(alloc, pieces, cuts.segments())?;
-    is_genuine(&verdict, 2)
+    is_genuine(&verdict, pictures as usize)
 }
