@@ -35,13 +35,14 @@ struct Room {
 }
 
 impl Room {
-    /// The bytes of a cartridge, and room for the inputs and checkpoints of a movie of these sizes.
+    /// The bytes of a cartridge, and room for the inputs and checkpoints of a movie of these sizes,
+    /// and for no more.
     fn new(alloc: Global, cart: &[u8], sizes: Sizes) -> Result<Room, AllocError>
         ensures cart { IfOk result (λ room. room.cart.items ≡ cart.now) }
         ensures inputs { IfOk result (λ room. (room.inputs.items ≡ [])
-            × (sizes.frames ≤ vec_capacity room.inputs)) }
+            × (vec_capacity room.inputs ≡ sizes.frames)) }
         ensures checkpoints { IfOk result (λ room. (room.checkpoints.items ≡ [])
-            × (sizes.checkpoints ≤ vec_capacity room.checkpoints)) }
+            × (vec_capacity room.checkpoints ≡ sizes.checkpoints)) }
     {
         let cart = Vec::from_slice(alloc, cart)?;
         let inputs = Vec::with_capacity(alloc, sizes.frames as usize)?;
