@@ -40,6 +40,62 @@ fn defaults(rt: HostRuntime) -> Result<(), Fail> {
 }
 
 #[test]
+fn numbers_are_those_of_the_words(rt: HostRuntime) {
+    let words = [
+        "vcs_check",
+        "verify",
+        "m",
+        "--workers",
+        "64",
+        "--every",
+        "65535",
+        "--first",
+        "4294967295",
+        "--count",
+        "599",
+        "--pictures",
+        "p",
+    ];
+    let found = parse_line(rt.alloc(), &words);
+    assert!(rt;
+        matches!(
+            &found,
+            Ok(Command::Verify {
+                workers: 64,
+                every: 65_535,
+                first: 4_294_967_295,
+                count: 599,
+                pictures: Some(_),
+                ..
+            })
+        )
+    );
+    // Without a file for them no pictures are kept.
+    let found = parse_line(rt.alloc(), &["vcs_check", "verify", "m", "--count", "2"]);
+    assert!(rt; matches!(&found, Ok(Command::Verify { count: 0, .. })));
+    let words = [
+        "vcs_check",
+        "make",
+        "r",
+        "i",
+        "--every",
+        "4294967295",
+        "--out",
+        "o",
+    ];
+    let found = parse_line(rt.alloc(), &words);
+    assert!(rt;
+        matches!(
+            &found,
+            Ok(Command::Make {
+                every: 4_294_967_295,
+                ..
+            })
+        )
+    );
+}
+
+#[test]
 fn mistakes(rt: HostRuntime) {
     let found = parse_line(rt.alloc(), &["vcs_check", "verify", "m", "--workers", "65"]);
     assert!(rt; matches!(&found, Err(LineFault::Usage { .. })));

@@ -38,6 +38,16 @@ fn a_desk_is_made_with_a_ticket_for_each_worker(rt: HostRuntime) -> Result<(), F
     Ok(())
 }
 
+#[test]
+fn a_desk_of_the_most_numbers_takes_no_more_memory(rt: HostRuntime) -> Result<(), Fail> {
+    let (desk, mut tickets) = Desk::new(rt.alloc(), u32::MAX, 255)?;
+    assert_eq!(rt; tickets.len(), 255);
+    let mut ticket = tickets.pop().ok_or("a ticket")?;
+    assert_eq!(rt; desk.least_bad(&mut ticket), u32::MAX);
+    assert_eq!(rt; desk.draw(&mut ticket), Some(0));
+    Ok(())
+}
+
 /// How many numbers the desk of the threads has.
 const NUMBERS: usize = 5_000;
 
