@@ -106,6 +106,7 @@ fn counts_the_cycles_of_each_frame(rt: HostRuntime) {
         wanted.line_cycle = line_cycle;
         assert!(rt; state.equals(&lawful(&rt, wanted)));
         assert!(rt; !state.equals(&start));
+        assert!(rt; state != start);
     }
 }
 
@@ -268,6 +269,7 @@ fn fault_leaves_the_state_before_its_instruction(rt: HostRuntime) {
         at: 0xF010,
     };
     assert_eq!(rt; fault_of(&rt, rt.alloc(), &cart, &mut state), Some(bad));
+    assert!(rt; bad != FaultKind::Overlong);
     assert_eq!(rt; state.fields().x, 7);
     assert_eq!(rt; state.fields().pc, 0xF010);
 }

@@ -149,6 +149,7 @@ fn one_call_is_as_many(rt: HostRuntime) -> Result<(), Fail> {
         }
         assert!(rt; row.pixels == other.pixels);
         assert!(rt; one.fields() == many.fields());
+        assert!(rt; one.fields() != fields);
         assert_eq!(rt; one.line(), many.line());
         // Player 0 has met the playfield.
         assert_eq!(rt; one.read(2), 0x80);

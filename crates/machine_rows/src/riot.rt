@@ -111,6 +111,7 @@ fn banks_stand_at_each_4096_addresses(rt: HostRuntime) -> Result<(), Fail> {
 #[test]
 fn places_by_address_lines(rt: HostRuntime) {
     assert_eq!(rt; place(0x0002), Place::Tia(0x02));
+    assert!(rt; place(0x0002) != Place::Tia(0x03));
     assert_eq!(rt; place(0x0180), Place::Ram(0x00));
     assert_eq!(rt; place(0x0296), Place::Io(0x16));
     assert_eq!(rt; place(0x2280), Place::Io(0x00));

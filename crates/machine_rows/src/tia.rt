@@ -1,6 +1,7 @@
 //! Worked examples, whose results were written down by hand.
 ghost use Rattle.std.specs.Prelude.{◌≡◌, nat_lt, slice_set, if◌then◌else◌};
 
+use tia_core::effect::Effect;
 use tia_core::paint::Paint;
 use tia_core::tia::Tia;
 
@@ -94,7 +95,7 @@ fn comb_hides_eight_pixels_of_one_line(rt: HostRuntime) {
     let mut tia = Tia::power_on();
     tia.write(COLUBK, 0x0E);
     drawn(&mut tia, 3);
-    tia.write(HMOVE, 0);
+    assert!(rt; tia.write(HMOVE, 0) != Effect::Sync);
     assert!(rt; drawn(&mut tia, 225) == row_of(0x0E, &[(0, 8, 0)]));
     assert_eq!(rt; tia.line(), 1);
     assert_eq!(rt; tia.beam(), 0);

@@ -264,6 +264,7 @@ fn refusals_have_their_names(rt: HostRuntime) -> Result<(), Fail> {
         (MovieError::BadOrder(2), "BadOrder 2"),
     ] {
         assert!(rt; format!(in rt.alloc(); "{refusal}")?.as_str() == name);
+        assert!(rt; refusal != MovieError::BadOrder(1));
     }
     Ok(())
 }
@@ -430,7 +431,9 @@ fn movies_are_not_made_of_bad_counts(rt: HostRuntime) -> Result<(), Fail> {
         if made {
             assert_eq!(rt; movie.ok().map(|movie| movie.checkpoints()), Some(2_048));
         } else {
-            assert_eq!(rt; movie.err(), Some(MakeError::BadCounts));
+            let refusal = movie.err();
+            assert_eq!(rt; refusal, Some(MakeError::BadCounts));
+            assert!(rt; refusal != Some(MakeError::NoMemory));
         }
     }
     Ok(())

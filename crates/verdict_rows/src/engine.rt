@@ -123,8 +123,10 @@ fn told_of_zeros<T: Threads + Wait + Sync + AllocGlobal>(
 
 #[test]
 fn longest_input_is_read(rt: HostRuntime) {
-    let (status, line, _reads) = told_of_zeros(&rt, 16_777_216);
+    let (status, line, reads) = told_of_zeros(&rt, 16_777_216);
+    assert_eq!(rt; reads, 16_777_217);
     assert_eq!(rt; status, Ok(Status::Refused));
+    assert!(rt; status != Ok(Status::Done));
     assert!(rt; line.as_slice() == b"refused: BadMagic\n".as_slice());
 }
 
@@ -132,6 +134,7 @@ fn longest_input_is_read(rt: HostRuntime) {
 fn endless_input_is_too_long(rt: HostRuntime) {
     let (status, line, reads) = told_of_zeros(&rt, u64::MAX);
     assert_eq!(rt; status, Err(RunError::TooLong));
+    assert!(rt; status != Err(RunError::NoMemory));
     assert!(rt; line.is_empty());
     assert_eq!(rt; reads, 16_777_217);
 }
