@@ -47,14 +47,14 @@ impl Output {
         })
     }
 
-    /// What is told of bytes that are no movie.
+    /// The status and line of bytes that are no movie.
     fn refused(alloc: Global, error: MovieError) -> Result<Output, AllocError>
         ensures { IfOk result (λ output. told_by output ≡ told_refused error) }
     {
         Output::new(alloc, Status::Refused, Line::Refused(error), None)
     }
 
-    /// What is told of a movie with this verdict.
+    /// The status, line and pictures of a movie with this verdict.
     fn of_verdict(alloc: Global, movie: &Movie, verdict: Verdict) -> Result<Output, AllocError>
         ensures { IfOk result (λ output. told_by output ≡ told_of movie.now verdict) }
     {
@@ -113,7 +113,7 @@ impl Output {
         }
     }
 
-    /// What is told of the bytes of an input.
+    /// The status, line and pictures of the bytes of an input.
     pub fn of_bytes<T: Threads + Wait + Sync>(
         rt: &T,
         alloc: Global,
