@@ -1,5 +1,5 @@
-//! From words to a command.
-ghost use Rattle.std.specs.Prelude.{IfOk, IfSome};
+//! From arguments to a command.
+ghost use Rattle.std.specs.Prelude.{IfOk};
 ghost use Rattle.command_line.specs.Ranges.{IsInRange};
 
 use crate::command::{Command, LineFault};
@@ -13,9 +13,9 @@ fn text_of(alloc: Global, matches: &ArgMatches<'_>, name: &str) -> Result<String
     String::from_str(alloc, matches.get_str(name).unwrap_or(""))
 }
 
-/// The command `verify`, or None where a number is out of its range.
-fn verify_of(alloc: Global, matches: &ArgMatches<'_>) -> Result<Option<Command>, AllocError>
-    ensures { IfOk result (λ found. IfSome found IsInRange) }
+/// The command `verify`.
+fn verify_of(alloc: Global, matches: &ArgMatches<'_>) -> Result<Command, LineFault>
+    ensures { IfOk result IsInRange }
 {
     let file = text_of(alloc, matches, "file")?;
     let workers = matches.get_one::<u8>("workers").unwrap_or(0);
@@ -27,39 +27,39 @@ fn verify_of(alloc: Global, matches: &ArgMatches<'_>) -> Result<Option<Command>,
         None => None,
     };
     if workers < 1 || 64 < workers || every < 1 || first < 1 || 600 < wanted {
-        return Ok(None);
+        return Err(out_of_range(alloc));
     }
     let count = if pictures.is_some() { wanted } else { 0 };
-    Ok(Some(Command::Verify {
+    Ok(Command::Verify {
         file,
         workers,
         every,
         first,
         count,
         pictures,
-    }))
+    })
 }
 
-/// The command `make`, or None where a number is out of its range.
-fn make_of(alloc: Global, matches: &ArgMatches<'_>) -> Result<Option<Command>, AllocError>
-    ensures { IfOk result (λ found. IfSome found IsInRange) }
+/// The command `make`.
+fn make_of(alloc: Global, matches: &ArgMatches<'_>) -> Result<Command, LineFault>
+    ensures { IfOk result IsInRange }
 {
     let rom = text_of(alloc, matches, "rom")?;
     let inputs = text_of(alloc, matches, "inputs")?;
     let out = text_of(alloc, matches, "out")?;
     let every = matches.get_one::<u32>("every").unwrap_or(0);
     if every < 1 {
-        return Ok(None);
+        return Err(out_of_range(alloc));
     }
-    Ok(Some(Command::Make {
+    Ok(Command::Make {
         rom,
         inputs,
         every,
         out,
-    }))
+    })
 }
 
-/// What clap says of words that are no command, or that ask for help.
+/// What `clap` says of arguments that are no command, or that ask for help.
 fn fault_of(alloc: Global, error: &clap::Error) -> LineFault {
     if error.kind() == ErrorKind::OutOfMemory {
         return LineFault::Memory;
@@ -71,41 +71,36 @@ fn fault_of(alloc: Global, error: &clap::Error) -> LineFault {
     }
 }
 
-fn usage(alloc: Global, text: &str) -> LineFault {
-    match String::from_str(alloc, text) {
+/// A number that `clap` let through outside of its range, which its parser doesn't.
+fn out_of_range(alloc: Global) -> LineFault {
+    match String::from_str(alloc, "error: a number is out of its range\n") {
         Ok(text) => LineFault::Usage { text },
         Err(_) => LineFault::Memory,
     }
 }
 
-/// The command of some words, of which the first is the program's name.
+/// The command of some arguments, of which the first is the program's name.
 ///
-/// No other word is `Command::Stdin`. Each number is tried by `clap`, and once more here, since its range is promised.
+/// Where they name no command it is `Command::Stdin`. Each number is tried by `clap`, and once more here, since its range is
+/// promised.
 pub fn parse_line<S: AsStr>(alloc: Global, words: &[S]) -> Result<Command, LineFault>
     ensures { IfOk result IsInRange }
 {
-    if words.len() < 2 {
-        return Ok(Command::Stdin);
-    }
     let program = program(alloc)?;
     let matches = match program.try_get_matches_from(words) {
         Ok(matches) => matches,
         Err(error) => return Err(fault_of(alloc, &error)),
     };
-    let found = match matches.subcommand() {
-        Some(("verify", inner)) => verify_of(alloc, inner)?,
-        Some(("make", inner)) => make_of(alloc, inner)?,
-        Some(("info", inner)) => Some(Command::Info {
+    match matches.subcommand() {
+        Some(("verify", inner)) => verify_of(alloc, inner),
+        Some(("make", inner)) => make_of(alloc, inner),
+        Some(("info", inner)) => Ok(Command::Info {
             file: text_of(alloc, inner, "file")?,
         }),
-        Some(("convert", inner)) => Some(Command::Convert {
+        Some(("convert", inner)) => Ok(Command::Convert {
             old: text_of(alloc, inner, "old")?,
             new: text_of(alloc, inner, "new")?,
         }),
-        _ => None,
-    };
-    match found {
-        Some(command) => Ok(command),
-        None => Err(usage(alloc, "error: a number is out of its range\n")),
+        _ => Ok(Command::Stdin),
     }
 }

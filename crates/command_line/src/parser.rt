@@ -3,11 +3,42 @@
 use clap::{Arg, ArgAction, Command, value_parser};
 use std::alloc::{AllocError, Global};
 
+/// What help says at its end.
+const MORE: &str = "Without arguments, vcs_check judges the movie on standard input.
+
+Status:
+  0  done: the movie is genuine, or the command did what it says
+  1  a checkpoint of the movie is false
+  2  a frame faults
+  3  refused: the file is no movie, or no movie can be made
+  4  the arguments are no command
+  5  an error of files, memory or threads, printed on standard error
+
+Examples:
+  vcs_check verify run.a26m --workers 4
+  vcs_check verify run.a26m --first 90 --count 1 --pictures frame90.ppm
+  gunzip < run.a26m.gz | vcs_check verify -
+  vcs_check make game.rom play.inputs --every 60 --out run.a26m";
+
+/// What `--version` prints after the program's name.
+const VERSIONS: &str = "1.1.0
+movies: versions 1 and 2
+machine: revision 1 of its rules";
+
+/// A movie that is read.
+fn movie<'a>(alloc: Global) -> Arg<'a> {
+    Arg::new(alloc, "file")
+        .value_name("FILE")
+        .required(true)
+        .help("The movie; - is standard input")
+}
+
 /// `--workers N` of `verify`.
 fn workers<'a>(alloc: Global) -> Arg<'a> {
     Arg::new(alloc, "workers")
         .long("workers")
-        .help("How many threads replay the movie")
+        .value_name("N")
+        .help("How many threads replay the movie, 1 to 64")
         .value_parser(value_parser!(u8).range(1..=64))
         .default_value("1")
 }
@@ -16,7 +47,8 @@ fn workers<'a>(alloc: Global) -> Arg<'a> {
 fn cuts<'a>(alloc: Global) -> Arg<'a> {
     Arg::new(alloc, "every")
         .long("every")
-        .help("Cut the movie at every N-th checkpoint")
+        .value_name("N")
+        .help("Cut the movie at every N-th checkpoint, 1 to 65535")
         .value_parser(value_parser!(u16).range(1..=65535))
         .default_value("1")
 }
@@ -25,7 +57,8 @@ fn cuts<'a>(alloc: Global) -> Arg<'a> {
 fn first<'a>(alloc: Global) -> Arg<'a> {
     Arg::new(alloc, "first")
         .long("first")
-        .help("The first frame whose picture is written")
+        .value_name("N")
+        .help("The first frame whose picture is written, from 1; ignored without --pictures")
         .value_parser(value_parser!(u32).range(1..=4294967295))
         .default_value("1")
 }
@@ -34,7 +67,8 @@ fn first<'a>(alloc: Global) -> Arg<'a> {
 fn count<'a>(alloc: Global) -> Arg<'a> {
     Arg::new(alloc, "count")
         .long("count")
-        .help("The pictures of how many frames are written, 0 to 600")
+        .value_name("N")
+        .help("Of how many frames pictures are written, 0 to 600; ignored without --pictures")
         .value_parser(value_parser!(u32).range(0..=600))
         .default_value("600")
 }
@@ -43,7 +77,8 @@ fn count<'a>(alloc: Global) -> Arg<'a> {
 fn pictures<'a>(alloc: Global) -> Arg<'a> {
     Arg::new(alloc, "pictures")
         .long("pictures")
-        .help("Write pictures to this file, as portable pixmaps")
+        .value_name("FILE")
+        .help("Write the pictures of a genuine movie to this file, as portable pixmaps (PPM)")
         .action(ArgAction::Set)
 }
 
@@ -51,7 +86,7 @@ fn pictures<'a>(alloc: Global) -> Arg<'a> {
 fn verify<'a>(alloc: Global) -> Result<Command<'a>, AllocError> {
     Command::new(alloc, "verify")
         .about("Judge a movie: genuine, its first false checkpoint, or its fault")
-        .arg(Arg::new(alloc, "file").required(true).help("The movie"))?
+        .arg(movie(alloc))?
         .arg(workers(alloc))?
         .arg(cuts(alloc))?
         .arg(first(alloc))?
@@ -63,7 +98,8 @@ fn verify<'a>(alloc: Global) -> Result<Command<'a>, AllocError> {
 fn checkpoints<'a>(alloc: Global) -> Arg<'a> {
     Arg::new(alloc, "every")
         .long("every")
-        .help("Claim the state after every N frames")
+        .value_name("N")
+        .help("Claim the state after every N frames, 1 to 4294967295")
         .required(true)
         .value_parser(value_parser!(u32).range(1..=4294967295))
 }
@@ -72,6 +108,7 @@ fn checkpoints<'a>(alloc: Global) -> Arg<'a> {
 fn out<'a>(alloc: Global) -> Arg<'a> {
     Arg::new(alloc, "out")
         .long("out")
+        .value_name("MOVIE")
         .help("The movie that is made")
         .required(true)
         .action(ArgAction::Set)
@@ -83,11 +120,13 @@ fn make<'a>(alloc: Global) -> Result<Command<'a>, AllocError> {
         .about("Make a movie of a cartridge and the inputs of its frames, from power-on")
         .arg(
             Arg::new(alloc, "rom")
+                .value_name("ROM")
                 .required(true)
                 .help("The cartridge, of 2048, 4096 or 8192 bytes"),
         )?
         .arg(
             Arg::new(alloc, "inputs")
+                .value_name("INPUTS")
                 .required(true)
                 .help("Three bytes a frame: SWCHA, SWCHB, buttons"),
         )?
@@ -99,27 +138,34 @@ fn make<'a>(alloc: Global) -> Result<Command<'a>, AllocError> {
 fn info<'a>(alloc: Global) -> Result<Command<'a>, AllocError> {
     Command::new(alloc, "info")
         .about("Say what a movie holds")
-        .arg(Arg::new(alloc, "file").required(true).help("The movie"))
+        .arg(movie(alloc))
 }
 
 /// `convert OLD NEW`.
 fn convert<'a>(alloc: Global) -> Result<Command<'a>, AllocError> {
     Command::new(alloc, "convert")
         .about("Write a movie of version 1 again in version 2")
-        .arg(Arg::new(alloc, "old").required(true).help("The movie"))?
+        .arg(
+            Arg::new(alloc, "old")
+                .value_name("OLD")
+                .required(true)
+                .help("The movie of version 1"),
+        )?
         .arg(
             Arg::new(alloc, "new")
+                .value_name("NEW")
                 .required(true)
-                .help("The movie in version 2"),
+                .help("The movie in version 2, which is written"),
         )
 }
 
-/// The program with all of its commands.
+/// The program with all of its commands. Without one it judges standard input.
 pub(crate) fn program<'a>(alloc: Global) -> Result<Command<'a>, AllocError> {
     Command::new(alloc, "vcs_check")
-        .version("1.0.0")
-        .about("Judge movies of the Atari 2600. Without words: the movie on standard input")
-        .subcommand_required(true)
+        .version("1.1.0")
+        .long_version(VERSIONS)
+        .about("Judge movies of the Atari 2600")
+        .after_help(MORE)
         .subcommand(verify(alloc)?)?
         .subcommand(make(alloc)?)?
         .subcommand(info(alloc)?)?

@@ -34,6 +34,8 @@ fn defaults(rt: HostRuntime) -> Result<(), Fail> {
     assert!(rt; matches!(&found, Ok(Command::Convert { .. })));
     let found = parse_line(rt.alloc(), &["vcs_check"]);
     assert!(rt; matches!(&found, Ok(Command::Stdin)));
+    let found = parse_line(rt.alloc(), &["vcs_check", "--"]);
+    assert!(rt; matches!(&found, Ok(Command::Stdin)));
     let found = parse_line(rt.alloc(), &["vcs_check", "--help"]);
     assert!(rt; matches!(&found, Err(LineFault::Help { .. })));
     Ok(())

@@ -1,8 +1,8 @@
 -- From what a command's function answers to what the command does.
-use Rattle.std.proofs.Common.{◌≡◌, ℕ, List, refl, subst, Result, Ok, Err, Option, Some, None, String, Global}
+use Rattle.std.proofs.Common.{◌≡◌, ℕ, List, refl, subst, Result, Ok, Err, Option, Some, None, String, Global, string_bytes}
 use Rattle.std.specs.Io.KnownBytes.{Keeps}
 use Rattle.command_line.specs.declared.command.Command.TheVariants.{Stdin, Verify, Make}
-use Rattle.vcs_check.specs.Commands.{Answers, IsJudged, IsMade, Writes}
+use Rattle.vcs_check.specs.Commands.{Answers, IsJudged, IsMade, ReadsFile, Writes}
 use Rattle.vcs_check.specs.declared.commands.Failure.{Failure}
 use Rattle.vcs_engine.specs.Streams.{ReadsAll}
 use Rattle.vcs_engine.specs.declared.status.Status.{Status}
@@ -29,14 +29,14 @@ module _ (before after : Option (List ℕ)) where
   standard_input_answers old new first count e f =
       says _ (Answers Stdin old new) (λ status line h. (h.0, h.1, numbered first count 1 0 h.0 line status e f h.2))
 
-  module _ (known : Option (List ℕ)) where
-    pub verify_answers : (file : String Global) (workers every first count a b : ℕ) (pictures : Option (String Global)) → a ≡ first → b ≡ count
-        → (answer : Result Status Failure) → Writes before after (λ status line. (input : List ℕ) × IsJudged a b input status line) answer
-        → Writes before after (Answers (Verify file workers every first count pictures) known known) answer
-    verify_answers file workers every first count a b pictures e f =
-        says _ (Answers (Verify file workers every first count pictures) known known)
-        (λ status line h. (keeps known, (h.0, numbered a b first count h.0 line status e f h.1)))
+  pub verify_answers : (old new : Option (List ℕ)) (name : List ℕ) (file : String Global) (workers every first count a b : ℕ) (pictures : Option (String Global))
+      → name ≡ string_bytes file → a ≡ first → b ≡ count → (answer : Result Status Failure)
+      → Writes before after (λ status line. (input : List ℕ) × ReadsFile name old new input × IsJudged a b input status line) answer
+      → Writes before after (Answers (Verify file workers every first count pictures) old new) answer
+  verify_answers old new name file workers every first count a b pictures same e f =
+      says _ (Answers (Verify file workers every first count pictures) old new)
+      (λ status line h. (h.0, subst (λ n. ReadsFile n old new h.0) same h.1, numbered a b first count h.0 line status e f h.2))
 
-    pub make_answers : (rom inputs : String Global) (every : ℕ) (out : String Global) (answer : Result Status Failure)
-        → Writes before after (IsMade every) answer → Writes before after (Answers (Make rom inputs every out) known known) answer
-    make_answers rom inputs every out = says _ (Answers (Make rom inputs every out) known known) (λ status line h. (keeps known, h))
+  pub make_answers : (known : Option (List ℕ)) (rom inputs : String Global) (every : ℕ) (out : String Global) (answer : Result Status Failure)
+      → Writes before after (IsMade every) answer → Writes before after (Answers (Make rom inputs every out) known known) answer
+  make_answers known rom inputs every out = says _ (Answers (Make rom inputs every out) known known) (λ status line h. (keeps known, h))

@@ -1,5 +1,5 @@
 -- What a command reads of standard input and writes to standard output, and its status. This project's own.
-use Rattle.std.specs.Prelude.{◌≡◌, ◌≢◌, ◌≤◌, ℕ, List, Option, Result, Err, IfOk, OnErr}
+use Rattle.std.specs.Prelude.{◌≡◌, ◌≢◌, ◌≤◌, ℕ, List, Option, Result, Err, IfOk, OnErr, codes, string_bytes}
 use Rattle.std.specs.Io.KnownBytes.{Appends, Keeps}
 use Rattle.command_line.specs.declared.command.Command.{Command}
 use Rattle.command_line.specs.declared.command.Command.TheVariants.{Stdin, Verify, Make, Info, Convert}
@@ -33,23 +33,28 @@ abbrev pub IsMade : ℕ → Status → List ℕ → Type 0
 IsMade every status line =
     (rom : List ℕ) × (old new : Option (List ℕ)) × (made : Made) × Makes rom old new every made × (status ≡ made.status) × (line ≡ made.line)
 
--- The line about some bytes.
-abbrev pub IsInformation : Status → List ℕ → Type 0
-IsInformation status line =
-    (input : List ℕ) × (status ≡ (information_of (movie_at input)).status) × (line ≡ (information_of (movie_at input)).line)
+-- The line about these bytes.
+abbrev pub IsInformation : List ℕ → Status → List ℕ → Type 0
+IsInformation input status line =
+    (status ≡ (information_of (movie_at input)).status) × (line ≡ (information_of (movie_at input)).line)
 
 -- The line of a conversion of some bytes.
 abbrev pub IsConverted : Status → List ℕ → Type 0
 IsConverted status line =
     (input : List ℕ) × (status ≡ (converted_of (movie_at input)).status) × (line ≡ (converted_of (movie_at input)).line)
 
--- What a command answers, where standard input has the bytes `old` before it and `new` after it: only without arguments is
--- standard input read, to its end, and judged, and then no picture is kept.
+-- What is read of the file of this name is `input`: of `-` all that standard input has left, and any other leaves that alone.
+abbrev pub ReadsFile : List ℕ → Option (List ℕ) → Option (List ℕ) → List ℕ → Type 0
+ReadsFile name old new input = (name ≡ codes "-" → ReadsAll old new input) × (name ≢ codes "-" → Keeps old new)
+
+-- What a command answers, where standard input has the bytes `old` before it and `new` after it. Without arguments standard input
+-- is judged, and no picture is kept.
 abbrev pub Answers : Command → Option (List ℕ) → Option (List ℕ) → Status → List ℕ → Type 0
 Answers Stdin old new status line = (input : List ℕ) × ReadsAll old new input × IsJudged 1 0 input status line
-Answers (Verify file workers every first count pictures) old new status line = Keeps old new × ((input : List ℕ) × IsJudged first count input status line)
+Answers (Verify file workers every first count pictures) old new status line =
+    (input : List ℕ) × ReadsFile (string_bytes file) old new input × IsJudged first count input status line
 Answers (Make rom inputs every out) old new status line = Keeps old new × IsMade every status line
-Answers (Info file) old new status line = Keeps old new × IsInformation status line
+Answers (Info file) old new status line = (input : List ℕ) × ReadsFile (string_bytes file) old new input × IsInformation input status line
 Answers (Convert older newer) old new status line = Keeps old new × IsConverted status line
 
 -- More than one worker judges: only `verify` with more than one starts threads.

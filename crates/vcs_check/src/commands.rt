@@ -1,9 +1,9 @@
 //! What each command does with files.
 ghost use Rattle.std.specs.Prelude.{◌≡◌, ◌≢◌, ◌≤◌, List, ℕ, Err, OnErr};
-ghost use Rattle.vcs_check.specs.Commands.{IsConverted, IsInformation, IsJudged, IsMade, IsQuiet, Writes};
+ghost use Rattle.vcs_check.specs.Commands.{IsConverted, IsInformation, IsJudged, IsMade, IsQuiet, ReadsFile, Writes};
 ghost use Rattle.vcs_engine.specs.Streams.{ReadsAll};
 
-use crate::files::{create, open};
+use crate::files::{Identity, create, open};
 use replay_segments::Keep;
 use std::alloc::Global;
 use std::io::{self, BufWriter, Read, Write};
@@ -12,6 +12,9 @@ use std::sync::Wait;
 use std::thread::Threads;
 use thiserror::Error;
 use vcs_engine::{Plan, RunError, Status, run, run_convert, run_info, run_make};
+
+/// The name of a file that is standard input.
+const STANDARD_INPUT: &str = "-";
 
 /// Why a command did not reach its end, as the program prints it after `error: `.
 #[derive(Clone, Copy, Debug, PartialEq, Eq, Error)]
@@ -95,39 +98,71 @@ pub(crate) fn judge<T: Threads + Wait + Sync + AllocGlobal, R: Read, W: Write>(
 }
 
 /// Judges the movie of a file without pictures.
-pub(crate) fn verify<R: Files + Threads + Wait + Sync + AllocGlobal, W: Write>(
+pub(crate) fn verify<R: Files + Threads + Wait + Sync + AllocGlobal, I: Read, W: Write>(
     rt: &R,
+    input: &mut I,
     file: &str,
     plan: &Plan,
     line: &mut W,
 ) -> Result<Status, Failure>
     ensures ok { Writes (W.contents line.old) (W.contents line.new) (λ status text.
-        (input : List ℕ) × IsJudged plan.now.keep.first plan.now.keep.count input status text) result }
+        (bytes : List ℕ) × ReadsFile file.now (I.remaining input.old) (I.remaining input.new) bytes
+        × IsJudged plan.now.keep.first plan.now.keep.count bytes status text) result }
     ensures quiet { IsQuiet (W.contents line.old) (W.contents line.new) result }
     ensures no_thread { result ≡ Err (Failure.Run RunError.NoThread) → 2 ≤ plan.now.workers }
 {
+    if file == STANDARD_INPUT {
+        return judge(rt, input, plan, line);
+    }
     judge(rt, &mut open(rt, file)?, plan, line)
 }
 
-/// Judges the movie of a file, and writes its kept pictures to another.
-pub(crate) fn verify_with_pictures<R: Files + Threads + Wait + Sync + AllocGlobal, W: Write>(
+/// Judges a movie, and writes its kept pictures to a file.
+fn judge_with_pictures<R: Files + Threads + Wait + Sync + AllocGlobal, M: Read, W: Write>(
     rt: &R,
+    movie: &mut M,
+    plan: &Plan,
+    pictures: R::File,
+    line: &mut W,
+) -> Result<Status, Failure>
+    ensures ok { Writes (W.contents line.old) (W.contents line.new) (λ status text.
+        (input : List ℕ) × ReadsAll (M.remaining movie.old) (M.remaining movie.new) input
+        × IsJudged plan.now.keep.first plan.now.keep.count input status text) result }
+    ensures quiet { IsQuiet (W.contents line.old) (W.contents line.new) result }
+    ensures no_thread { result ≡ Err (Failure.Run RunError.NoThread) → 2 ≤ plan.now.workers }
+{
+    let mut pictures = buffered(rt.alloc(), pictures)?;
+    let status = run(rt, rt.alloc(), movie, plan, line, &mut pictures)?;
+    flushed(&mut pictures)?;
+    Ok(status)
+}
+
+/// Judges the movie of a file, and writes its kept pictures to another.
+pub(crate) fn verify_with_pictures<
+    R: Files + Threads + Wait + Sync + AllocGlobal,
+    I: Read,
+    W: Write,
+>(
+    rt: &R,
+    input: &mut I,
     file: &str,
     plan: &Plan,
     pictures: &str,
     line: &mut W,
 ) -> Result<Status, Failure>
     ensures ok { Writes (W.contents line.old) (W.contents line.new) (λ status text.
-        (input : List ℕ) × IsJudged plan.now.keep.first plan.now.keep.count input status text) result }
+        (bytes : List ℕ) × ReadsFile file.now (I.remaining input.old) (I.remaining input.new) bytes
+        × IsJudged plan.now.keep.first plan.now.keep.count bytes status text) result }
     ensures quiet { IsQuiet (W.contents line.old) (W.contents line.new) result }
     ensures no_thread { result ≡ Err (Failure.Run RunError.NoThread) → 2 ≤ plan.now.workers }
 {
+    if file == STANDARD_INPUT {
+        let pictures = create(rt, pictures, &[Identity::of_standard_input(rt)?])?;
+        return judge_with_pictures(rt, input, plan, pictures, line);
+    }
     let mut movie = open(rt, file)?;
-    let pictures = create(rt, pictures, &[&movie])?;
-    let mut pictures = buffered(rt.alloc(), pictures)?;
-    let status = run(rt, rt.alloc(), &mut movie, plan, line, &mut pictures)?;
-    flushed(&mut pictures)?;
-    Ok(status)
+    let pictures = create(rt, pictures, &[Identity::of(&movie)?])?;
+    judge_with_pictures(rt, &mut movie, plan, pictures, line)
 }
 
 /// Makes a movie of the files of a cartridge and of inputs.
@@ -145,20 +180,25 @@ pub(crate) fn make<R: Files + AllocGlobal, W: Write>(
 {
     let mut rom = open(rt, rom)?;
     let mut inputs = open(rt, inputs)?;
-    let mut movie = create(rt, out, &[&rom, &inputs])?;
+    let mut movie = create(rt, out, &[Identity::of(&rom)?, Identity::of(&inputs)?])?;
     Ok(run_make(rt.alloc(), &mut rom, &mut inputs, every, &mut movie, line)?)
 }
 
 /// Says what the movie of a file holds.
-pub(crate) fn info<R: Files + AllocGlobal, W: Write>(
+pub(crate) fn info<R: Files + AllocGlobal, I: Read, W: Write>(
     rt: &R,
+    input: &mut I,
     file: &str,
     line: &mut W,
 ) -> Result<Status, Failure>
-    ensures ok { Writes (W.contents line.old) (W.contents line.new) IsInformation result }
+    ensures ok { Writes (W.contents line.old) (W.contents line.new) (λ status text.
+        (bytes : List ℕ) × ReadsFile file.now (I.remaining input.old) (I.remaining input.new) bytes × IsInformation bytes status text) result }
     ensures quiet { IsQuiet (W.contents line.old) (W.contents line.new) result }
     ensures no_thread { result ≢ Err (Failure.Run RunError.NoThread) }
 {
+    if file == STANDARD_INPUT {
+        return Ok(run_info(rt.alloc(), input, line)?);
+    }
     Ok(run_info(rt.alloc(), &mut open(rt, file)?, line)?)
 }
 
@@ -174,6 +214,6 @@ pub(crate) fn convert<R: Files + AllocGlobal, W: Write>(
     ensures no_thread { result ≢ Err (Failure.Run RunError.NoThread) }
 {
     let mut movie = open(rt, old)?;
-    let mut converted = create(rt, new, &[&movie])?;
+    let mut converted = create(rt, new, &[Identity::of(&movie)?])?;
     Ok(run_convert(rt.alloc(), &mut movie, &mut converted, line)?)
 }

@@ -7,11 +7,11 @@ returns-in-Stdin-clause-ok g c = rw c.in-Stdin.is
 
 pub returns-in-Some-clause-ok : goal.returns-in-Some-clause-ok
 returns-in-Some-clause-ok g c = rw c.in-Verify.is
-    (verify_answers _ _ _ c.in-Verify.file c.in-Verify.workers c.in-Verify.every _ _ _ _ c.in-Verify.pictures c.plan_of-plan.ensures.first c.plan_of-plan.ensures.count c.verify_with_pictures.result c.verify_with_pictures.ensures.ok)
+    (verify_answers _ _ _ _ _ c.in-Verify.file c.in-Verify.workers c.in-Verify.every _ _ _ _ c.in-Verify.pictures c.deref.ensures c.plan_of-plan.ensures.first c.plan_of-plan.ensures.count c.verify_with_pictures.result c.verify_with_pictures.ensures.ok)
 
 pub returns-in-None-clause-ok : goal.returns-in-None-clause-ok
 returns-in-None-clause-ok g c = rw c.in-Verify.is
-    (verify_answers _ _ _ c.in-Verify.file c.in-Verify.workers c.in-Verify.every _ _ _ _ c.in-Verify.pictures c.plan_of-plan.ensures.first c.plan_of-plan.ensures.count c.verify.result c.verify.ensures.ok)
+    (verify_answers _ _ _ _ _ c.in-Verify.file c.in-Verify.workers c.in-Verify.every _ _ _ _ c.in-Verify.pictures c.deref-in-None.ensures c.plan_of-plan.ensures.first c.plan_of-plan.ensures.count c.verify.result c.verify.ensures.ok)
 
 pub returns-in-Make-clause-ok : goal.returns-in-Make-clause-ok
 returns-in-Make-clause-ok g c = rw c.in-Make.is

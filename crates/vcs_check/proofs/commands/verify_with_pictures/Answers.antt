@@ -1,6 +1,0 @@
-use Rattle.std.proofs.Common.{refl}
-use Rattle.vcs_check.proofs.commands.verify_with_pictures.Goals as goal
-
-pub returns-clause-ok : goal.returns-clause-ok
-returns-clause-ok g c = let told = c.in_ok-status.ensures.ok in
-    (told.1.line, (told.0, (c.args.plan.now.keep, told.1, refl, refl, told.3, told.4, refl)), told.5)

@@ -1,0 +1,28 @@
+-- How the program ends where no command came to a status. This project's own.
+use Rattle.std.specs.Prelude.{ℕ}
+use Rattle.std.specs.declared.io.ErrorKind.{ErrorKind}
+use Rattle.std.specs.declared.io.ErrorKind.TheVariants.{OutOfMemory}
+use Rattle.command_line.specs.declared.command.LineFault.{LineFault}
+use Rattle.command_line.specs.declared.command.LineFault.TheVariants as faults
+use Rattle.vcs_check.specs.declared.commands.Failure.TheVariants.{Run}
+use Rattle.vcs_check.specs.declared.ending.Ending.{Ending}
+use Rattle.vcs_check.specs.declared.ending.Ending.TheVariants.{Help, Usage, NotUtf8, Failed}
+use Rattle.vcs_engine.specs.declared.run_error.RunError.TheVariants.{NoMemory}
+
+-- The exit status: help is no error.
+abbrev pub code_of : Ending → ℕ
+code_of (Help text) = 0
+code_of (Usage text) = 4
+code_of NotUtf8 = 4
+code_of (Failed failure) = 5
+
+-- The arguments could not be read: out of memory, and else one of them is not UTF-8.
+abbrev pub of_kind : ErrorKind → Ending
+of_kind OutOfMemory = Failed (Run NoMemory)
+of_kind _ = NotUtf8
+
+-- The arguments are no command.
+abbrev pub of_fault : LineFault → Ending
+of_fault (faults.Help text) = Help text
+of_fault (faults.Usage text) = Usage text
+of_fault faults.Memory = Failed (Run NoMemory)

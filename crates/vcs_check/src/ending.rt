@@ -1,0 +1,99 @@
+//! How the program ends where no command came to a status.
+ghost use Rattle.std.specs.Prelude.{◌≡◌};
+
+use crate::commands::Failure;
+use command_line::LineFault;
+use std::io::{self, Eprint};
+use std::process::ExitCode;
+use thiserror::Error;
+use vcs_engine::RunError;
+
+/// The exit status of arguments that are no command.
+const USAGE: u8 = 4;
+
+/// The exit status of a command that did not reach its end.
+const FAILED: u8 = 5;
+
+/// How the program ends where no command came to a status, with what it prints then.
+#[derive(Debug, Drop, Error)]
+pub(crate) enum Ending {
+    /// The arguments ask for help, or for the version, which is the text.
+    #[error("{text}")]
+    Help { text: String },
+    /// The arguments are no command; the text says why.
+    #[error("{text}")]
+    Usage { text: String },
+    #[error("error: a word is not UTF-8\n")]
+    NotUtf8,
+    #[error("error: {0}\n")]
+    Failed(Failure),
+}
+
+impl Ending {
+    ghost use Rattle.vcs_check.specs.Endings.{code_of};
+
+    /// The program's exit status.
+    fn code(&self) -> u8
+        ensures { result ≡ code_of self.now }
+    {
+        match self {
+            Ending::Help { .. } => 0,
+            Ending::Usage { .. } | Ending::NotUtf8 => USAGE,
+            Ending::Failed(_) => FAILED,
+        }
+    }
+
+    /// Prints it, help on standard output and all else on standard error, and answers the exit status.
+    pub(crate) fn report<R: Print + Eprint>(self, rt: &R) -> ExitCode {
+        let ending = match self {
+            Ending::Help { text } => {
+                if print!(rt; "{text}").is_ok() {
+                    return ExitCode::SUCCESS;
+                }
+                Ending::Failed(Failure::Run(RunError::WriteFault))
+            }
+            other => other,
+        };
+        let _printed = eprint!(rt; "{ending}");
+        ExitCode::from(ending.code())
+    }
+}
+
+impl From<io::Error> for Ending {
+    ghost use Rattle.std.specs.IoError.{error_kind};
+    ghost use Rattle.vcs_check.specs.Endings.{of_kind};
+
+    ghost from_gives = { λ error ending. ending ≡ of_kind (error_kind error) };
+
+    /// Of an error that reading the arguments gave.
+    fn from(error: io::Error) -> Ending {
+        match error.kind() {
+            io::ErrorKind::OutOfMemory => Ending::Failed(Failure::Run(RunError::NoMemory)),
+            _ => Ending::NotUtf8,
+        }
+    }
+}
+
+impl From<LineFault> for Ending {
+    ghost use Rattle.vcs_check.specs.Endings.{of_fault};
+
+    ghost from_gives = { λ fault ending. ending ≡ of_fault fault };
+
+    fn from(fault: LineFault) -> Ending {
+        match fault {
+            LineFault::Help { text } => Ending::Help { text },
+            LineFault::Usage { text } => Ending::Usage { text },
+            LineFault::Memory => Ending::Failed(Failure::Run(RunError::NoMemory)),
+        }
+    }
+}
+
+impl From<Failure> for Ending {
+    ghost use Rattle.vcs_check.specs.declared.ending.Ending.TheVariants.{Failed};
+
+    ghost from_gives = { λ failure ending. ending ≡ Failed failure };
+
+    fn from(failure: Failure) -> Ending {
+        Ending::Failed(failure)
+    }
+}
