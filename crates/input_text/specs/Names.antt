@@ -1,0 +1,82 @@
+-- What can be held in a frame: fifteen names, each of one bit of an input. The bits are those of the Stella Programmer's
+-- Guide, the names this project's own.
+use Rattle.std.specs.Prelude.{ℕ, ◌^◌, Bool, ◌==◌, List, [], ◌∷◌, codes, bit_or, bit_xor, fold, if◌then◌else◌}
+use Rattle.std.specs.Int.{bit_at}
+use Rattle.vcs_machine.specs.Inputs.{Controls}
+use Rattle.input_text.specs.declared.name.Port.{Port}
+use Rattle.input_text.specs.declared.name.Port.TheVariants.{Swcha, Swchb, Buttons}
+use Rattle.input_text.specs.declared.name.Name.{Name}
+use Rattle.input_text.specs.declared.name.Name.TheVariants.{Up0, Down0, Left0, Right0, Fire0, Up1, Down1, Left1, Right1, Fire1, Reset, Select, Monochrome, Pro0, Pro1}
+
+-- a name as it is written, and its bit: the byte of an input that has it, and its number in that byte
+pub record Entry : Type 0 where
+  pub word : List ℕ
+  pub port : Port
+  pub bit : ℕ
+
+abbrev pub entry : List ℕ → Port → ℕ → Entry
+entry word port bit = record { word = word; port = port; bit = bit }
+
+abbrev pub entry_of : Name → Entry
+entry_of Up0 = entry (codes "up0") Swcha 4
+entry_of Down0 = entry (codes "down0") Swcha 5
+entry_of Left0 = entry (codes "left0") Swcha 6
+entry_of Right0 = entry (codes "right0") Swcha 7
+entry_of Fire0 = entry (codes "fire0") Buttons 0
+entry_of Up1 = entry (codes "up1") Swcha 0
+entry_of Down1 = entry (codes "down1") Swcha 1
+entry_of Left1 = entry (codes "left1") Swcha 2
+entry_of Right1 = entry (codes "right1") Swcha 3
+entry_of Fire1 = entry (codes "fire1") Buttons 1
+entry_of Reset = entry (codes "reset") Swchb 0
+entry_of Select = entry (codes "select") Swchb 1
+entry_of Monochrome = entry (codes "monochrome") Swchb 3
+entry_of Pro0 = entry (codes "pro0") Swchb 6
+entry_of Pro1 = entry (codes "pro1") Swchb 7
+
+-- all of them, in the order of printing
+abbrev pub names : List Name
+names =
+    Up0 ∷ Down0 ∷ Left0 ∷ Right0 ∷ Fire0 ∷ Up1 ∷ Down1 ∷ Left1 ∷ Right1 ∷ Fire1
+    ∷ Reset ∷ Select ∷ Monochrome ∷ Pro0 ∷ Pro1 ∷ []
+
+abbrev pub is_same_port : Port → Port → Bool
+is_same_port Swcha Swcha = true
+is_same_port Swchb Swchb = true
+is_same_port Buttons Buttons = true
+is_same_port _ _ = false
+
+-- an input in which nothing is held
+abbrev pub idle : Controls
+idle = record { swcha = 0xFF; swchb = 0x3F; buttons = 0 }
+
+-- the bit of a name in a byte: none of another byte than its own
+abbrev pub bit_in : Port → Name → ℕ
+bit_in port name = if is_same_port port (entry_of name).port then 2 ^ (entry_of name).bit else 0
+
+-- the bits of names in a byte, each bit once, however often its name is there
+abbrev pub bits_in : Port → List Name → ℕ
+bits_in port held = fold (λ bits name. bit_or bits (bit_in port name)) 0 held
+
+-- the input in which these names are held: an idle one whose bits of the names are turned over
+abbrev pub holding : List Name → Controls
+holding held = record {
+  swcha = bit_xor idle.swcha (bits_in Swcha held);
+  swchb = bit_xor idle.swchb (bits_in Swchb held);
+  buttons = bit_xor idle.buttons (bits_in Buttons held);
+}
+
+abbrev pub byte_of : Port → Controls → ℕ
+byte_of Swcha c = c.swcha
+byte_of Swchb c = c.swchb
+byte_of Buttons c = c.buttons
+
+-- whether a name is held in an input: its bit is another than in an idle one
+abbrev pub is_held : Controls → Name → Bool
+is_held c name =
+    let port = (entry_of name).port in let bit = (entry_of name).bit in
+    not (bit_at (byte_of port c) bit == bit_at (byte_of port idle) bit)
+
+-- the names that are held in an input, in their order
+abbrev pub held_in : Controls → List Name
+held_in c = filter (is_held c) names

@@ -1,0 +1,61 @@
+-- What a text says: the inputs of its lines, one after the other, or its first bad line. This project's own.
+use Rattle.std.specs.Prelude.{ℕ, ◌+◌, ◌-◌, ◌*◌, Bool, true, ◌&&◌, not, nat_le, List, [], ◌∷◌, length, take, replicate, find, fold, sum_by, Option, Some, None, is_some, Result, Ok, Err, if◌then◌else◌}
+use Rattle.std.specs.List.{list_all, filter_map, flat_map, range_with_len}
+use Rattle.std.specs.Str.{all_ascii_digits, bytes_eq}
+use Rattle.vcs_machine.specs.Inputs.{Controls}
+use Rattle.input_text.specs.declared.name.Name.{Name}
+use Rattle.input_text.specs.Names.{entry_of, names, holding}
+use Rattle.input_text.specs.Words.{lines_of, words_of}
+
+-- the most frames of a movie: no text says more
+abbrev pub most_frames : ℕ
+most_frames = 262143
+
+-- the number that decimal digits spell
+abbrev pub number_of : List ℕ → ℕ
+number_of digits = fold (λ number digit. 10 * number + (digit - 48)) 0 digits
+
+-- how many frames: digits alone, and at least 1
+abbrev pub is_count : List ℕ → Bool
+is_count word = all_ascii_digits word && nat_le 1 (number_of word)
+
+-- the name that a word is
+abbrev pub named : List ℕ → Option Name
+named word = find (λ name. bytes_eq (entry_of name).word word) names
+
+-- Words that can be read: none, or how many frames and then names.
+abbrev pub is_readable : List (List ℕ) → Bool
+is_readable [] = true
+is_readable (count ∷ held) = is_count count && list_all (λ word. is_some (named word)) held
+
+-- how many frames a line's words say
+abbrev pub frames_of : List (List ℕ) → ℕ
+frames_of [] = 0
+frames_of (count ∷ held) = number_of count
+
+-- and with which input
+abbrev pub input_of : List (List ℕ) → Controls
+input_of [] = holding []
+input_of (count ∷ held) = holding (filter_map named held)
+
+-- the inputs of a line
+abbrev pub inputs_of : List ℕ → List Controls
+inputs_of line = replicate (frames_of (words_of line)) (input_of (words_of line))
+
+-- lines that can be read, with no more frames in all than a movie has
+abbrev pub are_good : List (List ℕ) → Bool
+are_good lines =
+    list_all (λ line. is_readable (words_of line)) lines
+    && nat_le (sum_by (λ line. frames_of (words_of line)) lines) most_frames
+
+-- The number of the first bad line, from 1: the lines up to it aren't good, and those before it are.
+abbrev pub first_bad : List (List ℕ) → Option ℕ
+first_bad lines = find (λ number. not (are_good (take number lines))) (range_with_len 1 (length lines))
+
+abbrev pub unless_bad : Option ℕ → List Controls → Result (List Controls) ℕ
+unless_bad None inputs = Ok inputs
+unless_bad (Some number) inputs = Err number
+
+-- the inputs that a text says, or the number of its first bad line
+abbrev pub inputs_in : List ℕ → Result (List Controls) ℕ
+inputs_in text = unless_bad (first_bad (lines_of text)) (flat_map inputs_of (lines_of text))

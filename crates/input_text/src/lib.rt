@@ -1,0 +1,23 @@
+//! Inputs of frames as text: a line for each stretch of frames with one input, which says how many
+//! frames and what is held in them.
+//!
+//! The text is this project's own. `specs/Texts` says which inputs a text is, and which line is
+//! bad; `specs/Stretches` how inputs are printed.
+#![tactic(auto)]
+
+mod error;
+mod held;
+mod laws;
+mod name;
+mod reading;
+mod stretch;
+mod words;
+mod writing;
+
+pub use error::TextError;
+pub use laws::law_of_printed_inputs;
+pub use reading::read_text;
+pub use writing::write_text;
+
+#[cfg(test)]
+mod tests;

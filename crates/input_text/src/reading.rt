@@ -1,0 +1,83 @@
+//! Reading inputs that are written as text.
+ghost use Rattle.std.specs.Prelude.{◌≡◌};
+
+use crate::error::TextError;
+use crate::held::Held;
+use crate::name::{NAMES, Name};
+use crate::stretch::Stretch;
+use crate::words::{first_line, first_word, uncommented};
+use std::alloc::Global;
+use vcs_machine::Input;
+
+/// The most frames that a text says: those that a movie has.
+const MOST_FRAMES: u64 = 262_143;
+
+/// How many frames a word says. A number above `MOST_FRAMES` counts as the one after it.
+fn count_in(word: &[u8]) -> Option<u64> {
+    let mut count: u64 = 0;
+    for byte in word {
+        if !byte.is_ascii_digit() {
+            return None;
+        }
+        count = (10 * count + (*byte - b'0') as u64).min(MOST_FRAMES + 1);
+    }
+    if count == 0 { None } else { Some(count) }
+}
+
+/// The name that a word is.
+fn name_in(word: &[u8]) -> Option<Name> {
+    for name in NAMES {
+        if name.word().as_bytes() == word {
+            return Some(name);
+        }
+    }
+    None
+}
+
+/// What is held, by words that are names.
+fn held_in(bytes: &[u8]) -> Option<Held> {
+    let mut held = Held::NOTHING;
+    let mut rest = bytes;
+    while let Some((word, after)) = first_word(rest) {
+        held.add(name_in(word)?);
+        rest = after;
+    }
+    Some(held)
+}
+
+/// The frames of a line: none where it has no words. A number above `MOST_FRAMES` counts as the
+/// one after it.
+fn stretch_in(line: &[u8]) -> Option<Stretch> {
+    match first_word(uncommented(line)) {
+        None => Some(Stretch {
+            count: 0,
+            input: Held::NOTHING.input(),
+        }),
+        Some((word, rest)) => Some(Stretch {
+            count: count_in(word)?,
+            input: held_in(rest)?.input(),
+        }),
+    }
+}
+
+/// The inputs that a text says. `BadLine` comes for the first line that can't be read, or with
+/// which there would be more than 262,143 inputs, before memory is taken for it; `NoMemory` where
+/// a growth for the lines before it was refused.
+pub fn read_text(alloc: Global, text: &[u8]) -> Result<Vec<Input>, TextError> {
+    let mut inputs = Vec::new(alloc);
+    let mut rest = text;
+    let mut number = 0;
+    while !rest.is_empty() {
+        let (line, after) = first_line(rest);
+        number += 1;
+        let left = MOST_FRAMES - inputs.len() as u64;
+        match stretch_in(line) {
+            Some(stretch) if stretch.count <= left => {
+                inputs.resize(inputs.len() + stretch.count as usize, stretch.input)?;
+            }
+            _ => return Err(TextError::BadLine(number)),
+        }
+        rest = after;
+    }
+    Ok(inputs)
+}

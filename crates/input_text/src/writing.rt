@@ -1,0 +1,52 @@
+//! Printing inputs as text.
+ghost use Rattle.std.specs.Prelude.{◌≡◌};
+
+use crate::held::Held;
+use crate::name::NAMES;
+use crate::stretch::Stretch;
+use std::alloc::{AllocError, Global};
+use vcs_machine::Input;
+
+/// How many inputs from the first on are equal to it.
+fn equal_inputs(first: &Input, inputs: &[Input]) -> usize {
+    let mut count = 0;
+    for input in inputs {
+        if input != first {
+            return count;
+        }
+        count += 1;
+    }
+    count
+}
+
+/// Appends a line.
+fn put_line(text: &mut String, stretch: Stretch) -> Result<(), AllocError> {
+    write!(text, "{}", stretch.count)?;
+    let held = Held::of(&stretch.input);
+    for name in NAMES {
+        if held.has(name) {
+            text.push(' ')?;
+            text.push_str(name.word())?;
+        }
+    }
+    text.push('\n')?;
+    Ok(())
+}
+
+/// Inputs as text: a line for each stretch of equal ones, as long as it can be.
+pub fn write_text(alloc: Global, inputs: &[Input]) -> Result<String, AllocError> {
+    let mut text = String::new(alloc);
+    let mut rest = inputs;
+    while let Some(first) = rest.first() {
+        let count = equal_inputs(first, rest);
+        put_line(
+            &mut text,
+            Stretch {
+                count: count as u64,
+                input: *first,
+            },
+        )?;
+        rest = &rest[count..];
+    }
+    Ok(text)
+}
