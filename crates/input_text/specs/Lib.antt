@@ -2,3 +2,4 @@ pub mod Names
 pub mod Words
 pub mod Texts
 pub mod Stretches
+pub mod Private

@@ -1,8 +1,8 @@
 -- What can be held in a frame: fifteen names, each of one bit of an input. The bits are those of the Stella Programmer's
 -- Guide, the names this project's own.
-use Rattle.std.specs.Prelude.{ℕ, ◌^◌, Bool, ◌==◌, List, [], ◌∷◌, codes, bit_or, bit_xor, fold, if◌then◌else◌}
+use Rattle.std.specs.Prelude.{ℕ, ◌^◌, ◌<◌, Bool, true, false, not, ◌==◌, List, [], ◌∷◌, codes, bit_or, bit_xor, filter, fold, IsTrue, if◌then◌else◌}
 use Rattle.std.specs.Int.{bit_at}
-use Rattle.vcs_machine.specs.Inputs.{Controls}
+use Rattle.vcs_machine.specs.Inputs.{Controls, is_input}
 use Rattle.input_text.specs.declared.name.Port.{Port}
 use Rattle.input_text.specs.declared.name.Port.TheVariants.{Swcha, Swchb, Buttons}
 use Rattle.input_text.specs.declared.name.Name.{Name}
@@ -80,3 +80,9 @@ is_held c name =
 -- the names that are held in an input, in their order
 abbrev pub held_in : Controls → List Name
 held_in c = filter (is_held c) names
+
+-- an input as it can be: an input of bytes
+pub record IsLawful (c : Controls) : Type 0 where
+  pub swcha : c.swcha < 2 ^ 8
+  pub swchb : c.swchb < 2 ^ 8
+  pub input : IsTrue (is_input c)

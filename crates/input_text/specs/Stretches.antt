@@ -4,14 +4,10 @@ use Rattle.std.specs.Fmt.{decimal}
 use Rattle.std.specs.List.{AllByRecursion, flat_map}
 use Rattle.vcs_machine.specs.Inputs.{Controls}
 use Rattle.input_text.specs.declared.name.Name.{Name}
+use Rattle.input_text.specs.declared.stretch.Stretch.{Stretch}
 use Rattle.input_text.specs.Names.{entry_of, held_in}
 
--- so many frames in a row with one input
-pub record Stretch : Type 0 where
-  pub count : ℕ
-  pub input : Controls
-
--- their inputs
+-- the inputs of a stretch of frames
 abbrev pub inputs_along : Stretch → List Controls
 inputs_along s = replicate s.count s.input
 

@@ -1,6 +1,6 @@
 //! What is held in a frame.
-ghost use Rattle.std.specs.Prelude.{◌≡◌, bit_or, bit_xor};
-ghost use Rattle.input_text.specs.Names.{idle, bit_in, is_held};
+ghost use Rattle.std.specs.Prelude.{◌≡◌, ◌<◌, bit_and, bit_or, bit_xor};
+ghost use Rattle.input_text.specs.Names.{idle, bit_in};
 ghost use Rattle.input_text.specs.declared.name.Port.TheVariants.{Swcha, Swchb, Buttons};
 
 use crate::name::{Name, Port};
@@ -20,6 +20,8 @@ pub(crate) struct Held {
 }
 
 impl Held {
+    ghost use Rattle.input_text.specs.Private.HeldBits.{has_bit};
+
     pub(crate) const NOTHING: Held = Held {
         swcha: 0,
         swchb: 0,
@@ -54,20 +56,23 @@ impl Held {
     }
 
     /// Whether a name is there.
-    pub(crate) fn has(self, name: Name) -> bool {
+    pub(crate) fn has(self, name: Name) -> bool
+        ensures { result ≡ has_bit self name }
+    {
         let byte = match name.port() {
             Port::Swcha => self.swcha,
             Port::Swchb => self.swchb,
             Port::Buttons => self.buttons,
         };
-        byte & name.mask() != 0
+        byte / name.mask() % 2 == 1
     }
 
     /// The input in which the names are held.
     pub(crate) fn input(self) -> Input
-        ensures swcha { result.swcha ≡ bit_xor idle.swcha self.swcha }
-        ensures swchb { result.swchb ≡ bit_xor idle.swchb self.swchb }
-        ensures buttons { result.buttons ≡ bit_xor idle.buttons self.buttons }
+        ensures { result ≡ record {
+            swcha = bit_xor idle.swcha self.swcha;
+            swchb = bit_xor idle.swchb self.swchb;
+            buttons = bit_xor idle.buttons self.buttons } }
     {
         let [swcha, swchb, buttons] = IDLE;
         match Input::new(

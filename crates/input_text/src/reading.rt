@@ -1,5 +1,9 @@
 //! Reading inputs that are written as text.
-ghost use Rattle.std.specs.Prelude.{◌≡◌};
+ghost use Rattle.std.specs.Prelude.{◌≡◌, ◌≢◌, ◌+◌, ℕ, List, min, is_some, IfOk, IfSome, Ok, Err};
+ghost use Rattle.std.specs.List.{list_all, filter_map};
+ghost use Rattle.input_text.specs.Names.{holding};
+ghost use Rattle.input_text.specs.Texts.{is_count, number_of, named, is_readable, frames_of, input_of, inputs_in};
+ghost use Rattle.input_text.specs.Words.{words_in, words_of};
 
 use crate::error::TextError;
 use crate::held::Held;
@@ -13,7 +17,10 @@ use vcs_machine::Input;
 const MOST_FRAMES: u64 = 262_143;
 
 /// How many frames a word says. A number above `MOST_FRAMES` counts as the one after it.
-fn count_in(word: &[u8]) -> Option<u64> {
+fn count_in(word: &[u8]) -> Option<u64>
+    ensures readable { is_some result ≡ is_count word.now }
+    ensures value { IfSome result (λ count. count ≡ min (number_of word.now) (MOST_FRAMES + 1)) }
+{
     let mut count: u64 = 0;
     for byte in word {
         if !byte.is_ascii_digit() {
@@ -25,7 +32,9 @@ fn count_in(word: &[u8]) -> Option<u64> {
 }
 
 /// The name that a word is.
-fn name_in(word: &[u8]) -> Option<Name> {
+fn name_in(word: &[u8]) -> Option<Name>
+    ensures { result ≡ named word.now }
+{
     for name in NAMES {
         if name.word().as_bytes() == word {
             return Some(name);
@@ -34,20 +43,29 @@ fn name_in(word: &[u8]) -> Option<Name> {
     None
 }
 
-/// What is held, by words that are names.
-fn held_in(bytes: &[u8]) -> Option<Held> {
+/// The input in which is held what words name, if all of them are names.
+fn input_in(bytes: &[u8]) -> Option<Input>
+    ensures readable { is_some result ≡ list_all (λ word. is_some (named word)) (words_in bytes.now) }
+    ensures value { IfSome result (λ input.
+        input ≡ holding (filter_map named (words_in bytes.now))) }
+{
     let mut held = Held::NOTHING;
     let mut rest = bytes;
     while let Some((word, after)) = first_word(rest) {
         held.add(name_in(word)?);
         rest = after;
     }
-    Some(held)
+    Some(held.input())
 }
 
 /// The frames of a line: none where it has no words. A number above `MOST_FRAMES` counts as the
 /// one after it.
-fn stretch_in(line: &[u8]) -> Option<Stretch> {
+fn stretch_in(line: &[u8]) -> Option<Stretch>
+    ensures readable { is_some result ≡ is_readable (words_of line.now) }
+    ensures count { IfSome result (λ s.
+        s.count ≡ min (frames_of (words_of line.now)) (MOST_FRAMES + 1)) }
+    ensures input { IfSome result (λ s. s.input ≡ input_of (words_of line.now)) }
+{
     match first_word(uncommented(line)) {
         None => Some(Stretch {
             count: 0,
@@ -55,7 +73,7 @@ fn stretch_in(line: &[u8]) -> Option<Stretch> {
         }),
         Some((word, rest)) => Some(Stretch {
             count: count_in(word)?,
-            input: held_in(rest)?.input(),
+            input: input_in(rest)?,
         }),
     }
 }
@@ -63,7 +81,11 @@ fn stretch_in(line: &[u8]) -> Option<Stretch> {
 /// The inputs that a text says. `BadLine` comes for the first line that can't be read, or with
 /// which there would be more than 262,143 inputs, before memory is taken for it; `NoMemory` where
 /// a growth for the lines before it was refused.
-pub fn read_text(alloc: Global, text: &[u8]) -> Result<Vec<Input>, TextError> {
+pub fn read_text(alloc: Global, text: &[u8]) -> Result<Vec<Input>, TextError>
+    ensures found { IfOk result (λ inputs. inputs_in text.now ≡ Ok inputs.items) }
+    ensures bad { (number : ℕ) → result ≡ Err (TextError.BadLine number)
+        → inputs_in text.now ≡ Err number }
+{
     let mut inputs = Vec::new(alloc);
     let mut rest = text;
     let mut number = 0;

@@ -1,5 +1,7 @@
 //! Printing inputs as text.
-ghost use Rattle.std.specs.Prelude.{◌≡◌};
+ghost use Rattle.std.specs.Prelude.{◌≡◌, ◌≢◌, ◌<◌, ◌≤◌, ◌++◌, Some, length, take, replicate, slice_get, IfOk, OnOk};
+ghost use Rattle.std.specs.String.{string_bytes};
+ghost use Rattle.input_text.specs.Stretches.{IsPrinted, line_of};
 
 use crate::held::Held;
 use crate::name::NAMES;
@@ -8,7 +10,11 @@ use std::alloc::{AllocError, Global};
 use vcs_machine::Input;
 
 /// How many inputs from the first on are equal to it.
-fn equal_inputs(first: &Input, inputs: &[Input]) -> usize {
+fn equal_inputs(first: &Input, inputs: &[Input]) -> usize
+    ensures within { result ≤ length inputs.now }
+    ensures equal { take result inputs.now ≡ replicate result first.now }
+    ensures longest { slice_get inputs.now result ≢ Some first.now }
+{
     let mut count = 0;
     for input in inputs {
         if input != first {
@@ -20,7 +26,9 @@ fn equal_inputs(first: &Input, inputs: &[Input]) -> usize {
 }
 
 /// Appends a line.
-fn put_line(text: &mut String, stretch: Stretch) -> Result<(), AllocError> {
+fn put_line(text: &mut String, stretch: Stretch) -> Result<(), AllocError>
+    ensures { OnOk result (string_bytes text.new ≡ string_bytes text.old ++ line_of stretch) }
+{
     write!(text, "{}", stretch.count)?;
     let held = Held::of(&stretch.input);
     for name in NAMES {
@@ -34,7 +42,9 @@ fn put_line(text: &mut String, stretch: Stretch) -> Result<(), AllocError> {
 }
 
 /// Inputs as text: a line for each stretch of equal ones, as long as it can be.
-pub fn write_text(alloc: Global, inputs: &[Input]) -> Result<String, AllocError> {
+pub fn write_text(alloc: Global, inputs: &[Input]) -> Result<String, AllocError>
+    ensures { IfOk result (λ text. IsPrinted inputs.now (string_bytes text)) }
+{
     let mut text = String::new(alloc);
     let mut rest = inputs;
     while let Some(first) = rest.first() {

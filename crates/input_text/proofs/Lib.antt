@@ -1,0 +1,4 @@
+pub mod Bits
+pub mod Splits
+pub mod Counts
+pub mod Holding

@@ -1,0 +1,16 @@
+use Rattle.std.proofs.Common.{arith, rules, tests, ℕ, ◌<◌, bit_and, get_or, ap, sym, ◌≡◌, ◌∙◌}
+use Rattle.std.specs.Prelude.{bit_xor}
+use Rattle.std.specs.Int.Bits.{xor_zero_r}
+use Rattle.std.proofs.lemmas.Bool.{and_parts, eqb-true, ltb-true}
+use Rattle.input_text.proofs.Bits.{spare_of}
+use Rattle.input_text.proofs.held.Held.of.Goals as goal
+
+pub invariant_of-result-clause-spare : goal.invariant_of-result-clause-spare
+invariant_of-result-clause-spare c =
+    let parts = and_parts _ _ c.bytes.ensures.lawful in
+    rw c.bytes.ensures.value (spare_of c.args.input.now.swchb (eqb-true _ _ parts.0))
+
+pub invariant_of-result-clause-few : goal.invariant_of-result-clause-few
+invariant_of-result-clause-few c =
+    let parts = and_parts _ _ c.bytes.ensures.lawful in
+    rw (c.bytes.ensures.value, xor_zero_r c.args.input.now.buttons) (ltb-true _ _ parts.1)
