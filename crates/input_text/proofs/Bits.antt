@@ -1,6 +1,6 @@
 -- Bits of names and of bytes, one by one.
 use Rattle.std.proofs.Common.{◌≡◌, ◌≢◌, ℕ, ◌+◌, ◌%◌, ◌<◌, ◌^◌, min, Bool, true, false, eqb, get_or, bit_and, bit_or, sym, refl, ap, ◌∙◌, subst, arith}
-use Rattle.std.specs.Prelude.{not, ◌||◌, ◌==◌, bit_xor, Option, Some, None, if◌then◌else◌}
+use Rattle.std.specs.Prelude.{not, ◌||◌, ◌==◌, bit_xor}
 use Rattle.std.specs.Int.Bits.{or_zero_r, xor_zero_l}
 use Rattle.std.specs.List.{list_all, range_with_len}
 use Rattle.std.proofs.lemmas.List.FromFn.{get_or-range_with_len, length-range_with_len}
@@ -41,13 +41,5 @@ spare_in n e = and_xor_apart 52 63 n e
 
 -- bits that have none of the spare ones make an input
 pub lawful_input : (swcha swchb buttons : ℕ) → bit_and swchb 52 ≡ 0 → buttons < 4
-    → (if is_input (record { swcha = bit_xor 255 swcha; swchb = bit_xor 63 swchb; buttons = bit_xor 0 buttons })
-       then Some (record { swcha = bit_xor 255 swcha; swchb = bit_xor 63 swchb; buttons = bit_xor 0 buttons }) else None) ≡ None → ⊥
-lawful_input swcha swchb buttons spare few e =
-    let lawful : is_input (record { swcha = bit_xor 255 swcha; swchb = bit_xor 63 swchb; buttons = bit_xor 0 buttons }) ≡ true =
-        and_from _ _ (eq-eqb _ _ (spare_in swchb spare)) (lt-ltb _ _ (rw (xor_zero_l buttons) few)) in
-    let input : Controls = record { swcha = bit_xor 255 swcha; swchb = bit_xor 63 swchb; buttons = bit_xor 0 buttons } in
-    let chosen : Bool → Option Controls = λ b. if b then Some input else None in
-    let some : chosen (is_input input) ≡ Some input = ap chosen lawful in
-    let none : chosen (is_input input) ≡ None = e in
-    cc
+    → is_input (record { swcha = bit_xor 255 swcha; swchb = bit_xor 63 swchb; buttons = bit_xor 0 buttons }) ≡ true
+lawful_input swcha swchb buttons spare few = and_from _ _ (eq-eqb _ _ (spare_in swchb spare)) (lt-ltb _ _ (rw (xor_zero_l buttons) few))

@@ -2,3 +2,4 @@ pub mod Bits
 pub mod Splits
 pub mod Counts
 pub mod Holding
+pub mod GoodLines
