@@ -23,7 +23,8 @@ pub record HoldsSoFar (all left : List (List ℕ)) (held : Held) : Type 0 where
   pub readable : are_names all ≡ are_names left
   pub bits : (port : Port) → bits_in port (filter_map named all) ≡ bits_onto port (bits_of port held) (filter_map named left)
 
-by_port : (P : Port → Type 0) → P Swcha → P Swchb → P Buttons → (port : Port) → P port
+-- what is true at each of the three
+pub by_port : (P : Port → Type 0) → P Swcha → P Swchb → P Buttons → (port : Port) → P port
 by_port P a b c Swcha = a
 by_port P a b c Swchb = b
 by_port P a b c Buttons = c

@@ -115,5 +115,5 @@ word_some bytes start (Some n) e f =
     omega (arith, length-drop n (drop start bytes), length-drop start bytes)
 
 -- `&xs[n..]`
-pub rest_from : (xs : List ℕ) (n : ℕ) → take (length xs - n) (drop n xs) ≡ drop n xs
+pub rest_from : {X : Type 0} (xs : List X) (n : ℕ) → take (length xs - n) (drop n xs) ≡ drop n xs
 rest_from xs n = ap (λ (k : ℕ). take k (drop n xs)) (sym (length-drop n xs)) ∙ take-length (drop n xs)

@@ -1,0 +1,66 @@
+-- The names that are held, as they are printed one by one.
+use Rattle.std.proofs.Common.{◌≡◌, ℕ, ◌+◌, ◌%◌, ◌<◌, zero, suc, Bool, true, false, eqb, List, [], ◌∷◌, ◌++◌, length, get_or, take, sym, refl, ap, ◌∙◌, arith, append_assoc}
+use Rattle.std.specs.Prelude.{not, filter, bit_xor}
+use Rattle.std.specs.Int.{bit_at}
+use Rattle.std.specs.List.{flat_map}
+use Rattle.std.proofs.lemmas.List.{take_more, append-nil}
+use Rattle.std.proofs.lemmas.List.Concat.{flat_map-append}
+use Rattle.std.proofs.lemmas.List.Elements.{filter-append}
+use Rattle.std.proofs.lemmas.Nat.Bits.{bit_at_xor, bit_at-lt}
+use Rattle.std.proofs.Math.Seq.{take-length}
+use Rattle.vcs_machine.specs.Inputs.{Controls}
+use Rattle.input_text.specs.declared.held.Held.{Held}
+use Rattle.input_text.specs.declared.name.Name.{Name}
+use Rattle.input_text.specs.declared.name.Name.TheVariants.{Up0}
+use Rattle.input_text.specs.declared.name.Port.{Port}
+use Rattle.input_text.specs.declared.name.Port.TheVariants.{Swcha, Swchb, Buttons}
+use Rattle.input_text.specs.Names.{entry_of, names, idle, byte_of, is_held, held_in}
+use Rattle.input_text.specs.Private.HeldBits.{bits_of, has_bit}
+use Rattle.input_text.specs.Stretches.{name_after_space}
+use Rattle.input_text.proofs.Holding.{by_port}
+
+-- the names up to a place of the table
+abbrev pub printed_names : Controls → ℕ → List ℕ
+printed_names input place = flat_map name_after_space (filter (is_held input) (take place names))
+
+one_name : (input : Controls) (place : ℕ) → place < length names
+    → printed_names input (place + 1) ≡ printed_names input place ++ flat_map name_after_space (filter (is_held input) (get_or names place Up0 ∷ []))
+one_name input place h =
+    ap (λ (ns : List Name). flat_map name_after_space (filter (is_held input) ns)) (take_more names place Up0 h)
+    ∙ ap (flat_map name_after_space) (filter-append (is_held input) (take place names) (get_or names place Up0 ∷ []))
+    ∙ flat_map-append name_after_space (filter (is_held input) (take place names)) (filter (is_held input) (get_or names place Up0 ∷ []))
+
+pub printed_held : (input : Controls) (place : ℕ) → place < length names → is_held input (get_or names place Up0) ≡ true
+    → printed_names input (place + 1) ≡ printed_names input place ++ name_after_space (get_or names place Up0)
+printed_held input place h held = one_name input place h ∙ ap (λ (bytes : List ℕ). printed_names input place ++ bytes) (rw held (append-nil (name_after_space (get_or names place Up0))))
+
+pub printed_other : (input : Controls) (place : ℕ) → place < length names → is_held input (get_or names place Up0) ≡ false
+    → printed_names input (place + 1) ≡ printed_names input place
+printed_other input place h other = one_name input place h ∙ rw other (append-nil (printed_names input place))
+
+pub printed_all : (input : Controls) (place : ℕ) → place ≡ length names → printed_names input place ≡ flat_map name_after_space (held_in input)
+printed_all input place e = ap (λ (ns : List Name). flat_map name_after_space (filter (is_held input) ns)) (ap (λ (n : ℕ). take n names) e ∙ take-length names)
+
+differ : (a b : ℕ) → a < 2 → b < 2 → eqb ((a + b) % 2) 1 ≡ not (eqb a b)
+differ zero zero h k = refl
+differ zero (suc zero) h k = refl
+differ (suc zero) zero h k = refl
+differ (suc zero) (suc zero) h k = refl
+differ (suc (suc a)) b h k = absurd (omega arith)
+differ a (suc (suc b)) h k = absurd (omega arith)
+
+-- the bits in which an input differs from an idle one are those of the names that are held
+pub held_bits : (held : Held) (input : Controls) (name : Name) → held.swcha ≡ bit_xor input.swcha idle.swcha → held.swchb ≡ bit_xor input.swchb idle.swchb
+    → held.buttons ≡ bit_xor input.buttons idle.buttons → has_bit held name ≡ is_held input name
+held_bits held input name a b c =
+    let port : Port = (entry_of name).port in
+    let bit : ℕ = (entry_of name).bit in
+    let bits : bits_of port held ≡ bit_xor (byte_of port input) (byte_of port idle) =
+        by_port (λ (p : Port). bits_of p held ≡ bit_xor (byte_of p input) (byte_of p idle)) a b c port in
+    ap (λ (n : ℕ). eqb (bit_at n bit) 1) bits
+    ∙ ap (λ (n : ℕ). eqb n 1) (bit_at_xor (byte_of port input) (byte_of port idle) bit)
+    ∙ differ (bit_at (byte_of port input) bit) (bit_at (byte_of port idle) bit) (bit_at-lt (byte_of port input) bit) (bit_at-lt (byte_of port idle) bit)
+
+-- a text, a count and names, and one more name
+pub after_name : (before count names word : List ℕ) → ((before ++ (count ++ names)) ++ 32 ∷ []) ++ word ≡ before ++ (count ++ (names ++ 32 ∷ word))
+after_name before count names word = simp append_assoc
