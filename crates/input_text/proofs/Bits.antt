@@ -25,6 +25,11 @@ every_byte test all n h =
     let passes : test (get_or (range_with_len 0 256) n 0) ≡ true = AllPass-from_list_all test (range_with_len 0 256) all n 0 (omega (arith, length-range_with_len 0 256)) in
     rw at at passes
 
+-- a test that was made only where another passes
+pub follows_if : (a b : Bool) → (not a || b) ≡ true → a ≡ true → b ≡ true
+follows_if true b e t = e
+follows_if false b e t = absurd (false≢true t)
+
 no_bit : (a b mask : ℕ) → a < 2 → b < 2 → min a mask ≡ mask → min b mask ≡ mask → min ((a + b) % 2) mask ≡ 0
 no_bit a b mask small_a small_b own idle = omega arith
 

@@ -13,7 +13,7 @@ use Rattle.vcs_machine.specs.Inputs.{Controls}
 use Rattle.input_text.specs.Words.{lines_of, words_of}
 use Rattle.input_text.specs.Texts.{most_frames, is_readable, frames_of, input_of, inputs_of, are_good, first_bad, unless_bad, inputs_in}
 
-abbrev can_be_read : List ℕ → Bool
+abbrev pub can_be_read : List ℕ → Bool
 can_be_read line = is_readable (words_of line)
 
 abbrev frames_on : List ℕ → ℕ
@@ -147,7 +147,7 @@ read_bad text number inputs rest line after some split bad so =
         ∙ ap (λ (n : ℕ). Some (n + 1)) (sym so.count) in
     ap (λ (o : Option ℕ). unless_bad o (flat_map inputs_of (lines_of text))) (elim split [ inl e ↦ first (lines_of after) e | inr e ↦ first [] e.0 ])
 
-said : (text : List ℕ) (lines : List (List ℕ)) → lines_of text ≡ lines → are_good lines ≡ true → inputs_in text ≡ Ok (flat_map inputs_of lines)
+pub said : (text : List ℕ) (lines : List (List ℕ)) → lines_of text ≡ lines → are_good lines ≡ true → inputs_in text ≡ Ok (flat_map inputs_of lines)
 said text lines e good = rw e (ap (λ (o : Option ℕ). unless_bad o (flat_map inputs_of lines)) (first_bad-none lines good))
 
 empty_from_length : (bytes : List ℕ) → length bytes ≡ 0 → bytes ≡ []

@@ -5,3 +5,6 @@ pub mod Holding
 pub mod GoodLines
 pub mod PrintedNames
 pub mod PrintedLines
+pub mod PrintedWords
+pub mod HeldNames
+pub mod ReadPrinted

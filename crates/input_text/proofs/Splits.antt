@@ -53,10 +53,10 @@ words_none bytes e =
     let w = words_after_blanks (λ byte. not (not (is_blank byte))) (λ byte. not_not (is_blank byte)) bytes in
     sym w ∙ ap words_in (ap (λ (n : ℕ). drop n bytes) all ∙ drop-length bytes)
 
-abbrev is_part : List ℕ → Bool
+abbrev pub is_part : List ℕ → Bool
 is_part part = not (nat_eq (length part) 0)
 
-part_kept : (part : List ℕ) (parts : List (List ℕ)) → 0 < length part → filter is_part (part ∷ parts) ≡ part ∷ filter is_part parts
+pub part_kept : (part : List ℕ) (parts : List (List ℕ)) → 0 < length part → filter is_part (part ∷ parts) ≡ part ∷ filter is_part parts
 part_kept part parts h = rw (ne_eqb (length part) 0 (λ e. omega arith)) refl
 
 -- bytes that begin with a word, up to a blank or to their end
