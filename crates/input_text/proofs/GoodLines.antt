@@ -11,7 +11,7 @@ use Rattle.std.proofs.lemmas.List.Recursion.{found_at, found_nowhere}
 use Rattle.std.proofs.lemmas.List.Sums.{sum_by-append}
 use Rattle.vcs_machine.specs.Inputs.{Controls}
 use Rattle.input_text.specs.Words.{lines_of, words_of}
-use Rattle.input_text.specs.Texts.{most_frames, is_readable, frames_of, input_of, inputs_of, are_good, first_bad, unless_bad, inputs_in}
+use Rattle.input_text.specs.Texts.{most_frames, is_readable, frames_of, input_of, inputs_of, are_good, first_bad, unless_bad, inputs_in, SaysFrames}
 
 abbrev pub can_be_read : List ℕ → Bool
 can_be_read line = is_readable (words_of line)
@@ -132,6 +132,19 @@ read_more text number inputs rest line after count input some split shorter read
       lines = lines_more text so.done line rest after (lines_left text rest so.done some so.lines) split;
       left = omega (arith, so.left);
     }
+
+-- memory is refused only for a line that says frames
+pub frames_said : (text : List ℕ) (number : ℕ) (inputs : List Controls) (rest line after : List ℕ) → 0 < length rest
+    → (lines_of rest ≡ line ∷ lines_of after) ⊎ ((lines_of rest ≡ line ∷ []) × (after ≡ []))
+    → is_readable (words_of line) ≡ true → 0 < frames_of (words_of line) → length inputs + frames_of (words_of line) ≤ 262143
+    → ReadSoFar text number inputs rest → SaysFrames text
+frames_said text number inputs rest line after some split reads frames few so =
+    let total : length inputs ≡ frames_in so.done = ap length so.inputs_are ∙ length-inputs so.done in
+    let first : (more : List (List ℕ)) → lines_of rest ≡ line ∷ more → take (suc (length so.done)) (lines_of text) ≡ so.done ++ line ∷ [] = λ more e.
+        ap (take (suc (length so.done))) (lines_left text rest so.done some so.lines ∙ ap (λ (ls : List (List ℕ)). so.done ++ ls) e) ∙ take_to so.done line more in
+    let lines : take (suc (length so.done)) (lines_of text) ≡ so.done ++ line ∷ [] = elim split [ inl e ↦ first (lines_of after) e | inr e ↦ first [] e.0 ] in
+    (suc (length so.done), ap are_good lines ∙ good_more so.done line so.good reads (omega arith),
+      omega (arith, ap frames_in lines, sum_by-append frames_on so.done (line ∷ [])))
 
 -- a line is bad, and those before it are good
 pub read_bad : (text : List ℕ) (number : ℕ) (inputs : List Controls) (rest line after : List ℕ) → 0 < length rest

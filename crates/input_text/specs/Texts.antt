@@ -1,5 +1,5 @@
 -- What a text says: the inputs of its lines, one after the other, or its first bad line. This project's own.
-use Rattle.std.specs.Prelude.{ℕ, ◌+◌, ◌-◌, ◌*◌, Bool, true, ◌&&◌, not, nat_le, List, [], ◌∷◌, length, take, replicate, find, fold, sum_by, Option, Some, None, is_some, Result, Ok, Err, if◌then◌else◌}
+use Rattle.std.specs.Prelude.{ℕ, ◌+◌, ◌-◌, ◌*◌, ◌<◌, Bool, true, IsTrue, ◌&&◌, not, nat_le, List, [], ◌∷◌, length, take, replicate, find, fold, sum_by, Option, Some, None, is_some, Result, Ok, Err, if◌then◌else◌}
 use Rattle.std.specs.List.{list_all, filter_map, flat_map, range_with_len}
 use Rattle.std.specs.Str.{all_ascii_digits, bytes_eq}
 use Rattle.vcs_machine.specs.Inputs.{Controls}
@@ -47,6 +47,12 @@ abbrev pub are_good : List (List ℕ) → Bool
 are_good lines =
     list_all (λ line. is_readable (words_of line)) lines
     && nat_le (sum_by (λ line. frames_of (words_of line)) lines) most_frames
+
+-- so many first lines of a text are good, and say frames
+abbrev pub SaysFrames : List ℕ → Type 0
+SaysFrames text =
+    (number : ℕ) × IsTrue (are_good (take number (lines_of text)))
+    × (0 < sum_by (λ line. frames_of (words_of line)) (take number (lines_of text)))
 
 -- The number of the first bad line, from 1: the lines up to it aren't good, and those before it are.
 abbrev pub first_bad : List (List ℕ) → Option ℕ

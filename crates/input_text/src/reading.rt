@@ -2,7 +2,7 @@
 ghost use Rattle.std.specs.Prelude.{◌≡◌, ◌≢◌, ◌+◌, ℕ, List, min, is_some, IfOk, IfSome, Ok, Err};
 ghost use Rattle.std.specs.List.{list_all, filter_map};
 ghost use Rattle.input_text.specs.Names.{holding};
-ghost use Rattle.input_text.specs.Texts.{is_count, number_of, named, is_readable, frames_of, input_of, inputs_in};
+ghost use Rattle.input_text.specs.Texts.{is_count, number_of, named, is_readable, frames_of, input_of, inputs_in, SaysFrames};
 ghost use Rattle.input_text.specs.Words.{words_in, words_of};
 
 use crate::error::TextError;
@@ -78,13 +78,14 @@ fn stretch_in(line: &[u8]) -> Option<Stretch>
     }
 }
 
-/// The inputs that a text says. `BadLine` comes for the first line that can't be read, or with
-/// which there would be more than 262,143 inputs, before memory is taken for it; `NoMemory` where
-/// a growth for the lines before it was refused.
+/// The inputs that a text says. `BadLine` has the number, from 1, of the first line that can't be
+/// read, or with which there would be more than 262,143 inputs; no memory is taken for that line.
+/// `NoMemory` comes where a growth for the lines before it was refused.
 pub fn read_text(alloc: Global, text: &[u8]) -> Result<Vec<Input>, TextError>
     ensures found { IfOk result (λ inputs. inputs_in text.now ≡ Ok inputs.items) }
     ensures bad { (number : ℕ) → result ≡ Err (TextError.BadLine number)
         → inputs_in text.now ≡ Err number }
+    ensures memory { result ≡ Err TextError.NoMemory → SaysFrames text.now }
 {
     let mut inputs = Vec::new(alloc);
     let mut rest = text;

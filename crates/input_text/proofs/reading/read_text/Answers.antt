@@ -3,7 +3,7 @@ use Rattle.std.proofs.lemmas.Bool.{eqb-true}
 use Rattle.vcs_machine.specs.Inputs.{Controls}
 use Rattle.input_text.specs.Texts.{frames_of}
 use Rattle.input_text.specs.Words.{words_of}
-use Rattle.input_text.proofs.GoodLines.{read_more, read_bad, read_all, resized}
+use Rattle.input_text.proofs.GoodLines.{read_more, read_bad, read_all, frames_said, resized}
 use Rattle.input_text.proofs.reading.read_text.Goals as goal
 use Rattle.input_text.proofs.reading.read_text.Goals.{in_default-via-in-Some+else-stretch-left, in_default-via-in_default}
 
@@ -33,3 +33,13 @@ loop-rest-preserved c =
 
 pub returns-clause-found : goal.returns-clause-found
 returns-clause-found c = read_all c.args.text.now c.loop-rest.number c.loop-rest.inputs.items c.loop-rest.rest.now (search rules) c.loop-rest.invariant
+
+pub returns-in_err-resize-in-Some-clause-memory : goal.returns-in_err-resize-in-Some-clause-memory
+returns-in_err-resize-in-Some-clause-memory c e =
+    let line = c.first_line.result.0.now in
+    let some : 0 < length c.loop-rest.rest.now = search rules in
+    let frames : c.in-Some.stretch.count ≡ frames_of (words_of line) = omega (arith, c.in-Some.ensures.count, c.len.ensures) in
+    let grown : 0 < c.in-Some.stretch.count = omega (arith, c.in_err-resize-in-Some.ensures.full, c.len-in-Some.ensures) in
+    let few : length c.loop-rest.inputs.items + c.in-Some.stretch.count ≤ 262143 = omega (arith, c.len.ensures) in
+    frames_said c.args.text.now c.loop-rest.number c.loop-rest.inputs.items c.loop-rest.rest.now line c.first_line.result.1.now some c.first_line.ensures.lines
+      (sym c.in-Some.ensures.readable) (omega arith) (omega arith) c.loop-rest.invariant
