@@ -1,15 +1,15 @@
 -- Bits of names and of bytes, one by one.
-use Rattle.std.proofs.Common.{◌≡◌, ◌≢◌, ℕ, ◌+◌, ◌%◌, ◌<◌, ◌^◌, min, Bool, true, false, eqb, get_or, bit_and, bit_or, sym, refl, ap, ◌∙◌, subst, arith}
-use Rattle.std.specs.Prelude.{not, ◌||◌, ◌==◌, bit_xor}
+use Rattle.std.proofs.Common.{◌≡◌, ℕ, ◌+◌, ◌%◌, ◌<◌, min, Bool, true, false, get_or, bit_and, bit_or, sym, ap, ◌∙◌, arith}
+use Rattle.std.specs.Prelude.{not, ◌||◌, bit_xor}
 use Rattle.std.specs.Int.Bits.{or_zero_r, xor_zero_l}
 use Rattle.std.specs.List.{list_all, range_with_len}
 use Rattle.std.proofs.lemmas.List.FromFn.{get_or-range_with_len, length-range_with_len}
 use Rattle.std.proofs.lemmas.List.Sums.{AllPass-from_list_all}
-use Rattle.std.proofs.lemmas.Bool.{and_from, eqb-true, eq-eqb, lt-ltb, false≢true}
+use Rattle.std.proofs.lemmas.Bool.{and_from, eq-eqb, lt-ltb, false≢true}
 use Rattle.std.proofs.lemmas.Nat.{and_xor_apart}
 use Rattle.std.proofs.lemmas.Nat.Bits.{bit_at_and, bit_at_xor, bit_at-lt, bit_at-zero, same_from_bits}
 use Rattle.std.specs.Int.{bit_at}
-use Rattle.vcs_machine.specs.Inputs.{Controls, is_input}
+use Rattle.vcs_machine.specs.Inputs.{is_input}
 use Rattle.input_text.specs.declared.name.Port.{Port}
 use Rattle.input_text.specs.declared.name.Name.{Name}
 use Rattle.input_text.specs.Names.{entry_of, is_same_port, bit_in}

@@ -1,6 +1,6 @@
 -- How many frames a word says, digit by digit.
-use Rattle.std.proofs.Common.{◌≡◌, ℕ, ◌+◌, ◌-◌, ◌*◌, ◌<◌, ◌≤◌, Bool, true, false, List, [], ◌∷◌, length, get_or, take, min, sym, refl, ap, ◌∙◌, arith}
-use Rattle.std.specs.Prelude.{nat_le, ◌&&◌}
+use Rattle.std.proofs.Common.{◌≡◌, ℕ, ◌+◌, ◌-◌, ◌*◌, ◌<◌, true, false, List, length, get_or, take, min, sym, refl, ap, ◌∙◌, arith}
+use Rattle.std.specs.Prelude.{nat_le}
 use Rattle.std.specs.Char.{is_ascii_digit}
 use Rattle.std.specs.Str.{all_ascii_digits}
 use Rattle.std.proofs.lemmas.Bool.{and_from, and_left, and_right, lt-leb, le-leb}
@@ -22,7 +22,7 @@ pub counted_more : (word : List ℕ) (place count : ℕ) → place < length word
     → Counted word (place + 1) (min (10 * count + (get_or word place 0 - 48)) 262144)
 counted_more word place count within digit so =
     let number : number_of (take (place + 1) word) ≡ 10 * number_of (take place word) + (get_or word place 0 - 48) =
-        fold_more (λ number digit. 10 * number + (digit - 48)) 0 word place 0 within in
+    fold_more (λ number digit. 10 * number + (digit - 48)) 0 word place 0 within in
     record {
       digits = ap all_ascii_digits (take_more word place 0 within)
           ∙ and_push all_ascii_digits is_ascii_digit refl (λ _ _. refl) (take place word) (get_or word place 0)

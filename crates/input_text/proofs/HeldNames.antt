@@ -1,11 +1,10 @@
 -- The input in which the names are held that are held in an input.
-use Rattle.std.proofs.Common.{◌≡◌, ℕ, ◌+◌, ◌^◌, ◌<◌, ◌≤◌, Bool, true, false, cond, List, [], ◌∷◌, bit_and, bit_or, sym, refl, ap, ◌∙◌, arith}
-use Rattle.std.specs.Prelude.{not, ◌&&◌, ◌||◌, nat_eq, nat_lt, filter, fold, bit_xor, IsTrue}
+use Rattle.std.proofs.Common.{◌≡◌, ℕ, ◌^◌, ◌<◌, Bool, true, false, cond, List, [], ◌∷◌, bit_and, bit_or, refl, ap, ◌∙◌, arith}
+use Rattle.std.specs.Prelude.{not, ◌&&◌, ◌||◌, nat_eq, nat_lt, filter, fold, bit_xor}
 use Rattle.std.specs.Int.{bit_at}
 use Rattle.std.specs.Int.Bits.{or_zero_r}
-use Rattle.std.specs.List.{list_all, range_with_len}
-use Rattle.std.proofs.lemmas.Bool.{and_parts, eqb-true, eq-eqb, lt-ltb, ltb-true, false≢true}
-use Rattle.vcs_machine.specs.Inputs.{Controls, is_input}
+use Rattle.std.proofs.lemmas.Bool.{and_parts, eqb-true, eq-eqb, lt-ltb, ltb-true}
+use Rattle.vcs_machine.specs.Inputs.{Controls}
 use Rattle.input_text.specs.declared.name.Name.{Name}
 use Rattle.input_text.specs.declared.name.Port.{Port}
 use Rattle.input_text.specs.declared.name.Port.TheVariants.{Swcha, Swchb, Buttons}
@@ -26,9 +25,10 @@ fold-filter : (port : Port) (test : Name → Bool) (ns : List Name) (bits : ℕ)
 fold-filter port test [] bits = refl
 fold-filter port test (name ∷ ns) bits =
     elim (test name) as (λ v. fold (λ bits name. bit_or bits (bit_in port name)) bits (cond v (name ∷ filter test ns) (filter test ns))
-        ≡ fold (λ bits name. cond (test name) (bit_or bits (bit_in port name)) bits) (cond v (bit_or bits (bit_in port name)) bits) ns) [
-      true ↦ fold-filter port test ns (bit_or bits (bit_in port name))
-    | false ↦ fold-filter port test ns bits ]
+    ≡ fold (λ bits name. cond (test name) (bit_or bits (bit_in port name)) bits) (cond v (bit_or bits (bit_in port name)) bits) ns) [
+      | true ↦ fold-filter port test ns (bit_or bits (bit_in port name))
+      | false ↦ fold-filter port test ns bits
+    ]
 
 fold-same : (f g : ℕ → Name → ℕ) → ((bits : ℕ) (name : Name) → f bits name ≡ g bits name) → (ns : List Name) (bits : ℕ) → fold f bits ns ≡ fold g bits ns
 fold-same f g e [] bits = refl
@@ -41,7 +41,7 @@ neither false bits = refl
 -- whose bit stands in another byte leaves this one
 own_byte : (port own : Port) (c : Controls) (bit bits : ℕ)
     → cond (not (nat_eq (bit_at (byte_of own c) bit) (bit_at (byte_of own idle) bit))) (bit_or bits (cond (is_same_port port own) (2 ^ bit) 0)) bits
-      ≡ cond (is_same_port port own && not (nat_eq (bit_at (byte_of port c) bit) (bit_at (byte_of port idle) bit))) (bit_or bits (2 ^ bit)) bits
+    ≡ cond (is_same_port port own && not (nat_eq (bit_at (byte_of port c) bit) (bit_at (byte_of port idle) bit))) (bit_or bits (2 ^ bit)) bits
 own_byte Swcha Swcha c bit bits = refl
 own_byte Swcha Swchb c bit bits = neither _ bits
 own_byte Swcha Buttons c bit bits = neither _ bits

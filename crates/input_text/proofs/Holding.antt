@@ -2,7 +2,6 @@
 use Rattle.std.proofs.Common.{◌≡◌, ℕ, Bool, true, false, List, [], ◌∷◌, Option, Some, None, bit_or, fold, sym, refl, ap, ◌∙◌}
 use Rattle.std.specs.Prelude.{is_some, ◌&&◌, bit_xor}
 use Rattle.std.specs.List.{list_all, filter_map, cons_option}
-use Rattle.vcs_machine.specs.Inputs.{Controls}
 use Rattle.input_text.specs.declared.held.Held.{Held}
 use Rattle.input_text.specs.declared.name.Name.{Name}
 use Rattle.input_text.specs.declared.name.Port.{Port}
@@ -41,10 +40,10 @@ pub holds_more : (all : List (List ℕ)) (word : List ℕ) (left rest : List (Li
 holds_more all word left rest held more name e n a b c so = record {
   readable = so.readable ∙ ap are_names e ∙ ap (λ (o : Option Name). is_some o && are_names rest) n;
   bits = λ port.
-    so.bits port
-    ∙ ap (λ (ws : List (List ℕ)). bits_onto port (bits_of port held) (filter_map named ws)) e
-    ∙ ap (λ (o : Option Name). bits_onto port (bits_of port held) (cons_option o (filter_map named rest))) n
-    ∙ ap (λ (k : ℕ). bits_onto port k (filter_map named rest)) (sym (by_port (λ (p : Port). bits_of p more ≡ bit_or (bits_of p held) (bit_in p name)) a b c port));
+      so.bits port
+      ∙ ap (λ (ws : List (List ℕ)). bits_onto port (bits_of port held) (filter_map named ws)) e
+      ∙ ap (λ (o : Option Name). bits_onto port (bits_of port held) (cons_option o (filter_map named rest))) n
+      ∙ ap (λ (k : ℕ). bits_onto port k (filter_map named rest)) (sym (by_port (λ (p : Port). bits_of p more ≡ bit_or (bits_of p held) (bit_in p name)) a b c port));
 }
 
 pub holds_bad : (all : List (List ℕ)) (word : List ℕ) (left rest : List (List ℕ)) (held : Held) → left ≡ word ∷ rest → named word ≡ None → HoldsSoFar all left held → are_names all ≡ false

@@ -1,5 +1,5 @@
 -- Stretches that are printed, one after another.
-use Rattle.std.proofs.Common.{◌≡◌, ◌≢◌, ℕ, ◌+◌, ◌-◌, ◌<◌, ◌≤◌, zero, suc, List, [], ◌∷◌, ◌++◌, length, take, drop, replicate, Option, Some, None, sym, refl, ap, ◌∙◌, arith, append_assoc}
+use Rattle.std.proofs.Common.{◌≡◌, ◌≢◌, ℕ, ◌≤◌, zero, suc, List, [], ◌∷◌, ◌++◌, take, drop, replicate, Some, None, sym, refl, ap, ◌∙◌, arith, append_assoc}
 use Rattle.std.specs.Prelude.{slice_get}
 use Rattle.std.specs.List.{AllByRecursion, flat_map}
 use Rattle.std.proofs.lemmas.List.{append-nil, take-append-drop}
@@ -68,17 +68,17 @@ printed_more inputs text rest s first equal longest so =
     record {
       done = so.done ++ s ∷ [];
       inputs_are =
-        so.inputs_are ∙ ap (λ (is : List Controls). flat_map inputs_along so.done ++ is) parts
-        ∙ sym (append_assoc (flat_map inputs_along so.done) (inputs_along s) (drop s.count rest))
-        ∙ ap (λ (is : List Controls). is ++ drop s.count rest)
-            (ap (λ (is : List Controls). flat_map inputs_along so.done ++ is) (sym (append-nil (inputs_along s))) ∙ sym (flat_map-append inputs_along so.done (s ∷ [])));
+          so.inputs_are ∙ ap (λ (is : List Controls). flat_map inputs_along so.done ++ is) parts
+          ∙ sym (append_assoc (flat_map inputs_along so.done) (inputs_along s) (drop s.count rest))
+          ∙ ap (λ (is : List Controls). is ++ drop s.count rest)
+          (ap (λ (is : List Controls). flat_map inputs_along so.done ++ is) (sym (append-nil (inputs_along s))) ∙ sym (flat_map-append inputs_along so.done (s ∷ [])));
       counts = counts_more so.done s (some_equal rest s.count s.input first longest) so.counts;
       apart = apart_more so.done s rest so.next first so.apart;
       next = next_more so.done s (drop s.count rest) (differs_after rest s.count s.input longest);
       text_is =
-        ap (λ (bytes : List ℕ). bytes ++ line_of s) so.text_is
-        ∙ ap (λ (bytes : List ℕ). flat_map line_of so.done ++ bytes) (sym (append-nil (line_of s)))
-        ∙ sym (flat_map-append line_of so.done (s ∷ []));
+          ap (λ (bytes : List ℕ). bytes ++ line_of s) so.text_is
+          ∙ ap (λ (bytes : List ℕ). flat_map line_of so.done ++ bytes) (sym (append-nil (line_of s)))
+          ∙ sym (flat_map-append line_of so.done (s ∷ []));
     }
 
 none_left : (rest : List Controls) → slice_get rest 0 ≡ None → rest ≡ []

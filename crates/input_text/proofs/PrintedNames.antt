@@ -1,5 +1,5 @@
 -- The names that are held, as they are printed one by one.
-use Rattle.std.proofs.Common.{◌≡◌, ℕ, ◌+◌, ◌%◌, ◌<◌, zero, suc, Bool, true, false, eqb, List, [], ◌∷◌, ◌++◌, length, get_or, take, sym, refl, ap, ◌∙◌, arith, append_assoc}
+use Rattle.std.proofs.Common.{◌≡◌, ℕ, ◌+◌, ◌%◌, ◌<◌, zero, suc, true, false, eqb, List, [], ◌∷◌, ◌++◌, length, get_or, take, refl, ap, ◌∙◌, arith, append_assoc}
 use Rattle.std.specs.Prelude.{not, filter, bit_xor}
 use Rattle.std.specs.Int.{bit_at}
 use Rattle.std.specs.List.{flat_map}
@@ -13,7 +13,6 @@ use Rattle.input_text.specs.declared.held.Held.{Held}
 use Rattle.input_text.specs.declared.name.Name.{Name}
 use Rattle.input_text.specs.declared.name.Name.TheVariants.{Up0}
 use Rattle.input_text.specs.declared.name.Port.{Port}
-use Rattle.input_text.specs.declared.name.Port.TheVariants.{Swcha, Swchb, Buttons}
 use Rattle.input_text.specs.Names.{entry_of, names, idle, byte_of, is_held, held_in}
 use Rattle.input_text.specs.Private.HeldBits.{bits_of, has_bit}
 use Rattle.input_text.specs.Stretches.{name_after_space}
@@ -56,7 +55,7 @@ held_bits held input name a b c =
     let port : Port = (entry_of name).port in
     let bit : ℕ = (entry_of name).bit in
     let bits : bits_of port held ≡ bit_xor (byte_of port input) (byte_of port idle) =
-        by_port (λ (p : Port). bits_of p held ≡ bit_xor (byte_of p input) (byte_of p idle)) a b c port in
+    by_port (λ (p : Port). bits_of p held ≡ bit_xor (byte_of p input) (byte_of p idle)) a b c port in
     ap (λ (n : ℕ). eqb (bit_at n bit) 1) bits
     ∙ ap (λ (n : ℕ). eqb n 1) (bit_at_xor (byte_of port input) (byte_of port idle) bit)
     ∙ differ (bit_at (byte_of port input) bit) (bit_at (byte_of port idle) bit) (bit_at-lt (byte_of port input) bit) (bit_at-lt (byte_of port idle) bit)

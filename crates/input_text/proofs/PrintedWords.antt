@@ -1,8 +1,8 @@
 -- The words of a printed line: the count, and the names that are held.
-use Rattle.std.proofs.Common.{◌≡◌, ◌≢◌, ℕ, ◌+◌, ◌-◌, ◌*◌, ◌^◌, ◌<◌, ◌≤◌, Bool, true, false, List, [], ◌∷◌, ◌++◌, length, get_or, take, map, Some, sym, refl, ap, ◌∙◌, inl, inr, arith}
-use Rattle.std.specs.Prelude.{not, ◌&&◌, ◌||◌, nat_lt, nat_le, nat_eq, filter, fold, is_some}
+use Rattle.std.proofs.Common.{◌≡◌, ◌≢◌, ℕ, ◌+◌, ◌-◌, ◌*◌, ◌^◌, ◌<◌, ◌≤◌, Bool, true, false, List, [], ◌∷◌, ◌++◌, length, get_or, take, map, Some, refl, ap, ◌∙◌, inl, inr, arith}
+use Rattle.std.specs.Prelude.{not, ◌&&◌, ◌||◌, nat_lt, nat_eq, filter, fold, is_some}
 use Rattle.std.specs.Fmt.{decimal}
-use Rattle.std.specs.List.{All, list_all, filter_map, cons_option, flat_map, slice_split, before_first, position_or_len}
+use Rattle.std.specs.List.{All, list_all, filter_map, flat_map, slice_split}
 use Rattle.std.specs.Str.{all_ascii_digits}
 use Rattle.std.specs.Str.Parse.{AllDigits}
 use Rattle.std.proofs.lemmas.Bool.{and_from, and_parts, or_cases, ltb-true, lt-ltb, le-leb, eqb-true, eqb-false, ne_eqb, not-true}
@@ -78,7 +78,7 @@ count_model : IsNumeralModel (λ digits. all_ascii_digits digits ≡ true) numbe
 count_model =
     let step : ℕ → ℕ → ℕ = λ number digit. 10 * number + (digit - 48) in
     numerals_by_fold (λ digits. all_ascii_digits digits ≡ true) tells_all_ascii_digits (fold step)
-      (record { empty = λ n. refl; more = λ n c cs h. ap (λ (k : ℕ). fold step k cs) (omega arith) })
+    (record { empty = λ n. refl; more = λ n c cs h. ap (λ (k : ℕ). fold step k cs) (omega arith) })
 
 pub number_of-decimal : (n : ℕ) → n < 2 ^ 64 → number_of (decimal n) ≡ n
 number_of-decimal n h = digits_value-decimal count_model n h
@@ -138,8 +138,9 @@ line_bytes s h =
 other_byte : (b c : ℕ) → c ≤ 35 → c ≢ 32 → is_line_byte b ≡ true → nat_eq b c ≡ false
 other_byte b c h k e =
     elim (or_cases (nat_lt 35 b) (nat_eq b 32) e) [
-      inl above ↦ ne_eqb b c (let l = ltb-true 35 b above in λ e. omega arith)
-    | inr space ↦ ne_eqb b c (let s = eqb-true b 32 space in λ e. omega arith) ]
+      | inl above ↦ ne_eqb b c (let l = ltb-true 35 b above in λ e. omega arith)
+      | inr space ↦ ne_eqb b c (let s = eqb-true b 32 space in λ e. omega arith)
+    ]
 
 pub without_byte : (s : Stretch) (c : ℕ) → s.count < 2 ^ 64 → c ≤ 35 → c ≢ 32 → All (λ b. nat_eq b c ≡ false) (line_text s)
 without_byte s c h low other k d within =
@@ -148,8 +149,8 @@ without_byte s c h low other k d within =
 whole_line : (s : Stretch) → s.count < 2 ^ 64 → uncommented (line_text s) ≡ line_text s
 whole_line s h =
     ap (λ (n : ℕ). take n (line_text s))
-      (position_or_len_is (λ b. nat_eq b 35) (line_text s) (length (line_text s)) 0 (omega arith)
-        (λ k within. without_byte s 35 h (omega arith) (λ e. omega arith) k 0 within) (λ past. absurd (omega arith)))
+    (position_or_len_is (λ b. nat_eq b 35) (line_text s) (length (line_text s)) 0 (omega arith)
+    (λ k within. without_byte s 35 h (omega arith) (λ e. omega arith) k 0 within) (λ past. absurd (omega arith)))
     ∙ take-length (line_text s)
 
 pub words_of-line : (s : Stretch) → s.count < 2 ^ 64 → words_of (line_text s) ≡ decimal s.count ∷ map word_of (held_in s.input)

@@ -1,7 +1,6 @@
 -- Reading what was printed.
-use Rattle.std.proofs.Common.{◌≡◌, ◌≢◌, ℕ, ◌^◌, ◌<◌, ◌≤◌, zero, suc, true, List, [], ◌∷◌, ◌++◌, length, map, replicate, Ok, sym, refl, ap, ◌∙◌, arith, append_assoc, length-append}
+use Rattle.std.proofs.Common.{◌≡◌, ℕ, ◌^◌, ◌<◌, ◌≤◌, zero, suc, true, List, [], ◌∷◌, ◌++◌, length, map, replicate, Ok, sym, refl, ap, ◌∙◌, arith, append_assoc, length-append}
 use Rattle.std.specs.Prelude.{nat_eq}
-use Rattle.std.specs.Fmt.{decimal}
 use Rattle.std.specs.List.{AllByRecursion, list_all, flat_map}
 use Rattle.std.proofs.lemmas.Bool.{and_from, le-leb}
 use Rattle.std.proofs.lemmas.List.{append-nil, length-replicate}
@@ -37,9 +36,10 @@ printable [] counts lawful few = tt
 printable (s ∷ stretches) counts lawful few =
     let others : List Controls = flat_map inputs_along stretches in
     let total : length (inputs_along s ++ others) ≤ 262143 = few in
-    let own : s.count ≤ 262143 = omega (arith, length-append (inputs_along s) others, length-replicate s.count s.input) in
-    (record { some = counts.0; small = omega arith; lawful = lawful_first s.count s.input others counts.0 lawful },
-      printable stretches counts.1 (lawful_after (inputs_along s) others lawful) (omega (arith, length-append (inputs_along s) others)))
+    let own : s.count ≤ 262143 = omega (arith, length-append (inputs_along s) others, length-replicate s.count s.input) in (
+      record { some = counts.0; small = omega arith; lawful = lawful_first s.count s.input others counts.0 lawful },
+      printable stretches counts.1 (lawful_after (inputs_along s) others lawful) (omega (arith, length-append (inputs_along s) others)),
+    )
 
 lines_of-printed : (stretches : List Stretch) → AllByRecursion IsPrintable stretches → lines_of (flat_map line_of stretches) ≡ map line_text stretches ++ [] ∷ []
 lines_of-printed [] so = refl

@@ -1,7 +1,7 @@
 -- Lines and words, from where they end.
-use Rattle.std.proofs.Common.{◌≡◌, ◌≢◌, ◌⊎◌, ℕ, ◌+◌, ◌-◌, ◌<◌, ◌≤◌, zero, suc, Bool, true, false, cond, eqb, ltb, List, [], ◌∷◌, ◌++◌, length, get_or, take, drop, Option, Some, None, sym, refl, ap, ◌∙◌, subst, inl, inr, arith, rules, tests, add-one, drop-cons}
+use Rattle.std.proofs.Common.{◌≡◌, ℕ, ◌+◌, ◌-◌, ◌<◌, ◌≤◌, suc, Bool, true, false, cond, List, [], ◌∷◌, length, get_or, take, drop, Option, Some, None, sym, refl, ap, ◌∙◌, subst, inl, inr, arith, tests, add-one, drop-cons}
 use Rattle.std.specs.Prelude.{not, filter, nat_eq, unwrap_or}
-use Rattle.std.specs.List.{All, position, position_or_len, prefix_len, slice_split, before_first, onto_first}
+use Rattle.std.specs.List.{position, position_or_len, prefix_len, slice_split}
 use Rattle.std.proofs.lemmas.Bool.{cases_eq, false≢true, ne_eqb, not-true}
 use Rattle.std.proofs.lemmas.List.Quantifiers.{position-Some}
 use Rattle.std.proofs.lemmas.List.Splits.{slice_split_first, slice_split_none, slice_split-cons_yes}
@@ -38,10 +38,11 @@ words_after_blanks : (p : ℕ → Bool) → ((x : ℕ) → p x ≡ is_blank x) �
 words_after_blanks p e [] = refl
 words_after_blanks p e (b ∷ bytes) =
     elim (p b) as (λ v. p b ≡ v → words_in (drop (cond v (1 + prefix_len p bytes) 0) (b ∷ bytes)) ≡ words_in (b ∷ bytes)) [
-      true ↦ λ w.
-        let s : 1 + prefix_len p bytes ≡ suc (prefix_len p bytes) = omega arith in
-        rw s (words_after_blanks p e bytes ∙ sym (blank_first b bytes (sym (e b) ∙ w)))
-    | false ↦ λ w. refl ] refl
+      | true ↦ λ w.
+          let s : 1 + prefix_len p bytes ≡ suc (prefix_len p bytes) = omega arith in
+          rw s (words_after_blanks p e bytes ∙ sym (blank_first b bytes (sym (e b) ∙ w)))
+      | false ↦ λ w. refl
+    ] refl
 
 not_not : (b : Bool) → not (not b) ≡ b
 not_not true = refl
@@ -79,8 +80,9 @@ word_alone bytes h e =
 blank_after : (bytes : List ℕ) (n : ℕ) → 0 < length bytes → is_blank (get_or bytes 0 0) ≡ false → position is_blank bytes ≡ Some n → 0 < n
 blank_after bytes n h other e =
     elim (cases_eq n 0) [
-      inl z ↦ absurd (false≢true (sym other ∙ subst (λ (k : ℕ). is_blank (get_or bytes k 0) ≡ true) z (position-Some is_blank bytes n 0 e).1))
-    | inr ne ↦ omega arith ]
+      | inl z ↦ absurd (false≢true (sym other ∙ subst (λ (k : ℕ). is_blank (get_or bytes k 0) ≡ true) z (position-Some is_blank bytes n 0 e).1))
+      | inr ne ↦ omega arith
+    ]
 
 word_of : (bytes : List ℕ) (r : Option ℕ) → 0 < length bytes → is_blank (get_or bytes 0 0) ≡ false → r ≡ position is_blank bytes → words_in bytes ≡ take (unwrap_or r (length bytes)) bytes ∷ words_in (drop (unwrap_or r (length bytes)) bytes)
 word_of bytes None h other e = word_alone bytes h (sym e)
@@ -93,8 +95,8 @@ words_from bytes start r e f =
     let found = position-Some (λ byte. not (is_blank byte)) bytes start 0 e in
     let place = position_found (λ byte. not (is_blank byte)) bytes start e in
     let skipped : words_in bytes ≡ words_in (drop start bytes) =
-        sym (words_after_blanks (λ byte. not (not (is_blank byte))) (λ byte. not_not (is_blank byte)) bytes)
-        ∙ ap (λ (n : ℕ). words_in (drop n bytes)) (sym place.0) in
+    sym (words_after_blanks (λ byte. not (not (is_blank byte))) (λ byte. not_not (is_blank byte)) bytes)
+    ∙ ap (λ (n : ℕ). words_in (drop n bytes)) (sym place.0) in
     let first : get_or (drop start bytes) 0 0 ≡ get_or bytes start 0 = get_or-drop start bytes 0 0 ∙ ap (λ (k : ℕ). get_or bytes k 0) (omega arith) in
     skipped ∙ word_of (drop start bytes) r (omega (arith, length-drop start bytes)) (ap is_blank first ∙ not-true _ found.1) f
 

@@ -70,9 +70,10 @@ impl Held {
     /// The input in which the names are held.
     pub(crate) fn input(self) -> Input
         ensures { result ≡ record {
-            swcha = bit_xor idle.swcha self.swcha;
-            swchb = bit_xor idle.swchb self.swchb;
-            buttons = bit_xor idle.buttons self.buttons } }
+          swcha = bit_xor idle.swcha self.swcha;
+          swchb = bit_xor idle.swchb self.swchb;
+          buttons = bit_xor idle.buttons self.buttons;
+        } }
     {
         let [swcha, swchb, buttons] = IDLE;
         match Input::new(

@@ -36,7 +36,10 @@ const TEXTS: &[(&str, &[(usize, [u8; 3])])] = &[
     ("60\n", &[(60, IDLE)]),
     ("\n\n60\n\n", &[(60, IDLE)]),
     ("1\r\n2 up0\r\n", &[(1, IDLE), (2, [0xEF, 0x3F, 0x00])]),
-    ("12 right0 fire0   # the first shot", &[(12, [0x7F, 0x3F, 0x01])]),
+    (
+        "12 right0 fire0   # the first shot",
+        &[(12, [0x7F, 0x3F, 0x01])],
+    ),
     ("3\tfire0\tright0\n", &[(3, [0x7F, 0x3F, 0x01])]),
     (" 3 right0  right0 right0", &[(3, [0x7F, 0x3F, 0x00])]),
     ("007 reset#comment", &[(7, [0xFF, 0x3E, 0x00])]),
@@ -46,7 +49,10 @@ const TEXTS: &[(&str, &[(usize, [u8; 3])])] = &[
         &[(2, [0x00, 0xF4, 0x03])],
     ),
     ("262143", &[(262_143, IDLE)]),
-    ("262142\n1 up1\n", &[(262_142, IDLE), (1, [0xFE, 0x3F, 0x00])]),
+    (
+        "262142\n1 up1\n",
+        &[(262_142, IDLE), (1, [0xFE, 0x3F, 0x00])],
+    ),
 ];
 
 /// Texts with the numbers of their first bad lines.
@@ -138,7 +144,10 @@ fn texts(rt: HostRuntime) -> Result<(), Fail> {
 fn bad_lines(rt: HostRuntime) {
     for (text, number) in BAD {
         let found = read_text(rt.alloc(), text.as_bytes());
-        assert!(rt; matches!(&found, Err(TextError::BadLine(n)) if n == number), "{text}");
+        assert!(rt;
+            matches!(&found, Err(TextError::BadLine(n)) if n == number),
+            "{text}"
+        );
     }
 }
 

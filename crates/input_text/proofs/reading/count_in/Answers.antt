@@ -1,4 +1,4 @@
-use Rattle.std.proofs.Common.{sym, ◌∙◌, ◌≡◌, length, arith}
+use Rattle.std.proofs.Common.{sym, ◌∙◌, arith}
 use Rattle.input_text.proofs.Counts.{counted_none, counted_more, counted_bad, counted_zero, counted_value, counted_some}
 use Rattle.input_text.proofs.reading.count_in.Goals as goal
 
@@ -18,7 +18,7 @@ overflow_add-count c = omega (arith, c.loop-byte.invariant.value, c.type_inv.wor
 pub loop-byte-preserved : goal.loop-byte-preserved
 loop-byte-preserved c =
     rw c.min-count.ensures (counted_more c.args.word.now c.loop-byte.byte-index c.loop-byte.count c.loop-byte-test.true
-      (sym c.is_ascii_digit.ensures.value ∙ c.if-not-is_ascii_digit.false) c.loop-byte.invariant)
+    (sym c.is_ascii_digit.ensures.value ∙ c.if-not-is_ascii_digit.false) c.loop-byte.invariant)
 
 pub returns-then-count-eq0-clause-readable : goal.returns-then-count-eq0-clause-readable
 returns-then-count-eq0-clause-readable c =

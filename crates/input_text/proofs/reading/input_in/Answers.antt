@@ -11,13 +11,13 @@ pub returns-in_err-name_in-clause-readable : goal.returns-in_err-name_in-clause-
 returns-in_err-name_in-clause-readable c =
     ap is_some c.from_residual.ensures
     ∙ sym (holds_bad (words_in c.args.bytes.now) c.in-Some.word.now (words_in c.loop-word.rest.now) (words_in c.in-Some.after.now) c.loop-word.held
-        c.in-Some.ensures.words (sym c.name_in.ensures ∙ c.in_err-name_in.was) c.loop-word.invariant)
+    c.in-Some.ensures.words (sym c.name_in.ensures ∙ c.in_err-name_in.was) c.loop-word.invariant)
 
 pub loop-word-preserved : goal.loop-word-preserved
 loop-word-preserved c =
     holds_more (words_in c.args.bytes.now) c.in-Some.word.now (words_in c.loop-word.rest.now) (words_in c.in-Some.after.now) c.loop-word.held c.add.new.self
-      c.in_ok-name_in.field-0 c.in-Some.ensures.words (sym c.name_in.ensures ∙ c.in_ok-name_in.was)
-      c.add.ensures.swcha c.add.ensures.swchb c.add.ensures.buttons c.loop-word.invariant
+    c.in_ok-name_in.field-0 c.in-Some.ensures.words (sym c.name_in.ensures ∙ c.in_ok-name_in.was)
+    c.add.ensures.swcha c.add.ensures.swchb c.add.ensures.buttons c.loop-word.invariant
 
 pub returns-clause-readable : goal.returns-clause-readable
 returns-clause-readable c =

@@ -1,4 +1,4 @@
-use Rattle.std.proofs.Common.{◌≡◌, ℕ, ◌<◌, true, false, Some, None, List, get_or, length, sym, refl, ap, ◌∙◌, arith, below_more}
+use Rattle.std.proofs.Common.{◌≡◌, ℕ, true, Some, None, List, get_or, sym, refl, ap, ◌∙◌, arith, below_more}
 use Rattle.std.specs.Prelude.{find}
 use Rattle.std.specs.Str.{bytes_eq}
 use Rattle.std.proofs.lemmas.List.Recursion.{found_at, found_nowhere}
@@ -11,7 +11,7 @@ pub returns-then-eq : goal.returns-then-eq
 returns-then-eq c =
     let is_it = λ (name : Name). bytes_eq (entry_of name).word c.args.word.now in
     let here : bytes_eq (entry_of (get_or names c.loop-name.name-index Up0)).word c.args.word.now ≡ true =
-        ap (λ (w : List ℕ). bytes_eq w c.args.word.now) (sym c.word.ensures ∙ sym c.as_bytes.ensures.value) ∙ sym c.eq.ensures ∙ c.if-eq.true in
+    ap (λ (w : List ℕ). bytes_eq w c.args.word.now) (sym c.word.ensures ∙ sym c.as_bytes.ensures.value) ∙ sym c.eq.ensures ∙ c.if-eq.true in
     sym (found_at (find is_it) is_it Some None refl (λ _ _. refl) names c.loop-name.name-index Up0 c.loop-name-test.true c.loop-name.invariant here)
 
 pub loop-name-preserved : goal.loop-name-preserved

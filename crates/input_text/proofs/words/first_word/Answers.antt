@@ -15,10 +15,10 @@ pub returns-clause-words : goal.returns-clause-words
 returns-clause-words c =
     rw (c.split_at-2.ensures.front, c.split_at-2.ensures.back, c.unwrap_or-end.ensures, c.split_at.ensures.back)
     (words_from c.args.bytes.now c.in_ok-start.start c.bytes_before_blank.result (sym c.blanks_before_word.ensures ∙ c.in_ok-start.was)
-      (c.bytes_before_blank.ensures ∙ ap (position is_blank) c.split_at.ensures.back))
+    (c.bytes_before_blank.ensures ∙ ap (position is_blank) c.split_at.ensures.back))
 
 pub returns-clause-shorter : goal.returns-clause-shorter
 returns-clause-shorter c =
     rw (c.split_at-2.ensures.back, c.unwrap_or-end.ensures, c.split_at.ensures.back)
     (word_some c.args.bytes.now c.in_ok-start.start c.bytes_before_blank.result (sym c.blanks_before_word.ensures ∙ c.in_ok-start.was)
-      (c.bytes_before_blank.ensures ∙ ap (position is_blank) c.split_at.ensures.back))
+    (c.bytes_before_blank.ensures ∙ ap (position is_blank) c.split_at.ensures.back))

@@ -1,5 +1,3 @@
-use Rattle.std.proofs.Common.{arith, rules, tests, ℕ, ◌<◌, bit_and, get_or, ap, sym, ◌≡◌, ◌∙◌}
-use Rattle.std.specs.Prelude.{bit_xor}
 use Rattle.std.specs.Int.Bits.{xor_zero_r}
 use Rattle.std.proofs.lemmas.Bool.{and_parts, eqb-true, ltb-true}
 use Rattle.input_text.proofs.Bits.{spare_of}
