@@ -8,6 +8,7 @@ pub mod KeepLemmas
 pub mod OneVerdict
 pub mod Places
 pub mod RunLemmas
+pub mod RunStateLemmas
 pub mod SegmentLemmas
 pub mod StepLemmas
 pub mod TakeLemmas

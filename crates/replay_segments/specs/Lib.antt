@@ -4,6 +4,7 @@ pub mod Gathering
 pub mod Keeping
 pub mod KeptPictures
 pub mod Pieces
+pub mod RunStates
 pub mod Segments
 pub mod Steps
 pub mod Verdicts

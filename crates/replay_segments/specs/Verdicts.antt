@@ -22,3 +22,7 @@ IsJudged m keep start from len (Fault frame kind) =
 -- The verdict of the movie's one unbroken run, from its start state to its last frame.
 abbrev pub IsVerdict : MovieData → Keep → Verdict → Type 0
 IsVerdict m keep verdict = IsJudged m keep m.start 0 (length m.inputs) verdict
+
+-- The same, whichever frames are kept.
+abbrev pub HasVerdict : MovieData → Verdict → Type 0
+HasVerdict m verdict = (keep : Keep) × IsVerdict m keep verdict

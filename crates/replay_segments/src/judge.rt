@@ -11,7 +11,7 @@ use std::alloc::Global;
 use vcs_machine::{FrameError, Picture, State, frame};
 
 /// Frame `before` + 1 of the movie.
-fn step(
+pub(crate) fn step(
     alloc: Global,
     movie: &Movie,
     before: u32,

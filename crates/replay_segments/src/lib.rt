@@ -14,6 +14,7 @@ mod keep;
 mod laws;
 mod outcome;
 mod piece;
+mod run_states;
 mod segment;
 mod verdict;
 
@@ -24,5 +25,6 @@ pub use keep::{BadKeep, Keep};
 pub use laws::{law_of_converted_verdicts, law_of_one_outcome, law_of_one_verdict};
 pub use outcome::Outcome;
 pub use piece::Piece;
+pub use run_states::found_state;
 pub use segment::replay;
 pub use verdict::{Frames, Verdict};

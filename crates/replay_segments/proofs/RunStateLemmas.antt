@@ -1,0 +1,80 @@
+-- From where the one unbroken run of a movie can be replayed.
+use Rattle.std.proofs.Common.{◌≡◌, ℕ, zero, suc, ◌+◌, ◌-◌, ◌<◌, ◌≤◌, length, Option, Some, None, IsSome, Err, false, slice_get, refl, arith, ap, subst, sym, add-zero}
+use Rattle.std.specs.Prelude.{option_and_then}
+use Rattle.std.proofs.lemmas.Option.{slice_get_within}
+use Rattle.vcs_machine.specs.declared.fault.FrameError.{FrameError}
+use Rattle.vcs_machine.specs.declared.fault.FrameError.TheVariants.{Fault as FaultOf, NoMemory}
+use Rattle.vcs_machine.specs.declared.fields.StateFields.{StateFields}
+use Rattle.movie_file.specs.Movie.{MovieData, IsMovie}
+use Rattle.movie_file.specs.Judgement.{AllSound}
+use Rattle.movie_file.specs.Run.{frame_after, run, state_after}
+use Rattle.movie_file.specs.declared.checkpoint.Checkpoint.{Checkpoint}
+use Rattle.movie_file.proofs.Orders.{checkpoint_in_range, checkpoints_rise}
+use Rattle.movie_file.proofs.Runs.{run-shift, run-fault}
+use Rattle.replay_segments.specs.RunStates.{IsResumable}
+use Rattle.replay_segments.specs.Steps.{IsStep}
+use Rattle.replay_segments.specs.Verdicts.{HasVerdict}
+use Rattle.replay_segments.specs.declared.verdict.Verdict.TheVariants.{FalseCheckpoint}
+
+some_before : {A B : Type 0} (f : A → Option B) (o : Option A) → IsSome (option_and_then f o) → IsSome o
+some_before f (Some x) is = refl
+some_before f None is = cc
+
+-- A run that has a state after some frames has one after fewer.
+IsSome-run : (m : MovieData) (s : StateFields) (a k more : ℕ) → IsSome (run m s a (k + more)) → IsSome (run m s a k)
+IsSome-run m s a k zero is = rw add-zero at is
+IsSome-run m s a k (suc more) is =
+    let e : k + suc more ≡ suc (k + more) = omega arith in
+    IsSome-run m s a k more (some_before (λ state. state_after (frame_after m (a + (k + more)) state)) (run m s a (k + more)) (rw e at is))
+
+pub IsSome-run-below : (m : MovieData) (s : StateFields) (a k len : ℕ) → k ≤ len → IsSome (run m s a len) → IsSome (run m s a k)
+IsSome-run-below m s a k len le is =
+    let e : len ≡ k + (len - k) = omega arith in
+    IsSome-run m s a k (len - k) (subst (λ (n : ℕ). IsSome (run m s a n)) e is)
+
+-- No frame of it fails.
+pub no_error : (m : MovieData) (s : StateFields) (a k : ℕ) (old new : StateFields) (error : FrameError) → run m s a k ≡ Some old
+    → IsSome (run m s a (k + 1)) → IsStep m (a + k) old false new (Err error) → ⊥
+no_error m s a k old new (FaultOf kind) is ends (left, fails) =
+    let none = run-fault m s a k kind (old, left, is, fails) in
+    let no : IsSome {T = StateFields} None = rw none at ends in cc
+no_error m s a k old new NoMemory is ends keeps = cc
+
+-- Where its first frames are sound a checkpoint after one of them claims the run's state.
+pub claim_of_sound : (m : MovieData) (k j : ℕ) (c : Checkpoint) → IsMovie m → AllSound m m.start 0 k → slice_get m.checkpoints j ≡ Some c → c.frame ≤ k
+    → run m m.start 0 c.frame ≡ Some c.state
+claim_of_sound m k j c movie sound here le =
+    let h = checkpoint_in_range (length m.cart) m.checkpoints 0 (length m.inputs) j c movie.checkpoints here in
+    let low = h.0 in
+    let last = sound (c.frame - 1) (omega arith) in
+    let whole : c.frame - 1 + 1 ≡ c.frame = omega arith in
+    let at : c.frame ≡ 0 + (c.frame - 1) + 1 = omega arith in
+    let state : c.state ≡ last.0 = last.2 j c here at in
+    let ran : run m m.start 0 c.frame ≡ Some last.0 = subst (λ (x : ℕ). run m m.start 0 x ≡ Some last.0) whole last.1 in
+    rw ran (ap (λ (x : StateFields). Some x) (sym state))
+
+-- The run can be replayed from the checkpoint before the first false one.
+pub IsResumable-false : (m : MovieData) (number frame : ℕ) → IsMovie m → HasVerdict m (FalseCheckpoint number frame)
+    → (0 < number) × IsResumable m (number - 1) frame
+IsResumable-false m number frame movie (keep, (k, less, at, sound, (state, j, c, ran, num, here, after, ne))) =
+    let e : frame ≡ k + 1 = omega arith in
+    let within = slice_get_within m.checkpoints j c here in (
+      omega arith,
+      record {
+        within = omega arith;
+        last = omega arith;
+        ends = rw (e, ran) refl;
+        claim = λ d some there.
+            let rises = checkpoints_rise (length m.cart) m.checkpoints 0 (length m.inputs) (number - 1 - 1) j d c movie.checkpoints (omega arith) there here in
+            (omega arith, claim_of_sound m k (number - 1 - 1) d movie sound there (omega arith));
+      },
+    )
+
+-- From a checkpoint of the run to the frame.
+pub run-resumed : (m : MovieData) (from frame : ℕ) (state : StateFields) → from ≤ frame → run m m.start 0 from ≡ Some state
+    → run m m.start 0 frame ≡ run m state from (frame - from)
+run-resumed m from frame state le is =
+    let e : from + (frame - from) ≡ frame = omega arith in
+    let none : 0 + from ≡ from = omega arith in
+    let shifted = run-shift m m.start 0 from state is (frame - from) in
+    rw (e, none) at shifted

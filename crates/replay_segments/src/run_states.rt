@@ -1,0 +1,52 @@
+//! States of a movie's one unbroken run.
+ghost use Rattle.std.specs.Prelude.{◌≡◌, ◌+◌, ◌<◌, ◌≤◌, length, IsSome, Some};
+ghost use Rattle.movie_file.specs.Run.{run};
+ghost use Rattle.replay_segments.specs.RunStates.{IsResumable};
+ghost use Rattle.replay_segments.specs.Verdicts.{HasVerdict};
+ghost use Rattle.replay_segments.specs.declared.verdict.Verdict.TheVariants.{FalseCheckpoint};
+
+use crate::judge::step;
+use movie_file::Movie;
+use std::alloc::Global;
+use vcs_machine::State;
+
+/// The state after `len` frames from a state that stands after frame `from`. None of the frames fails.
+fn state_after(alloc: Global, movie: &Movie, start: &State, from: u32, len: u32) -> State
+    requires range { from + len ≤ length movie.now.inputs }
+    requires ends { IsSome (run movie.now start.now from len) }
+    ensures { run movie.now start.now from len ≡ Some result }
+{
+    let frames = movie.frames();
+    prove!(frames < 262_144);
+    let mut state = start.copy();
+    for k in 0..len {
+        let Ok(_) = step(alloc, movie, from + k, &mut state, false) else {
+            unreachable!()
+        };
+    }
+    state
+}
+
+/// The state of the run after a frame, replayed from the checkpoint before index `next`, or from the start where there is none.
+fn resumed(alloc: Global, movie: &Movie, next: u16, frame: u32) -> State
+    requires { IsResumable movie.now next frame }
+    ensures { run movie.now movie.now.start 0 frame ≡ Some result }
+{
+    if next == 0 {
+        return state_after(alloc, movie, movie.start(), 0, frame);
+    }
+    let checkpoint = movie.checkpoint(next);
+    let from = checkpoint.frame;
+    state_after(alloc, movie, &checkpoint.state, from, frame - from)
+}
+
+/// The state that a movie's one unbroken run has after the frame of its first false checkpoint.
+///
+/// The movie is replayed from the checkpoint before the false one, or from its start where there is none. No memory is taken.
+pub fn found_state(alloc: Global, movie: &Movie, number: u16, frame: u32) -> State
+    requires { HasVerdict movie.now (FalseCheckpoint number frame) }
+    ensures { run movie.now movie.now.start 0 frame ≡ Some result }
+{
+    let _ = movie.frames();
+    resumed(alloc, movie, number - 1, frame)
+}
