@@ -1,0 +1,82 @@
+-- The numbers of two records from a place on.
+use Rattle.std.proofs.Common.{◌≡◌, ℕ, ◌+◌, ◌<◌, ◌≤◌, List, [], ◌∷◌, ◌++◌, length, true, false, refl, arith, ap, ◌∙◌, sym, add-one, take, drop, append_assoc, append-nil, drop-drop}
+use Rattle.std.specs.Prelude.{map}
+use Rattle.std.specs.List.{flat_map, range_with_len}
+use Rattle.std.proofs.Math.Seq.{drop-cons, drop-length}
+use Rattle.std.proofs.lemmas.List.FromFn.{length-range_with_len}
+use Rattle.movie_report.specs.Facts.{Pair, pairs_of, line_if_different, differences_text}
+use Rattle.movie_report.specs.Numbers.{NumberData, numbers, number_at, memory_number, memory_numbers, other_numbers, processor_numbers, nothing}
+use Rattle.movie_report.specs.declared.differences.Comparison.{Comparison}
+use Rattle.movie_report.proofs.NumberLemmas.{length-numbers}
+
+pub bytes_in : List NumberData → ℕ
+bytes_in [] = 0
+bytes_in (n ∷ ns) = n.length + bytes_in ns
+
+bytes_in-append : (ns ms : List NumberData) → bytes_in (ns ++ ms) ≡ bytes_in ns + bytes_in ms
+unfolding bytes_in
+bytes_in-append [] ms = omega arith
+bytes_in-append (n ∷ ns) ms = let more = bytes_in-append ns ms in omega arith
+
+bytes_in-memory : (addresses : List ℕ) → bytes_in (map memory_number addresses) ≡ length addresses
+unfolding bytes_in
+bytes_in-memory [] = refl
+bytes_in-memory (address ∷ more) = let rest = bytes_in-memory more in omega arith
+
+bytes_in-numbers : bytes_in numbers ≡ 188
+unfolding bytes_in numbers memory_numbers
+bytes_in-numbers =
+    bytes_in-append processor_numbers (memory_numbers ++ other_numbers)
+    ∙ ap (λ (n : ℕ). 7 + n) (bytes_in-append memory_numbers other_numbers
+    ∙ ap (λ (n : ℕ). n + 53) (bytes_in-memory (range_with_len 0x80 128) ∙ length-range_with_len 0x80 128))
+
+-- The lines of the numbers from a place on, whose bytes begin here.
+abbrev rest_text : Comparison → List ℕ → List ℕ → ℕ → ℕ → List ℕ
+rest_text comparison a b place at = flat_map (line_if_different comparison) (pairs_of (drop place numbers) (drop at a) (drop at b))
+
+-- The lines of the numbers before a place have been written, and the next number begins here.
+pub record IsUpTo (comparison : Comparison) (a b : List ℕ) (place at : ℕ) (text : List ℕ) : Type 0 where
+  pub text_is : text ++ rest_text comparison a b place at ≡ differences_text comparison a b
+  pub bytes : at + bytes_in (drop place numbers) ≡ 188
+
+pub IsUpTo-start : (comparison : Comparison) (a b : List ℕ) → IsUpTo comparison a b 0 0 []
+unfolding differences_text
+IsUpTo-start comparison a b = record { text_is = refl; bytes = omega (arith, bytes_in-numbers) }
+
+-- After the last number all lines are there.
+pub IsUpTo-end : (comparison : Comparison) (a b : List ℕ) (place at : ℕ) (text : List ℕ) → 185 ≤ place → place ≤ 185 → IsUpTo comparison a b place at text
+    → text ≡ differences_text comparison a b
+IsUpTo-end comparison a b place at text high low is =
+    let last : place ≡ length numbers = omega (arith, length-numbers) in
+    let none : drop place numbers ≡ [] = rw last (drop-length numbers) in
+    sym (append-nil text) ∙ rw none at is.text_is
+
+module _ (comparison : Comparison) (a b : List ℕ) (place at : ℕ) (low : place < 185) where
+  drop-numbers : drop place numbers ≡ number_at place ∷ drop (place + 1) numbers
+  unfolding number_at
+  drop-numbers = let within : place < length numbers = omega (arith, length-numbers) in rw add-one (drop-cons numbers place nothing within)
+
+  bytes_next : bytes_in (drop place numbers) ≡ (number_at place).length + bytes_in (drop (place + 1) numbers)
+  unfolding bytes_in
+  bytes_next = rw drop-numbers refl
+
+  pub end_within : (text : List ℕ) → IsUpTo comparison a b place at text → at + (number_at place).length ≤ 188
+  end_within text is = let bytes = is.bytes in omega (arith, bytes_next)
+
+  -- The number at the place, in both records.
+  pair : Pair
+  pair = record { name = (number_at place).name; first = take (number_at place).length (drop at a); second = take (number_at place).length (drop at b) }
+
+  rest-next : rest_text comparison a b place at ≡ line_if_different comparison pair ++ rest_text comparison a b (place + 1) (at + (number_at place).length)
+  unfolding pair
+  rest-next = rw (drop-numbers, drop-drop, drop-drop) refl
+
+  pub IsUpTo-next : (text line new : List ℕ) (one other : List ℕ) (length : ℕ) → IsUpTo comparison a b place at text → length ≡ (number_at place).length
+      → one ≡ take length (drop at a) → other ≡ take length (drop at b)
+      → line ≡ line_if_different comparison (record { name = (number_at place).name; first = one; second = other }) → new ≡ text ++ line
+      → IsUpTo comparison a b (place + 1) (at + length) new
+  unfolding pair
+  IsUpTo-next text line new one other length is long first second line_is new_is = record {
+    text_is = rw (new_is, line_is, first, second, long, append_assoc) (rw rest-next at is.text_is);
+    bytes = let bytes = is.bytes in omega (arith, bytes_next, long);
+  }

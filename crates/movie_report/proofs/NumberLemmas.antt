@@ -1,0 +1,56 @@
+-- Which number stands at which place.
+use Rattle.std.proofs.Common.{◌≡◌, ℕ, zero, suc, ◌+◌, ◌-◌, ◌<◌, ◌≤◌, List, [], ◌∷◌, length, refl, arith, ap, ◌∙◌, sym, get_or, Bor}
+use Rattle.std.specs.Prelude.{map}
+use Rattle.std.proofs.Math.ListN.{get_or-map}
+use Rattle.std.specs.Prelude.{◌++◌, slice_index_or}
+use Rattle.std.proofs.lemmas.List.{get_or_append_left, get_or-append_right}
+use Rattle.std.proofs.lemmas.List.FromFn.{length-map-range_with_len, get_or-map-range_with_len}
+use Rattle.std.proofs.Math.ListN.{length-append}
+use Rattle.movie_report.specs.Numbers.{NumberData, numbers, number_at, memory_number, memory_numbers, other_numbers, processor_numbers, nothing}
+
+length-memory_numbers : length memory_numbers ≡ 128
+unfolding memory_numbers
+length-memory_numbers = length-map-range_with_len memory_number 0x80 128
+
+length-after : length (memory_numbers ++ other_numbers) ≡ 179
+length-after = length-append memory_numbers other_numbers ∙ ap (λ (n : ℕ). n + 51) length-memory_numbers
+
+pub length-numbers : length numbers ≡ 185
+unfolding numbers
+length-numbers = length-append processor_numbers (memory_numbers ++ other_numbers) ∙ ap (λ (n : ℕ). 6 + n) length-after
+
+pub number_at-processor : (place : ℕ) → place < 6 → number_at place ≡ slice_index_or processor_numbers place nothing
+unfolding number_at numbers
+number_at-processor place low = get_or_append_left processor_numbers (memory_numbers ++ other_numbers) nothing place low
+
+pub number_at-memory : (place : ℕ) → 6 ≤ place → place < 134 → number_at place ≡ memory_number (place + 122)
+unfolding number_at numbers memory_numbers
+number_at-memory place high low =
+    let within : place - 6 < length memory_numbers = omega (arith, length-memory_numbers) in
+    get_or-append_right processor_numbers (memory_numbers ++ other_numbers) 6 place nothing refl high
+    ∙ get_or_append_left memory_numbers other_numbers nothing (place - 6) within
+    ∙ get_or-map-range_with_len memory_number 0x80 128 (place - 6) (place + 122) nothing (omega arith) (omega arith)
+
+pub number_at-other : (place : ℕ) → 134 ≤ place → number_at place ≡ slice_index_or other_numbers (place - 134) nothing
+unfolding number_at numbers
+number_at-other place high =
+    let seam : place - 6 - 128 ≡ place - 134 = omega arith in
+    get_or-append_right processor_numbers (memory_numbers ++ other_numbers) 6 place nothing refl (omega arith)
+    ∙ get_or-append_right memory_numbers other_numbers 128 (place - 6) nothing length-memory_numbers (omega arith)
+    ∙ ap (λ (i : ℕ). slice_index_or other_numbers i nothing) seam
+
+pub ruleset number_places = (number_at-processor, number_at-memory, number_at-other)
+
+-- A row of a table in the code.
+abbrev pub Row : Type 0
+Row = Bor (List ℕ) × ℕ
+
+abbrev pub number_of : Row → NumberData
+number_of row = record { name = row.0.now; length = row.1 }
+
+-- A table in the code, as numbers.
+pub name-get_or : (rows : List Row) (i : ℕ) (d : Row) → (get_or rows i d).0.now ≡ (get_or (map number_of rows) i (number_of d)).name
+name-get_or rows i d = ap (λ (n : NumberData). n.name) (sym (get_or-map number_of rows i d))
+
+pub length-get_or : (rows : List Row) (i : ℕ) (d : Row) → (get_or rows i d).1 ≡ (get_or (map number_of rows) i (number_of d)).length
+length-get_or rows i d = ap (λ (n : NumberData). n.length) (sym (get_or-map number_of rows i d))

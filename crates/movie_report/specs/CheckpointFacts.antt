@@ -1,0 +1,1 @@
+-- The facts of a movie's checkpoints. This project's own.

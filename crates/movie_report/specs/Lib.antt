@@ -1,0 +1,3 @@
+pub mod CheckpointFacts
+pub mod Facts
+pub mod Numbers
