@@ -1,2 +1,4 @@
+pub mod CheckpointLemmas
 pub mod DifferenceLemmas
+pub mod FactLemmas
 pub mod NumberLemmas

@@ -1,35 +1,49 @@
 -- The facts of a movie and its verdict. This project's own.
-use Rattle.std.specs.Prelude.{ℕ, List, [], ◌∷◌, ◌++◌, codes, take, drop, if◌then◌else◌}
-use Rattle.std.specs.List.{flat_map}
+use Rattle.std.specs.Prelude.{ℕ, ◌-◌, List, [], ◌∷◌, ◌++◌, length, codes, Option, Some, None, slice_get, if◌then◌else◌}
+use Rattle.std.specs.Fmt.{decimal}
 use Rattle.std.specs.Str.{bytes_eq}
-use Rattle.hex.specs.Hex.{encode_upper}
-use Rattle.movie_report.specs.Numbers.{NumberData, numbers}
-use Rattle.movie_report.specs.declared.differences.Comparison.{Comparison}
+use Rattle.hex.specs.Hex.{encode_lower}
+use Rattle.md5.specs.Md5.{md5}
+use Rattle.sha1.specs.Sha1.{sha1}
+use Rattle.sha2.specs.Sha256.{sha256}
+use Rattle.vcs_machine.specs.States.{power_on}
+use Rattle.vcs_machine.specs.declared.fields.StateFields.{StateFields}
+use Rattle.movie_file.specs.Movie.{MovieData}
+use Rattle.movie_file.specs.Record.{record_of}
+use Rattle.movie_file.specs.Run.{run}
+use Rattle.movie_file.specs.declared.checkpoint.Checkpoint.{Checkpoint}
+use Rattle.replay_segments.specs.declared.verdict.Verdict.{Verdict}
+use Rattle.replay_segments.specs.declared.verdict.Verdict.TheVariants.{Genuine, FalseCheckpoint, Fault}
+use Rattle.movie_report.specs.CheckpointFacts.{checkpoints_text}
+use Rattle.movie_report.specs.Differences.{differences_text}
 use Rattle.movie_report.specs.declared.differences.Comparison.TheVariants.{Start, Claim}
 
--- A number of two records: its name, and its bytes in each.
-pub record Pair : Type 0 where
-  pub name : List ℕ
-  pub first : List ℕ
-  pub second : List ℕ
+-- The length of a cartridge, and its digests.
+abbrev pub cartridge_text : List ℕ → List ℕ
+cartridge_text cart =
+    (codes "cartridge: " ++ (decimal (length cart) ++ (codes " bytes" ++ 10 ∷ [])))
+    ++ ((codes "md5: " ++ (encode_lower (md5 cart) ++ 10 ∷ []))
+    ++ ((codes "sha1: " ++ (encode_lower (sha1 cart) ++ 10 ∷ []))
+    ++ (codes "sha256: " ++ (encode_lower (sha256 cart) ++ 10 ∷ []))))
 
--- Two records cut into their numbers.
-abbrev pub pairs_of : List NumberData → List ℕ → List ℕ → List Pair
-pairs_of [] a b = []
-pairs_of (n ∷ ns) a b =
-    record { name = n.name; first = take n.length a; second = take n.length b } ∷ pairs_of ns (drop n.length a) (drop n.length b)
+-- Whether a start state is that of power-on, and in which numbers it differs from that: of the records of both.
+abbrev pub start_text : List ℕ → List ℕ → List ℕ
+start_text start power =
+    if bytes_eq start power then codes "start: power-on" ++ 10 ∷ []
+    else codes "start: not power-on" ++ (10 ∷ differences_text Start start power)
 
--- The line of a number that differs.
-abbrev pub difference_line : Comparison → Pair → List ℕ
-difference_line Start pair =
-    codes "start " ++ (pair.name ++ (codes ": " ++ (encode_upper pair.first ++ (codes ", at power-on " ++ (encode_upper pair.second ++ 10 ∷ [])))))
-difference_line Claim pair =
-    pair.name ++ (codes ": claimed " ++ (encode_upper pair.first ++ (codes ", found " ++ (encode_upper pair.second ++ 10 ∷ []))))
+-- In which numbers a claimed state differs from that of the run.
+abbrev pub claim_text : Option Checkpoint → Option StateFields → List ℕ
+claim_text (Some c) (Some found) = differences_text Claim (record_of c.state) (record_of found)
+claim_text c None = []
+claim_text None found = []
 
--- Where its bytes are the same it has none.
-abbrev pub line_if_different : Comparison → Pair → List ℕ
-line_if_different comparison pair = if bytes_eq pair.first pair.second then [] else difference_line comparison pair
+-- What is to be said of a verdict.
+abbrev pub verdict_text : MovieData → Verdict → List ℕ
+verdict_text m (Genuine frames) = []
+verdict_text m (FalseCheckpoint number frame) = claim_text (slice_get m.checkpoints (number - 1)) (run m m.start 0 frame)
+verdict_text m (Fault frame kind) = []
 
--- The lines of two records, in the record's order.
-unfoldable pub differences_text : Comparison → List ℕ → List ℕ → List ℕ
-differences_text comparison a b = flat_map (line_if_different comparison) (pairs_of numbers a b)
+abbrev pub report_text : MovieData → Verdict → List ℕ
+report_text m verdict =
+    cartridge_text m.cart ++ (start_text (record_of m.start) (record_of (power_on m.cart)) ++ (checkpoints_text m ++ verdict_text m verdict))

@@ -1,3 +1,4 @@
 pub mod CheckpointFacts
+pub mod Differences
 pub mod Facts
 pub mod Numbers

@@ -1,6 +1,6 @@
 //! The numbers in which two state records differ.
 ghost use Rattle.std.specs.Prelude.{◌≡◌, ◌<◌, IfOk, string_bytes};
-ghost use Rattle.movie_report.specs.Facts.{difference_line, differences_text, line_if_different};
+ghost use Rattle.movie_report.specs.Differences.{difference_line, differences_text, line_if_different};
 ghost use Rattle.movie_report.specs.Numbers.{number_at};
 
 use crate::numbers::{COUNT, Number};
@@ -34,7 +34,9 @@ impl Comparison {
         let first = encode_upper(alloc, first)?;
         let second = encode_upper(alloc, second)?;
         match self {
-            Comparison::Start => format!(in alloc; "start {number}: {first}, at power-on {second}\n"),
+            Comparison::Start => format!(in alloc;
+                "start {number}: {first}, at power-on {second}\n"
+            ),
             Comparison::Claim => format!(in alloc; "{number}: claimed {first}, found {second}\n"),
         }
     }

@@ -1,5 +1,9 @@
-//! What a judge asks after a verdict: facts of a movie, and of where its run went wrong.
+//! What a judge asks after a verdict: facts of a movie, and of the place where its run went wrong.
 #![tactic(auto)]
 
+mod checkpoints;
 mod differences;
+mod facts;
 mod numbers;
+
+pub use facts::report;

@@ -5,14 +5,7 @@ ghost use Rattle.movie_report.specs.Numbers.{number_at, processor_numbers, other
 use std::fmt;
 
 /// The processor's numbers, with their lengths in bytes.
-const PROCESSOR: [(&str, usize); 6] = [
-    ("A", 1),
-    ("X", 1),
-    ("Y", 1),
-    ("S", 1),
-    ("P", 1),
-    ("PC", 2),
-];
+const PROCESSOR: [(&str, usize); 6] = [("A", 1), ("X", 1), ("Y", 1), ("S", 1), ("P", 1), ("PC", 2)];
 
 /// The bytes of memory, whose first has address 80 (hexadecimal).
 const MEMORY: usize = 128;
