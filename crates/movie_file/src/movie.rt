@@ -97,6 +97,13 @@ impl Movie {
         self.inputs.len() as u32
     }
 
+    /// The inputs of its frames, in their order.
+    pub fn inputs(&self) -> &[Input]
+        ensures { result.now ≡ self.now.inputs }
+    {
+        &self.inputs
+    }
+
     /// The input of a frame; frames are counted from 1.
     pub fn input(&self, frame: u32) -> Input
         requires first { 0 < frame }

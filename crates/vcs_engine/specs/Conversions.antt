@@ -5,7 +5,7 @@ use Rattle.movie_file.specs.Movie.{MovieData}
 use Rattle.movie_file.specs.Spelling.{spelling}
 use Rattle.movie_file.specs.declared.error.MovieError.{MovieError}
 use Rattle.vcs_engine.specs.Lines.{line_bytes}
-use Rattle.vcs_engine.specs.Makings.{Made, made_refused}
+use Rattle.vcs_engine.specs.Makings.{Made, made_refused, made_with_line}
 use Rattle.vcs_engine.specs.declared.line.Line.TheVariants as lines
 use Rattle.vcs_engine.specs.declared.status.Status.TheVariants as statuses
 
@@ -19,7 +19,7 @@ made_by_conversion m = record {
 
 -- and of one that has version 2 already.
 abbrev pub made_of_version_2 : Made
-made_of_version_2 = record { status = statuses.Refused; movie = []; line = line_bytes lines.AlreadyTwo }
+made_of_version_2 = made_with_line lines.AlreadyTwo
 
 -- What is written of what reading a movie found.
 abbrev pub converted_of : Result MovieData MovieError → Made

@@ -1,10 +1,12 @@
 pub mod Information
 pub mod Lines
+pub mod Listings
 pub mod Makings
 pub mod Conversions
 pub mod MakingViews
 pub mod OutputViews
 pub mod Outputs
+pub mod Reports
 pub mod Private
 pub mod Status
 pub mod Streams

@@ -4,7 +4,7 @@ use Rattle.std.specs.Fmt.{decimal}
 use Rattle.vcs_machine.specs.Faults.{fault_text}
 use Rattle.movie_file.specs.MovieError.{refusal_text}
 use Rattle.vcs_engine.specs.declared.line.Line.{Line}
-use Rattle.vcs_engine.specs.declared.line.Line.TheVariants.{Genuine, FalseCheckpoint, Fault, Refused, Made, Converted, AlreadyTwo, Movie}
+use Rattle.vcs_engine.specs.declared.line.Line.TheVariants.{Genuine, FalseCheckpoint, Fault, Refused, BadLine, Made, Converted, AlreadyTwo, Movie}
 
 -- How many frames and checkpoints a movie has.
 abbrev pub counts_text : ℕ → ℕ → List ℕ
@@ -20,6 +20,7 @@ line_text (Genuine frames checkpoints) = codes "genuine: " ++ counts_text frames
 line_text (FalseCheckpoint number frame) = codes "false checkpoint " ++ (decimal number ++ (codes " at frame " ++ decimal frame))
 line_text (Fault frame kind) = codes "fault at frame " ++ (decimal frame ++ (codes ": " ++ fault_text kind))
 line_text (Refused error) = codes "refused: " ++ refusal_text error
+line_text (BadLine number) = codes "refused: BadLine " ++ decimal number
 line_text (Made frames checkpoints) = codes "made: " ++ counts_text frames checkpoints
 line_text (Converted frames checkpoints) = codes "converted: " ++ counts_text frames checkpoints
 line_text AlreadyTwo = codes "refused: AlreadyTwo"

@@ -1,14 +1,16 @@
-//! The engines of the verifier: from the bytes of a movie to its verdict, to what is in it or to the same movie in version 2, and from
-//! those of a ROM and of inputs to a movie.
+//! The engines of the verifier: from the bytes of a movie to its verdict, to facts about it, to what is in it, to its inputs as text or
+//! to the same movie in version 2, and from those of a ROM and of inputs to a movie.
 #![tactic(auto)]
 
 mod converting;
 mod engine;
 mod information;
 mod line;
+mod listing;
 mod making;
 mod output;
 mod plan;
+mod reporting;
 mod run_error;
 mod status;
 mod streams;
@@ -16,8 +18,10 @@ mod streams;
 pub use converting::run_convert;
 pub use engine::run;
 pub use information::run_info;
-pub use making::run_make;
+pub use listing::run_inputs;
+pub use making::{InputForm, run_make};
 pub use picture_file::{WriteFault, ppm, rgb};
 pub use plan::{BadPlan, Plan};
+pub use reporting::run_report;
 pub use run_error::RunError;
 pub use status::Status;

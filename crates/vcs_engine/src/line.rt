@@ -23,6 +23,8 @@ pub enum Line {
         kind: FaultKind,
     },
     Refused(MovieError),
+    /// The line of this number, from 1, is the first of a text of inputs that can't be read, or with which there are too many frames.
+    BadLine(u64),
     Made {
         frames: u32,
         checkpoints: u16,
@@ -99,6 +101,7 @@ impl fmt::Display for Line {
             }
             Line::Fault { frame, kind } => write!(f, "fault at frame {frame}: {kind}"),
             Line::Refused(error) => write!(f, "refused: {error}"),
+            Line::BadLine(number) => write!(f, "refused: BadLine {number}"),
             Line::Made {
                 frames,
                 checkpoints,

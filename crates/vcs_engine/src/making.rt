@@ -1,7 +1,6 @@
 //! From the bytes of a ROM and of inputs to a movie.
 ghost use Rattle.std.specs.Prelude.{◌≡◌, ◌≢◌, ◌⊎◌, List, ℕ, IfOk, OnErr};
 ghost use Rattle.std.specs.Io.KnownBytes.{Appends, Keeps};
-ghost use Rattle.movie_file.specs.InputLists.{all_inputs_at};
 ghost use Rattle.vcs_engine.specs.Makings.{Made, Makes, MakesFrom, MakesOf};
 ghost use Rattle.vcs_engine.specs.MakingViews.{made_by};
 ghost use Rattle.vcs_engine.specs.Streams.{ReadsAll, WritesPart, IsTooLong};
@@ -10,12 +9,22 @@ use crate::line::Line;
 use crate::run_error::{ReadError, RunError};
 use crate::status::Status;
 use crate::streams::read_all;
+use input_text::{TextError, read_text};
 use movie_file::{MakeError, Movie, MovieError, make_movie, read_inputs, write_movie};
 use picture_file::{WriteFault, write_bytes};
 use riot_map::Cart;
 use std::alloc::{AllocError, Global};
 use std::io::{Read, Write};
 use vcs_machine::Input;
+
+/// How a file has the inputs of frames.
+#[derive(Clone, Copy, Debug, PartialEq, Eq)]
+pub enum InputForm {
+    /// Three bytes a frame.
+    Bytes,
+    /// Lines of how many frames and what is held in them.
+    Text,
+}
 
 /// A status, the bytes of a movie, and a line with its end.
 #[derive(Drop)]
@@ -28,7 +37,7 @@ pub(crate) struct Making {
 impl Making {
     ghost use Rattle.movie_file.specs.Spelling.{spelling};
     ghost use Rattle.vcs_engine.specs.Lines.{line_bytes};
-    ghost use Rattle.vcs_engine.specs.Makings.{made_refused};
+    ghost use Rattle.vcs_engine.specs.Makings.{inputs_by, made_with_line};
     ghost use Rattle.vcs_engine.specs.declared.status.Status.TheVariants.{Done};
 
     /// What is written of these bytes of a movie.
@@ -50,15 +59,10 @@ impl Making {
     }
 
     /// What is written of what is refused.
-    pub(crate) fn refused(alloc: Global, error: MovieError) -> Result<Making, AllocError>
-        ensures { IfOk result (λ making. made_by making ≡ made_refused error) }
+    pub(crate) fn refused(alloc: Global, line: Line) -> Result<Making, AllocError>
+        ensures { IfOk result (λ making. made_by making ≡ made_with_line line) }
     {
-        Making::new(
-            alloc,
-            Status::Refused,
-            Vec::new(alloc),
-            Line::Refused(error),
-        )
+        Making::new(alloc, Status::Refused, Vec::new(alloc), line)
     }
 
     /// What is written of a movie, with this line.
@@ -96,19 +100,34 @@ impl Making {
                 let line = Line::Fault { frame, kind };
                 Making::new(alloc, Status::Fault, Vec::new(alloc), line)
             }
-            Err(MakeError::BadCounts) => Making::refused(alloc, MovieError::BadCounts),
+            Err(MakeError::BadCounts) => {
+                Making::refused(alloc, Line::Refused(MovieError::BadCounts))
+            }
             Err(MakeError::NoMemory) => Err(AllocError),
         }
     }
 
     /// What is written of a cartridge and the bytes of inputs.
-    fn of_bytes(alloc: Global, cart: Cart, inputs: &[u8], every: u32) -> Result<Making, AllocError>
-        ensures { IfOk result (λ making. MakesFrom cart (all_inputs_at inputs.now) every (made_by making)) }
+    fn of_bytes(
+        alloc: Global,
+        cart: Cart,
+        form: InputForm,
+        inputs: &[u8],
+        every: u32,
+    ) -> Result<Making, AllocError>
+        ensures { IfOk result (λ making. MakesFrom cart (inputs_by form inputs.now) every (made_by making)) }
     {
-        match read_inputs(alloc, inputs) {
-            Ok(inputs) => Making::of_inputs(alloc, cart, inputs, every),
-            Err(MovieError::NoMemory) => Err(AllocError),
-            Err(error) => Making::refused(alloc, error),
+        match form {
+            InputForm::Bytes => match read_inputs(alloc, inputs) {
+                Ok(inputs) => Making::of_inputs(alloc, cart, inputs, every),
+                Err(MovieError::NoMemory) => Err(AllocError),
+                Err(error) => Making::refused(alloc, Line::Refused(error)),
+            },
+            InputForm::Text => match read_text(alloc, inputs) {
+                Ok(inputs) => Making::of_inputs(alloc, cart, inputs, every),
+                Err(TextError::NoMemory) => Err(AllocError),
+                Err(TextError::BadLine(number)) => Making::refused(alloc, Line::BadLine(number)),
+            },
         }
     }
 
@@ -116,17 +135,18 @@ impl Making {
     fn of_rom<S: Read>(
         alloc: Global,
         rom: Vec<u8>,
+        form: InputForm,
         inputs: &mut S,
         every: u32,
     ) -> Result<Making, ReadError>
-        ensures makes { IfOk result (λ making. Makes rom.items (S.remaining inputs.old) (S.remaining inputs.new) every (made_by making)) }
+        ensures makes { IfOk result (λ making. Makes form rom.items (S.remaining inputs.old) (S.remaining inputs.new) every (made_by making)) }
         ensures too_long { result ≡ Err ReadError.TooLong → IsTooLong (S.remaining inputs.old) }
     {
         let Ok(cart) = Cart::new(rom) else {
-            return Ok(Making::refused(alloc, MovieError::BadCartSize)?);
+            return Ok(Making::refused(alloc, Line::Refused(MovieError::BadCartSize))?);
         };
         let bytes = read_all(alloc, inputs)?;
-        Ok(Making::of_bytes(alloc, cart, &bytes, every)?)
+        Ok(Making::of_bytes(alloc, cart, form, &bytes, every)?)
     }
 
     /// Writes a movie, then a line.
@@ -146,7 +166,7 @@ impl Making {
     }
 }
 
-/// Reads a ROM and inputs, makes a movie of the run from power-on with a checkpoint after each `every` frames, and writes the
+/// Reads a ROM, and inputs in this form, makes a movie of the run from power-on with a checkpoint after each `every` frames, and writes the
 /// movie and then a line, which ends with a line feed.
 ///
 /// The ROM is read and checked first; where it is refused the inputs are not read. Inputs or counts that are refused, and a run
@@ -156,6 +176,7 @@ impl Making {
 pub fn run_make<R: Read, S: Read, W: Write, L: Write>(
     alloc: Global,
     rom: &mut R,
+    form: InputForm,
     inputs: &mut S,
     every: u32,
     movie: &mut W,
@@ -163,10 +184,10 @@ pub fn run_make<R: Read, S: Read, W: Write, L: Write>(
 ) -> Result<Status, RunError>
     // The output is that of the bytes read, and nothing else.
     ensures ok { IfOk result (λ status. (read : List ℕ) × (made : Made) × ReadsAll (R.remaining rom.old) (R.remaining rom.new) read
-        × Makes read (S.remaining inputs.old) (S.remaining inputs.new) every made × (status ≡ made.status)
+        × Makes form read (S.remaining inputs.old) (S.remaining inputs.new) every made × (status ≡ made.status)
         × Appends (W.contents movie.old) (W.contents movie.new) made.movie × Appends (L.contents line.old) (L.contents line.new) made.line) }
     ensures write_fault { result ≡ Err RunError.WriteFault → (read : List ℕ) × (made : Made) × ReadsAll (R.remaining rom.old) (R.remaining rom.new) read
-        × Makes read (S.remaining inputs.old) (S.remaining inputs.new) every made
+        × Makes form read (S.remaining inputs.old) (S.remaining inputs.new) every made
         × WritesPart (W.contents movie.old) (W.contents movie.new) made.movie (L.contents line.old) (L.contents line.new) made.line }
 
     // What was written after the other errors.
@@ -176,6 +197,6 @@ pub fn run_make<R: Read, S: Read, W: Write, L: Write>(
     ensures no_thread { result ≢ Err RunError.NoThread }
 {
     let bytes = read_all(alloc, rom)?;
-    let making = Making::of_rom(alloc, bytes, inputs, every)?;
+    let making = Making::of_rom(alloc, bytes, form, inputs, every)?;
     Ok(making.write(movie, line)?)
 }

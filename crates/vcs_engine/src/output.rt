@@ -21,6 +21,63 @@ use std::sync::Wait;
 use std::thread::Threads;
 use verify_pool::{NoGate, VerifyError, verify};
 
+/// The status and the line of a movie with this verdict.
+pub(crate) fn line_of(movie: &Movie, verdict: &Verdict) -> (Status, Line)
+    ensures status { result.0 ≡ (told_of movie.now verdict.now).status }
+    ensures line { line_bytes result.1 ≡ (told_of movie.now verdict.now).line }
+{
+    match verdict {
+        Verdict::Genuine { .. } => {
+            let frames = movie.frames();
+            let checkpoints = movie.checkpoints();
+            let line = Line::Genuine {
+                frames,
+                checkpoints,
+            };
+            (Status::Done, line)
+        }
+        Verdict::FalseCheckpoint { number, frame } => {
+            let (number, frame) = (*number, *frame);
+            (Status::False, Line::FalseCheckpoint { number, frame })
+        }
+        Verdict::Fault { frame, kind } => {
+            let (frame, kind) = (*frame, *kind);
+            (Status::Fault, Line::Fault { frame, kind })
+        }
+    }
+}
+
+/// The verdict of a movie, by the workers of a plan.
+pub(crate) fn verdict_of<T: Threads + Wait + Sync>(
+    rt: &T,
+    alloc: Global,
+    movie: &Movie,
+    plan: &Plan,
+) -> Result<Verdict, JudgeError>
+    ensures verdict { IfOk result (λ verdict. IsVerdict movie.now plan.now.keep verdict) }
+    ensures no_thread { result ≡ Err JudgeError.NoThread → 2 ≤ plan.now.workers }
+{
+    let cuts = match Cuts::every(alloc, movie, plan.every()) {
+        Ok(cuts) => cuts,
+        Err(CutsError::NoMemory) => return Err(JudgeError::NoMemory),
+        Err(CutsError::BadCuts) => unreachable!(),
+    };
+    match verify(
+        rt,
+        alloc,
+        movie,
+        &cuts,
+        plan.workers(),
+        plan.keep(),
+        &NoGate,
+    ) {
+        Ok(verdict) => Ok(verdict),
+        Err(VerifyError::NoMemory) => Err(JudgeError::NoMemory),
+        Err(VerifyError::NoThread) => Err(JudgeError::NoThread),
+        Err(VerifyError::BadWorkers) => unreachable!(),
+    }
+}
+
 /// A status, a line with its end, and the kept pictures of a genuine movie.
 #[derive(Drop)]
 pub(crate) struct Output {
@@ -58,58 +115,10 @@ impl Output {
     fn of_verdict(alloc: Global, movie: &Movie, verdict: Verdict) -> Result<Output, AllocError>
         ensures { IfOk result (λ output. told_by output ≡ told_of movie.now verdict) }
     {
+        let (status, line) = line_of(movie, &verdict);
         match verdict {
-            Verdict::Genuine { frames: pictures } => {
-                let frames = movie.frames();
-                let checkpoints = movie.checkpoints();
-                let line = Line::Genuine {
-                    frames,
-                    checkpoints,
-                };
-                Output::new(alloc, Status::Done, line, Some(pictures))
-            }
-            Verdict::FalseCheckpoint { number, frame } => {
-                Output::new(
-                    alloc,
-                    Status::False,
-                    Line::FalseCheckpoint { number, frame },
-                    None,
-                )
-            }
-            Verdict::Fault { frame, kind } => {
-                Output::new(alloc, Status::Fault, Line::Fault { frame, kind }, None)
-            }
-        }
-    }
-
-    /// The verdict of a movie, by the workers of a plan.
-    fn verdict_of<T: Threads + Wait + Sync>(
-        rt: &T,
-        alloc: Global,
-        movie: &Movie,
-        plan: &Plan,
-    ) -> Result<Verdict, JudgeError>
-        ensures verdict { IfOk result (λ verdict. IsVerdict movie.now plan.now.keep verdict) }
-        ensures no_thread { result ≡ Err JudgeError.NoThread → 2 ≤ plan.now.workers }
-    {
-        let cuts = match Cuts::every(alloc, movie, plan.every()) {
-            Ok(cuts) => cuts,
-            Err(CutsError::NoMemory) => return Err(JudgeError::NoMemory),
-            Err(CutsError::BadCuts) => unreachable!(),
-        };
-        match verify(
-            rt,
-            alloc,
-            movie,
-            &cuts,
-            plan.workers(),
-            plan.keep(),
-            &NoGate,
-        ) {
-            Ok(verdict) => Ok(verdict),
-            Err(VerifyError::NoMemory) => Err(JudgeError::NoMemory),
-            Err(VerifyError::NoThread) => Err(JudgeError::NoThread),
-            Err(VerifyError::BadWorkers) => unreachable!(),
+            Verdict::Genuine { frames } => Output::new(alloc, status, line, Some(frames)),
+            _ => Output::new(alloc, status, line, None),
         }
     }
 
@@ -128,7 +137,7 @@ impl Output {
             Err(MovieError::NoMemory) => return Err(JudgeError::NoMemory),
             Err(error) => return Ok(Output::refused(alloc, error)?),
         };
-        let verdict = Output::verdict_of(rt, alloc, &movie, plan)?;
+        let verdict = verdict_of(rt, alloc, &movie, plan)?;
         Ok(Output::of_verdict(alloc, &movie, verdict)?)
     }
 

@@ -1,0 +1,55 @@
+//! From the bytes of a movie to its inputs as text.
+ghost use Rattle.std.specs.Prelude.{◌≡◌, ◌≢◌, List, ℕ, IfOk, OnErr, string_bytes};
+ghost use Rattle.std.specs.Io.KnownBytes.{Appends, Keeps};
+ghost use Rattle.movie_file.specs.Reading.{movie_at};
+ghost use Rattle.picture_file.specs.Fronts.{AppendsFront};
+ghost use Rattle.vcs_engine.specs.Listings.{Lists};
+ghost use Rattle.vcs_engine.specs.Streams.{ReadsAll, IsTooLong};
+
+use crate::line::Line;
+use crate::run_error::RunError;
+use crate::status::Status;
+use crate::streams::read_all;
+use input_text::write_text;
+use movie_file::{MovieError, read_movie};
+use picture_file::write_bytes;
+use std::alloc::{AllocError, Global};
+use std::io::{Read, Write};
+
+/// A status, and what is written of the inputs of a movie.
+fn listed(alloc: Global, bytes: &[u8]) -> Result<(Status, String), AllocError>
+    ensures { IfOk result (λ listed. Lists (movie_at bytes.now) listed.0 (string_bytes listed.1)) }
+{
+    match read_movie(alloc, bytes) {
+        Ok(movie) => Ok((Status::Done, write_text(alloc, movie.inputs())?)),
+        Err(MovieError::NoMemory) => Err(AllocError),
+        Err(error) => Ok((Status::Refused, Line::Refused(error).text(alloc)?)),
+    }
+}
+
+/// Reads a movie, and writes its inputs as text. The movie is not replayed.
+///
+/// A movie that is refused is a line and `Status::Refused`. After ReadFault, TooLong and NoMemory nothing was written; after
+/// WriteFault the writer has got a prefix of the text. At most 16,777,217 reads are made.
+pub fn run_inputs<R: Read, W: Write>(
+    alloc: Global,
+    movie: &mut R,
+    text: &mut W,
+) -> Result<Status, RunError>
+    // The output is that of the bytes read, and nothing else.
+    ensures ok { IfOk result (λ status. (input : List ℕ) × (output : List ℕ) × ReadsAll (R.remaining movie.old) (R.remaining movie.new) input
+        × Lists (movie_at input) status output × Appends (W.contents text.old) (W.contents text.new) output) }
+    ensures write_fault { result ≡ Err RunError.WriteFault → (input : List ℕ) × (status : Status) × (output : List ℕ)
+        × ReadsAll (R.remaining movie.old) (R.remaining movie.new) input × Lists (movie_at input) status output
+        × AppendsFront (W.contents text.old) (W.contents text.new) output }
+
+    // What was written after the other errors.
+    ensures quiet { OnErr result (result ≢ Err RunError.WriteFault → Keeps (W.contents text.old) (W.contents text.new)) }
+    ensures too_long { result ≡ Err RunError.TooLong → IsTooLong (R.remaining movie.old) }
+    ensures no_thread { result ≢ Err RunError.NoThread }
+{
+    let bytes = read_all(alloc, movie)?;
+    let (status, output) = listed(alloc, &bytes)?;
+    write_bytes(output.as_bytes(), text)?;
+    Ok(status)
+}

@@ -1,0 +1,73 @@
+//! From the bytes of a movie to its verdict and facts.
+ghost use Rattle.std.specs.Prelude.{◌≡◌, ◌≢◌, ◌≤◌, List, ℕ, IfOk, OnErr, string_bytes};
+ghost use Rattle.std.specs.Io.KnownBytes.{Appends, Keeps};
+ghost use Rattle.picture_file.specs.Fronts.{AppendsFront};
+ghost use Rattle.vcs_engine.specs.Reports.{Reports};
+ghost use Rattle.vcs_engine.specs.Streams.{ReadsAll, IsTooLong};
+
+use crate::line::Line;
+use crate::output::{line_of, verdict_of};
+use crate::plan::Plan;
+use crate::run_error::{JudgeError, RunError};
+use crate::status::Status;
+use crate::streams::read_all;
+use movie_file::{MovieError, read_movie};
+use movie_report::report;
+use picture_file::write_bytes;
+use std::alloc::Global;
+use std::io::{Read, Write};
+use std::sync::Wait;
+use std::thread::Threads;
+
+/// A status, and what is written of the bytes of an input.
+fn reported<T: Threads + Wait + Sync>(
+    rt: &T,
+    alloc: Global,
+    bytes: &[u8],
+    plan: &Plan,
+) -> Result<(Status, String), JudgeError>
+    ensures told { IfOk result (λ told. Reports bytes.now told.0 (string_bytes told.1)) }
+    ensures no_thread { result ≡ Err JudgeError.NoThread → 2 ≤ plan.now.workers }
+{
+    let movie = match read_movie(alloc, bytes) {
+        Ok(movie) => movie,
+        Err(MovieError::NoMemory) => return Err(JudgeError::NoMemory),
+        Err(error) => return Ok((Status::Refused, Line::Refused(error).text(alloc)?)),
+    };
+    let verdict = verdict_of(rt, alloc, &movie, plan)?;
+    let facts = report(alloc, &movie, &verdict)?;
+    let (status, line) = line_of(&movie, &verdict);
+    let mut text = line.text(alloc)?;
+    text.push_str(&facts)?;
+    Ok((status, text))
+}
+
+/// Reads a movie, judges it by the plan's workers, and writes its line and then facts about it, each on a line.
+///
+/// A movie that is refused is a line and `Status::Refused`. No picture is written. After ReadFault, TooLong, NoMemory and NoThread
+/// nothing was written; after WriteFault the writer has got a prefix of the text. At most 16,777,217 reads are made. With more
+/// than one worker it joins the threads that it starts.
+pub fn run_report<T: Threads + Wait + Sync, R: Read, W: Write>(
+    rt: &T,
+    alloc: Global,
+    movie: &mut R,
+    plan: &Plan,
+    text: &mut W,
+) -> Result<Status, RunError>
+    // The output is that of the bytes read, and nothing else.
+    ensures ok { IfOk result (λ status. (input : List ℕ) × (output : List ℕ) × ReadsAll (R.remaining movie.old) (R.remaining movie.new) input
+        × Reports input status output × Appends (W.contents text.old) (W.contents text.new) output) }
+    ensures write_fault { result ≡ Err RunError.WriteFault → (input : List ℕ) × (status : Status) × (output : List ℕ)
+        × ReadsAll (R.remaining movie.old) (R.remaining movie.new) input × Reports input status output
+        × AppendsFront (W.contents text.old) (W.contents text.new) output }
+
+    // What was written after the other errors.
+    ensures quiet { OnErr result (result ≢ Err RunError.WriteFault → Keeps (W.contents text.old) (W.contents text.new)) }
+    ensures too_long { result ≡ Err RunError.TooLong → IsTooLong (R.remaining movie.old) }
+    ensures no_thread { result ≡ Err RunError.NoThread → 2 ≤ plan.now.workers }
+{
+    let bytes = read_all(alloc, movie)?;
+    let (status, output) = reported(rt, alloc, &bytes, plan)?;
+    write_bytes(output.as_bytes(), text)?;
+    Ok(status)
+}
