@@ -2,6 +2,7 @@
 use Rattle.std.proofs.Common.{◌≡◌, ℕ, zero, suc, ◌+◌, ◌-◌, ◌<◌, ◌≤◌, length, Option, Some, None, IsSome, Err, false, slice_get, refl, arith, ap, subst, sym, add-zero}
 use Rattle.std.specs.Prelude.{option_and_then}
 use Rattle.std.proofs.lemmas.Option.{slice_get_within}
+use Rattle.vcs_machine.specs.declared.fault.FaultKind.{FaultKind}
 use Rattle.vcs_machine.specs.declared.fault.FrameError.{FrameError}
 use Rattle.vcs_machine.specs.declared.fault.FrameError.TheVariants.{Fault as FaultOf, NoMemory}
 use Rattle.vcs_machine.specs.declared.fields.StateFields.{StateFields}
@@ -14,7 +15,7 @@ use Rattle.movie_file.proofs.Runs.{run-shift, run-fault}
 use Rattle.replay_segments.specs.RunStates.{IsResumable}
 use Rattle.replay_segments.specs.Steps.{IsStep}
 use Rattle.replay_segments.specs.Verdicts.{HasVerdict}
-use Rattle.replay_segments.specs.declared.verdict.Verdict.TheVariants.{FalseCheckpoint}
+use Rattle.replay_segments.specs.declared.verdict.Verdict.TheVariants.{FalseCheckpoint, Fault}
 
 some_before : {A B : Type 0} (f : A → Option B) (o : Option A) → IsSome (option_and_then f o) → IsSome o
 some_before f (Some x) is = refl
@@ -78,3 +79,21 @@ run-resumed m from frame state le is =
     let none : 0 + from ≡ from = omega arith in
     let shifted = run-shift m m.start 0 from state is (frame - from) in
     rw (e, none) at shifted
+
+-- It can be replayed from the last checkpoint before the frame that faults.
+pub IsResumable-fault : (m : MovieData) (frame next : ℕ) (kind : FaultKind) → IsMovie m → HasVerdict m (Fault frame kind) → next ≤ length m.checkpoints
+    → ((j : ℕ) (c : Checkpoint) → j < next → slice_get m.checkpoints j ≡ Some c → c.frame < frame)
+    → (0 < frame) × (frame ≤ length m.inputs) × IsResumable m next (frame - 1)
+IsResumable-fault m frame next kind movie (keep, (k, less, at, sound, (state, left, ran, fails))) within before =
+    let e : frame - 1 ≡ k = omega arith in (
+      omega arith,
+      omega arith,
+      record {
+        within = within;
+        last = omega arith;
+        ends = rw (e, ran) refl;
+        claim = λ c some here.
+            let early = before (next - 1) c (omega arith) here in
+            (omega arith, claim_of_sound m k (next - 1) c movie sound here (omega arith));
+      },
+    )

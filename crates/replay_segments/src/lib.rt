@@ -25,6 +25,6 @@ pub use keep::{BadKeep, Keep};
 pub use laws::{law_of_converted_verdicts, law_of_one_outcome, law_of_one_verdict};
 pub use outcome::Outcome;
 pub use piece::Piece;
-pub use run_states::found_state;
+pub use run_states::{LeftState, found_state, left_state};
 pub use segment::replay;
 pub use verdict::{Frames, Verdict};

@@ -1,14 +1,27 @@
 //! States of a movie's one unbroken run.
-ghost use Rattle.std.specs.Prelude.{◌≡◌, ◌+◌, ◌<◌, ◌≤◌, length, IsSome, Some};
+ghost use Rattle.std.specs.Prelude.{◌≡◌, ℕ, ◌+◌, ◌<◌, ◌≤◌, length, slice_get, IsSome, Some};
 ghost use Rattle.movie_file.specs.Run.{run};
-ghost use Rattle.replay_segments.specs.RunStates.{IsResumable};
+ghost use Rattle.movie_file.specs.declared.checkpoint.Checkpoint.{Checkpoint};
+ghost use Rattle.replay_segments.specs.RunStates.{IsResumable, left_at};
 ghost use Rattle.replay_segments.specs.Verdicts.{HasVerdict};
-ghost use Rattle.replay_segments.specs.declared.verdict.Verdict.TheVariants.{FalseCheckpoint};
+ghost use Rattle.replay_segments.specs.declared.verdict.Verdict.TheVariants.{FalseCheckpoint, Fault};
 
 use crate::judge::step;
 use movie_file::Movie;
 use std::alloc::Global;
-use vcs_machine::State;
+use vcs_machine::{FaultKind, State, halt};
+
+/// The cycles of a scanline.
+const LINE_CYCLES: u64 = 76;
+
+/// What a frame leaves that faults.
+#[derive(Drop)]
+pub struct LeftState {
+    /// The state before the faulty instruction. Where the frame was overlong it is the one that was reached.
+    pub state: State,
+    /// The scanline of its beam, 0 being the one in which the frame began.
+    pub scanline: u64,
+}
 
 /// The state after `len` frames from a state that stands after frame `from`. None of the frames fails.
 fn state_after(alloc: Global, movie: &Movie, start: &State, from: u32, len: u32) -> State
@@ -49,4 +62,39 @@ pub fn found_state(alloc: Global, movie: &Movie, number: u16, frame: u32) -> Sta
 {
     let _ = movie.frames();
     resumed(alloc, movie, number - 1, frame)
+}
+
+/// How many checkpoints stand before a frame.
+fn checkpoints_before(movie: &Movie, frame: u32) -> u16
+    ensures within { result ≤ length movie.now.checkpoints }
+    ensures before { (j : ℕ) (c : Checkpoint) → j < result → slice_get movie.now.checkpoints j ≡ Some c → c.frame < frame }
+{
+    let count = movie.checkpoints();
+    for next in 0..count {
+        if movie.checkpoint(next + 1).frame >= frame {
+            return next;
+        }
+    }
+    count
+}
+
+/// What the frame leaves in which a movie's one unbroken run faults.
+///
+/// The movie is replayed from the last checkpoint before that frame, or from its start where there is none. No memory is taken.
+pub fn left_state(alloc: Global, movie: &Movie, frame: u32, kind: FaultKind) -> LeftState
+    requires { HasVerdict movie.now (Fault frame kind) }
+    ensures { left_at movie.now frame ≡ Some result }
+{
+    let _ = movie.frames();
+    let next = checkpoints_before(movie, frame);
+    let mut state = resumed(alloc, movie, next, frame - 1);
+    let begun = state.fields().line_cycle;
+    let Some(halt) = halt(movie.cart(), &mut state, movie.input(frame)) else {
+        unreachable!()
+    };
+    let cycles = u64::from(begun) + u64::from(halt.cycles);
+    LeftState {
+        state,
+        scanline: cycles / LINE_CYCLES,
+    }
 }

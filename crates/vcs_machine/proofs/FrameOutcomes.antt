@@ -25,9 +25,10 @@ outcome-halted line_cycle (BadOpcode opcode at) m = refl
 outcome-halted line_cycle (FetchOutside at) m = refl
 outcome-halted line_cycle Overlong m = refl
 
-pub failed : (cart : List ℕ) (s after : StateFields) (i : Controls) (kind : FaultKind) → Halts cart s i kind after → frame_of cart s i ≡ Failed kind after
+pub failed : (cart : List ℕ) (s after : StateFields) (i : Controls) (kind : FaultKind) (cycles : ℕ) → Halts cart s i kind after cycles
+    → frame_of cart s i ≡ Failed kind after
 unfolding frame_of
-failed cart s after i kind h =
+failed cart s after i kind cycles h =
     ap (λ (stop : Stop (Console (List Pixel))). outcome_of s.line_cycle stop) h.1
     ∙ outcome-halted s.line_cycle kind h.0
     ∙ ap (λ (f : StateFields). Failed kind f) h.2

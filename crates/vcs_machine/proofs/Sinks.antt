@@ -122,7 +122,7 @@ module _ {S : Type 0} (drawn : S → ℕ → ℕ → ℕ → S) (cart : List ℕ
 
   -- And one that does not.
   pub halts-on : (kind : FaultKind) (there : Machine (Console S)) → stop_of (console_rules drawn) (machine_of cart s i sink) ≡ halted kind there
-      → Halts cart s i kind (state_at there)
+      → Halts cart s i kind (state_at there) there.cycles
   halts-on kind there e =
       let f = halted-from (drawn_on drawn sink) _ kind there (sym along ∙ e) in
-      (f.here, f.stops, ap (λ (m : Machine (Console S)). state_at m) f.same)
+      (f.here, f.stops, ap (λ (m : Machine (Console S)). state_at m) f.same, ap (λ (m : Machine (Console S)). m.cycles) f.same)

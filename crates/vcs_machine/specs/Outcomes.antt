@@ -61,10 +61,11 @@ abbrev pub FailsAs : Outcome → FrameError → StateFields → Type 0
 FailsAs outcome (Fault kind) s = outcome ≡ Failed kind s
 FailsAs outcome NoMemory s = Unit {0}
 
--- A frame stops for this cause and leaves this state.
-abbrev pub Halts : List ℕ → StateFields → Controls → FaultKind → StateFields → Type 0
-Halts cart s i kind after =
+-- A frame stops for this cause, leaves this state, and has taken so many cycles.
+abbrev pub Halts : List ℕ → StateFields → Controls → FaultKind → StateFields → ℕ → Type 0
+Halts cart s i kind after cycles =
     (here : Machine (Console (List Pixel))) × (stop_of (console_rules logged) (machine_of cart s i []) ≡ halted kind here) × (state_at here ≡ after)
+    × (here.cycles ≡ cycles)
 
 -- A frame that ends leaves this state after so many cycles, and its pixels have been put on a sink.
 abbrev pub PlaysOn : {S : Type 0} → (S → ℕ → ℕ → ℕ → S) → List ℕ → StateFields → Controls → S → StateFields → S → ℕ → Type 0

@@ -102,6 +102,13 @@ impl From<CpuFault> for FaultKind {
     }
 }
 
+/// Why a frame did not end, and after how many of its cycles it stopped.
+#[derive(Clone, Copy, Debug, PartialEq, Eq)]
+pub struct Halt {
+    pub kind: FaultKind,
+    pub cycles: u32,
+}
+
 /// Why a frame has no picture and no state after it.
 #[derive(Clone, Copy, Debug, PartialEq, Eq)]
 pub enum FrameError {

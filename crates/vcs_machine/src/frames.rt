@@ -1,5 +1,5 @@
 //! One frame.
-ghost use Rattle.std.specs.Prelude.{◌≡◌, ◌≤◌, ◌+◌, true, false, if◌then◌else◌, Some, None, IfOk, IfErr};
+ghost use Rattle.std.specs.Prelude.{◌≡◌, ◌≤◌, ◌+◌, true, false, if◌then◌else◌, Some, None, IfOk, IfErr, IfSome, IfNone};
 ghost use Rattle.tia_core.specs.Clock.{Pixel, painted};
 ghost use Rattle.vcs_machine.specs.Consoles.{console_rules, logged, drawn_on, Console};
 ghost use Rattle.vcs_machine.specs.Faults.{halted};
@@ -8,7 +8,7 @@ ghost use Rattle.vcs_machine.specs.Outcomes.{frame_of, machine_of, state_at, Pla
 ghost use Rattle.vcs_machine.specs.Pictures.{Rows};
 
 use crate::console::Console;
-use crate::fault::{FaultKind, FrameError};
+use crate::fault::{FrameError, Halt};
 use crate::input::Input;
 use crate::picture::{Picture, rows};
 use crate::run::run;
@@ -17,15 +17,15 @@ use riot_map::Cart;
 use std::alloc::Global;
 use tia_core::paint::{NoPaint, Paint};
 
-/// A frame from a state, whose pixels go to a sink; it answers the sink, and the cycles of a frame that ended.
+/// A frame from a state, whose pixels go to a sink; it answers the sink, and its cycles.
 fn play<S: Paint + Drop>(
     cart: &Cart,
     state: &mut State,
     input: Input,
     sink: S,
-) -> Result<(S, u32), FaultKind>
+) -> Result<(S, u32), Halt>
     ensures ok { IfOk result (λ played. PlaysOn S.drawn cart.now state.old input sink state.new played.0 played.1) }
-    ensures err { IfErr result (λ kind. Halts cart.now state.old input kind state.new) }
+    ensures err { IfErr result (λ halt. Halts cart.now state.old input halt.kind state.new halt.cycles) }
     ensures most { IfOk result (λ played. played.1 ≤ 24401) }
 {
     let mut cpu = state.cpu();
@@ -35,7 +35,7 @@ fn play<S: Paint + Drop>(
     *state = after;
     match ran {
         Ok(cycles) => Ok((sink, cycles)),
-        Err(kind) => Err(kind),
+        Err(halt) => Err(halt),
     }
 }
 
@@ -61,7 +61,7 @@ pub fn frame(
     if !keep {
         return match play(cart, state, input, NoPaint) {
             Ok(_) => Ok(None),
-            Err(kind) => Err(FrameError::Fault(kind)),
+            Err(halt) => Err(FrameError::Fault(halt.kind)),
         };
     }
     let line_cycle = state.line_cycle();
@@ -70,6 +70,20 @@ pub fn frame(
     };
     match play(cart, state, input, blank) {
         Ok((picture, cycles)) => Ok(Some(picture.cut(rows(line_cycle, cycles)))),
-        Err(kind) => Err(FrameError::Fault(kind)),
+        Err(halt) => Err(FrameError::Fault(halt.kind)),
+    }
+}
+
+/// How one frame on a cartridge stops before its end, and after how many of its cycles; none where it ends.
+///
+/// The state is left as `frame` leaves it, and no memory is taken. The cycles are those of the instructions before the faulty
+/// one, with their waits.
+pub fn halt(cart: &Cart, state: &mut State, input: Input) -> Option<Halt>
+    ensures halted { IfSome result (λ halt. Halts cart.now state.old input halt.kind state.new halt.cycles) }
+    ensures ended { IfNone result ((rows : Rows) × (frame_of cart.now state.old input ≡ Played state.new rows)) }
+{
+    match play(cart, state, input, NoPaint) {
+        Ok(_) => None,
+        Err(halt) => Some(halt),
     }
 }

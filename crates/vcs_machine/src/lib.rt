@@ -17,9 +17,9 @@ mod socket;
 mod state;
 mod unchanged;
 
-pub use fault::{FaultKind, FrameError};
+pub use fault::{FaultKind, FrameError, Halt};
 pub use fields::StateFields;
-pub use frames::frame;
+pub use frames::{frame, halt};
 pub use input::Input;
 pub use laws::{
     law_of_banks, law_of_frame_lengths, law_of_one_stop, law_of_waits, law_of_whole_cycles,

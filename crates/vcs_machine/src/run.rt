@@ -1,12 +1,12 @@
 //! Instructions until a frame stops.
-ghost use Rattle.std.specs.Prelude.{◌≡◌, ℕ, ◌<◌, ◌≤◌, ◌+◌, MatchResult, IfOk, OnErr, IfErr};
+ghost use Rattle.std.specs.Prelude.{◌≡◌, ◌<◌, ◌≤◌, ◌+◌, MatchResult, IfOk, OnErr, IfErr};
 ghost use Rattle.mos_cpu.specs.Registers.{Registers};
 ghost use Rattle.vcs_machine.specs.Consoles.{console_rules};
 ghost use Rattle.vcs_machine.specs.Faults.{halted};
 ghost use Rattle.vcs_machine.specs.Frame.{turn, Went, Failed, stop_of, Ended};
 
 use crate::console::Console;
-use crate::fault::FaultKind;
+use crate::fault::{FaultKind, Halt};
 use mos_cpu::{Cpu, CpuFault, step};
 use tia_core::paint::Paint;
 
@@ -32,23 +32,29 @@ fn turn<S: Paint>(cpu: &mut Cpu, console: &mut Console<S>, cycles: u32) -> Resul
     Ok(cycles + taken as u32 + waited as u32)
 }
 
-/// Instructions, each with its wait, until the frame stops; it answers the cycles of a frame that ended.
-pub fn run<S: Paint>(cpu: &mut Cpu, console: &mut Console<S>) -> Result<u32, FaultKind>
+/// Instructions, each with its wait, until the frame stops; it answers its cycles.
+pub fn run<S: Paint>(cpu: &mut Cpu, console: &mut Console<S>) -> Result<u32, Halt>
     ensures ok { IfOk result (λ total. stop_of (console_rules S.drawn) (record { registers = cpu.old; bus = console.old; cycles = 0 })
         ≡ Ended (record { registers = cpu.new; bus = console.new; cycles = total })) }
-    ensures err { IfErr result (λ kind. (total : ℕ) × (stop_of (console_rules S.drawn) (record { registers = cpu.old; bus = console.old; cycles = 0 })
-        ≡ halted kind (record { registers = cpu.new; bus = console.new; cycles = total }))) }
+    ensures err { IfErr result (λ halt. stop_of (console_rules S.drawn) (record { registers = cpu.old; bus = console.old; cycles = 0 })
+        ≡ halted halt.kind (record { registers = cpu.new; bus = console.new; cycles = halt.cycles })) }
     ensures most { IfOk result (λ total. total ≤ 24401) }
 {
     let mut cycles = 0;
     while cycles < TOO_MANY_CYCLES {
         match turn(cpu, console, cycles) {
-            Err(fault) => return Err(FaultKind::from(fault)),
+            Err(fault) => {
+                let kind = FaultKind::from(fault);
+                return Err(Halt { kind, cycles });
+            }
             Ok(total) => cycles = total,
         }
         if console.has_ended() {
             return Ok(cycles);
         }
     }
-    Err(FaultKind::Overlong)
+    Err(Halt {
+        kind: FaultKind::Overlong,
+        cycles,
+    })
 }

@@ -14,7 +14,7 @@ returns-in-Ok-clause-ok c =
     )
 
 pub returns-in-Err-clause-err : goal.returns-in-Err-clause-err
-returns-in-Err-clause-err c = failed c.args.cart.now c.args.state.now _ c.args.input c.in-Err.kind c.in-Err.ensures.err
+returns-in-Err-clause-err c = failed c.args.cart.now c.args.state.now _ c.args.input c.in-Err.halt.kind c.in-Err.halt.cycles c.in-Err.ensures.err
 
 pub returns-in-Ok-play-clause-ok : goal.returns-in-Ok-play-clause-ok
 returns-in-Ok-play-clause-ok c =
@@ -30,4 +30,4 @@ returns-in-Ok-play-clause-ok c =
     (picture_of rows p.0.bus.sink, played c.args.cart.now c.args.state.now _ c.args.input p.0 p.1 p.2, rw (c.if-not-keep.false, kept) refl)
 
 pub returns-in-Err-play-clause-err : goal.returns-in-Err-play-clause-err
-returns-in-Err-play-clause-err c = failed c.args.cart.now c.args.state.now _ c.args.input c.in-Err-play.kind c.in-Err-play.ensures.err
+returns-in-Err-play-clause-err c = failed c.args.cart.now c.args.state.now _ c.args.input c.in-Err-play.halt.kind c.in-Err-play.halt.cycles c.in-Err-play.ensures.err

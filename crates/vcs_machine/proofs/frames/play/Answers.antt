@@ -10,8 +10,7 @@ returns-in-Ok-clause-ok g c =
 
 pub returns-in-Err-clause-err : goal.returns-in-Err-clause-err
 returns-in-Err-clause-err g c =
-    let at = c.in-Err.ensures.err in
-    let stopped = rw (c.cpu-cpu.ensures, c.begin-console.ensures) at at.1 in
+    let stopped = rw (c.cpu-cpu.ensures, c.begin-console.ensures) at c.in-Err.ensures.err in
     rw c.finish-after.ensures.state
-    (halts-on g.S.Paint.drawn c.args.cart.now c.args.state.now c.args.input c.args.sink c.in-Err.kind
-    (record { registers = c.run-ran.new.cpu; bus = c.run-ran.new.console; cycles = at.0 }) stopped)
+    (halts-on g.S.Paint.drawn c.args.cart.now c.args.state.now c.args.input c.args.sink c.in-Err.halt.kind
+    (record { registers = c.run-ran.new.cpu; bus = c.run-ran.new.console; cycles = c.in-Err.halt.cycles }) stopped)

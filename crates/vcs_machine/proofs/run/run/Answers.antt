@@ -17,11 +17,9 @@ loop-cycles-init g c = search-begins (console_rules g.S.Paint.drawn) _ refl
 
 pub returns-in-Err-clause-err : goal.returns-in-Err-clause-err
 returns-in-Err-clause-err g c =
-    let s = c.loop-cycles.invariant in (
-      c.loop-cycles.cycles,
-      rw (c.from.ensures, halted-kind_of, c.in-Err.ensures.cpu, c.in-Err.ensures.console)
-          (sym s.finds ∙ search-failed (console_rules g.S.Paint.drawn) s.fuel _ c.in-Err.fault c.loop-cycles-test.true s.enough c.in-Err.ensures.value),
-    )
+    let s = c.loop-cycles.invariant in
+    rw (c.from-kind.ensures, halted-kind_of, c.in-Err.ensures.cpu, c.in-Err.ensures.console)
+    (sym s.finds ∙ search-failed (console_rules g.S.Paint.drawn) s.fuel _ c.in-Err.fault c.loop-cycles-test.true s.enough c.in-Err.ensures.value)
 
 pub returns-then-has_ended-clause-ok : goal.returns-then-has_ended-clause-ok
 unfolding console_rules
@@ -39,4 +37,4 @@ loop-cycles-preserved g c =
 pub returns-clause-err : goal.returns-clause-err
 returns-clause-err g c =
     let s = c.loop-cycles.invariant in
-    (c.loop-cycles.cycles, sym s.finds ∙ search-long (console_rules g.S.Paint.drawn) s.fuel _ c.loop-cycles-test.false)
+    sym s.finds ∙ search-long (console_rules g.S.Paint.drawn) s.fuel _ c.loop-cycles-test.false
