@@ -13,7 +13,7 @@ use crate::words::{first_line, first_word, uncommented};
 use std::alloc::Global;
 use vcs_machine::Input;
 
-/// The most frames that a text says: those that a movie has.
+/// The most frames that a text says: no movie has more.
 const MOST_FRAMES: u64 = 262_143;
 
 /// How many frames a word says. A number above `MOST_FRAMES` counts as the one after it.
@@ -80,7 +80,7 @@ fn stretch_in(line: &[u8]) -> Option<Stretch>
 
 /// The inputs that a text says. `BadLine` has the number, from 1, of the first line that can't be
 /// read, or with which there would be more than 262,143 inputs; no memory is taken for that line.
-/// `NoMemory` comes where a growth for the lines before it was refused.
+/// `NoMemory` comes where a growth was refused for a line before it.
 pub fn read_text(alloc: Global, text: &[u8]) -> Result<Vec<Input>, TextError>
     ensures found { IfOk result (λ inputs. inputs_in text.now ≡ Ok inputs.items) }
     ensures bad { (number : ℕ) → result ≡ Err (TextError.BadLine number)
@@ -89,7 +89,7 @@ pub fn read_text(alloc: Global, text: &[u8]) -> Result<Vec<Input>, TextError>
 {
     let mut inputs = Vec::new(alloc);
     let mut rest = text;
-    let mut number = 0;
+    let mut number: u64 = 0;
     while !rest.is_empty() {
         let (line, after) = first_line(rest);
         number += 1;
