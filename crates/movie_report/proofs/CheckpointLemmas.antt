@@ -1,9 +1,8 @@
 -- The gaps between checkpoints.
-use Rattle.std.proofs.Common.{◌≡◌, ℕ, zero, suc, ◌+◌, ◌-◌, ◌<◌, ◌≤◌, List, [], ◌∷◌, ◌++◌, length, append_assoc, Some, None, slice_get, refl, arith, ap, ◌∙◌, sym, add-one, drop, max}
+use Rattle.std.proofs.Common.{◌≡◌, ℕ, zero, suc, ◌+◌, ◌-◌, ◌<◌, List, [], ◌∷◌, ◌++◌, length, append_assoc, Some, slice_get, refl, arith, ◌∙◌, sym, add-one, drop, max}
 use Rattle.std.specs.Prelude.{fold, codes}
 use Rattle.std.specs.Fmt.{decimal}
 use Rattle.std.proofs.Math.Seq.{drop-length}
-use Rattle.std.proofs.lemmas.Option.{slice_get_within}
 use Rattle.movie_file.specs.Movie.{MovieData, IsMovie, AreCheckpoints}
 use Rattle.movie_file.specs.declared.checkpoint.Checkpoint.{Checkpoint}
 use Rattle.movie_report.specs.CheckpointFacts.{checkpoints_text, gaps_from, largest}

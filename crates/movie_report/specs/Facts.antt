@@ -6,12 +6,15 @@ use Rattle.hex.specs.Hex.{encode_lower}
 use Rattle.md5.specs.Md5.{md5}
 use Rattle.sha1.specs.Sha1.{sha1}
 use Rattle.sha2.specs.Sha256.{sha256}
+use Rattle.vcs_machine.specs.Faults.{hex2, hex4}
 use Rattle.vcs_machine.specs.States.{power_on}
 use Rattle.vcs_machine.specs.declared.fields.StateFields.{StateFields}
 use Rattle.movie_file.specs.Movie.{MovieData}
 use Rattle.movie_file.specs.Record.{record_of}
 use Rattle.movie_file.specs.Run.{run}
 use Rattle.movie_file.specs.declared.checkpoint.Checkpoint.{Checkpoint}
+use Rattle.replay_segments.specs.RunStates.{left_at}
+use Rattle.replay_segments.specs.declared.run_states.LeftState.{LeftState}
 use Rattle.replay_segments.specs.declared.verdict.Verdict.{Verdict}
 use Rattle.replay_segments.specs.declared.verdict.Verdict.TheVariants.{Genuine, FalseCheckpoint, Fault}
 use Rattle.movie_report.specs.CheckpointFacts.{checkpoints_text}
@@ -38,11 +41,24 @@ claim_text (Some c) (Some found) = differences_text Claim (record_of c.state) (r
 claim_text c None = []
 claim_text None found = []
 
+-- The processor's registers, with the flags as in a state record.
+abbrev pub registers_text : StateFields → List ℕ
+registers_text f =
+    codes "registers: A " ++ (hex2 f.a ++ (codes ", X " ++ (hex2 f.x ++ (codes ", Y " ++ (hex2 f.y ++ (codes ", S " ++ (hex2 f.s
+    ++ (codes ", P " ++ (hex2 f.p ++ (codes ", PC " ++ (hex4 f.pc ++ 10 ∷ [])))))))))))
+
+-- What a frame left that faults: the registers, and where the beam is.
+abbrev pub left_text : Option LeftState → List ℕ
+left_text None = []
+left_text (Some left) =
+    registers_text left.state
+    ++ (codes "beam: scanline " ++ (decimal left.scanline ++ (codes ", cycle " ++ (decimal left.state.line_cycle ++ 10 ∷ []))))
+
 -- What is to be said of a verdict.
 abbrev pub verdict_text : MovieData → Verdict → List ℕ
 verdict_text m (Genuine frames) = []
 verdict_text m (FalseCheckpoint number frame) = claim_text (slice_get m.checkpoints (number - 1)) (run m m.start 0 frame)
-verdict_text m (Fault frame kind) = []
+verdict_text m (Fault frame kind) = left_text (left_at m frame)
 
 abbrev pub report_text : MovieData → Verdict → List ℕ
 report_text m verdict =

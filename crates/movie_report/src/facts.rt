@@ -3,21 +3,23 @@ ghost use Rattle.std.specs.Prelude.{◌≡◌, ◌-◌, IfOk, string_bytes, slic
 ghost use Rattle.vcs_machine.specs.States.{power_on};
 ghost use Rattle.movie_file.specs.Record.{record_of};
 ghost use Rattle.movie_file.specs.Run.{run};
+ghost use Rattle.replay_segments.specs.RunStates.{left_at};
 ghost use Rattle.replay_segments.specs.Verdicts.{HasVerdict};
-ghost use Rattle.replay_segments.specs.declared.verdict.Verdict.TheVariants.{FalseCheckpoint};
-ghost use Rattle.movie_report.specs.Facts.{cartridge_text, claim_text, start_text, verdict_text, report_text};
+ghost use Rattle.replay_segments.specs.declared.verdict.Verdict.TheVariants.{FalseCheckpoint, Fault};
+ghost use Rattle.movie_report.specs.Facts.{cartridge_text, claim_text, left_text, registers_text, start_text, verdict_text, report_text};
 
 use crate::checkpoints::checkpoint_facts;
 use crate::differences::{Comparison, differences};
+use crate::hexadecimal::{Byte, Word};
 use hex::encode;
 use md5::Md5;
 use movie_file::{Movie, write_state};
-use replay_segments::{Verdict, found_state};
+use replay_segments::{LeftState, Verdict, found_state, left_state};
 use riot_map::Cart;
 use sha1::Sha1;
 use sha2::Sha256;
 use std::alloc::{AllocError, Global};
-use vcs_machine::State;
+use vcs_machine::{FaultKind, State, StateFields};
 
 /// The lines of a cartridge's length and digests.
 fn cartridge_facts(alloc: Global, cart: &Cart) -> Result<String, AllocError>
@@ -57,21 +59,56 @@ fn claim_facts(alloc: Global, movie: &Movie, number: u16, frame: u32) -> Result<
     differences(alloc, Comparison::Claim, &claimed, &found)
 }
 
+/// The line of the processor's registers.
+fn registers_line(alloc: Global, fields: &StateFields) -> Result<String, AllocError>
+    ensures { IfOk result (λ text. string_bytes text ≡ registers_text fields.now) }
+{
+    format!(in alloc;
+        "registers: A {}, X {}, Y {}, S {}, P {}, PC {}\n",
+        Byte(fields.a),
+        Byte(fields.x),
+        Byte(fields.y),
+        Byte(fields.s),
+        Byte(fields.p),
+        Word(fields.pc)
+    )
+}
+
+/// The lines of what the frame left that faults.
+fn fault_facts(
+    alloc: Global,
+    movie: &Movie,
+    frame: u32,
+    kind: FaultKind,
+) -> Result<String, AllocError>
+    requires { HasVerdict movie.now (Fault frame kind) }
+    ensures { IfOk result (λ text. string_bytes text ≡ left_text (left_at movie.now frame)) }
+{
+    let LeftState { state, scanline } = left_state(alloc, movie, frame, kind);
+    let fields = state.fields();
+    let registers = registers_line(alloc, &fields)?;
+    let cycle = fields.line_cycle;
+    format!(in alloc; "{registers}beam: scanline {scanline}, cycle {cycle}\n")
+}
+
 /// The lines of what went wrong.
 fn verdict_facts(alloc: Global, movie: &Movie, verdict: &Verdict) -> Result<String, AllocError>
     requires { HasVerdict movie.now verdict.now }
     ensures { IfOk result (λ text. string_bytes text ≡ verdict_text movie.now verdict.now) }
 {
     match verdict {
-        Verdict::Genuine { .. } | Verdict::Fault { .. } => Ok(String::new(alloc)),
+        Verdict::Genuine { .. } => Ok(String::new(alloc)),
         Verdict::FalseCheckpoint { number, frame } => claim_facts(alloc, movie, *number, *frame),
+        Verdict::Fault { frame, kind } => fault_facts(alloc, movie, *frame, *kind),
     }
 }
 
 /// The facts of a movie and its verdict, as lines.
 ///
 /// They are the cartridge's length and digests, whether the start state is that of power-on, and where checkpoints stand. Of a
-/// false checkpoint follow the numbers in which the claimed state differs from that of the run.
+/// false checkpoint follow the numbers in which the claimed state differs from that of the run, and of a fault the registers and
+/// the beam's place that its frame left. So much of the movie is replayed as lies between the place and the last checkpoint before
+/// it.
 pub fn report(alloc: Global, movie: &Movie, verdict: &Verdict) -> Result<String, AllocError>
     requires { HasVerdict movie.now verdict.now }
     ensures { IfOk result (λ text. string_bytes text ≡ report_text movie.now verdict.now) }

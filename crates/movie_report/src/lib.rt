@@ -4,6 +4,7 @@
 mod checkpoints;
 mod differences;
 mod facts;
+mod hexadecimal;
 mod numbers;
 
 pub use facts::report;

@@ -2,6 +2,7 @@
 ghost use Rattle.std.specs.Prelude.{◌≡◌, ◌<◌, slice_index_or};
 ghost use Rattle.movie_report.specs.Numbers.{number_at, processor_numbers, other_numbers, nothing};
 
+use crate::hexadecimal::Byte;
 use std::fmt;
 
 /// The processor's numbers, with their lengths in bytes.
@@ -119,22 +120,6 @@ impl Number {
     }
 }
 
-/// The low byte of an address, as two capital hexadecimal digits.
-#[derive(Clone, Copy)]
-struct Address(u8);
-
-impl fmt::Display for Address {
-    ghost use Rattle.std.specs.Prelude.{Some};
-    ghost use Rattle.vcs_machine.specs.Faults.{hex2};
-
-    ghost output = { λ address. Some (hex2 address.0) };
-
-    fn fmt<W: fmt::Write>(&self, f: &mut fmt::Formatter<W>) -> fmt::Result {
-        let byte = self.0;
-        write!(f, "{byte:02X}")
-    }
-}
-
 impl fmt::Display for Number {
     ghost use Rattle.std.specs.Prelude.{Some};
 
@@ -146,7 +131,7 @@ impl fmt::Display for Number {
             let (name, _) = processor_number(self.place);
             write!(f, "{name}")
         } else if self.place < 134 {
-            write!(f, "memory {}", Address(self.place as u8 + 122))
+            write!(f, "memory {}", Byte(self.place as u8 + 122))
         } else {
             let (name, _) = other_number(self.place - 134);
             write!(f, "{name}")

@@ -12,6 +12,8 @@ mod making;
 #[cfg(test)]
 mod movies;
 #[cfg(test)]
+mod reports;
+#[cfg(test)]
 mod segments;
 #[cfg(test)]
 mod verdicts;
