@@ -21,16 +21,28 @@ pub enum Command {
         /// The file that takes the pictures.
         pictures: Option<String>,
     },
+    /// Judge a movie, and say facts about it.
+    Report {
+        file: String,
+        /// How many threads replay it, 1 to 64.
+        workers: u8,
+    },
     /// Make a movie of a cartridge and the inputs of its frames.
     Make {
         rom: String,
         inputs: String,
+        /// Whether the inputs are text.
+        text: bool,
         /// A checkpoint after every N frames, N at least 1.
         every: u32,
         out: String,
     },
     /// Say what a movie holds.
     Info {
+        file: String,
+    },
+    /// Print the inputs of a movie as text.
+    Inputs {
         file: String,
     },
     /// Convert a movie to version 2.

@@ -40,6 +40,18 @@ fn verify_of(alloc: Global, matches: &ArgMatches<'_>) -> Result<Command, LineFau
     })
 }
 
+/// The command `report`.
+fn report_of(alloc: Global, matches: &ArgMatches<'_>) -> Result<Command, LineFault>
+    ensures { IfOk result IsInRange }
+{
+    let file = text_of(alloc, matches, "file")?;
+    let workers = matches.get_one::<u8>("workers").unwrap_or(0);
+    if workers < 1 || workers > 64 {
+        return Err(out_of_range(alloc));
+    }
+    Ok(Command::Report { file, workers })
+}
+
 /// The command `make`.
 fn make_of(alloc: Global, matches: &ArgMatches<'_>) -> Result<Command, LineFault>
     ensures { IfOk result IsInRange }
@@ -47,6 +59,7 @@ fn make_of(alloc: Global, matches: &ArgMatches<'_>) -> Result<Command, LineFault
     let rom = text_of(alloc, matches, "rom")?;
     let inputs = text_of(alloc, matches, "inputs")?;
     let out = text_of(alloc, matches, "out")?;
+    let text = matches.get_flag("text");
     let every = matches.get_one::<u32>("every").unwrap_or(0);
     if every < 1 {
         return Err(out_of_range(alloc));
@@ -54,6 +67,7 @@ fn make_of(alloc: Global, matches: &ArgMatches<'_>) -> Result<Command, LineFault
     Ok(Command::Make {
         rom,
         inputs,
+        text,
         every,
         out,
     })
@@ -93,8 +107,12 @@ pub fn parse_line<S: AsStr>(alloc: Global, words: &[S]) -> Result<Command, LineF
     };
     match matches.subcommand() {
         Some(("verify", inner)) => verify_of(alloc, inner),
+        Some(("report", inner)) => report_of(alloc, inner),
         Some(("make", inner)) => make_of(alloc, inner),
         Some(("info", inner)) => Ok(Command::Info {
+            file: text_of(alloc, inner, "file")?,
+        }),
+        Some(("inputs", inner)) => Ok(Command::Inputs {
             file: text_of(alloc, inner, "file")?,
         }),
         Some(("convert", inner)) => Ok(Command::Convert {

@@ -18,7 +18,7 @@ Examples:
   vcs_check verify run.a26m --workers 4
   vcs_check verify run.a26m --first 90 --count 1 --pictures frame90.ppm
   gunzip < run.a26m.gz | vcs_check verify -
-  vcs_check make game.rom play.inputs --every 60 --out run.a26m";
+  vcs_check make game.rom play.txt --text --every 60 --out run.a26m";
 
 /// What `--version` prints after the program's name.
 const VERSIONS: &str = "1.1.0
@@ -33,7 +33,7 @@ fn movie<'a>(alloc: Global) -> Arg<'a> {
         .help("The movie; - is standard input")
 }
 
-/// `--workers N` of `verify`.
+/// `--workers N` of `verify` and `report`.
 fn workers<'a>(alloc: Global) -> Arg<'a> {
     Arg::new(alloc, "workers")
         .long("workers")
@@ -94,6 +94,14 @@ fn verify<'a>(alloc: Global) -> Result<Command<'a>, AllocError> {
         .arg(pictures(alloc))
 }
 
+/// `report FILE`, with its option.
+fn report<'a>(alloc: Global) -> Result<Command<'a>, AllocError> {
+    Command::new(alloc, "report")
+        .about("Judge a movie, and say what a judge asks next")
+        .arg(movie(alloc))?
+        .arg(workers(alloc))
+}
+
 /// `--every N` of `make`.
 fn checkpoints<'a>(alloc: Global) -> Arg<'a> {
     Arg::new(alloc, "every")
@@ -114,6 +122,14 @@ fn out<'a>(alloc: Global) -> Arg<'a> {
         .action(ArgAction::Set)
 }
 
+/// `--text` of `make`.
+fn text<'a>(alloc: Global) -> Arg<'a> {
+    Arg::new(alloc, "text")
+        .long("text")
+        .help("INPUTS is text: how many frames and what is held, a line for each stretch")
+        .action(ArgAction::SetTrue)
+}
+
 /// `make ROM INPUTS`, with its options.
 fn make<'a>(alloc: Global) -> Result<Command<'a>, AllocError> {
     Command::new(alloc, "make")
@@ -128,8 +144,9 @@ fn make<'a>(alloc: Global) -> Result<Command<'a>, AllocError> {
             Arg::new(alloc, "inputs")
                 .value_name("INPUTS")
                 .required(true)
-                .help("Three bytes a frame: SWCHA, SWCHB, buttons"),
+                .help("Three bytes a frame: SWCHA, SWCHB, buttons; with --text lines of text"),
         )?
+        .arg(text(alloc))?
         .arg(checkpoints(alloc))?
         .arg(out(alloc))
 }
@@ -138,6 +155,13 @@ fn make<'a>(alloc: Global) -> Result<Command<'a>, AllocError> {
 fn info<'a>(alloc: Global) -> Result<Command<'a>, AllocError> {
     Command::new(alloc, "info")
         .about("Say what a movie holds")
+        .arg(movie(alloc))
+}
+
+/// `inputs FILE`.
+fn inputs<'a>(alloc: Global) -> Result<Command<'a>, AllocError> {
+    Command::new(alloc, "inputs")
+        .about("Print the inputs of a movie as text, which make --text reads")
         .arg(movie(alloc))
 }
 
@@ -167,7 +191,9 @@ pub(crate) fn program<'a>(alloc: Global) -> Result<Command<'a>, AllocError> {
         .about("Judge movies of the Atari 2600")
         .after_help(MORE)
         .subcommand(verify(alloc)?)?
+        .subcommand(report(alloc)?)?
         .subcommand(make(alloc)?)?
         .subcommand(info(alloc)?)?
+        .subcommand(inputs(alloc)?)?
         .subcommand(convert(alloc)?)
 }

@@ -30,8 +30,14 @@ fn defaults(rt: HostRuntime) -> Result<(), Fail> {
     );
     let found = parse_line(rt.alloc(), &["vcs_check", "info", "absent"]);
     assert!(rt; matches!(&found, Ok(Command::Info { .. })));
+    let found = parse_line(rt.alloc(), &["vcs_check", "inputs", "-"]);
+    assert!(rt; matches!(&found, Ok(Command::Inputs { .. })));
     let found = parse_line(rt.alloc(), &["vcs_check", "convert", "a", "b"]);
     assert!(rt; matches!(&found, Ok(Command::Convert { .. })));
+    let found = parse_line(rt.alloc(), &["vcs_check", "report", "m"]);
+    assert!(rt; matches!(&found, Ok(Command::Report { workers: 1, .. })));
+    let found = parse_line(rt.alloc(), &["vcs_check", "report", "m", "--workers", "64"]);
+    assert!(rt; matches!(&found, Ok(Command::Report { workers: 64, .. })));
     let found = parse_line(rt.alloc(), &["vcs_check"]);
     assert!(rt; matches!(&found, Ok(Command::Stdin)));
     let found = parse_line(rt.alloc(), &["vcs_check", "--"]);
@@ -90,16 +96,32 @@ fn numbers_are_those_of_the_words(rt: HostRuntime) {
         matches!(
             &found,
             Ok(Command::Make {
+                text: false,
                 every: 4_294_967_295,
                 ..
             })
         )
     );
+    let words = [
+        "vcs_check",
+        "make",
+        "r",
+        "i",
+        "--text",
+        "--every",
+        "1",
+        "--out",
+        "o",
+    ];
+    let found = parse_line(rt.alloc(), &words);
+    assert!(rt; matches!(&found, Ok(Command::Make { text: true, every: 1, .. })));
 }
 
 #[test]
 fn mistakes(rt: HostRuntime) {
     let found = parse_line(rt.alloc(), &["vcs_check", "verify", "m", "--workers", "65"]);
+    assert!(rt; matches!(&found, Err(LineFault::Usage { .. })));
+    let found = parse_line(rt.alloc(), &["vcs_check", "report", "m", "--workers", "0"]);
     assert!(rt; matches!(&found, Err(LineFault::Usage { .. })));
     let found = parse_line(rt.alloc(), &["vcs_check", "verify", "m", "--count", "601"]);
     assert!(rt; matches!(&found, Err(LineFault::Usage { .. })));

@@ -97,7 +97,7 @@ impl Movie {
         self.inputs.len() as u32
     }
 
-    /// The inputs of its frames, in their order.
+    /// The inputs of its frames, in order.
     pub fn inputs(&self) -> &[Input]
         ensures { result.now ≡ self.now.inputs }
     {
@@ -137,13 +137,6 @@ impl Movie {
         let mut movie = self;
         movie.version = 2;
         movie
-    }
-
-    /// The inputs of its frames, in order.
-    pub(crate) fn inputs(&self) -> &[Input]
-        ensures { result.now ≡ self.now.inputs }
-    {
-        &self.inputs
     }
 
     /// Its checkpoints, in order.

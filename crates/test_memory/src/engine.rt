@@ -6,7 +6,9 @@ use replay_segments::Keep;
 use std::alloc::Global;
 use std::sync::Wait;
 use std::thread::Threads;
-use vcs_engine::{Plan, RunError, Status, run, run_convert, run_info, run_make};
+use vcs_engine::{
+    InputForm, Plan, RunError, Status, run, run_convert, run_info, run_inputs, run_make, run_report,
+};
 
 /// The room for a line.
 const ROOM: usize = 64;
@@ -54,17 +56,22 @@ pub(crate) fn is_judged<R: Threads + Wait + Sync>(
     }
 }
 
-/// A movie with a checkpoint at every two frames, byte by byte.
-pub(crate) fn is_made(alloc: Global) -> Result<(), Failure> {
+/// A movie with a checkpoint at every two frames, byte by byte, made of inputs in a form.
+pub(crate) fn is_made(alloc: Global, form: InputForm) -> Result<(), Failure> {
     let wanted = two_frames_to_the_end();
     let mut movie = [0u8; LENGTH];
     let mut line = [0u8; ROOM];
     let mut movie_left = movie.as_mut_slice();
     let mut line_left = line.as_mut_slice();
+    let mut inputs = match form {
+        InputForm::Bytes => &wanted[2249..2255],
+        InputForm::Text => b"2\n".as_slice(),
+    };
     let answer = run_make(
         alloc,
         &mut &wanted[14..2062],
-        &mut &wanted[2249..2255],
+        form,
+        &mut inputs,
         2,
         &mut movie_left,
         &mut line_left,
@@ -94,6 +101,51 @@ pub(crate) fn is_told(alloc: Global) -> Result<(), Failure> {
                 && is_whole
                 && line.starts_with(b"movie: version 1, cartridge 2048, 2 frames, 1 checkpoints\n"),
         ),
+        Err(error) => Err(failed(error, is_untouched)),
+    }
+}
+
+/// The inputs of two frames in which nothing is held.
+pub(crate) fn is_listed(alloc: Global) -> Result<(), Failure> {
+    let mut text = [0u8; ROOM];
+    let mut left = text.as_mut_slice();
+    let answer = run_inputs(alloc, &mut two_frames().as_slice(), &mut left);
+    let is_untouched = left.len() == ROOM;
+    let is_whole = left.len() == ROOM - 2;
+    match answer {
+        Ok(status) => right(status == Status::Done && is_whole && text.starts_with(b"2\n")),
+        Err(error) => Err(failed(error, is_untouched)),
+    }
+}
+
+/// The report of two frames, judged by so many workers. The digests are those of md5sum, sha1sum and sha256sum.
+const REPORT: &[u8] = b"\
+genuine: 2 frames, 1 checkpoints
+cartridge: 2048 bytes
+md5: f802468fa2066207e9a0e49ff378f034
+sha1: 88d63399fa6253a6faa233ea800d315bb5a31415
+sha256: 783dcea34648927b2ad259bab8bd1446a5caca7bd3c6e808f306acb34977b600
+start: power-on
+checkpoints: 1
+first checkpoint: frame 1
+last checkpoint: frame 1
+largest gap: 1 frames
+after the last checkpoint: 1 frames
+";
+
+pub(crate) fn is_reported<R: Threads + Wait + Sync>(
+    rt: &R,
+    alloc: Global,
+    workers: u8,
+) -> Result<(), Failure> {
+    let plan = Plan::new(workers, 1, Keep::new(1, 0)?)?;
+    let mut text = [0u8; 512];
+    let mut left = text.as_mut_slice();
+    let answer = run_report(rt, alloc, &mut two_frames().as_slice(), &plan, &mut left);
+    let is_untouched = left.len() == 512;
+    let is_whole = left.len() == 512 - REPORT.len();
+    match answer {
+        Ok(status) => right(status == Status::Done && is_whole && text.starts_with(REPORT)),
         Err(error) => Err(failed(error, is_untouched)),
     }
 }

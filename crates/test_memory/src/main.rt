@@ -23,6 +23,7 @@ use std::io::{self, Print, Read};
 use std::process::ExitCode;
 use std::sync::Wait;
 use std::thread::Threads;
+use vcs_engine::InputForm;
 
 /// Tries a call; none has another name.
 fn tried<R: Threads + Wait + Sync>(
@@ -49,7 +50,11 @@ fn tried<R: Threads + Wait + Sync>(
         "verify_600_pictures" => workers::is_judged_once(rt, alloc),
         "run" => engine::is_judged(rt, alloc, 1),
         "run_by_two" => engine::is_judged(rt, alloc, 2),
-        "run_make" => engine::is_made(alloc),
+        "run_make" => engine::is_made(alloc, InputForm::Bytes),
+        "run_make_of_text" => engine::is_made(alloc, InputForm::Text),
+        "run_inputs" => engine::is_listed(alloc),
+        "run_report" => engine::is_reported(rt, alloc, 1),
+        "run_report_by_two" => engine::is_reported(rt, alloc, 2),
         "run_info" => engine::is_told(alloc),
         "run_convert" => engine::is_converted(alloc),
         _ => return None,

@@ -1,17 +1,21 @@
 -- What a command reads of standard input and writes to standard output, and its status. This project's own.
-use Rattle.std.specs.Prelude.{◌≡◌, ◌≢◌, ◌≤◌, ℕ, List, Option, Result, Err, IfOk, OnErr, codes, string_bytes}
+use Rattle.std.specs.Prelude.{◌≡◌, ◌≢◌, ◌≤◌, ℕ, Bool, if◌then◌else◌, List, Option, Result, Err, IfOk, OnErr, codes, string_bytes}
 use Rattle.std.specs.Io.KnownBytes.{Appends, Keeps}
 use Rattle.command_line.specs.declared.command.Command.{Command}
-use Rattle.command_line.specs.declared.command.Command.TheVariants.{Stdin, Verify, Make, Info, Convert}
+use Rattle.command_line.specs.declared.command.Command.TheVariants.{Stdin, Verify, Report, Make, Info, Inputs, Convert}
 use Rattle.movie_file.specs.Reading.{movie_at}
 use Rattle.replay_segments.specs.declared.keep.Keep.{Keep}
 use Rattle.vcs_check.specs.declared.commands.Failure.{Failure}
 use Rattle.vcs_check.specs.declared.commands.Failure.TheVariants.{Run}
 use Rattle.vcs_engine.specs.Conversions.{converted_of}
 use Rattle.vcs_engine.specs.Information.{information_of}
+use Rattle.vcs_engine.specs.Listings.{Lists}
 use Rattle.vcs_engine.specs.Makings.{Made, Makes}
 use Rattle.vcs_engine.specs.Outputs.{Told, Tells}
+use Rattle.vcs_engine.specs.Reports.{Reports}
 use Rattle.vcs_engine.specs.Streams.{ReadsAll}
+use Rattle.vcs_engine.specs.declared.making.InputForm.{InputForm}
+use Rattle.vcs_engine.specs.declared.making.InputForm.TheVariants.{Bytes, Text}
 use Rattle.vcs_engine.specs.declared.run_error.RunError.TheVariants.{WriteFault}
 use Rattle.vcs_engine.specs.declared.status.Status.{Status}
 
@@ -28,10 +32,15 @@ abbrev pub IsJudged : ℕ → ℕ → List ℕ → Status → List ℕ → Type 
 IsJudged first count input status line =
     (keep : Keep) × (told : Told) × (keep.first ≡ first) × (keep.count ≡ count) × Tells keep input told × (status ≡ told.status) × (line ≡ told.line)
 
+-- How a file has inputs.
+abbrev pub form_of : Bool → InputForm
+form_of text = if text then Text else Bytes
+
 -- The line of a movie that was made of some bytes, or of why there is none.
-abbrev pub IsMade : ℕ → Status → List ℕ → Type 0
-IsMade every status line =
-    (rom : List ℕ) × (old new : Option (List ℕ)) × (made : Made) × Makes rom old new every made × (status ≡ made.status) × (line ≡ made.line)
+abbrev pub IsMade : Bool → ℕ → Status → List ℕ → Type 0
+IsMade text every status line =
+    (rom : List ℕ) × (old new : Option (List ℕ)) × (made : Made)
+    × Makes (form_of text) rom old new every made × (status ≡ made.status) × (line ≡ made.line)
 
 -- The line about these bytes.
 abbrev pub IsInformation : List ℕ → Status → List ℕ → Type 0
@@ -53,14 +62,18 @@ abbrev pub Answers : Command → Option (List ℕ) → Option (List ℕ) → Sta
 Answers Stdin old new status line = (input : List ℕ) × ReadsAll old new input × IsJudged 1 0 input status line
 Answers (Verify file workers every first count pictures) old new status line =
     (input : List ℕ) × ReadsFile (string_bytes file) old new input × IsJudged first count input status line
-Answers (Make rom inputs every out) old new status line = Keeps old new × IsMade every status line
+Answers (Report file workers) old new status line = (input : List ℕ) × ReadsFile (string_bytes file) old new input × Reports input status line
+Answers (Make rom inputs text every out) old new status line = Keeps old new × IsMade text every status line
 Answers (Info file) old new status line = (input : List ℕ) × ReadsFile (string_bytes file) old new input × IsInformation input status line
+Answers (Inputs file) old new status line = (input : List ℕ) × ReadsFile (string_bytes file) old new input × Lists (movie_at input) status line
 Answers (Convert older newer) old new status line = Keeps old new × IsConverted status line
 
--- More than one worker judges: only `verify` with more than one starts threads.
+-- More than one worker judges: only `verify` and `report` with more than one start threads.
 abbrev pub StartsThreads : Command → Type 0
 StartsThreads Stdin = ⊥
 StartsThreads (Verify file workers every first count pictures) = 2 ≤ workers
-StartsThreads (Make rom inputs every out) = ⊥
+StartsThreads (Report file workers) = 2 ≤ workers
+StartsThreads (Make rom inputs text every out) = ⊥
 StartsThreads (Info file) = ⊥
+StartsThreads (Inputs file) = ⊥
 StartsThreads (Convert older newer) = ⊥

@@ -1,6 +1,9 @@
 //! What each command does with files.
 ghost use Rattle.std.specs.Prelude.{◌≡◌, ◌≢◌, ◌≤◌, List, ℕ, Err, OnErr};
 ghost use Rattle.vcs_check.specs.Commands.{IsConverted, IsInformation, IsJudged, IsMade, IsQuiet, ReadsFile, Writes};
+ghost use Rattle.movie_file.specs.Reading.{movie_at};
+ghost use Rattle.vcs_engine.specs.Listings.{Lists};
+ghost use Rattle.vcs_engine.specs.Reports.{Reports};
 ghost use Rattle.vcs_engine.specs.Streams.{ReadsAll};
 
 use crate::files::{Identity, create, open};
@@ -11,7 +14,9 @@ use std::rt::Files;
 use std::sync::Wait;
 use std::thread::Threads;
 use thiserror::Error;
-use vcs_engine::{Plan, RunError, Status, run, run_convert, run_info, run_make};
+use vcs_engine::{
+    InputForm, Plan, RunError, Status, run, run_convert, run_info, run_inputs, run_make, run_report,
+};
 
 /// The name of a file that is standard input.
 const STANDARD_INPUT: &str = "-";
@@ -165,23 +170,44 @@ pub(crate) fn verify_with_pictures<
     judge_with_pictures(rt, &mut movie, plan, pictures, line)
 }
 
+/// Judges the movie of a file, and says facts about it.
+pub(crate) fn report<R: Files + Threads + Wait + Sync + AllocGlobal, I: Read, W: Write>(
+    rt: &R,
+    input: &mut I,
+    file: &str,
+    plan: &Plan,
+    text: &mut W,
+) -> Result<Status, Failure>
+    ensures ok { Writes (W.contents text.old) (W.contents text.new) (λ status output.
+        (bytes : List ℕ) × ReadsFile file.now (I.remaining input.old) (I.remaining input.new) bytes × Reports bytes status output) result }
+    ensures quiet { IsQuiet (W.contents text.old) (W.contents text.new) result }
+    ensures no_thread { result ≡ Err (Failure.Run RunError.NoThread) → 2 ≤ plan.now.workers }
+{
+    if file == STANDARD_INPUT {
+        return Ok(run_report(rt, rt.alloc(), input, plan, text)?);
+    }
+    Ok(run_report(rt, rt.alloc(), &mut open(rt, file)?, plan, text)?)
+}
+
 /// Makes a movie of the files of a cartridge and of inputs.
 pub(crate) fn make<R: Files + AllocGlobal, W: Write>(
     rt: &R,
     rom: &str,
     inputs: &str,
+    text: bool,
     every: u32,
     out: &str,
     line: &mut W,
 ) -> Result<Status, Failure>
-    ensures ok { Writes (W.contents line.old) (W.contents line.new) (IsMade every) result }
+    ensures ok { Writes (W.contents line.old) (W.contents line.new) (IsMade text every) result }
     ensures quiet { IsQuiet (W.contents line.old) (W.contents line.new) result }
     ensures no_thread { result ≢ Err (Failure.Run RunError.NoThread) }
 {
     let mut rom = open(rt, rom)?;
     let mut inputs = open(rt, inputs)?;
     let mut movie = create(rt, out, &[Identity::of(&rom)?, Identity::of(&inputs)?])?;
-    Ok(run_make(rt.alloc(), &mut rom, &mut inputs, every, &mut movie, line)?)
+    let form = if text { InputForm::Text } else { InputForm::Bytes };
+    Ok(run_make(rt.alloc(), &mut rom, form, &mut inputs, every, &mut movie, line)?)
 }
 
 /// Says what the movie of a file holds.
@@ -200,6 +226,24 @@ pub(crate) fn info<R: Files + AllocGlobal, I: Read, W: Write>(
         return Ok(run_info(rt.alloc(), input, line)?);
     }
     Ok(run_info(rt.alloc(), &mut open(rt, file)?, line)?)
+}
+
+/// Prints the inputs of the movie of a file as text.
+pub(crate) fn inputs<R: Files + AllocGlobal, I: Read, W: Write>(
+    rt: &R,
+    input: &mut I,
+    file: &str,
+    text: &mut W,
+) -> Result<Status, Failure>
+    ensures ok { Writes (W.contents text.old) (W.contents text.new) (λ status output.
+        (bytes : List ℕ) × ReadsFile file.now (I.remaining input.old) (I.remaining input.new) bytes × Lists (movie_at bytes) status output) result }
+    ensures quiet { IsQuiet (W.contents text.old) (W.contents text.new) result }
+    ensures no_thread { result ≢ Err (Failure.Run RunError.NoThread) }
+{
+    if file == STANDARD_INPUT {
+        return Ok(run_inputs(rt.alloc(), input, text)?);
+    }
+    Ok(run_inputs(rt.alloc(), &mut open(rt, file)?, text)?)
 }
 
 /// Writes the movie of a file to another in version 2.

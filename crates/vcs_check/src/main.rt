@@ -1,4 +1,4 @@
-//! The program: judges movies, makes them, converts them, and says what they hold.
+//! The program: judges movies, makes them, converts them, and says what they hold and how they were played.
 //!
 //! Status 0: done; 1: a false checkpoint; 2: a fault; 3: refused; 4: no command; 5: an error of files, memory or devices, which is
 //! printed on standard error. Without arguments it judges the movie on standard input.
@@ -15,7 +15,7 @@ ghost use Rattle.vcs_engine.specs.declared.run_error.RunError.TheVariants.{NoThr
 
 use command_line::{Command, LineFault, parse_line};
 use commands::{
-    Failure, convert, info, judge, make, plan_of, plan_of_standard_input, verify,
+    Failure, convert, info, inputs, judge, make, plan_of, plan_of_standard_input, report, verify,
     verify_with_pictures,
 };
 use ending::Ending;
@@ -64,13 +64,18 @@ fn execute<R: Files + Threads + Wait + Sync + AllocGlobal, I: Read, W: Write>(
                 None => verify(rt, input, file, &plan, line),
             }
         }
+        Command::Report { file, workers } => {
+            report(rt, input, file, &plan_of(*workers, 1, 1, 0), line)
+        }
         Command::Make {
             rom,
             inputs,
+            text,
             every,
             out,
-        } => make(rt, rom, inputs, *every, out, line),
+        } => make(rt, rom, inputs, *text, *every, out, line),
         Command::Info { file } => info(rt, input, file, line),
+        Command::Inputs { file } => inputs(rt, input, file, line),
         Command::Convert { old, new } => convert(rt, old, new, line),
     }
 }

@@ -6,7 +6,7 @@ use replay_segments::Keep;
 use std::alloc::Global;
 use std::io;
 use std::test::Fail;
-use vcs_engine::{Plan, RunError, Status, run, run_info, run_make};
+use vcs_engine::{InputForm, Plan, RunError, Status, run, run_info, run_make};
 
 /// Two idle inputs.
 const TWO_INPUTS: [u8; 6] = [0xFF, 0x3F, 0, 0xFF, 0x3F, 0];
@@ -26,7 +26,7 @@ fn made(
 ) -> (Result<Status, RunError>, Vec<u8>, Vec<u8>) {
     let mut movie = Vec::new(alloc);
     let mut line = Vec::new(alloc);
-    let status = run_make(alloc, &mut rom, &mut inputs, every, &mut movie, &mut line);
+    let status = run_make(alloc, &mut rom, InputForm::Bytes, &mut inputs, every, &mut movie, &mut line);
     (status, movie, line)
 }
 
@@ -139,6 +139,7 @@ fn inputs_of_a_bad_rom_are_not_read(rt: HostRuntime) {
     let status = run_make(
         rt.alloc(),
         &mut [0; 2047].as_slice(),
+        InputForm::Bytes,
         &mut inputs,
         1,
         &mut io::sink(),
@@ -162,7 +163,7 @@ fn making_with_a_failed_read_writes_nothing(rt: HostRuntime) {
         };
         let mut movie = Vec::new(rt.alloc());
         let mut line = Vec::new(rt.alloc());
-        let status = run_make(rt.alloc(), &mut rom, &mut inputs, 1, &mut movie, &mut line);
+        let status = run_make(rt.alloc(), &mut rom, InputForm::Bytes, &mut inputs, 1, &mut movie, &mut line);
         assert_eq!(rt; status, Err(RunError::ReadFault));
         assert!(rt; movie.is_empty() && line.is_empty());
     }
@@ -180,6 +181,7 @@ fn making_of_endless_inputs_is_too_long(rt: HostRuntime) {
     let status = run_make(
         rt.alloc(),
         &mut endless.as_slice(),
+        InputForm::Bytes,
         &mut inputs,
         1,
         &mut movie,
@@ -207,6 +209,7 @@ fn written(
     let status = run_make(
         alloc,
         &mut rom(&ENDLESS_FRAMES).as_slice(),
+        InputForm::Bytes,
         &mut TWO_INPUTS.as_slice(),
         2,
         &mut movie,

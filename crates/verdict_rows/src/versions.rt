@@ -7,7 +7,7 @@ use std::io;
 use std::sync::Wait;
 use std::test::Fail;
 use std::thread::Threads;
-use vcs_engine::{Plan, RunError, Status, run, run_convert, run_info, run_make};
+use vcs_engine::{InputForm, Plan, RunError, Status, run, run_convert, run_info, run_make};
 
 /// A cartridge of two banks. The second bank begins with LDA 1FF8, which has 5A there and selects
 /// the first; that goes on with STA 80, LDA #02, STA VSYNC, LDA #00, STA VSYNC, JMP F005.
@@ -74,6 +74,7 @@ fn movie_of_two_banks_is_made(rt: HostRuntime) {
     let status = run_make(
         rt.alloc(),
         &mut banked_rom().as_slice(),
+        InputForm::Bytes,
         &mut inputs.as_slice(),
         1,
         &mut movie,
