@@ -69,7 +69,7 @@ module _ (comparison : Comparison) (a b : List ℕ) (place at : ℕ) (low : plac
 
   rest-next : rest_text comparison a b place at ≡ line_if_different comparison pair ++ rest_text comparison a b (place + 1) (at + (number_at place).length)
   unfolding pair
-  rest-next = rw (drop-numbers, drop-drop, drop-drop) refl
+  rest-next = rw (drop-numbers, drop-drop (number_at place).length at a, drop-drop (number_at place).length at b) refl
 
   pub IsUpTo-next : (text line new : List ℕ) (one other : List ℕ) (length : ℕ) → IsUpTo comparison a b place at text → length ≡ (number_at place).length
       → one ≡ take length (drop at a) → other ≡ take length (drop at b)

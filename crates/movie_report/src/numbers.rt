@@ -66,8 +66,14 @@ const OTHERS: [(&str, usize); 51] = [
     ("bank", 1),
 ];
 
+/// The place of the first byte of memory.
+const MEMORY_AT: usize = PROCESSOR.len();
+
+/// The place of the first number after the memory.
+const OTHERS_AT: usize = MEMORY_AT + MEMORY;
+
 /// How many numbers a record has.
-pub(crate) const COUNT: usize = PROCESSOR.len() + MEMORY + OTHERS.len();
+pub(crate) const COUNT: usize = OTHERS_AT + OTHERS.len();
 
 /// The name and the length of a number of the processor.
 fn processor_number(place: usize) -> (&'static str, usize)
@@ -108,13 +114,13 @@ impl Number {
     pub(crate) fn len(self) -> usize
         ensures { result ≡ (number_at self.place).length }
     {
-        if self.place < 6 {
+        if self.place < MEMORY_AT {
             let (_, length) = processor_number(self.place);
             length
-        } else if self.place < 134 {
+        } else if self.place < OTHERS_AT {
             1
         } else {
-            let (_, length) = other_number(self.place - 134);
+            let (_, length) = other_number(self.place - OTHERS_AT);
             length
         }
     }
@@ -127,13 +133,13 @@ impl fmt::Display for Number {
 
     #[tactic(auto, using(crate::proofs::NumberLemmas::number_places))]
     fn fmt<W: fmt::Write>(&self, f: &mut fmt::Formatter<W>) -> fmt::Result {
-        if self.place < 6 {
+        if self.place < MEMORY_AT {
             let (name, _) = processor_number(self.place);
             write!(f, "{name}")
-        } else if self.place < 134 {
-            write!(f, "memory {}", Byte(self.place as u8 + 122))
+        } else if self.place < OTHERS_AT {
+            write!(f, "memory {}", Byte(0x80 + (self.place - MEMORY_AT) as u8))
         } else {
-            let (name, _) = other_number(self.place - 134);
+            let (name, _) = other_number(self.place - OTHERS_AT);
             write!(f, "{name}")
         }
     }
