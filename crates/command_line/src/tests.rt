@@ -114,7 +114,16 @@ fn numbers_are_those_of_the_words(rt: HostRuntime) {
         "o",
     ];
     let found = parse_line(rt.alloc(), &words);
-    assert!(rt; matches!(&found, Ok(Command::Make { text: true, every: 1, .. })));
+    assert!(rt;
+        matches!(
+            &found,
+            Ok(Command::Make {
+                text: true,
+                every: 1,
+                ..
+            })
+        )
+    );
 }
 
 #[test]

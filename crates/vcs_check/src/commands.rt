@@ -206,8 +206,20 @@ pub(crate) fn make<R: Files + AllocGlobal, W: Write>(
     let mut rom = open(rt, rom)?;
     let mut inputs = open(rt, inputs)?;
     let mut movie = create(rt, out, &[Identity::of(&rom)?, Identity::of(&inputs)?])?;
-    let form = if text { InputForm::Text } else { InputForm::Bytes };
-    Ok(run_make(rt.alloc(), &mut rom, form, &mut inputs, every, &mut movie, line)?)
+    let form = if text {
+        InputForm::Text
+    } else {
+        InputForm::Bytes
+    };
+    Ok(run_make(
+        rt.alloc(),
+        &mut rom,
+        form,
+        &mut inputs,
+        every,
+        &mut movie,
+        line,
+    )?)
 }
 
 /// Says what the movie of a file holds.

@@ -1,6 +1,6 @@
 -- What the making of a movie writes for the bytes of a ROM and of inputs, and its status. This project's own.
 use Rattle.std.specs.Prelude.{◌≡◌, ◌⊎◌, ℕ, List, [], length, Option, Result, Ok, Err, IsTrue}
-use Rattle.core.specs.Result.{result_map_both}
+use Rattle.std.specs.Result.{result_map_both}
 use Rattle.std.specs.Io.KnownBytes.{Keeps}
 use Rattle.riot_map.specs.Cart.{is_cart_length}
 use Rattle.input_text.specs.Texts.{inputs_in}

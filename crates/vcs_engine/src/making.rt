@@ -18,7 +18,7 @@ use std::io::{Read, Write};
 use vcs_machine::Input;
 
 /// How a file has the inputs of frames.
-#[derive(Clone, Copy, Debug, PartialEq, Eq)]
+#[derive(Clone, Copy)]
 pub enum InputForm {
     /// Three bytes a frame.
     Bytes,

@@ -26,7 +26,15 @@ fn made(
 ) -> (Result<Status, RunError>, Vec<u8>, Vec<u8>) {
     let mut movie = Vec::new(alloc);
     let mut line = Vec::new(alloc);
-    let status = run_make(alloc, &mut rom, InputForm::Bytes, &mut inputs, every, &mut movie, &mut line);
+    let status = run_make(
+        alloc,
+        &mut rom,
+        InputForm::Bytes,
+        &mut inputs,
+        every,
+        &mut movie,
+        &mut line,
+    );
     (status, movie, line)
 }
 
@@ -163,7 +171,15 @@ fn making_with_a_failed_read_writes_nothing(rt: HostRuntime) {
         };
         let mut movie = Vec::new(rt.alloc());
         let mut line = Vec::new(rt.alloc());
-        let status = run_make(rt.alloc(), &mut rom, InputForm::Bytes, &mut inputs, 1, &mut movie, &mut line);
+        let status = run_make(
+            rt.alloc(),
+            &mut rom,
+            InputForm::Bytes,
+            &mut inputs,
+            1,
+            &mut movie,
+            &mut line,
+        );
         assert_eq!(rt; status, Err(RunError::ReadFault));
         assert!(rt; movie.is_empty() && line.is_empty());
     }

@@ -17,7 +17,9 @@ fn report_of(alloc: Global, movie: &Movie) -> Result<String, Fail> {
 fn genuine_movie_has_its_facts(rt: HostRuntime) -> Result<(), Fail> {
     let genuine = two(rt.alloc())?;
     let text = report_of(rt.alloc(), &genuine)?;
-    assert_eq!(rt; text.as_str(), "\
+    assert_eq!(rt;
+        text.as_str(),
+        "\
 cartridge: 2048 bytes
 md5: f802468fa2066207e9a0e49ff378f034
 sha1: 88d63399fa6253a6faa233ea800d315bb5a31415
@@ -28,7 +30,8 @@ first checkpoint: frame 1
 last checkpoint: frame 1
 largest gap: 1 frames
 after the last checkpoint: 1 frames
-");
+"
+    );
     Ok(())
 }
 
@@ -41,7 +44,9 @@ fn false_checkpoint_has_each_number_that_differs(rt: HostRuntime) -> Result<(), 
     let claims = [after_frame(0xF3, 0x0D), wrong];
     let bytes = movie(rt.alloc(), &ENDLESS_FRAMES, &power_on(), 5, 1, &claims)?;
     let text = report_of(rt.alloc(), &read(rt.alloc(), &bytes)?)?;
-    assert!(rt; text.as_str().ends_with("\
+    assert!(rt;
+        text.as_str().ends_with(
+            "\
 start: power-on
 checkpoints: 2
 first checkpoint: frame 1
@@ -50,7 +55,9 @@ largest gap: 1 frames
 after the last checkpoint: 3 frames
 PC: claimed F00C, found F00A
 memory 82: claimed 01, found 00
-"));
+"
+        )
+    );
     Ok(())
 }
 
@@ -62,7 +69,9 @@ fn fault_has_its_registers_and_its_beam(rt: HostRuntime) -> Result<(), Fail> {
     start[185] = 35;
     let bytes = movie(rt.alloc(), &SEVEN_FRAMES, &start, 7, 1, &[])?;
     let text = report_of(rt.alloc(), &read(rt.alloc(), &bytes)?)?;
-    assert_eq!(rt; text.as_str(), "\
+    assert_eq!(rt;
+        text.as_str(),
+        "\
 cartridge: 2048 bytes
 md5: 78e19a13fc2f030c66e2b23a5aaa287b
 sha1: d6f338b6447313519ab7b84e8f015bec0a7fc09c
@@ -73,6 +82,7 @@ checkpoints: 0
 after the last checkpoint: 7 frames
 registers: A 00, X 07, Y 00, S FF, P 07, PC F010
 beam: scanline 1, cycle 4
-");
+"
+    );
     Ok(())
 }
