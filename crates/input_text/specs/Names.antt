@@ -8,7 +8,8 @@ use Rattle.input_text.specs.declared.name.Port.TheVariants.{Swcha, Swchb, Button
 use Rattle.input_text.specs.declared.name.Name.{Name}
 use Rattle.input_text.specs.declared.name.Name.TheVariants.{Up0, Down0, Left0, Right0, Fire0, Up1, Down1, Left1, Right1, Fire1, Reset, Select, Monochrome, Pro0, Pro1}
 
--- a name as it is written, and its bit: the byte of an input that has it, and its number in that byte
+-- A name as it is written, and its bit: the port, which is a byte of an input, and the bit's number there. The buttons are a port
+-- like the others.
 pub record Entry : Type 0 where
   pub word : List ℕ
   pub port : Port
@@ -50,11 +51,11 @@ is_same_port _ _ = false
 abbrev pub idle : Controls
 idle = record { swcha = 0xFF; swchb = 0x3F; buttons = 0 }
 
--- the bit of a name in a byte: none of another byte than its own
+-- the bit of a name in the byte of a port: none where another port has it
 abbrev pub bit_in : Port → Name → ℕ
 bit_in port name = if is_same_port port (entry_of name).port then 2 ^ (entry_of name).bit else 0
 
--- the bits of names in a byte, each bit once, however often its name is there
+-- the bits of names in the byte of a port, each bit once, however often its name is there
 abbrev pub bits_in : Port → List Name → ℕ
 bits_in port held = fold (λ bits name. bit_or bits (bit_in port name)) 0 held
 
@@ -66,6 +67,7 @@ holding held = record {
   buttons = bit_xor idle.buttons (bits_in Buttons held);
 }
 
+-- the byte of a port
 abbrev pub byte_of : Port → Controls → ℕ
 byte_of Swcha c = c.swcha
 byte_of Swchb c = c.swchb
@@ -81,7 +83,7 @@ is_held c name =
 abbrev pub held_in : Controls → List Name
 held_in c = filter (is_held c) names
 
--- an input as it can be: an input of bytes
+-- an input as a movie has it: its numbers are bytes, and meet the conditions of an input
 pub record IsLawful (c : Controls) : Type 0 where
   pub swcha : c.swcha < 2 ^ 8
   pub swchb : c.swchb < 2 ^ 8

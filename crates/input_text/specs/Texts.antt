@@ -7,7 +7,7 @@ use Rattle.input_text.specs.declared.name.Name.{Name}
 use Rattle.input_text.specs.Names.{entry_of, names, holding}
 use Rattle.input_text.specs.Words.{lines_of, words_of}
 
--- the most frames of a movie: no text says more
+-- the most frames that a movie can have: no text says more
 abbrev pub most_frames : ℕ
 most_frames = 262143
 
@@ -42,7 +42,7 @@ input_of (count ∷ held) = holding (filter_map named held)
 abbrev pub inputs_of : List ℕ → List Controls
 inputs_of line = replicate (frames_of (words_of line)) (input_of (words_of line))
 
--- lines that can be read, with no more frames in all than a movie has
+-- lines that can be read, with no more frames in all than a movie can have
 abbrev pub are_good : List (List ℕ) → Bool
 are_good lines =
     list_all (λ line. is_readable (words_of line)) lines
@@ -54,7 +54,7 @@ SaysFrames text =
     (number : ℕ) × IsTrue (are_good (take number (lines_of text)))
     × (0 < sum_by (λ line. frames_of (words_of line)) (take number (lines_of text)))
 
--- The number of the first bad line, from 1: the lines up to it aren't good, and those before it are.
+-- The number of the first bad line, from 1: so many first lines aren't good, and fewer are.
 abbrev pub first_bad : List (List ℕ) → Option ℕ
 first_bad lines = find (λ number. not (are_good (take number lines))) (range_with_len 1 (length lines))
 

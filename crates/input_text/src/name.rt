@@ -1,8 +1,9 @@
 //! The names of what can be held.
-ghost use Rattle.std.specs.Prelude.{◌≡◌, ◌<◌, ◌^◌};
+ghost use Rattle.std.specs.Prelude.{◌≡◌, ◌^◌};
 ghost use Rattle.input_text.specs.Names.{entry_of};
 
-/// The byte of an input that has a name's bit.
+/// The port that has a name's bit, which is a byte of an input: ports A and B of the RIOT, and the
+/// buttons.
 #[derive(Clone, Copy, PartialEq, Eq)]
 pub(crate) enum Port {
     Swcha,
@@ -76,7 +77,7 @@ impl Name {
         }
     }
 
-    /// The byte that has its bit.
+    /// The port that has its bit.
     pub(crate) fn port(self) -> Port
         ensures { result ≡ (entry_of self).port }
     {
@@ -94,7 +95,7 @@ impl Name {
         }
     }
 
-    /// Its bit, as a mask of that byte.
+    /// Its bit, as a mask of that port's byte.
     pub(crate) fn mask(self) -> u8
         ensures { result ≡ 2 ^ (entry_of self).bit }
     {
