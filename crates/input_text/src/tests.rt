@@ -141,6 +141,15 @@ fn texts(rt: HostRuntime) -> Result<(), Fail> {
 }
 
 #[test]
+fn other_inputs_are_not_said(rt: HostRuntime) -> Result<(), Fail> {
+    for (text, bytes) in [("1", ROWS[0].1), ("1 up0", IDLE), ("2", IDLE)] {
+        let said = says(rt.alloc(), text, &[(1, bytes)])?;
+        assert!(rt; !said, "{text}");
+    }
+    Ok(())
+}
+
+#[test]
 fn bad_lines(rt: HostRuntime) {
     for (text, number) in BAD {
         let found = read_text(rt.alloc(), text.as_bytes());
