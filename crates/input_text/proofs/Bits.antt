@@ -15,14 +15,16 @@ use Rattle.input_text.specs.declared.name.Name.{Name}
 use Rattle.input_text.specs.Names.{entry_of, is_same_port, bit_in}
 
 -- a name has no bit in another byte
-pub or_none : (bits : ℕ) (port : Port) (name : Name) → (own : Port) → own ≡ (entry_of name).port → is_same_port port own ≡ false → bits ≡ bit_or bits (bit_in port name)
+pub or_none : (bits : ℕ) (port : Port) (name : Name) → (own : Port) → own ≡ (entry_of name).port → is_same_port port own ≡ false
+    → bits ≡ bit_or bits (bit_in port name)
 or_none bits port name own e other = rw (ap (is_same_port port) (sym e) ∙ other) (sym (or_zero_r bits))
 
 -- what is true of each byte, by a test of all of them
 pub every_byte : (test : ℕ → Bool) → list_all test (range_with_len 0 256) ≡ true → (n : ℕ) → n < 256 → test n ≡ true
 every_byte test all n h =
     let at : get_or (range_with_len 0 256) n 0 ≡ n = get_or-range_with_len 0 256 n 0 h ∙ omega arith in
-    let passes : test (get_or (range_with_len 0 256) n 0) ≡ true = AllPass-from_list_all test (range_with_len 0 256) all n 0 (omega (arith, length-range_with_len 0 256)) in
+    let passes : test (get_or (range_with_len 0 256) n 0) ≡ true = AllPass-from_list_all test (range_with_len 0 256) all n 0
+    (omega (arith, length-range_with_len 0 256)) in
     rw at at passes
 
 -- a test that was made only where another passes

@@ -146,8 +146,10 @@ pub frames_said : (text : List ℕ) (number : ℕ) (inputs : List Controls) (res
 frames_said text number inputs rest line after some split reads frames few so =
     let total : length inputs ≡ frames_in so.done = ap length so.inputs_are ∙ length-inputs so.done in
     let first : (more : List (List ℕ)) → lines_of rest ≡ line ∷ more → take (suc (length so.done)) (lines_of text) ≡ so.done ++ line ∷ [] = λ more e.
-    ap (take (suc (length so.done))) (lines_left text rest so.done some so.lines ∙ ap (λ (ls : List (List ℕ)). so.done ++ ls) e) ∙ take_to so.done line more in
-    let lines : take (suc (length so.done)) (lines_of text) ≡ so.done ++ line ∷ [] = elim split [ inl e ↦ first (lines_of after) e | inr e ↦ first [] e.0 ] in (
+    ap (take (suc (length so.done))) (lines_left text rest so.done some so.lines ∙ ap (λ (ls : List (List ℕ)). so.done ++ ls) e)
+    ∙ take_to so.done line more in
+    let lines : take (suc (length so.done)) (lines_of text) ≡ so.done ++ line ∷ [] =
+    elim split [ inl e ↦ first (lines_of after) e | inr e ↦ first [] e.0 ] in (
       suc (length so.done),
       ap are_good lines ∙ good_more so.done line so.good reads (omega arith),
       omega (arith, ap frames_in lines, sum_by-append frames_on so.done (line ∷ [])),
@@ -175,7 +177,8 @@ empty_from_length [] e = refl
 empty_from_length (b ∷ bytes) e = absurd (omega arith)
 
 -- nothing is left: an empty line at the end says nothing
-pub read_all : (text : List ℕ) (number : ℕ) (inputs : List Controls) (rest : List ℕ) → length rest ≡ 0 → ReadSoFar text number inputs rest → inputs_in text ≡ Ok inputs
+pub read_all : (text : List ℕ) (number : ℕ) (inputs : List Controls) (rest : List ℕ) → length rest ≡ 0 → ReadSoFar text number inputs rest
+    → inputs_in text ≡ Ok inputs
 read_all text number inputs rest end so =
     elim so.lines [
       | inl e ↦
@@ -186,7 +189,8 @@ read_all text number inputs rest end so =
     ]
 
 -- a list after a `resize`
-pub resized : (xs : List Controls) (len n count : ℕ) (x : Controls) → len ≡ length xs → n ≡ len + count → take n xs ++ replicate (n - len) x ≡ xs ++ replicate count x
+pub resized : (xs : List Controls) (len n count : ℕ) (x : Controls) → len ≡ length xs → n ≡ len + count
+    → take n xs ++ replicate (n - len) x ≡ xs ++ replicate count x
 resized xs len n count x e f =
     let whole : take n xs ≡ xs = take_all n xs (omega arith) in
     let more : n - len ≡ count = omega arith in

@@ -21,7 +21,8 @@ abbrev bits_of_byte : Port → ℕ → ℕ
 bits_of_byte port byte = fold (bit_if port byte) 0 names
 
 fold-filter : (port : Port) (test : Name → Bool) (ns : List Name) (bits : ℕ)
-    → fold (λ bits name. bit_or bits (bit_in port name)) bits (filter test ns) ≡ fold (λ bits name. cond (test name) (bit_or bits (bit_in port name)) bits) bits ns
+    → fold (λ bits name. bit_or bits (bit_in port name)) bits (filter test ns)
+    ≡ fold (λ bits name. cond (test name) (bit_or bits (bit_in port name)) bits) bits ns
 fold-filter port test [] bits = refl
 fold-filter port test (name ∷ ns) bits =
     elim (test name) as (λ v. fold (λ bits name. bit_or bits (bit_in port name)) bits (cond v (name ∷ filter test ns) (filter test ns))
@@ -72,6 +73,8 @@ pub holding-held : (c : Controls) → IsLawful c → holding (held_in c) ≡ c
 holding-held c lawful =
     let parts = and_parts (nat_eq (bit_and c.swchb 52) 52) (nat_lt c.buttons 4) lawful.input in
     let a : bit_xor idle.swcha (bits_in Swcha (held_in c)) ≡ c.swcha = ap (bit_xor 255) (bits_in-held Swcha c) ∙ swcha_bits c.swcha lawful.swcha in
-    let b : bit_xor idle.swchb (bits_in Swchb (held_in c)) ≡ c.swchb = ap (bit_xor 63) (bits_in-held Swchb c) ∙ swchb_bits c.swchb lawful.swchb (eqb-true _ _ parts.0) in
-    let d : bit_xor idle.buttons (bits_in Buttons (held_in c)) ≡ c.buttons = ap (bit_xor 0) (bits_in-held Buttons c) ∙ button_bits c.buttons (ltb-true _ _ parts.1) in
+    let b : bit_xor idle.swchb (bits_in Swchb (held_in c)) ≡ c.swchb = ap (bit_xor 63) (bits_in-held Swchb c)
+    ∙ swchb_bits c.swchb lawful.swchb (eqb-true _ _ parts.0) in
+    let d : bit_xor idle.buttons (bits_in Buttons (held_in c)) ≡ c.buttons = ap (bit_xor 0) (bits_in-held Buttons c)
+    ∙ button_bits c.buttons (ltb-true _ _ parts.1) in
     rw (a, b, d) refl

@@ -34,8 +34,10 @@ holds_none all held a b c = record {
   bits = λ port. ap (λ (n : ℕ). bits_onto port n (filter_map named all)) (sym (by_port (λ (p : Port). bits_of p held ≡ 0) a b c port));
 }
 
-pub holds_more : (all : List (List ℕ)) (word : List ℕ) (left rest : List (List ℕ)) (held more : Held) (name : Name) → left ≡ word ∷ rest → named word ≡ Some name
-    → more.swcha ≡ bit_or held.swcha (bit_in Swcha name) → more.swchb ≡ bit_or held.swchb (bit_in Swchb name) → more.buttons ≡ bit_or held.buttons (bit_in Buttons name)
+pub holds_more : (all : List (List ℕ)) (word : List ℕ) (left rest : List (List ℕ)) (held more : Held) (name : Name) → left ≡ word ∷ rest
+    → named word ≡ Some name
+    → more.swcha ≡ bit_or held.swcha (bit_in Swcha name) → more.swchb ≡ bit_or held.swchb (bit_in Swchb name)
+    → more.buttons ≡ bit_or held.buttons (bit_in Buttons name)
     → HoldsSoFar all left held → HoldsSoFar all rest more
 holds_more all word left rest held more name e n a b c so = record {
   readable = so.readable ∙ ap are_names e ∙ ap (λ (o : Option Name). is_some o && are_names rest) n;
@@ -43,17 +45,20 @@ holds_more all word left rest held more name e n a b c so = record {
       so.bits port
       ∙ ap (λ (ws : List (List ℕ)). bits_onto port (bits_of port held) (filter_map named ws)) e
       ∙ ap (λ (o : Option Name). bits_onto port (bits_of port held) (cons_option o (filter_map named rest))) n
-      ∙ ap (λ (k : ℕ). bits_onto port k (filter_map named rest)) (sym (by_port (λ (p : Port). bits_of p more ≡ bit_or (bits_of p held) (bit_in p name)) a b c port));
+      ∙ ap (λ (k : ℕ). bits_onto port k (filter_map named rest))
+      (sym (by_port (λ (p : Port). bits_of p more ≡ bit_or (bits_of p held) (bit_in p name)) a b c port));
 }
 
-pub holds_bad : (all : List (List ℕ)) (word : List ℕ) (left rest : List (List ℕ)) (held : Held) → left ≡ word ∷ rest → named word ≡ None → HoldsSoFar all left held → are_names all ≡ false
+pub holds_bad : (all : List (List ℕ)) (word : List ℕ) (left rest : List (List ℕ)) (held : Held) → left ≡ word ∷ rest → named word ≡ None
+    → HoldsSoFar all left held → are_names all ≡ false
 holds_bad all word left rest held e n so = so.readable ∙ ap are_names e ∙ ap (λ (o : Option Name). is_some o && are_names rest) n
 
 pub holds_all : (all left : List (List ℕ)) (held : Held) → left ≡ [] → HoldsSoFar all left held → are_names all ≡ true
 holds_all all left held e so = so.readable ∙ ap are_names e
 
 pub holds_input : (all left : List (List ℕ)) (held : Held) → left ≡ [] → HoldsSoFar all left held
-    → record { swcha = bit_xor idle.swcha held.swcha; swchb = bit_xor idle.swchb held.swchb; buttons = bit_xor idle.buttons held.buttons } ≡ holding (filter_map named all)
+    → record { swcha = bit_xor idle.swcha held.swcha; swchb = bit_xor idle.swchb held.swchb; buttons = bit_xor idle.buttons held.buttons }
+    ≡ holding (filter_map named all)
 holds_input all left held e so =
     let bits = λ (port : Port). so.bits port ∙ ap (λ (ws : List (List ℕ)). bits_onto port (bits_of port held) (filter_map named ws)) e in
     rw (bits Swcha, bits Swchb, bits Buttons) refl

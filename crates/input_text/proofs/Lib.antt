@@ -8,3 +8,5 @@ pub mod PrintedLines
 pub mod PrintedWords
 pub mod HeldNames
 pub mod ReadPrinted
+pub mod OneText
+pub mod NameSets

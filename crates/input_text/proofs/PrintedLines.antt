@@ -35,7 +35,8 @@ first_differs : (input : Controls) (rest : List Controls) (first : Controls) →
 first_differs input [] first d e = cc
 first_differs input (x ∷ rest) first d e = λ same. let own : x ≡ first = cc in d (same ∙ sym own)
 
-apart_more : (done : List Stretch) (s : Stretch) (rest : List Controls) → IsApartFrom done rest → slice_get rest 0 ≡ Some s.input → AreApart done → AreApart (done ++ s ∷ [])
+apart_more : (done : List Stretch) (s : Stretch) (rest : List Controls) → IsApartFrom done rest → slice_get rest 0 ≡ Some s.input → AreApart done
+    → AreApart (done ++ s ∷ [])
 apart_more [] s rest next first apart = tt
 apart_more (t ∷ []) s rest next first apart = (first_differs t.input rest s.input next first, tt)
 apart_more (t ∷ u ∷ more) s rest next first apart = (apart.0, apart_more (u ∷ more) s rest next first apart.1)
@@ -51,7 +52,8 @@ next_more [] s rest d = d
 next_more (t ∷ []) s rest d = d
 next_more (t ∷ u ∷ more) s rest d = next_more (u ∷ more) s rest d
 
-counts_more : (done : List Stretch) (s : Stretch) → 1 ≤ s.count → AllByRecursion (λ (t : Stretch). 1 ≤ t.count) done → AllByRecursion (λ (t : Stretch). 1 ≤ t.count) (done ++ s ∷ [])
+counts_more : (done : List Stretch) (s : Stretch) → 1 ≤ s.count → AllByRecursion (λ (t : Stretch). 1 ≤ t.count) done
+    → AllByRecursion (λ (t : Stretch). 1 ≤ t.count) (done ++ s ∷ [])
 counts_more [] s h counts = (h, tt)
 counts_more (t ∷ done) s h counts = (counts.0, counts_more done s h counts.1)
 
@@ -64,14 +66,16 @@ pub printed_more : (inputs : List Controls) (text : List ℕ) (rest : List Contr
     → take s.count rest ≡ replicate s.count s.input → slice_get rest s.count ≢ Some s.input
     → PrintedSoFar inputs text rest → PrintedSoFar inputs (text ++ line_of s) (drop s.count rest)
 printed_more inputs text rest s first equal longest so =
-    let parts : rest ≡ inputs_along s ++ drop s.count rest = sym (take-append-drop s.count rest) ∙ ap (λ (is : List Controls). is ++ drop s.count rest) equal in
+    let parts : rest ≡ inputs_along s ++ drop s.count rest = sym (take-append-drop s.count rest)
+    ∙ ap (λ (is : List Controls). is ++ drop s.count rest) equal in
     record {
       done = so.done ++ s ∷ [];
       inputs_are =
           so.inputs_are ∙ ap (λ (is : List Controls). flat_map inputs_along so.done ++ is) parts
           ∙ sym (append_assoc (flat_map inputs_along so.done) (inputs_along s) (drop s.count rest))
           ∙ ap (λ (is : List Controls). is ++ drop s.count rest)
-          (ap (λ (is : List Controls). flat_map inputs_along so.done ++ is) (sym (append-nil (inputs_along s))) ∙ sym (flat_map-append inputs_along so.done (s ∷ [])));
+          (ap (λ (is : List Controls). flat_map inputs_along so.done ++ is) (sym (append-nil (inputs_along s)))
+          ∙ sym (flat_map-append inputs_along so.done (s ∷ [])));
       counts = counts_more so.done s (some_equal rest s.count s.input first longest) so.counts;
       apart = apart_more so.done s rest so.next first so.apart;
       next = next_more so.done s (drop s.count rest) (differs_after rest s.count s.input longest);
@@ -85,10 +89,12 @@ none_left : (rest : List Controls) → slice_get rest 0 ≡ None → rest ≡ []
 none_left [] e = refl
 none_left (x ∷ rest) e = cc
 
-pub printed_whole : (inputs : List Controls) (text : List ℕ) (rest : List Controls) → slice_get rest 0 ≡ None → PrintedSoFar inputs text rest → IsPrinted inputs text
+pub printed_whole : (inputs : List Controls) (text : List ℕ) (rest : List Controls) → slice_get rest 0 ≡ None → PrintedSoFar inputs text rest
+    → IsPrinted inputs text
 printed_whole inputs text rest e so = record {
   stretches = so.done;
-  inputs_are = so.inputs_are ∙ ap (λ (is : List Controls). flat_map inputs_along so.done ++ is) (none_left rest e) ∙ append-nil (flat_map inputs_along so.done);
+  inputs_are = so.inputs_are ∙ ap (λ (is : List Controls). flat_map inputs_along so.done ++ is) (none_left rest e)
+      ∙ append-nil (flat_map inputs_along so.done);
   counts = so.counts;
   apart = so.apart;
   text_is = so.text_is;

@@ -31,14 +31,17 @@ one_name input place h =
 
 pub printed_held : (input : Controls) (place : ℕ) → place < length names → is_held input (get_or names place Up0) ≡ true
     → printed_names input (place + 1) ≡ printed_names input place ++ name_after_space (get_or names place Up0)
-printed_held input place h held = one_name input place h ∙ ap (λ (bytes : List ℕ). printed_names input place ++ bytes) (rw held (append-nil (name_after_space (get_or names place Up0))))
+printed_held input place h held =
+    one_name input place h
+    ∙ ap (λ (bytes : List ℕ). printed_names input place ++ bytes) (rw held (append-nil (name_after_space (get_or names place Up0))))
 
 pub printed_other : (input : Controls) (place : ℕ) → place < length names → is_held input (get_or names place Up0) ≡ false
     → printed_names input (place + 1) ≡ printed_names input place
 printed_other input place h other = one_name input place h ∙ rw other (append-nil (printed_names input place))
 
 pub printed_all : (input : Controls) (place : ℕ) → place ≡ length names → printed_names input place ≡ flat_map name_after_space (held_in input)
-printed_all input place e = ap (λ (ns : List Name). flat_map name_after_space (filter (is_held input) ns)) (ap (λ (n : ℕ). take n names) e ∙ take-length names)
+printed_all input place e =
+    ap (λ (ns : List Name). flat_map name_after_space (filter (is_held input) ns)) (ap (λ (n : ℕ). take n names) e ∙ take-length names)
 
 differ : (a b : ℕ) → a < 2 → b < 2 → eqb ((a + b) % 2) 1 ≡ not (eqb a b)
 differ zero zero h k = refl

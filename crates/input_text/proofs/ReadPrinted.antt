@@ -41,7 +41,8 @@ printable (s ∷ stretches) counts lawful few =
       printable stretches counts.1 (lawful_after (inputs_along s) others lawful) (omega (arith, length-append (inputs_along s) others)),
     )
 
-lines_of-printed : (stretches : List Stretch) → AllByRecursion IsPrintable stretches → lines_of (flat_map line_of stretches) ≡ map line_text stretches ++ [] ∷ []
+lines_of-printed : (stretches : List Stretch) → AllByRecursion IsPrintable stretches
+    → lines_of (flat_map line_of stretches) ≡ map line_text stretches ++ [] ∷ []
 lines_of-printed [] so = refl
 lines_of-printed (s ∷ stretches) so =
     ap lines_of (append_assoc (line_text s) (10 ∷ []) (flat_map line_of stretches))
@@ -55,14 +56,16 @@ inputs_of-line : (s : Stretch) → IsPrintable s → inputs_of (line_text s) ≡
 inputs_of-line s so =
     let words = words_of-line s so.small in
     let frames : frames_of (words_of (line_text s)) ≡ s.count = ap frames_of words ∙ number_of-decimal s.count so.small in
-    let input : input_of (words_of (line_text s)) ≡ s.input = ap input_of words ∙ ap holding (names_named (held_in s.input)) ∙ holding-held s.input so.lawful in
+    let input : input_of (words_of (line_text s)) ≡ s.input = ap input_of words ∙ ap holding (names_named (held_in s.input))
+    ∙ holding-held s.input so.lawful in
     rw (frames, input) refl
 
 lines_readable : (stretches : List Stretch) → AllByRecursion IsPrintable stretches → list_all can_be_read (map line_text stretches) ≡ true
 lines_readable [] so = refl
 lines_readable (s ∷ stretches) so = and_from _ _ (line_readable s so.0) (lines_readable stretches so.1)
 
-inputs_of-lines : (stretches : List Stretch) → AllByRecursion IsPrintable stretches → flat_map inputs_of (map line_text stretches) ≡ flat_map inputs_along stretches
+inputs_of-lines : (stretches : List Stretch) → AllByRecursion IsPrintable stretches
+    → flat_map inputs_of (map line_text stretches) ≡ flat_map inputs_along stretches
 inputs_of-lines [] so = refl
 inputs_of-lines (s ∷ stretches) so = rw (inputs_of-line s so.0, inputs_of-lines stretches so.1) refl
 
@@ -76,8 +79,10 @@ read_lines stretches so few =
     said (flat_map line_of stretches) (lines ++ [] ∷ []) (lines_of-printed stretches so) (good_more lines [] good refl (omega arith))
     ∙ ap (λ (is : List Controls). Ok is) (flat_map-append inputs_of lines ([] ∷ []) ∙ append-nil (flat_map inputs_of lines) ∙ same)
 
-pub read_printed : (inputs : List Controls) (text : List ℕ) → AllByRecursion IsLawful inputs → length inputs ≤ 262143 → IsPrinted inputs text → inputs_in text ≡ Ok inputs
+pub read_printed : (inputs : List Controls) (text : List ℕ) → AllByRecursion IsLawful inputs → length inputs ≤ 262143 → IsPrinted inputs text
+    → inputs_in text ≡ Ok inputs
 read_printed inputs text lawful few so =
     let few : length (flat_map inputs_along so.stretches) ≤ 262143 = omega (arith, ap length so.inputs_are) in
     let lawful : AllByRecursion IsLawful (flat_map inputs_along so.stretches) = rw (← so.inputs_are) lawful in
-    ap inputs_in so.text_is ∙ read_lines so.stretches (printable so.stretches so.counts lawful few) few ∙ ap (λ (is : List Controls). Ok is) (sym so.inputs_are)
+    ap inputs_in so.text_is ∙ read_lines so.stretches (printable so.stretches so.counts lawful few) few
+    ∙ ap (λ (is : List Controls). Ok is) (sym so.inputs_are)

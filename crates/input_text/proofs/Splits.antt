@@ -71,7 +71,8 @@ word_then_blank bytes n h e =
     ∙ part_kept (take n bytes) (slice_split is_blank (drop (n + 1) bytes)) long
     ∙ ap (λ (ws : List (List ℕ)). take n bytes ∷ ws) (sym (blank_first (get_or bytes n 0) (drop (n + 1) bytes) found.1) ∙ ap words_in (sym rest))
 
-word_alone : (bytes : List ℕ) → 0 < length bytes → position is_blank bytes ≡ None → words_in bytes ≡ take (length bytes) bytes ∷ words_in (drop (length bytes) bytes)
+word_alone : (bytes : List ℕ) → 0 < length bytes → position is_blank bytes ≡ None
+    → words_in bytes ≡ take (length bytes) bytes ∷ words_in (drop (length bytes) bytes)
 word_alone bytes h e =
     ap (filter is_part) (split_missing is_blank bytes e) ∙ part_kept bytes [] h
     ∙ rw (take-length bytes, drop-length bytes) refl
@@ -84,13 +85,16 @@ blank_after bytes n h other e =
       | inr ne ↦ omega arith
     ]
 
-word_of : (bytes : List ℕ) (r : Option ℕ) → 0 < length bytes → is_blank (get_or bytes 0 0) ≡ false → r ≡ position is_blank bytes → words_in bytes ≡ take (unwrap_or r (length bytes)) bytes ∷ words_in (drop (unwrap_or r (length bytes)) bytes)
+word_of : (bytes : List ℕ) (r : Option ℕ) → 0 < length bytes → is_blank (get_or bytes 0 0) ≡ false → r ≡ position is_blank bytes
+    → words_in bytes ≡ take (unwrap_or r (length bytes)) bytes ∷ words_in (drop (unwrap_or r (length bytes)) bytes)
 word_of bytes None h other e = word_alone bytes h (sym e)
 word_of bytes (Some n) h other e = word_then_blank bytes n (blank_after bytes n h other (sym e)) (sym e)
 
 -- the first word begins at the first byte that is no blank
-pub words_from : (bytes : List ℕ) (start : ℕ) (r : Option ℕ) → position (λ byte. not (is_blank byte)) bytes ≡ Some start → r ≡ position is_blank (drop start bytes)
-    → words_in bytes ≡ take (unwrap_or r (length (drop start bytes))) (drop start bytes) ∷ words_in (drop (unwrap_or r (length (drop start bytes))) (drop start bytes))
+pub words_from : (bytes : List ℕ) (start : ℕ) (r : Option ℕ) → position (λ byte. not (is_blank byte)) bytes ≡ Some start
+    → r ≡ position is_blank (drop start bytes)
+    → words_in bytes
+    ≡ take (unwrap_or r (length (drop start bytes))) (drop start bytes) ∷ words_in (drop (unwrap_or r (length (drop start bytes))) (drop start bytes))
 words_from bytes start r e f =
     let found = position-Some (λ byte. not (is_blank byte)) bytes start 0 e in
     let place = position_found (λ byte. not (is_blank byte)) bytes start e in
@@ -104,7 +108,8 @@ pub word_within : (bytes : List ℕ) (r : Option ℕ) → r ≡ position is_blan
 word_within bytes None e = omega arith
 word_within bytes (Some n) e = omega (arith, (position_found is_blank bytes n (sym e)).1)
 
-pub word_some : (bytes : List ℕ) (start : ℕ) (r : Option ℕ) → position (λ byte. not (is_blank byte)) bytes ≡ Some start → r ≡ position is_blank (drop start bytes)
+pub word_some : (bytes : List ℕ) (start : ℕ) (r : Option ℕ) → position (λ byte. not (is_blank byte)) bytes ≡ Some start
+    → r ≡ position is_blank (drop start bytes)
     → length (drop (unwrap_or r (length (drop start bytes))) (drop start bytes)) < length bytes
 word_some bytes start None e f =
     let place = position_found (λ byte. not (is_blank byte)) bytes start e in

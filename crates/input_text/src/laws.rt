@@ -1,13 +1,29 @@
 //! Laws about the definitions.
 ghost use Rattle.std.specs.Prelude.{◌≡◌, ◌≤◌, ℕ, List, length, Ok};
-ghost use Rattle.std.specs.List.{AllByRecursion};
+ghost use Rattle.std.specs.List.{AllByRecursion, list_any};
+ghost use Rattle.std.specs.Str.{bytes_eq};
 ghost use Rattle.vcs_machine.specs.Inputs.{Controls};
-ghost use Rattle.input_text.specs.Names.{IsLawful};
+ghost use Rattle.input_text.specs.Names.{entry_of, holding, is_held, held_in, IsLawful};
 ghost use Rattle.input_text.specs.Stretches.{IsPrinted};
 ghost use Rattle.input_text.specs.Texts.{inputs_in, most_frames};
+ghost use Rattle.input_text.specs.declared.name.Name.{Name};
+
+/// A law: in the input of some names those are held and no others, and an input is that of the
+/// names that are held in it.
+pub const fn law_of_held_names()
+    ensures held { (held : List Name) (name : Name) → is_held (holding held) name
+        ≡ list_any (λ other. bytes_eq (entry_of other).word (entry_of name).word) held }
+    ensures input { (c : Controls) → IsLawful c → holding (held_in c) ≡ c }
+{}
 
 /// A law: inputs that are printed and read again are the same inputs.
 pub const fn law_of_printed_inputs()
     ensures { (inputs : List Controls) (text : List ℕ) → AllByRecursion IsLawful inputs
         → length inputs ≤ most_frames → IsPrinted inputs text → inputs_in text ≡ Ok inputs }
+{}
+
+/// A law: inputs are printed in one way.
+pub const fn law_of_one_text()
+    ensures { (inputs : List Controls) (a b : List ℕ) → IsPrinted inputs a → IsPrinted inputs b
+        → a ≡ b }
 {}

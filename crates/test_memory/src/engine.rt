@@ -118,13 +118,12 @@ pub(crate) fn is_listed(alloc: Global) -> Result<(), Failure> {
     }
 }
 
-/// The report of two frames, judged by so many workers. The digests are those of md5sum, sha1sum and sha256sum.
-const REPORT: &[u8] = b"\
-genuine: 2 frames, 1 checkpoints
+/// The report of two frames. The digests are those of md5sum, sha1sum and sha256sum.
+const REPORT: &str = "genuine: 2 frames, 1 checkpoints
 cartridge: 2048 bytes
-md5: f802468fa2066207e9a0e49ff378f034
-sha1: 88d63399fa6253a6faa233ea800d315bb5a31415
-sha256: 783dcea34648927b2ad259bab8bd1446a5caca7bd3c6e808f306acb34977b600
+md5: 2062825b325594d5d2ab819d57d93e94
+sha1: 2c33c32b4c4beba5aa3961b201279f7e2a75d272
+sha256: ba809ef25d0b9a6bd0fd995092d0c923b59d227e18d88fc3e084574f149ccd92
 start: power-on
 checkpoints: 1
 first checkpoint: frame 1
@@ -133,6 +132,7 @@ largest gap: 1 frames
 after the last checkpoint: 1 frames
 ";
 
+/// Two frames judged by so many workers, and their report.
 pub(crate) fn is_reported<R: Threads + Wait + Sync>(
     rt: &R,
     alloc: Global,
@@ -145,7 +145,7 @@ pub(crate) fn is_reported<R: Threads + Wait + Sync>(
     let is_untouched = left.len() == 512;
     let is_whole = left.len() == 512 - REPORT.len();
     match answer {
-        Ok(status) => right(status == Status::Done && is_whole && text.starts_with(REPORT)),
+        Ok(status) => right(status == Status::Done && is_whole && text.starts_with(REPORT.as_bytes())),
         Err(error) => Err(failed(error, is_untouched)),
     }
 }

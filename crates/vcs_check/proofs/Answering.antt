@@ -2,9 +2,10 @@
 use Rattle.std.proofs.Common.{◌≡◌, ℕ, Bool, List, refl, subst, Result, Ok, Err, Option, Some, None, String, Global, string_bytes}
 use Rattle.std.specs.Io.KnownBytes.{Keeps}
 use Rattle.command_line.specs.declared.command.Command.TheVariants.{Stdin, Verify, Make}
-use Rattle.vcs_check.specs.Commands.{Answers, IsJudged, IsMade, ReadsFile, Writes}
+use Rattle.vcs_check.specs.Commands.{Answers, form_of, IsJudged, IsMade, ReadsFile, Writes}
 use Rattle.vcs_check.specs.declared.commands.Failure.{Failure}
 use Rattle.vcs_engine.specs.Streams.{ReadsAll}
+use Rattle.vcs_engine.specs.declared.making.InputForm.{InputForm}
 use Rattle.vcs_engine.specs.declared.status.Status.{Status}
 
 -- Bytes that nobody touched.
@@ -37,6 +38,9 @@ module _ (before after : Option (List ℕ)) where
       says _ (Answers (Verify file workers every first count pictures) old new)
       (λ status line h. (h.0, subst (λ n. ReadsFile n old new h.0) same h.1, numbered a b first count h.0 line status e f h.2))
 
-  pub make_answers : (known : Option (List ℕ)) (rom inputs : String Global) (text : Bool) (every : ℕ) (out : String Global) (answer : Result Status Failure)
-      → Writes before after (IsMade text every) answer → Writes before after (Answers (Make rom inputs text every out) known known) answer
-  make_answers known rom inputs text every out = says _ (Answers (Make rom inputs text every out) known known) (λ status line h. (keeps known, h))
+  pub make_answers : (known : Option (List ℕ)) (rom inputs : String Global) (text : Bool) (form : InputForm) (every : ℕ) (out : String Global)
+      → form ≡ form_of text → (answer : Result Status Failure)
+      → Writes before after (IsMade form every) answer → Writes before after (Answers (Make rom inputs text every out) known known) answer
+  make_answers known rom inputs text form every out same =
+      says _ (Answers (Make rom inputs text every out) known known)
+      (λ status line h. (keeps known, subst (λ f. IsMade f every status line) same h))

@@ -32,15 +32,10 @@ abbrev pub IsJudged : ℕ → ℕ → List ℕ → Status → List ℕ → Type 
 IsJudged first count input status line =
     (keep : Keep) × (told : Told) × (keep.first ≡ first) × (keep.count ≡ count) × Tells keep input told × (status ≡ told.status) × (line ≡ told.line)
 
--- How a file has inputs.
-abbrev pub form_of : Bool → InputForm
-form_of text = if text then Text else Bytes
-
 -- The line of a movie that was made of some bytes, or of why there is none.
-abbrev pub IsMade : Bool → ℕ → Status → List ℕ → Type 0
-IsMade text every status line =
-    (rom : List ℕ) × (old new : Option (List ℕ)) × (made : Made)
-    × Makes (form_of text) rom old new every made × (status ≡ made.status) × (line ≡ made.line)
+abbrev pub IsMade : InputForm → ℕ → Status → List ℕ → Type 0
+IsMade form every status line =
+    (rom : List ℕ) × (old new : Option (List ℕ)) × (made : Made) × Makes form rom old new every made × (status ≡ made.status) × (line ≡ made.line)
 
 -- The line about these bytes.
 abbrev pub IsInformation : List ℕ → Status → List ℕ → Type 0
@@ -51,6 +46,10 @@ IsInformation input status line =
 abbrev pub IsConverted : Status → List ℕ → Type 0
 IsConverted status line =
     (input : List ℕ) × (status ≡ (converted_of (movie_at input)).status) × (line ≡ (converted_of (movie_at input)).line)
+
+-- How the inputs of a command that makes a movie are written.
+abbrev pub form_of : Bool → InputForm
+form_of text = if text then Text else Bytes
 
 -- What is read of the file of this name is `input`: of `-` all that standard input has left, and any other leaves that alone.
 abbrev pub ReadsFile : List ℕ → Option (List ℕ) → Option (List ℕ) → List ℕ → Type 0
@@ -63,7 +62,7 @@ Answers Stdin old new status line = (input : List ℕ) × ReadsAll old new input
 Answers (Verify file workers every first count pictures) old new status line =
     (input : List ℕ) × ReadsFile (string_bytes file) old new input × IsJudged first count input status line
 Answers (Report file workers) old new status line = (input : List ℕ) × ReadsFile (string_bytes file) old new input × Reports input status line
-Answers (Make rom inputs text every out) old new status line = Keeps old new × IsMade text every status line
+Answers (Make rom inputs text every out) old new status line = Keeps old new × IsMade (form_of text) every status line
 Answers (Info file) old new status line = (input : List ℕ) × ReadsFile (string_bytes file) old new input × IsInformation input status line
 Answers (Inputs file) old new status line = (input : List ℕ) × ReadsFile (string_bytes file) old new input × Lists (movie_at input) status line
 Answers (Convert older newer) old new status line = Keeps old new × IsConverted status line

@@ -1,6 +1,6 @@
 //! What each command does with files.
 ghost use Rattle.std.specs.Prelude.{◌≡◌, ◌≢◌, ◌≤◌, List, ℕ, Err, OnErr};
-ghost use Rattle.vcs_check.specs.Commands.{IsConverted, IsInformation, IsJudged, IsMade, IsQuiet, ReadsFile, Writes};
+ghost use Rattle.vcs_check.specs.Commands.{form_of, IsConverted, IsInformation, IsJudged, IsMade, IsQuiet, ReadsFile, Writes};
 ghost use Rattle.movie_file.specs.Reading.{movie_at};
 ghost use Rattle.vcs_engine.specs.Listings.{Lists};
 ghost use Rattle.vcs_engine.specs.Reports.{Reports};
@@ -189,28 +189,34 @@ pub(crate) fn report<R: Files + Threads + Wait + Sync + AllocGlobal, I: Read, W:
     Ok(run_report(rt, rt.alloc(), &mut open(rt, file)?, plan, text)?)
 }
 
+/// The form of inputs that are text, or else bytes.
+pub(crate) fn form_of(text: bool) -> InputForm
+    ensures { result ≡ form_of text }
+{
+    if text {
+        InputForm::Text
+    } else {
+        InputForm::Bytes
+    }
+}
+
 /// Makes a movie of the files of a cartridge and of inputs.
 pub(crate) fn make<R: Files + AllocGlobal, W: Write>(
     rt: &R,
     rom: &str,
     inputs: &str,
-    text: bool,
+    form: InputForm,
     every: u32,
     out: &str,
     line: &mut W,
 ) -> Result<Status, Failure>
-    ensures ok { Writes (W.contents line.old) (W.contents line.new) (IsMade text every) result }
+    ensures ok { Writes (W.contents line.old) (W.contents line.new) (IsMade form every) result }
     ensures quiet { IsQuiet (W.contents line.old) (W.contents line.new) result }
     ensures no_thread { result ≢ Err (Failure.Run RunError.NoThread) }
 {
     let mut rom = open(rt, rom)?;
     let mut inputs = open(rt, inputs)?;
     let mut movie = create(rt, out, &[Identity::of(&rom)?, Identity::of(&inputs)?])?;
-    let form = if text {
-        InputForm::Text
-    } else {
-        InputForm::Bytes
-    };
     Ok(run_make(
         rt.alloc(),
         &mut rom,

@@ -15,8 +15,8 @@ ghost use Rattle.vcs_engine.specs.declared.run_error.RunError.TheVariants.{NoThr
 
 use command_line::{Command, LineFault, parse_line};
 use commands::{
-    Failure, convert, info, inputs, judge, make, plan_of, plan_of_standard_input, report, verify,
-    verify_with_pictures,
+    Failure, convert, form_of, info, inputs, judge, make, plan_of, plan_of_standard_input, report,
+    verify, verify_with_pictures,
 };
 use ending::Ending;
 use std::alloc::Global;
@@ -73,7 +73,7 @@ fn execute<R: Files + Threads + Wait + Sync + AllocGlobal, I: Read, W: Write>(
             text,
             every,
             out,
-        } => make(rt, rom, inputs, *text, *every, out, line),
+        } => make(rt, rom, inputs, form_of(*text), *every, out, line),
         Command::Info { file } => info(rt, input, file, line),
         Command::Inputs { file } => inputs(rt, input, file, line),
         Command::Convert { old, new } => convert(rt, old, new, line),

@@ -15,4 +15,4 @@ returns-in-None-clause-ok g c = rw c.in-Verify.is
 
 pub returns-in-Make-clause-ok : goal.returns-in-Make-clause-ok
 returns-in-Make-clause-ok g c = rw c.in-Make.is
-    (make_answers _ _ _ c.in-Make.rom c.in-Make.inputs _ _ c.in-Make.out c.make.result c.make.ensures.ok)
+    (make_answers _ _ _ c.in-Make.rom c.in-Make.inputs c.in-Make.text _ _ c.in-Make.out c.form_of.ensures c.make.result c.make.ensures.ok)

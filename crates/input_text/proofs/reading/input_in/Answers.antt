@@ -25,4 +25,5 @@ returns-clause-readable c =
 
 pub returns-clause-value : goal.returns-clause-value
 returns-clause-value c =
-    c.input.ensures ∙ holds_input (words_in c.args.bytes.now) (words_in c.loop-word.rest.now) c.loop-word.held c.in_default.ensures.words c.loop-word.invariant
+    c.input.ensures ∙ holds_input (words_in c.args.bytes.now)
+    (words_in c.loop-word.rest.now) c.loop-word.held c.in_default.ensures.words c.loop-word.invariant

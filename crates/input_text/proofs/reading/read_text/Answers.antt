@@ -25,10 +25,13 @@ loop-rest-preserved c =
     let small : length c.loop-rest.inputs.items + c.in-Some.stretch.count ≤ 262143 = omega (arith, c.len.ensures) in
     let frames : c.in-Some.stretch.count ≡ frames_of (words_of line) = omega (arith, c.in-Some.ensures.count) in
     let items : c.resize.new.self.items ≡ c.loop-rest.inputs.items ++ replicate c.in-Some.stretch.count c.in-Some.stretch.input =
-    c.in_ok-resize-in-Some.ensures.items ∙ resized c.loop-rest.inputs.items (vec_len c.loop-rest.inputs) (c.len-in-Some.result + c.in-Some.stretch.count) c.in-Some.stretch.count c.in-Some.stretch.input (omega arith) (omega (arith, c.len-in-Some.ensures)) in
+    c.in_ok-resize-in-Some.ensures.items ∙ resized c.loop-rest.inputs.items (vec_len c.loop-rest.inputs)
+    (c.len-in-Some.result + c.in-Some.stretch.count) c.in-Some.stretch.count c.in-Some.stretch.input (omega arith)
+    (omega (arith, c.len-in-Some.ensures)) in
     rw items
     (read_more c.args.text.now c.loop-rest.number c.loop-rest.inputs.items c.loop-rest.rest.now line c.first_line.result.1.now c.in-Some.stretch.count c.in-Some.stretch.input
-    some c.first_line.ensures.lines (c.first_line.ensures.shorter some) (sym c.in-Some.ensures.readable) frames c.in-Some.ensures.input small c.loop-rest.invariant)
+    some c.first_line.ensures.lines (c.first_line.ensures.shorter some)
+    (sym c.in-Some.ensures.readable) frames c.in-Some.ensures.input small c.loop-rest.invariant)
 
 pub returns-clause-found : goal.returns-clause-found
 returns-clause-found c = read_all c.args.text.now c.loop-rest.number c.loop-rest.inputs.items c.loop-rest.rest.now (search rules) c.loop-rest.invariant

@@ -20,7 +20,9 @@ loop-name-preserved c =
       | then-has+in_ok-push+in_ok-push_str w ↦
           let held : is_held input name ≡ true = sym bits ∙ sym c.has.ensures ∙ w.if-has.true in
           ap string_bytes w.text-is ∙ w.in_ok-push_str.ensures.bytes
-          ∙ ap (λ (bytes : List ℕ). bytes ++ w.word.result.now) (w.in_ok-push.ensures.bytes ∙ ap (λ (bytes : List ℕ). string_bytes c.loop-name.text ++ bytes) (w.in_ok-push.ensures.ascii (lit< tt)) ∙ ap (λ (bytes : List ℕ). bytes ++ 32 ∷ []) c.loop-name.invariant)
+          ∙ ap (λ (bytes : List ℕ). bytes ++ w.word.result.now) (w.in_ok-push.ensures.bytes
+          ∙ ap (λ (bytes : List ℕ). string_bytes c.loop-name.text ++ bytes) (w.in_ok-push.ensures.ascii (lit< tt))
+          ∙ ap (λ (bytes : List ℕ). bytes ++ 32 ∷ []) c.loop-name.invariant)
           ∙ after_name before count (printed_names input place) w.word.result.now
           ∙ ap (λ (word : List ℕ). before ++ (count ++ (printed_names input place ++ 32 ∷ word))) w.word.ensures
           ∙ ap (λ (bytes : List ℕ). before ++ (count ++ bytes)) (sym (printed_held input place c.loop-name-test.true held))
