@@ -6,9 +6,9 @@
 PROGRAM is vcs_check. 'verify' finds nothing wrong with these movies; 'report' shows what they are, as
 docs/BEFORE_YOU_ACCEPT.md explains:
 
-    other-points.a26         a cartridge whose table of points was changed
-    points-at-the-start.a26  a start in the middle of the game, with 999,999 points
-    joystick-at-the-end.a26  a joystick that was turned after the last checkpoint
+    other-points.a26m         a cartridge whose table of points was changed
+    points-at-the-start.a26m  a start in the middle of the game, with 999,999 points
+    joystick-at-the-end.a26m  a joystick that was turned after the last checkpoint
 
 The places are those of docs/MOVIE_FORMAT.md, and the addresses those of labels of demo.asm.
 """
@@ -83,7 +83,7 @@ def with_claims_of_its_run(program, movie, claims):
 
 def points_at_the_start(program):
     """The demo from the state after frame 60 on, with 999,999 points in it."""
-    demo = (HERE / "demo.a26").read_bytes()
+    demo = (HERE / "demo.a26m").read_bytes()
     start = bytearray(demo[FIRST_CLAIM : FIRST_CLAIM + STATE])
     start[7 + SCORE - 0x80 : 7 + SCORE - 0x80 + 3] = b"\x99\x99\x99"
     frames, checkpoints = FRAMES - EVERY, FRAMES // EVERY - 1
@@ -100,7 +100,7 @@ def main():
     program = str(pathlib.Path(sys.argv[1]).resolve())
     folder = pathlib.Path(sys.argv[2]) if len(sys.argv) > 2 else HERE
     for make in (other_points, points_at_the_start, joystick_at_the_end):
-        (folder / (make.__name__.replace("_", "-") + ".a26")).write_bytes(make(program))
+        (folder / (make.__name__.replace("_", "-") + ".a26m")).write_bytes(make(program))
 
 
 if __name__ == "__main__":

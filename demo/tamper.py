@@ -1,5 +1,5 @@
 #!/usr/bin/env python3
-"""Writes tampered copies of demo.a26 and harbour.a26, beside them or into the folder that is named.
+"""Writes tampered copies of demo.a26m and harbour.a26m, beside them or into the folder that is named.
 
     python3 tamper.py [FOLDER]
 
@@ -89,12 +89,12 @@ HARBOUR_COPIES = {
 
 def main():
     folder = pathlib.Path(sys.argv[1]) if len(sys.argv) > 1 else HERE
-    for source, copies in (("demo.a26", COPIES), ("harbour.a26", HARBOUR_COPIES)):
+    for source, copies in (("demo.a26m", COPIES), ("harbour.a26m", HARBOUR_COPIES)):
         movie = (HERE / source).read_bytes()
         for name, (place, bits) in copies.items():
             copy = bytearray(movie)
             copy[place] ^= bits
-            (folder / (name + ".a26")).write_bytes(copy)
+            (folder / (name + ".a26m")).write_bytes(copy)
 
 
 if __name__ == "__main__":
