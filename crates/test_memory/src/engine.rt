@@ -145,7 +145,9 @@ pub(crate) fn is_reported<R: Threads + Wait + Sync>(
     let is_untouched = left.len() == 512;
     let is_whole = left.len() == 512 - REPORT.len();
     match answer {
-        Ok(status) => right(status == Status::Done && is_whole && text.starts_with(REPORT.as_bytes())),
+        Ok(status) => right(
+            status == Status::Done && is_whole && text.starts_with(REPORT.as_bytes()),
+        ),
         Err(error) => Err(failed(error, is_untouched)),
     }
 }
