@@ -1,11 +1,12 @@
 //! What each command does with files.
-ghost use Rattle.std.specs.Prelude.{◌≡◌, ◌≢◌, ◌≤◌, List, ℕ, Err, OnErr};
+ghost use Rattle.std.specs.Prelude.{◌≡◌, ◌≢◌, ◌≤◌, List, ℕ, Err, OnErr, IsSome};
 ghost use Rattle.vcs_check.specs.Commands.{form_of, IsConverted, IsInformation, IsJudged, IsMade, IsQuiet, ReadsFile, Writes};
 ghost use Rattle.movie_file.specs.Reading.{movie_at};
 ghost use Rattle.vcs_engine.specs.Listings.{Lists};
 ghost use Rattle.vcs_engine.specs.Reports.{Reports};
 ghost use Rattle.vcs_engine.specs.Streams.{ReadsAll};
 
+use crate::faults::FileFault;
 use crate::files::{Identity, create, open};
 use replay_segments::Keep;
 use std::alloc::Global;
@@ -98,36 +99,42 @@ pub(crate) fn judge<T: Threads + Wait + Sync + AllocGlobal, R: Read, W: Write>(
         × IsJudged plan.now.keep.first plan.now.keep.count input status text) result }
     ensures quiet { IsQuiet (W.contents line.old) (W.contents line.new) result }
     ensures no_thread { result ≡ Err (Failure.Run RunError.NoThread) → 2 ≤ plan.now.workers }
+    ensures read { result ≢ Err Failure.Open }
 {
     Ok(run(rt, rt.alloc(), movie, plan, line, &mut io::sink())?)
 }
 
 /// Judges the movie of a file without pictures.
-pub(crate) fn verify<R: Files + Threads + Wait + Sync + AllocGlobal, I: Read, W: Write>(
+pub(crate) fn verify<'a, R: Files + Threads + Wait + Sync + AllocGlobal, I: Read, W: Write>(
     rt: &R,
     input: &mut I,
-    file: &str,
+    file: &'a str,
     plan: &Plan,
     line: &mut W,
+    fault: &mut Option<FileFault<'a>>,
 ) -> Result<Status, Failure>
     ensures ok { Writes (W.contents line.old) (W.contents line.new) (λ status text.
         (bytes : List ℕ) × ReadsFile file.now (I.remaining input.old) (I.remaining input.new) bytes
         × IsJudged plan.now.keep.first plan.now.keep.count bytes status text) result }
     ensures quiet { IsQuiet (W.contents line.old) (W.contents line.new) result }
     ensures no_thread { result ≡ Err (Failure.Run RunError.NoThread) → 2 ≤ plan.now.workers }
+    ensures named { result ≡ Err Failure.Open → IsSome fault.new }
 {
     if file == STANDARD_INPUT {
         return judge(rt, input, plan, line);
     }
-    judge(rt, &mut open(rt, file)?, plan, line)
+    let mut movie = open(rt, file, fault)?;
+    let answer = judge(rt, &mut movie, plan, line);
+    movie.tell(fault);
+    answer
 }
 
-/// Judges a movie, and writes its kept pictures to a file.
-fn judge_with_pictures<R: Files + Threads + Wait + Sync + AllocGlobal, M: Read, W: Write>(
-    rt: &R,
+/// Judges a movie, and writes its kept pictures through a buffer.
+fn judge_with_pictures<T: Threads + Wait + Sync + AllocGlobal, M: Read, P: Write + Drop, W: Write>(
+    rt: &T,
     movie: &mut M,
     plan: &Plan,
-    pictures: R::File,
+    pictures: P,
     line: &mut W,
 ) -> Result<Status, Failure>
     ensures ok { Writes (W.contents line.old) (W.contents line.new) (λ status text.
@@ -135,6 +142,7 @@ fn judge_with_pictures<R: Files + Threads + Wait + Sync + AllocGlobal, M: Read, 
         × IsJudged plan.now.keep.first plan.now.keep.count input status text) result }
     ensures quiet { IsQuiet (W.contents line.old) (W.contents line.new) result }
     ensures no_thread { result ≡ Err (Failure.Run RunError.NoThread) → 2 ≤ plan.now.workers }
+    ensures read { result ≢ Err Failure.Open }
 {
     let mut pictures = buffered(rt.alloc(), pictures)?;
     let status = run(rt, rt.alloc(), movie, plan, line, &mut pictures)?;
@@ -144,49 +152,64 @@ fn judge_with_pictures<R: Files + Threads + Wait + Sync + AllocGlobal, M: Read, 
 
 /// Judges the movie of a file, and writes its kept pictures to another.
 pub(crate) fn verify_with_pictures<
+    'a,
     R: Files + Threads + Wait + Sync + AllocGlobal,
     I: Read,
     W: Write,
 >(
     rt: &R,
     input: &mut I,
-    file: &str,
+    file: &'a str,
     plan: &Plan,
-    pictures: &str,
+    pictures: &'a str,
     line: &mut W,
+    fault: &mut Option<FileFault<'a>>,
 ) -> Result<Status, Failure>
     ensures ok { Writes (W.contents line.old) (W.contents line.new) (λ status text.
         (bytes : List ℕ) × ReadsFile file.now (I.remaining input.old) (I.remaining input.new) bytes
         × IsJudged plan.now.keep.first plan.now.keep.count bytes status text) result }
     ensures quiet { IsQuiet (W.contents line.old) (W.contents line.new) result }
     ensures no_thread { result ≡ Err (Failure.Run RunError.NoThread) → 2 ≤ plan.now.workers }
+    ensures named { result ≡ Err Failure.Open → IsSome fault.new }
 {
     if file == STANDARD_INPUT {
-        let pictures = create(rt, pictures, &[Identity::of_standard_input(rt)?])?;
-        return judge_with_pictures(rt, input, plan, pictures, line);
+        let identity = Identity::of_standard_input(rt, fault)?;
+        let mut pictures = create(rt, pictures, &[identity], fault)?;
+        let answer = judge_with_pictures(rt, input, plan, &mut pictures, line);
+        pictures.tell(fault);
+        return answer;
     }
-    let mut movie = open(rt, file)?;
-    let pictures = create(rt, pictures, &[Identity::of(&movie)?])?;
-    judge_with_pictures(rt, &mut movie, plan, pictures, line)
+    let mut movie = open(rt, file, fault)?;
+    let identity = Identity::of(&movie, fault)?;
+    let mut pictures = create(rt, pictures, &[identity], fault)?;
+    let answer = judge_with_pictures(rt, &mut movie, plan, &mut pictures, line);
+    movie.tell(fault);
+    pictures.tell(fault);
+    answer
 }
 
 /// Judges the movie of a file, and says facts about it.
-pub(crate) fn report<R: Files + Threads + Wait + Sync + AllocGlobal, I: Read, W: Write>(
+pub(crate) fn report<'a, R: Files + Threads + Wait + Sync + AllocGlobal, I: Read, W: Write>(
     rt: &R,
     input: &mut I,
-    file: &str,
+    file: &'a str,
     plan: &Plan,
     text: &mut W,
+    fault: &mut Option<FileFault<'a>>,
 ) -> Result<Status, Failure>
     ensures ok { Writes (W.contents text.old) (W.contents text.new) (λ status output.
         (bytes : List ℕ) × ReadsFile file.now (I.remaining input.old) (I.remaining input.new) bytes × Reports bytes status output) result }
     ensures quiet { IsQuiet (W.contents text.old) (W.contents text.new) result }
     ensures no_thread { result ≡ Err (Failure.Run RunError.NoThread) → 2 ≤ plan.now.workers }
+    ensures named { result ≡ Err Failure.Open → IsSome fault.new }
 {
     if file == STANDARD_INPUT {
         return Ok(run_report(rt, rt.alloc(), input, plan, text)?);
     }
-    Ok(run_report(rt, rt.alloc(), &mut open(rt, file)?, plan, text)?)
+    let mut movie = open(rt, file, fault)?;
+    let answer = run_report(rt, rt.alloc(), &mut movie, plan, text);
+    movie.tell(fault);
+    Ok(answer?)
 }
 
 /// The form of inputs that are text, or else bytes.
@@ -201,23 +224,26 @@ pub(crate) fn form_of(text: bool) -> InputForm
 }
 
 /// Makes a movie of the files of a cartridge and of inputs.
-pub(crate) fn make<R: Files + AllocGlobal, W: Write>(
+pub(crate) fn make<'a, R: Files + AllocGlobal, W: Write>(
     rt: &R,
-    rom: &str,
-    inputs: &str,
+    rom: &'a str,
+    inputs: &'a str,
     form: InputForm,
     every: u32,
-    out: &str,
+    out: &'a str,
     line: &mut W,
+    fault: &mut Option<FileFault<'a>>,
 ) -> Result<Status, Failure>
     ensures ok { Writes (W.contents line.old) (W.contents line.new) (IsMade form every) result }
     ensures quiet { IsQuiet (W.contents line.old) (W.contents line.new) result }
     ensures no_thread { result ≢ Err (Failure.Run RunError.NoThread) }
+    ensures named { result ≡ Err Failure.Open → IsSome fault.new }
 {
-    let mut rom = open(rt, rom)?;
-    let mut inputs = open(rt, inputs)?;
-    let mut movie = create(rt, out, &[Identity::of(&rom)?, Identity::of(&inputs)?])?;
-    Ok(run_make(
+    let mut rom = open(rt, rom, fault)?;
+    let mut inputs = open(rt, inputs, fault)?;
+    let identities = [Identity::of(&rom, fault)?, Identity::of(&inputs, fault)?];
+    let mut movie = create(rt, out, &identities, fault)?;
+    let answer = run_make(
         rt.alloc(),
         &mut rom,
         form,
@@ -225,57 +251,77 @@ pub(crate) fn make<R: Files + AllocGlobal, W: Write>(
         every,
         &mut movie,
         line,
-    )?)
+    );
+    rom.tell(fault);
+    inputs.tell(fault);
+    movie.tell(fault);
+    Ok(answer?)
 }
 
 /// Says what the movie of a file holds.
-pub(crate) fn info<R: Files + AllocGlobal, I: Read, W: Write>(
+pub(crate) fn info<'a, R: Files + AllocGlobal, I: Read, W: Write>(
     rt: &R,
     input: &mut I,
-    file: &str,
+    file: &'a str,
     line: &mut W,
+    fault: &mut Option<FileFault<'a>>,
 ) -> Result<Status, Failure>
     ensures ok { Writes (W.contents line.old) (W.contents line.new) (λ status text.
         (bytes : List ℕ) × ReadsFile file.now (I.remaining input.old) (I.remaining input.new) bytes × IsInformation bytes status text) result }
     ensures quiet { IsQuiet (W.contents line.old) (W.contents line.new) result }
     ensures no_thread { result ≢ Err (Failure.Run RunError.NoThread) }
+    ensures named { result ≡ Err Failure.Open → IsSome fault.new }
 {
     if file == STANDARD_INPUT {
         return Ok(run_info(rt.alloc(), input, line)?);
     }
-    Ok(run_info(rt.alloc(), &mut open(rt, file)?, line)?)
+    let mut movie = open(rt, file, fault)?;
+    let answer = run_info(rt.alloc(), &mut movie, line);
+    movie.tell(fault);
+    Ok(answer?)
 }
 
 /// Prints the inputs of the movie of a file as text.
-pub(crate) fn inputs<R: Files + AllocGlobal, I: Read, W: Write>(
+pub(crate) fn inputs<'a, R: Files + AllocGlobal, I: Read, W: Write>(
     rt: &R,
     input: &mut I,
-    file: &str,
+    file: &'a str,
     text: &mut W,
+    fault: &mut Option<FileFault<'a>>,
 ) -> Result<Status, Failure>
     ensures ok { Writes (W.contents text.old) (W.contents text.new) (λ status output.
         (bytes : List ℕ) × ReadsFile file.now (I.remaining input.old) (I.remaining input.new) bytes × Lists (movie_at bytes) status output) result }
     ensures quiet { IsQuiet (W.contents text.old) (W.contents text.new) result }
     ensures no_thread { result ≢ Err (Failure.Run RunError.NoThread) }
+    ensures named { result ≡ Err Failure.Open → IsSome fault.new }
 {
     if file == STANDARD_INPUT {
         return Ok(run_inputs(rt.alloc(), input, text)?);
     }
-    Ok(run_inputs(rt.alloc(), &mut open(rt, file)?, text)?)
+    let mut movie = open(rt, file, fault)?;
+    let answer = run_inputs(rt.alloc(), &mut movie, text);
+    movie.tell(fault);
+    Ok(answer?)
 }
 
 /// Writes the movie of a file to another in version 2.
-pub(crate) fn convert<R: Files + AllocGlobal, W: Write>(
+pub(crate) fn convert<'a, R: Files + AllocGlobal, W: Write>(
     rt: &R,
-    old: &str,
-    new: &str,
+    old: &'a str,
+    new: &'a str,
     line: &mut W,
+    fault: &mut Option<FileFault<'a>>,
 ) -> Result<Status, Failure>
     ensures ok { Writes (W.contents line.old) (W.contents line.new) IsConverted result }
     ensures quiet { IsQuiet (W.contents line.old) (W.contents line.new) result }
     ensures no_thread { result ≢ Err (Failure.Run RunError.NoThread) }
+    ensures named { result ≡ Err Failure.Open → IsSome fault.new }
 {
-    let mut movie = open(rt, old)?;
-    let mut converted = create(rt, new, &[Identity::of(&movie)?])?;
-    Ok(run_convert(rt.alloc(), &mut movie, &mut converted, line)?)
+    let mut movie = open(rt, old, fault)?;
+    let identity = Identity::of(&movie, fault)?;
+    let mut converted = create(rt, new, &[identity], fault)?;
+    let answer = run_convert(rt.alloc(), &mut movie, &mut converted, line);
+    movie.tell(fault);
+    converted.tell(fault);
+    Ok(answer?)
 }

@@ -2,8 +2,10 @@
 ghost use Rattle.std.specs.Prelude.{◌≡◌};
 
 use crate::commands::Failure;
+use crate::faults::{FileFault, Reason};
+use crate::files::STANDARD_OUTPUT;
 use command_line::LineFault;
-use std::io::{self, Eprint};
+use std::io::{self, Eprint, IsTerminal};
 use std::process::ExitCode;
 use thiserror::Error;
 use vcs_engine::RunError;
@@ -29,6 +31,13 @@ pub(crate) enum Ending {
     Failed(Failure),
 }
 
+/// The ending of help that standard output did not take, for this reason.
+fn help_not_written(error: io::Error) -> (Ending, Option<FileFault<'static>>) {
+    let fault = FileFault::new(STANDARD_OUTPUT, Reason::System(error));
+    let ending = Ending::Failed(Failure::Run(RunError::WriteFault));
+    (ending, Some(fault))
+}
+
 impl Ending {
     ghost use Rattle.vcs_check.specs.Endings.{code_of};
 
@@ -43,18 +52,27 @@ impl Ending {
         }
     }
 
-    /// Prints it, help on standard output and all else on standard error, and answers the exit status.
-    pub(crate) fn report<R: Print + Eprint>(self, rt: &R) -> ExitCode {
-        let ending = match self {
-            Ending::Help { text } => {
-                if print!(rt; "{text}").is_ok() {
-                    return ExitCode::SUCCESS;
-                }
-                Ending::Failed(Failure::Run(RunError::WriteFault))
-            }
-            other => other,
+    /// Prints it, help on standard output and all else on standard error, and answers the exit status. Where standard error is a
+    /// terminal, the fault of a file stands on a line after it.
+    pub(crate) fn report<R: Print + Eprint, E: IsTerminal>(
+        self,
+        rt: &R,
+        standard_error: &E,
+        fault: Option<FileFault<'_>>,
+    ) -> ExitCode {
+        let (ending, fault) = match self {
+            Ending::Help { text } => match print!(rt; "{text}") {
+                Ok(()) => return ExitCode::SUCCESS,
+                Err(error) => help_not_written(error),
+            },
+            other => (other, fault),
         };
         let _printed = eprint!(rt; "{ending}");
+        if let Some(fault) = fault {
+            if standard_error.is_terminal() {
+                let _printed = eprintln!(rt; "{fault}");
+            }
+        }
         ExitCode::from(ending.code())
     }
 }

@@ -1,18 +1,42 @@
 //! The files that a command reads and writes.
-ghost use Rattle.std.specs.Prelude.{◌≡◌, Err, OnErr};
+ghost use Rattle.std.specs.Prelude.{◌≡◌, Err, OnErr, codes};
+ghost use Rattle.vcs_check.specs.Faults.{Names};
 
 use crate::commands::Failure;
+use crate::faults::{FileFault, Reason};
+use crate::named::Named;
 use std::fs::{self, Metadata, OpenFile, OpenOptions};
+use std::io;
 use std::os::unix::fs::MetadataExt;
 use std::rt::Files;
 
-/// Opens an input.
-pub(crate) fn open<R: Files>(rt: &R, name: &str) -> Result<R::File, Failure>
-    ensures { OnErr result (result ≡ Err Failure.Open) }
+/// The name of standard input in messages.
+pub(crate) const STANDARD_INPUT: &str = "standard input";
+
+/// The name of standard output in messages.
+pub(crate) const STANDARD_OUTPUT: &str = "standard output";
+
+/// Notes why a file can't be opened.
+fn cannot_open<'a>(fault: &mut Option<FileFault<'a>>, name: &'a str, reason: Reason) -> Failure
+    ensures error { result ≡ Failure.Open }
+    ensures named { Names name.now fault.new }
+{
+    *fault = Some(FileFault::new(name, reason));
+    Failure::Open
+}
+
+/// Opens an input. Where it can't be opened, `fault` says why.
+pub(crate) fn open<'a, R: Files>(
+    rt: &R,
+    name: &'a str,
+    fault: &mut Option<FileFault<'a>>,
+) -> Result<Named<'a, R::File>, Failure>
+    ensures error { OnErr result (result ≡ Err Failure.Open) }
+    ensures named { OnErr result (Names name.now fault.new) }
 {
     match fs::open(rt, name) {
-        Ok(file) => Ok(file),
-        Err(_) => Err(Failure::Open),
+        Ok(file) => Ok(Named::new(name, file)),
+        Err(error) => Err(cannot_open(fault, name, Reason::System(error))),
     }
 }
 
@@ -31,42 +55,72 @@ impl Identity {
         }
     }
 
-    /// Of an open file.
-    pub(crate) fn of<F: OpenFile>(file: &F) -> Result<Identity, Failure>
-        ensures { OnErr result (result ≡ Err Failure.Open) }
+    /// Of what is open under this name, of which the system answers this.
+    fn of_metadata<'a>(
+        metadata: io::Result<Metadata>,
+        name: &'a str,
+        fault: &mut Option<FileFault<'a>>,
+    ) -> Result<Identity, Failure>
+        ensures error { OnErr result (result ≡ Err Failure.Open) }
+        ensures named { OnErr result (Names name.now fault.new) }
     {
-        match file.metadata() {
+        match metadata {
             Ok(metadata) => Ok(Identity::new(&metadata)),
-            Err(_) => Err(Failure::Open),
+            Err(error) => Err(cannot_open(fault, name, Reason::System(error))),
         }
     }
 
-    /// Of standard input.
-    pub(crate) fn of_standard_input<R: Files>(rt: &R) -> Result<Identity, Failure>
-        ensures { OnErr result (result ≡ Err Failure.Open) }
+    /// Of an open file.
+    pub(crate) fn of<'a, F: OpenFile>(
+        file: &Named<'a, F>,
+        fault: &mut Option<FileFault<'a>>,
+    ) -> Result<Identity, Failure>
+        ensures error { OnErr result (result ≡ Err Failure.Open) }
+        ensures named { OnErr result (Names file.now.name.now fault.new) }
     {
-        match fs::metadata(rt, "/dev/stdin") {
-            Ok(metadata) => Ok(Identity::new(&metadata)),
-            Err(_) => Err(Failure::Open),
-        }
+        Identity::of_metadata(file.stream().metadata(), file.name(), fault)
     }
+
+    /// Of standard input.
+    pub(crate) fn of_standard_input<R: Files>(
+        rt: &R,
+        fault: &mut Option<FileFault<'_>>,
+    ) -> Result<Identity, Failure>
+        ensures error { OnErr result (result ≡ Err Failure.Open) }
+        ensures named { OnErr result (Names (codes "standard input") fault.new) }
+    {
+        Identity::of_metadata(fs::metadata(rt, "/dev/stdin"), STANDARD_INPUT, fault)
+    }
+}
+
+/// Opens an output, which is created where it isn't there, and empties it. Pipes and devices keep nothing, so they are not
+/// emptied, and may be inputs as well.
+fn open_empty<R: Files>(rt: &R, name: &str, inputs: &[Identity]) -> Result<R::File, Reason> {
+    let file = OpenOptions::new().write(true).create(true).open(rt, name)?;
+    let metadata = file.metadata()?;
+    if metadata.is_file() {
+        if inputs.contains(&Identity::new(&metadata)) {
+            return Err(Reason::IsInput);
+        }
+        file.set_len(0)?;
+    }
+    Ok(file)
 }
 
 /// Opens an output, which is created where it isn't there, and empties it. Where it is one of the inputs of the command, which are
 /// open, nothing is touched, and the answer is `Failure::Open`. Pipes and devices keep nothing, so they are not emptied, and
-/// may be inputs as well.
-pub(crate) fn create<R: Files>(rt: &R, name: &str, inputs: &[Identity]) -> Result<R::File, Failure>
-    ensures { OnErr result (result ≡ Err Failure.Open) }
+/// may be inputs as well. Where it can't be opened or is an input, `fault` says why.
+pub(crate) fn create<'a, R: Files>(
+    rt: &R,
+    name: &'a str,
+    inputs: &[Identity],
+    fault: &mut Option<FileFault<'a>>,
+) -> Result<Named<'a, R::File>, Failure>
+    ensures error { OnErr result (result ≡ Err Failure.Open) }
+    ensures named { OnErr result (Names name.now fault.new) }
 {
-    let Ok(file) = OpenOptions::new().write(true).create(true).open(rt, name) else {
-        return Err(Failure::Open);
-    };
-    let Ok(metadata) = file.metadata() else {
-        return Err(Failure::Open);
-    };
-    let is_input = inputs.contains(&Identity::new(&metadata));
-    if metadata.is_file() && (is_input || file.set_len(0).is_err()) {
-        return Err(Failure::Open);
+    match open_empty(rt, name, inputs) {
+        Ok(file) => Ok(Named::new(name, file)),
+        Err(reason) => Err(cannot_open(fault, name, reason)),
     }
-    Ok(file)
 }

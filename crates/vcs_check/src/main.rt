@@ -6,9 +6,11 @@
 
 mod commands;
 mod ending;
+mod faults;
 mod files;
+mod named;
 
-ghost use Rattle.std.specs.Prelude.{◌≡◌, Err, IfOk};
+ghost use Rattle.std.specs.Prelude.{◌≡◌, Err, IfOk, IsSome};
 ghost use Rattle.command_line.specs.Ranges.{IsInRange};
 ghost use Rattle.vcs_check.specs.Commands.{Answers, IsQuiet, StartsThreads, Writes};
 ghost use Rattle.vcs_engine.specs.declared.run_error.RunError.TheVariants.{NoThread};
@@ -19,6 +21,9 @@ use commands::{
     verify, verify_with_pictures,
 };
 use ending::Ending;
+use faults::FileFault;
+use files::{STANDARD_INPUT, STANDARD_OUTPUT};
+use named::Named;
 use std::alloc::Global;
 use std::env::{self, Args, Env};
 use std::io::{self, Read, Write};
@@ -36,17 +41,19 @@ fn command_of(alloc: Global, arguments: Args) -> Result<Command, LineFault>
     parse_line(alloc, &arguments)
 }
 
-/// Does what a command asks for.
-fn execute<R: Files + Threads + Wait + Sync + AllocGlobal, I: Read, W: Write>(
+/// Does what a command asks for. Where a file that it names fails, `fault` says why.
+fn execute<'a, R: Files + Threads + Wait + Sync + AllocGlobal, I: Read, W: Write>(
     rt: &R,
     input: &mut I,
     line: &mut W,
-    command: &Command,
+    command: &'a Command,
+    fault: &mut Option<FileFault<'a>>,
 ) -> Result<Status, Failure>
     requires { IsInRange command.now }
     ensures ok { Writes (W.contents line.old) (W.contents line.new) (Answers command.now (I.remaining input.old) (I.remaining input.new)) result }
     ensures quiet { IsQuiet (W.contents line.old) (W.contents line.new) result }
     ensures no_thread { result ≡ Err (Failure.Run NoThread) → StartsThreads command.now }
+    ensures named { result ≡ Err Failure.Open → IsSome fault.new }
 {
     match command {
         Command::Stdin => judge(rt, input, &plan_of_standard_input(), line),
@@ -60,12 +67,14 @@ fn execute<R: Files + Threads + Wait + Sync + AllocGlobal, I: Read, W: Write>(
         } => {
             let plan = plan_of(*workers, *every, *first, *count);
             match pictures {
-                Some(pictures) => verify_with_pictures(rt, input, file, &plan, pictures, line),
-                None => verify(rt, input, file, &plan, line),
+                Some(pictures) => {
+                    verify_with_pictures(rt, input, file, &plan, pictures, line, fault)
+                }
+                None => verify(rt, input, file, &plan, line, fault),
             }
         }
         Command::Report { file, workers } => {
-            report(rt, input, file, &plan_of(*workers, 1, 1, 0), line)
+            report(rt, input, file, &plan_of(*workers, 1, 1, 0), line, fault)
         }
         Command::Make {
             rom,
@@ -73,27 +82,35 @@ fn execute<R: Files + Threads + Wait + Sync + AllocGlobal, I: Read, W: Write>(
             text,
             every,
             out,
-        } => make(rt, rom, inputs, form_of(*text), *every, out, line),
-        Command::Info { file } => info(rt, input, file, line),
-        Command::Inputs { file } => inputs(rt, input, file, line),
-        Command::Convert { old, new } => convert(rt, old, new, line),
+        } => make(rt, rom, inputs, form_of(*text), *every, out, line, fault),
+        Command::Info { file } => info(rt, input, file, line, fault),
+        Command::Inputs { file } => inputs(rt, input, file, line, fault),
+        Command::Convert { old, new } => convert(rt, old, new, line, fault),
     }
 }
 
-/// Does what the arguments ask for.
-fn answer<R: Env + Files + Threads + Wait + Sync + AllocGlobal, I: Read, W: Write>(
-    rt: &R,
-    input: &mut I,
-    line: &mut W,
-) -> Result<Status, Ending> {
+/// The command of the program's arguments.
+fn command_of_program<R: Env + AllocGlobal>(rt: &R) -> Result<Command, Ending>
+    ensures { IfOk result IsInRange }
+{
     let arguments = env::args(rt)?;
-    let command = command_of(rt.alloc(), arguments)?;
-    Ok(execute(rt, input, line, &command)?)
+    Ok(command_of(rt.alloc(), arguments)?)
 }
 
 fn main(rt: HostRuntime) -> ExitCode {
-    match answer(&rt, &mut rt.stdin(), &mut io::writer(&rt)) {
+    let command = match command_of_program(&rt) {
+        Ok(command) => command,
+        Err(ending) => return ending.report(&rt, &rt.stderr(), None),
+    };
+    let mut input = Named::new(STANDARD_INPUT, rt.stdin());
+    let mut line = Named::new(STANDARD_OUTPUT, io::writer(&rt));
+    let mut fault = None;
+    match execute(&rt, &mut input, &mut line, &command, &mut fault) {
         Ok(status) => ExitCode::from(status.code()),
-        Err(ending) => ending.report(&rt),
+        Err(failure) => {
+            input.tell(&mut fault);
+            line.tell(&mut fault);
+            Ending::Failed(failure).report(&rt, &rt.stderr(), fault)
+        }
     }
 }
