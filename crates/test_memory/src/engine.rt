@@ -7,7 +7,8 @@ use std::alloc::Global;
 use std::sync::Wait;
 use std::thread::Threads;
 use vcs_engine::{
-    InputForm, Plan, RunError, Status, run, run_convert, run_info, run_inputs, run_make, run_report,
+    InputForm, NoGate, Plan, RunError, Status, run, run_convert, run_info, run_inputs, run_make,
+    run_report,
 };
 
 /// The room for a line.
@@ -43,6 +44,7 @@ pub(crate) fn is_judged<R: Threads + Wait + Sync>(
         &plan,
         &mut line_left,
         &mut pictures_left,
+        &NoGate,
     );
     let is_untouched = line_left.len() == ROOM && pictures_left.len() == PICTURES;
     let is_whole = pictures_left.is_empty() && line_left.len() == ROOM - 33;
@@ -131,7 +133,14 @@ pub(crate) fn is_reported<R: Threads + Wait + Sync>(
     let plan = Plan::new(workers, 1, Keep::new(1, 0)?)?;
     let mut text = [0u8; 512];
     let mut left = text.as_mut_slice();
-    let answer = run_report(rt, alloc, &mut two_frames().as_slice(), &plan, &mut left);
+    let answer = run_report(
+        rt,
+        alloc,
+        &mut two_frames().as_slice(),
+        &plan,
+        &mut left,
+        &NoGate,
+    );
     let is_untouched = left.len() == 512;
     let is_whole = left.len() == 512 - REPORT;
     match answer {

@@ -16,7 +16,8 @@ use std::sync::Wait;
 use std::thread::Threads;
 use thiserror::Error;
 use vcs_engine::{
-    InputForm, Plan, RunError, Status, run, run_convert, run_info, run_inputs, run_make, run_report,
+    CountedGate, InputForm, Plan, RunError, Status, run, run_convert, run_info, run_inputs,
+    run_make, run_report,
 };
 
 /// The name of a file that is standard input.
@@ -88,12 +89,12 @@ pub(crate) fn plan_of_standard_input() -> Plan
 }
 
 /// Judges a movie without pictures.
-pub(crate) fn judge<T: Threads + Wait + Sync + AllocGlobal, R: Read, W: Write>(
-    rt: &T,
-    movie: &mut R,
-    plan: &Plan,
-    line: &mut W,
-) -> Result<Status, Failure>
+pub(crate) fn judge<
+    T: Threads + Wait + Sync + AllocGlobal,
+    R: Read,
+    W: Write,
+    G: CountedGate + Sync,
+>(rt: &T, movie: &mut R, plan: &Plan, line: &mut W, gate: &G) -> Result<Status, Failure>
     ensures ok { Writes (W.contents line.old) (W.contents line.new) (λ status text.
         (input : List ℕ) × ReadsAll (R.remaining movie.old) (R.remaining movie.new) input
         × IsJudged plan.now.keep.first plan.now.keep.count input status text) result }
@@ -101,17 +102,24 @@ pub(crate) fn judge<T: Threads + Wait + Sync + AllocGlobal, R: Read, W: Write>(
     ensures no_thread { result ≡ Err (Failure.Run RunError.NoThread) → 2 ≤ plan.now.workers }
     ensures read { result ≢ Err Failure.Open }
 {
-    Ok(run(rt, rt.alloc(), movie, plan, line, &mut io::sink())?)
+    Ok(run(rt, rt.alloc(), movie, plan, line, &mut io::sink(), gate)?)
 }
 
 /// Judges the movie of a file without pictures.
-pub(crate) fn verify<'a, R: Files + Threads + Wait + Sync + AllocGlobal, I: Read, W: Write>(
+pub(crate) fn verify<
+    'a,
+    R: Files + Threads + Wait + Sync + AllocGlobal,
+    I: Read,
+    W: Write,
+    G: CountedGate + Sync,
+>(
     rt: &R,
     input: &mut I,
     file: &'a str,
     plan: &Plan,
     line: &mut W,
     fault: &mut Option<FileFault<'a>>,
+    gate: &G,
 ) -> Result<Status, Failure>
     ensures ok { Writes (W.contents line.old) (W.contents line.new) (λ status text.
         (bytes : List ℕ) × ReadsFile file.now (I.remaining input.old) (I.remaining input.new) bytes
@@ -121,21 +129,28 @@ pub(crate) fn verify<'a, R: Files + Threads + Wait + Sync + AllocGlobal, I: Read
     ensures named { result ≡ Err Failure.Open → IsSome fault.new }
 {
     if file == STANDARD_INPUT {
-        return judge(rt, input, plan, line);
+        return judge(rt, input, plan, line, gate);
     }
     let mut movie = open(rt, file, fault)?;
-    let answer = judge(rt, &mut movie, plan, line);
+    let answer = judge(rt, &mut movie, plan, line, gate);
     movie.tell(fault);
     answer
 }
 
 /// Judges a movie, and writes its kept pictures through a buffer.
-fn judge_with_pictures<T: Threads + Wait + Sync + AllocGlobal, M: Read, P: Write + Drop, W: Write>(
+fn judge_with_pictures<
+    T: Threads + Wait + Sync + AllocGlobal,
+    M: Read,
+    P: Write + Drop,
+    W: Write,
+    G: CountedGate + Sync,
+>(
     rt: &T,
     movie: &mut M,
     plan: &Plan,
     pictures: P,
     line: &mut W,
+    gate: &G,
 ) -> Result<Status, Failure>
     ensures ok { Writes (W.contents line.old) (W.contents line.new) (λ status text.
         (input : List ℕ) × ReadsAll (M.remaining movie.old) (M.remaining movie.new) input
@@ -145,7 +160,7 @@ fn judge_with_pictures<T: Threads + Wait + Sync + AllocGlobal, M: Read, P: Write
     ensures read { result ≢ Err Failure.Open }
 {
     let mut pictures = buffered(rt.alloc(), pictures)?;
-    let status = run(rt, rt.alloc(), movie, plan, line, &mut pictures)?;
+    let status = run(rt, rt.alloc(), movie, plan, line, &mut pictures, gate)?;
     flushed(&mut pictures)?;
     Ok(status)
 }
@@ -156,6 +171,7 @@ pub(crate) fn verify_with_pictures<
     R: Files + Threads + Wait + Sync + AllocGlobal,
     I: Read,
     W: Write,
+    G: CountedGate + Sync,
 >(
     rt: &R,
     input: &mut I,
@@ -164,6 +180,7 @@ pub(crate) fn verify_with_pictures<
     pictures: &'a str,
     line: &mut W,
     fault: &mut Option<FileFault<'a>>,
+    gate: &G,
 ) -> Result<Status, Failure>
     ensures ok { Writes (W.contents line.old) (W.contents line.new) (λ status text.
         (bytes : List ℕ) × ReadsFile file.now (I.remaining input.old) (I.remaining input.new) bytes
@@ -175,27 +192,34 @@ pub(crate) fn verify_with_pictures<
     if file == STANDARD_INPUT {
         let identity = Identity::of_standard_input(rt, fault)?;
         let mut pictures = create(rt, pictures, &[identity], fault)?;
-        let answer = judge_with_pictures(rt, input, plan, &mut pictures, line);
+        let answer = judge_with_pictures(rt, input, plan, &mut pictures, line, gate);
         pictures.tell(fault);
         return answer;
     }
     let mut movie = open(rt, file, fault)?;
     let identity = Identity::of(&movie, fault)?;
     let mut pictures = create(rt, pictures, &[identity], fault)?;
-    let answer = judge_with_pictures(rt, &mut movie, plan, &mut pictures, line);
+    let answer = judge_with_pictures(rt, &mut movie, plan, &mut pictures, line, gate);
     movie.tell(fault);
     pictures.tell(fault);
     answer
 }
 
 /// Judges the movie of a file, and says facts about it.
-pub(crate) fn report<'a, R: Files + Threads + Wait + Sync + AllocGlobal, I: Read, W: Write>(
+pub(crate) fn report<
+    'a,
+    R: Files + Threads + Wait + Sync + AllocGlobal,
+    I: Read,
+    W: Write,
+    G: CountedGate + Sync,
+>(
     rt: &R,
     input: &mut I,
     file: &'a str,
     plan: &Plan,
     text: &mut W,
     fault: &mut Option<FileFault<'a>>,
+    gate: &G,
 ) -> Result<Status, Failure>
     ensures ok { Writes (W.contents text.old) (W.contents text.new) (λ status output.
         (bytes : List ℕ) × ReadsFile file.now (I.remaining input.old) (I.remaining input.new) bytes × Reports bytes status output) result }
@@ -204,10 +228,10 @@ pub(crate) fn report<'a, R: Files + Threads + Wait + Sync + AllocGlobal, I: Read
     ensures named { result ≡ Err Failure.Open → IsSome fault.new }
 {
     if file == STANDARD_INPUT {
-        return Ok(run_report(rt, rt.alloc(), input, plan, text)?);
+        return Ok(run_report(rt, rt.alloc(), input, plan, text, gate)?);
     }
     let mut movie = open(rt, file, fault)?;
-    let answer = run_report(rt, rt.alloc(), &mut movie, plan, text);
+    let answer = run_report(rt, rt.alloc(), &mut movie, plan, text, gate);
     movie.tell(fault);
     Ok(answer?)
 }

@@ -9,6 +9,7 @@ mod ending;
 mod faults;
 mod files;
 mod named;
+mod progress;
 
 ghost use Rattle.std.specs.Prelude.{◌≡◌, Err, IfOk, IsSome};
 ghost use Rattle.command_line.specs.Ranges.{IsInRange};
@@ -24,14 +25,15 @@ use ending::Ending;
 use faults::FileFault;
 use files::{STANDARD_INPUT, STANDARD_OUTPUT};
 use named::Named;
+use progress::Progress;
 use std::alloc::Global;
 use std::env::{self, Args, Env};
-use std::io::{self, Read, Write};
+use std::io::{self, IsTerminal, Read, Write};
 use std::process::ExitCode;
 use std::rt::Files;
 use std::sync::Wait;
 use std::thread::Threads;
-use vcs_engine::Status;
+use vcs_engine::{CountedGate, Status};
 
 /// The command of the arguments.
 fn command_of(alloc: Global, arguments: Args) -> Result<Command, LineFault>
@@ -41,13 +43,20 @@ fn command_of(alloc: Global, arguments: Args) -> Result<Command, LineFault>
     parse_line(alloc, &arguments)
 }
 
-/// Does what a command asks for. Where a file that it names fails, `fault` says why.
-fn execute<'a, R: Files + Threads + Wait + Sync + AllocGlobal, I: Read, W: Write>(
+/// Does what a command asks for. Where a file that it names fails, `fault` says why. The gate is called around replays.
+fn execute<
+    'a,
+    R: Files + Threads + Wait + Sync + AllocGlobal,
+    I: Read,
+    W: Write,
+    G: CountedGate + Sync,
+>(
     rt: &R,
     input: &mut I,
     line: &mut W,
     command: &'a Command,
     fault: &mut Option<FileFault<'a>>,
+    gate: &G,
 ) -> Result<Status, Failure>
     requires { IsInRange command.now }
     ensures ok { Writes (W.contents line.old) (W.contents line.new) (Answers command.now (I.remaining input.old) (I.remaining input.new)) result }
@@ -56,7 +65,7 @@ fn execute<'a, R: Files + Threads + Wait + Sync + AllocGlobal, I: Read, W: Write
     ensures named { result ≡ Err Failure.Open → IsSome fault.new }
 {
     match command {
-        Command::Stdin => judge(rt, input, &plan_of_standard_input(), line),
+        Command::Stdin => judge(rt, input, &plan_of_standard_input(), line, gate),
         Command::Verify {
             file,
             workers,
@@ -68,13 +77,14 @@ fn execute<'a, R: Files + Threads + Wait + Sync + AllocGlobal, I: Read, W: Write
             let plan = plan_of(*workers, *every, *first, *count);
             match pictures {
                 Some(pictures) => {
-                    verify_with_pictures(rt, input, file, &plan, pictures, line, fault)
+                    verify_with_pictures(rt, input, file, &plan, pictures, line, fault, gate)
                 }
-                None => verify(rt, input, file, &plan, line, fault),
+                None => verify(rt, input, file, &plan, line, fault, gate),
             }
         }
         Command::Report { file, workers } => {
-            report(rt, input, file, &plan_of(*workers, 1, 1, 0), line, fault)
+            let without_pictures = plan_of(*workers, 1, 1, 0);
+            report(rt, input, file, &without_pictures, line, fault, gate)
         }
         Command::Make {
             rom,
@@ -105,7 +115,8 @@ fn main(rt: HostRuntime) -> ExitCode {
     let mut input = Named::new(STANDARD_INPUT, rt.stdin());
     let mut line = Named::new(STANDARD_OUTPUT, io::writer(&rt));
     let mut fault = None;
-    match execute(&rt, &mut input, &mut line, &command, &mut fault) {
+    let progress = Progress::new(&rt, rt.stderr().is_terminal());
+    match execute(&rt, &mut input, &mut line, &command, &mut fault, &progress) {
         Ok(status) => ExitCode::from(status.code()),
         Err(failure) => {
             input.tell(&mut fault);

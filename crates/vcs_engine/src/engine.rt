@@ -5,6 +5,7 @@ ghost use Rattle.picture_file.specs.PictureBytes.{pictures_bytes};
 ghost use Rattle.vcs_engine.specs.Outputs.{Told, Tells};
 ghost use Rattle.vcs_engine.specs.Streams.{ReadsAll, IsTooLong, WritesPart};
 
+use crate::counted_gate::CountedGate;
 use crate::output::Output;
 use crate::plan::Plan;
 use crate::run_error::RunError;
@@ -21,13 +22,16 @@ use std::thread::Threads;
 /// A movie that is refused is a line and `Status::Refused`. After ReadFault, TooLong, NoMemory and NoThread nothing was written.
 /// After WriteFault the line's writer has got a prefix of the line, or the whole line and the pictures' writer a prefix of the
 /// pictures. At most 16,777,217 reads are made. With more than one worker it joins the threads that it starts.
-pub fn run<T: Threads + Wait + Sync, R: Read, W: Write, P: Write>(
+///
+/// The gate is called around each replay, and before and after all of them, where the movie isn't refused.
+pub fn run<T: Threads + Wait + Sync, R: Read, W: Write, P: Write, G: CountedGate + Sync>(
     rt: &T,
     alloc: Global,
     movie: &mut R,
     plan: &Plan,
     verdict: &mut W,
     pictures: &mut P,
+    gate: &G,
 ) -> Result<Status, RunError>
     // The output is that of the bytes read, and nothing else.
     ensures ok { IfOk result (λ status. (input : List ℕ) × (told : Told) × ReadsAll (R.remaining movie.old) (R.remaining movie.new) input
@@ -44,6 +48,6 @@ pub fn run<T: Threads + Wait + Sync, R: Read, W: Write, P: Write>(
     ensures no_thread { result ≡ Err RunError.NoThread → 2 ≤ plan.now.workers }
 {
     let bytes = read_all(alloc, movie)?;
-    let output = Output::of_bytes(rt, alloc, &bytes, plan)?;
+    let output = Output::of_bytes(rt, alloc, &bytes, plan, gate)?;
     Ok(output.write(verdict, pictures)?)
 }

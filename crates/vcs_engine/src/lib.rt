@@ -3,6 +3,7 @@
 #![tactic(auto)]
 
 mod converting;
+mod counted_gate;
 mod engine;
 mod information;
 mod line;
@@ -16,6 +17,7 @@ mod status;
 mod streams;
 
 pub use converting::run_convert;
+pub use counted_gate::CountedGate;
 pub use engine::run;
 pub use information::run_info;
 pub use listing::run_inputs;
@@ -25,3 +27,4 @@ pub use plan::{BadPlan, Plan};
 pub use reporting::run_report;
 pub use run_error::RunError;
 pub use status::Status;
+pub use verify_pool::{Gate, NoGate, Ticket};

@@ -8,6 +8,7 @@ ghost use Rattle.vcs_engine.specs.Outputs.{Tells, told_of, told_refused};
 ghost use Rattle.vcs_engine.specs.Streams.{WritesPart};
 ghost use Rattle.replay_segments.specs.Verdicts.{IsVerdict};
 
+use crate::counted_gate::CountedGate;
 use crate::line::Line;
 use crate::plan::Plan;
 use crate::run_error::JudgeError;
@@ -19,7 +20,7 @@ use std::alloc::{AllocError, Global};
 use std::io::Write;
 use std::sync::Wait;
 use std::thread::Threads;
-use verify_pool::{NoGate, VerifyError, verify};
+use verify_pool::{VerifyError, verify};
 
 /// The status and the line of a movie with this verdict.
 pub(crate) fn line_of(movie: &Movie, verdict: &Verdict) -> (Status, Line)
@@ -48,11 +49,12 @@ pub(crate) fn line_of(movie: &Movie, verdict: &Verdict) -> (Status, Line)
 }
 
 /// The verdict of a movie, by the workers of a plan.
-pub(crate) fn verdict_of<T: Threads + Wait + Sync>(
+pub(crate) fn verdict_of<T: Threads + Wait + Sync, G: CountedGate + Sync>(
     rt: &T,
     alloc: Global,
     movie: &Movie,
     plan: &Plan,
+    gate: &G,
 ) -> Result<Verdict, JudgeError>
     ensures verdict { IfOk result (λ verdict. IsVerdict movie.now plan.now.keep verdict) }
     ensures no_thread { result ≡ Err JudgeError.NoThread → 2 ≤ plan.now.workers }
@@ -62,15 +64,10 @@ pub(crate) fn verdict_of<T: Threads + Wait + Sync>(
         Err(CutsError::NoMemory) => return Err(JudgeError::NoMemory),
         Err(CutsError::BadCuts) => unreachable!(),
     };
-    match verify(
-        rt,
-        alloc,
-        movie,
-        &cuts,
-        plan.workers(),
-        plan.keep(),
-        &NoGate,
-    ) {
+    gate.begin(cuts.segments());
+    let answer = verify(rt, alloc, movie, &cuts, plan.workers(), plan.keep(), gate);
+    gate.end();
+    match answer {
         Ok(verdict) => Ok(verdict),
         Err(VerifyError::NoMemory) => Err(JudgeError::NoMemory),
         Err(VerifyError::NoThread) => Err(JudgeError::NoThread),
@@ -123,11 +120,12 @@ impl Output {
     }
 
     /// The status, line and pictures of the bytes of an input.
-    pub fn of_bytes<T: Threads + Wait + Sync>(
+    pub fn of_bytes<T: Threads + Wait + Sync, G: CountedGate + Sync>(
         rt: &T,
         alloc: Global,
         bytes: &[u8],
         plan: &Plan,
+        gate: &G,
     ) -> Result<Output, JudgeError>
         ensures told { IfOk result (λ output. Tells plan.now.keep bytes.now (told_by output)) }
         ensures no_thread { result ≡ Err JudgeError.NoThread → 2 ≤ plan.now.workers }
@@ -137,7 +135,7 @@ impl Output {
             Err(MovieError::NoMemory) => return Err(JudgeError::NoMemory),
             Err(error) => return Ok(Output::refused(alloc, error)?),
         };
-        let verdict = verdict_of(rt, alloc, &movie, plan)?;
+        let verdict = verdict_of(rt, alloc, &movie, plan, gate)?;
         Ok(Output::of_verdict(alloc, &movie, verdict)?)
     }
 

@@ -5,6 +5,7 @@ ghost use Rattle.picture_file.specs.Fronts.{AppendsFront};
 ghost use Rattle.vcs_engine.specs.Reports.{Reports};
 ghost use Rattle.vcs_engine.specs.Streams.{ReadsAll, IsTooLong};
 
+use crate::counted_gate::CountedGate;
 use crate::line::Line;
 use crate::output::{line_of, verdict_of};
 use crate::plan::Plan;
@@ -20,11 +21,12 @@ use std::sync::Wait;
 use std::thread::Threads;
 
 /// A status, and what is written of the bytes of an input.
-fn reported<T: Threads + Wait + Sync>(
+fn reported<T: Threads + Wait + Sync, G: CountedGate + Sync>(
     rt: &T,
     alloc: Global,
     bytes: &[u8],
     plan: &Plan,
+    gate: &G,
 ) -> Result<(Status, String), JudgeError>
     ensures told { IfOk result (λ told. Reports bytes.now told.0 (string_bytes told.1)) }
     ensures no_thread { result ≡ Err JudgeError.NoThread → 2 ≤ plan.now.workers }
@@ -34,7 +36,7 @@ fn reported<T: Threads + Wait + Sync>(
         Err(MovieError::NoMemory) => return Err(JudgeError::NoMemory),
         Err(error) => return Ok((Status::Refused, Line::Refused(error).text(alloc)?)),
     };
-    let verdict = verdict_of(rt, alloc, &movie, plan)?;
+    let verdict = verdict_of(rt, alloc, &movie, plan, gate)?;
     let facts = report(alloc, &movie, &verdict)?;
     let (status, line) = line_of(&movie, &verdict);
     let mut text = line.text(alloc)?;
@@ -47,12 +49,15 @@ fn reported<T: Threads + Wait + Sync>(
 /// A movie that is refused is a line and `Status::Refused`. No picture is written. After ReadFault, TooLong, NoMemory and NoThread
 /// nothing was written; after WriteFault the writer has got a prefix of the text. At most 16,777,217 reads are made. With more
 /// than one worker it joins the threads that it starts.
-pub fn run_report<T: Threads + Wait + Sync, R: Read, W: Write>(
+///
+/// The gate is called around each replay, and before and after all of them, where the movie isn't refused.
+pub fn run_report<T: Threads + Wait + Sync, R: Read, W: Write, G: CountedGate + Sync>(
     rt: &T,
     alloc: Global,
     movie: &mut R,
     plan: &Plan,
     text: &mut W,
+    gate: &G,
 ) -> Result<Status, RunError>
     // The output is that of the bytes read, and nothing else.
     ensures ok { IfOk result (λ status. (input : List ℕ) × (output : List ℕ) × ReadsAll (R.remaining movie.old) (R.remaining movie.new) input
@@ -67,7 +72,7 @@ pub fn run_report<T: Threads + Wait + Sync, R: Read, W: Write>(
     ensures no_thread { result ≡ Err RunError.NoThread → 2 ≤ plan.now.workers }
 {
     let bytes = read_all(alloc, movie)?;
-    let (status, output) = reported(rt, alloc, &bytes, plan)?;
+    let (status, output) = reported(rt, alloc, &bytes, plan, gate)?;
     write_bytes(output.as_bytes(), text)?;
     Ok(status)
 }

@@ -10,7 +10,7 @@ use std::io;
 use std::sync::Wait;
 use std::test::Fail;
 use std::thread::Threads;
-use vcs_engine::{BadPlan, Plan, RunError, Status, rgb, run};
+use vcs_engine::{BadPlan, NoGate, Plan, RunError, Status, rgb, run};
 
 /// Two workers, and a cut at each checkpoint.
 fn plan() -> Plan {
@@ -31,6 +31,7 @@ fn told<T: Threads + Wait + Sync + AllocGlobal>(
         &plan(),
         &mut line,
         &mut io::sink(),
+        &NoGate,
     );
     (status, line)
 }
@@ -117,6 +118,7 @@ fn told_of_zeros<T: Threads + Wait + Sync + AllocGlobal>(
         &plan(),
         &mut line,
         &mut io::sink(),
+        &NoGate,
     );
     (status, line, zeros.reads)
 }
@@ -154,6 +156,7 @@ fn told_in_parts<T: Threads + Wait + Sync + AllocGlobal>(
         &plan(),
         &mut line,
         &mut io::sink(),
+        &NoGate,
     );
     (status, line)
 }
@@ -187,6 +190,7 @@ fn failed_write_leaves_a_front_of_the_line(rt: HostRuntime) -> Result<(), Fail> 
             &plan(),
             &mut writer,
             &mut io::sink(),
+            &NoGate,
         );
         assert_eq!(rt; status, Err(RunError::WriteFault));
         assert!(rt; writer.taken.as_slice() == &wanted[..left]);
@@ -202,6 +206,7 @@ fn failed_write_leaves_a_front_of_the_line(rt: HostRuntime) -> Result<(), Fail> 
         &plan(),
         &mut writer,
         &mut io::sink(),
+        &NoGate,
     );
     assert_eq!(rt; status, Ok(Status::Done));
     assert!(rt; writer.taken.as_slice() == wanted);
@@ -249,6 +254,7 @@ fn kept_pictures_follow_the_line(rt: HostRuntime) -> Result<(), Fail> {
         &plan(),
         &mut line,
         &mut pictures,
+        &NoGate,
     );
     assert_eq!(rt; status, Ok(Status::Done));
     assert!(rt; pictures.as_slice() == wanted.as_slice());
@@ -265,6 +271,7 @@ fn kept_pictures_follow_the_line(rt: HostRuntime) -> Result<(), Fail> {
             &plan(),
             &mut line,
             &mut writer,
+            &NoGate,
         );
         assert_eq!(rt; status, Err(RunError::WriteFault));
         assert!(rt; line.as_slice() == b"genuine: 2 frames, 1 checkpoints\n".as_slice());

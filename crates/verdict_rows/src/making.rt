@@ -6,7 +6,7 @@ use replay_segments::Keep;
 use std::alloc::Global;
 use std::io;
 use std::test::Fail;
-use vcs_engine::{InputForm, Plan, RunError, Status, run, run_info, run_make};
+use vcs_engine::{InputForm, NoGate, Plan, RunError, Status, run, run_info, run_make};
 
 /// Two idle inputs.
 const TWO_INPUTS: [u8; 6] = [0xFF, 0x3F, 0, 0xFF, 0x3F, 0];
@@ -70,6 +70,7 @@ fn made_movie_is_genuine(rt: HostRuntime) -> Result<(), Fail> {
         &plan,
         &mut line,
         &mut io::sink(),
+        &NoGate,
     );
     assert_eq!(rt; status, Ok(Status::Done));
     assert!(rt; line.as_slice() == b"genuine: 2 frames, 1 checkpoints\n".as_slice());

@@ -7,7 +7,7 @@ use std::io;
 use std::sync::Wait;
 use std::test::Fail;
 use std::thread::Threads;
-use vcs_engine::{InputForm, Plan, RunError, Status, run, run_convert, run_info, run_make};
+use vcs_engine::{InputForm, NoGate, Plan, RunError, Status, run, run_convert, run_info, run_make};
 
 /// A cartridge of two banks. The second bank begins with LDA 1FF8, which has 5A there and selects
 /// the first; that goes on with STA 80, LDA #02, STA VSYNC, LDA #00, STA VSYNC, JMP F005.
@@ -62,6 +62,7 @@ fn line_of<T: Threads + Wait + Sync + AllocGlobal>(
         &plan,
         &mut line,
         &mut io::sink(),
+        &NoGate,
     )?;
     Ok(line)
 }
