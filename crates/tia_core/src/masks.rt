@@ -85,6 +85,7 @@ impl Masks {
     }
 
     /// The collision bits with those of the pairs that meet in pixels `from..to`.
+    #[inline(always)]
     pub fn latched(&mut self, t: &TiaFields, from: u8, to: u8) -> u16
         requires lawful { IsLawful t.now }
         requires fit { MasksFit t.now self.old }
@@ -98,16 +99,33 @@ impl Masks {
         if t.collisions | self.bound == t.collisions {
             return t.collisions;
         }
+        self.latched_anew(t, from, to)
+    }
+
+    /// The collision bits with those of the pairs that meet in pixels `from..to`, by the masks.
+    #[inline(never)]
+    fn latched_anew(&mut self, t: &TiaFields, from: u8, to: u8) -> u16
+        requires lawful { IsLawful t.now }
+        requires fit { MasksFit t.now self.old }
+        requires order { from ≤ to }
+        requires range { to ≤ 160 }
+        ensures value { result ≡ bit_or t.now.collisions (number_from 0 (stretch_pairs t.now from (to - from))) }
+        ensures range { result < 2 ^ 15 }
+        ensures fit { MasksFit t.now self.new }
+    {
         self.renew(t);
         if self.any_two_meet(from, to) {
-            with_pairs(t.collisions, self.pairs(t, from, to))
-        } else {
-            t.collisions
+            return with_pairs(t.collisions, self.pairs(t, from, to));
         }
+        // Then none meet on the whole line.
+        if from == 0 && to == 160 {
+            self.bound = 0;
+        }
+        t.collisions
     }
 
     /// Finds the bound where none is known: the pairs of the objects that may be visible.
-    #[inline]
+    #[inline(always)]
     fn find_bound(&mut self, t: &TiaFields)
         requires { MasksFit t.now self.old }
         ensures { MasksFit t.now self.new }
@@ -275,7 +293,7 @@ pub fn mask_of(t: &TiaFields, object: u8) -> Mask
 }
 
 /// The collision bits of all pairs of the objects that may be visible.
-#[inline]
+#[inline(never)]
 fn most_pairs(t: &TiaFields) -> u16
     ensures { IsBound t.now result }
 {

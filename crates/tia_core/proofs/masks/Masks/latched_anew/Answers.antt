@@ -1,0 +1,12 @@
+use Rattle.std.proofs.Common.{◌∙◌, ◌-◌, ◌<◌, sym, ap, arith}
+use Rattle.tia_core.specs.Collision.{pairs_of}
+use Rattle.tia_core.proofs.MaskFits.{objects_in-fit}
+use Rattle.tia_core.proofs.Pairs.{stretch-none}
+use Rattle.tia_core.proofs.masks.Masks.latched_anew.Goals as goal
+
+pub returns-clause-value : goal.returns-clause-value
+returns-clause-value c =
+    stretch-none c.args.t.now c.args.t.now.collisions c.args.from (c.args.to - c.args.from) (λ y le lt.
+    let h : y < 160 = omega arith in
+    ap pairs_of (sym (objects_in-fit c.args.t.now c.renew.new.self y c.renew.ensures.fit c.renew.ensures.fresh h))
+    ∙ c.any_two_meet.ensures c.if-any_two_meet.false y le (omega arith))
