@@ -34,6 +34,10 @@ pub sink-later : {S : Type 0} (drawn : S → ℕ → ℕ → ℕ → S) (owed n 
     → painted drawn s (pixels (3 * (owed + n)) t) ≡ painted drawn (painted drawn s (pixels (3 * owed) t)) (pixels (3 * n) (iterate clocked (3 * owed) t))
 sink-later drawn owed n t s = rw (three owed n) (painted-add drawn s (3 * owed) (3 * n) t)
 
+-- Fewer cycles are left, and as many more are owed.
+pub left-less : (left n : ℕ) → n ≤ left → left ≤ 76 → 76 - (left + (256 - n)) % 256 ≡ 76 - left + n
+left-less left n h most = omega arith
+
 -- ---- the beam
 pub line-later : (owed : ℕ) (t : TiaState) → t.fields.clock < 228 → (iterate clocked (3 * owed) t).fields.clock / 3 ≡ (t.fields.clock / 3 + owed) % 76
 line-later owed t h = rw (iterate-clocked-clock (3 * owed) t h) (thirds t.fields.clock)

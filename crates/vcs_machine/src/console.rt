@@ -6,7 +6,7 @@ ghost use Rattle.vcs_machine.specs.Consoles.{meaning_of, rested, wait_cycles, wa
 ghost use Rattle.vcs_machine.specs.States.{joined};
 ghost use Rattle.vcs_machine.specs.Inputs.{is_pressed};
 
-use crate::devices::Devices;
+use crate::devices::{Devices, MOST_OWED};
 use crate::input::Input;
 use crate::socket::Socket;
 use crate::state::State;
@@ -29,11 +29,13 @@ pub struct Console<'a, S: Paint> {
     synced: bool,
     /// VSYNC has fallen in this frame.
     ended: bool,
+    /// One of the two, perhaps: most instructions do neither, and ask this alone.
+    stirred: bool,
 }
 
 impl<'a, S: Paint> Model for Console<'a, S> {
     ghost use Rattle.vcs_machine.specs.Consoles.{Console as ConsoleOf};
-    ghost use Rattle.vcs_machine.specs.Private.Owing.{riot_seen, tia_seen, sink_seen, IsBehind};
+    ghost use Rattle.vcs_machine.specs.Private.Owing.{riot_seen, tia_seen, sink_seen, IsBehind, IsStirring};
 
     ghost Value = { ConsoleOf S };
 
@@ -47,7 +49,7 @@ impl<'a, S: Paint> Model for Console<'a, S> {
       sink = sink_seen S.drawn c.devices;
     } };
 
-    ghost invariant = { λ c. IsBehind c.devices };
+    ghost invariant = { λ c. IsBehind c.devices × IsStirring c.stirred c.synced c.ended };
 }
 
 impl<'a, S: Paint> Bus for Console<'a, S> {
@@ -140,11 +142,12 @@ impl<'a, S: Paint> Console<'a, S> {
                 riot,
                 tia,
                 sink,
-                owed: 0,
+                left: MOST_OWED,
                 paid: 0,
             },
             synced: false,
             ended: false,
+            stirred: false,
         }
     }
 
@@ -158,13 +161,14 @@ impl<'a, S: Paint> Console<'a, S> {
             mut devices,
             synced: _,
             ended: _,
+            stirred: _,
         } = self;
         devices.settle();
         let Devices {
             riot,
             tia,
             sink,
-            owed: _,
+            left: _,
             paid: _,
         } = devices;
         (State::of_parts(cpu, &riot, &tia, socket.bank), sink)
@@ -178,6 +182,7 @@ impl<'a, S: Paint> Console<'a, S> {
         // These leave the cycles owed, since they change nothing in the TIA.
         if register == WSYNC {
             self.synced = true;
+            self.stirred = true;
             return;
         }
         if is_unchanged(&self.devices.tia.fields(), register, value) {
@@ -185,10 +190,11 @@ impl<'a, S: Paint> Console<'a, S> {
         }
         self.devices.settle();
         match self.devices.tia.write(register, value) {
-            Effect::Nothing => {}
+            Effect::Nothing => return,
             Effect::Sync => self.synced = true,
             Effect::FrameEnd => self.ended = true,
         }
+        self.stirred = true;
     }
 
     /// The wait that an instruction left, in cycles: up to the next scanline where it wrote WSYNC.
@@ -199,19 +205,36 @@ impl<'a, S: Paint> Console<'a, S> {
         ensures cycles { result ≡ wait_cycles self.old }
         ensures most { result ≤ 75 }
     {
+        if self.stirred {
+            self.wait_for_line()
+        } else {
+            0
+        }
+    }
+
+    /// The same, where WSYNC was written or VSYNC has fallen.
+    #[tactic(auto, unfolding(crate::specs::Consoles::meaning_of, riot_map::specs::Riot::after_cycles))]
+    #[inline(never)]
+    fn wait_for_line(&mut self) -> u8
+        ensures bus { self.new ≡ rested S.drawn self.old }
+        ensures cycles { result ≡ wait_cycles self.old }
+        ensures most { result ≤ 75 }
+    {
         if !self.synced {
             return 0;
         }
         let cycles = (76 - self.devices.line_cycle()) % 76;
         self.pass(cycles);
         self.synced = false;
+        self.stirred = self.ended;
         cycles
     }
 
     /// Whether VSYNC has fallen in this frame.
+    #[inline(always)]
     pub fn has_ended(&self) -> bool
         ensures { result ≡ self.now.ended }
     {
-        self.ended
+        self.stirred && self.ended
     }
 }

@@ -2,7 +2,7 @@
 ghost use Rattle.std.specs.Prelude.{◌≡◌, ◌≤◌, ◌<◌, ◌+◌, ◌-◌, ◌*◌, ◌/◌};
 ghost use Rattle.std.specs.Fn.{iterate};
 ghost use Rattle.tia_core.specs.Read.{read_of};
-ghost use Rattle.vcs_machine.specs.Private.Owing.{riot_seen, tia_seen, sink_seen, IsBehind};
+ghost use Rattle.vcs_machine.specs.Private.Owing.{riot_seen, tia_seen, sink_seen, given_back, IsBehind};
 ghost use Rattle.riot_map.specs.Riot.{after_cycles};
 ghost use Rattle.tia_core.specs.Clock.{clocked, pixels, painted};
 
@@ -13,32 +13,44 @@ use tia_core::tia::Tia;
 /// Most cycles that devices are behind: those of a scanline, whose clocks fit a call of the TIA.
 pub const MOST_OWED: u8 = 76;
 
-/// A RIOT, a TIA and its sink, and how many cycles of the processor they have yet to see.
+/// A RIOT, a TIA and its sink, and how many cycles of the processor they have yet to see: the TIA's are `MOST_OWED` less those
+/// that are left.
 ///
-/// Most instructions look at memory alone, so the cycles are passed on where a device is looked at.
+/// Most instructions look at memory alone, so the cycles are passed on where a device is looked at. Those that are left are
+/// counted, since whether there are enough is then told by the subtraction itself.
 #[derive(Drop)]
 pub struct Devices<S> {
     pub riot: Riot,
     pub tia: Tia,
     pub sink: S,
-    /// The cycles that the TIA has yet to see.
-    pub owed: u8,
-    /// How many of them the RIOT has seen.
+    /// The cycles that may still pass before the TIA has to see them.
+    pub left: u8,
+    /// How many of the cycles that the TIA has yet to see the RIOT has seen.
     pub paid: u8,
 }
 
 impl<S: Paint> Devices<S> {
+    /// The cycles that the TIA has yet to see.
+    #[inline(always)]
+    fn owed(&self) -> u8
+        requires { IsBehind self.now }
+        ensures { result ≡ 76 - self.now.left }
+    {
+        MOST_OWED - self.left
+    }
+
     /// Lets the RIOT see the cycles that it has not seen.
     #[inline(always)]
     pub fn settle_riot(&mut self)
         requires { IsBehind self.old }
         ensures { self.new ≡ record self.old {
           riot = riot_seen self.old;
-          paid = self.old.owed;
+          paid = 76 - self.old.left;
         } }
     {
-        self.riot.cycles(self.owed - self.paid);
-        self.paid = self.owed;
+        let owed = self.owed();
+        self.riot.cycles(owed - self.paid);
+        self.paid = owed;
     }
 
     /// Lets both see the cycles that they have not seen.
@@ -49,13 +61,14 @@ impl<S: Paint> Devices<S> {
           riot = riot_seen self.old;
           tia = tia_seen self.old;
           sink = sink_seen S.drawn self.old;
-          owed = 0;
+          left = 76;
           paid = 0;
         } }
     {
         self.settle_riot();
-        self.tia.clocks(3 * self.owed, &mut self.sink);
-        self.owed = 0;
+        let owed = self.owed();
+        self.tia.clocks(3 * owed, &mut self.sink);
+        self.left = MOST_OWED;
         self.paid = 0;
     }
 
@@ -69,28 +82,30 @@ impl<S: Paint> Devices<S> {
         ensures tia { tia_seen self.new ≡ iterate clocked (3 * cycles) (tia_seen self.old) }
         ensures sink { sink_seen S.drawn self.new ≡ painted S.drawn (sink_seen S.drawn self.old) (pixels (3 * cycles) (tia_seen self.old)) }
     {
-        if cycles <= MOST_OWED - self.owed {
-            self.owed += cycles;
-        } else {
+        let is_short = self.left < cycles;
+        self.left = self.left.wrapping_sub(cycles);
+        if is_short {
             self.settle_and_owe(cycles);
         }
     }
 
-    /// Lets both see the cycles that they have not seen, and owes them others.
+    /// Takes back the cycles that were too many, lets both see those that they have not seen, and owes them these.
     #[cold]
     #[inline(never)]
     fn settle_and_owe(&mut self, cycles: u8)
-        requires { IsBehind self.old }
+        requires behind { IsBehind (given_back self.old cycles) }
+        requires most { cycles ≤ 76 }
         ensures { self.new ≡ record self.old {
-          riot = riot_seen self.old;
-          tia = tia_seen self.old;
-          sink = sink_seen S.drawn self.old;
-          owed = cycles;
+          riot = riot_seen (given_back self.old cycles);
+          tia = tia_seen (given_back self.old cycles);
+          sink = sink_seen S.drawn (given_back self.old cycles);
+          left = 76 - cycles;
           paid = 0;
         } }
     {
+        self.left = self.left.wrapping_add(cycles);
         self.settle();
-        self.owed = cycles;
+        self.left = MOST_OWED - cycles;
     }
 
     /// What a read of a register of the TIA would give, had the TIA seen all cycles.
@@ -107,7 +122,7 @@ impl<S: Paint> Devices<S> {
         let Some(mut tia) = Tia::from_fields(fields) else {
             unreachable!()
         };
-        tia.clocks(3 * self.owed, &mut NoPaint);
+        tia.clocks(3 * self.owed(), &mut NoPaint);
         tia.read(register)
     }
 
@@ -118,6 +133,6 @@ impl<S: Paint> Devices<S> {
         ensures value { result ≡ (tia_seen self.now).fields.clock / 3 }
         ensures range { result < 76 }
     {
-        (self.tia.beam() / 3 + self.owed) % 76
+        (self.tia.beam() / 3 + self.owed()) % 76
     }
 }

@@ -1,5 +1,5 @@
 -- Devices that are owed cycles: the processor is ahead of them. This project's own.
-use Rattle.std.specs.Prelude.{ℕ, ◌≤◌, ◌-◌, ◌*◌}
+use Rattle.std.specs.Prelude.{ℕ, ◌≡◌, ◌≤◌, ◌-◌, ◌+◌, ◌*◌, ◌%◌, Bool, false}
 use Rattle.std.specs.Fn.{iterate}
 use Rattle.riot_map.specs.Riot.{RiotState, after_cycles}
 use Rattle.tia_core.specs.Clock.{clocked, pixels, painted}
@@ -10,18 +10,27 @@ use Rattle.vcs_machine.specs.declared.devices.Devices.{Devices}
 -- Devices once they have seen the cycles that they are owed.
 module _ {S : Type 0} where
   abbrev pub riot_seen : Devices S → RiotState
-  riot_seen d = after_cycles (d.owed - d.paid) d.riot
+  riot_seen d = after_cycles (76 - d.left - d.paid) d.riot
 
   abbrev pub tia_seen : Devices S → TiaState
-  tia_seen d = iterate clocked (3 * d.owed) d.tia
+  tia_seen d = iterate clocked (3 * (76 - d.left)) d.tia
 
   abbrev pub sink_seen : (S → ℕ → ℕ → ℕ → S) → Devices S → S
-  sink_seen drawn d = painted drawn d.sink (pixels (3 * d.owed) d.tia)
+  sink_seen drawn d = painted drawn d.sink (pixels (3 * (76 - d.left)) d.tia)
 
 -- What is true of the cycles that devices are owed: the RIOT has seen no others, and they are at most those of a scanline.
 pub record IsBehind {S : Type 0} (d : Devices S) : Type 0 where
-  pub paid : d.paid ≤ d.owed
-  pub most : d.owed ≤ 76
+  pub paid : d.paid ≤ 76 - d.left
+  pub most : d.left ≤ 76
+
+-- Devices to which cycles are given back that were too many.
+abbrev pub given_back : {S : Type 0} → Devices S → ℕ → Devices S
+given_back d cycles = record d { left = (d.left + cycles) % 256 }
+
+-- What is known where no instruction stirred: none wrote WSYNC, and VSYNC has not fallen.
+pub record IsStirring (stirred synced ended : Bool) : Type 0 where
+  pub no_wait : stirred ≡ false → synced ≡ false
+  pub no_end : stirred ≡ false → ended ≡ false
 
 -- The numbers of a TIA whose beam went on: nothing else of them changes.
 abbrev pub after_beam : TiaFields → ℕ → ℕ → ℕ → TiaFields

@@ -1,13 +1,19 @@
-use Rattle.vcs_machine.proofs.Owing.{riot-later, tia-later, sink-later}
+use Rattle.std.proofs.Common.{◌-◌}
+use Rattle.vcs_machine.proofs.Owing.{left-less, riot-later, tia-later, sink-later}
 use Rattle.vcs_machine.proofs.devices.Devices.pass.Goals as goal
 
-pub returns-then-cycles-self-clause-riot : goal.returns-then-cycles-self-clause-riot
-returns-then-cycles-self-clause-riot g c =
-    let d = c.args.self.now in riot-later d.owed d.paid c.args.cycles d.riot c.requires.behind.paid
+pub returns-else-is_short-clause-riot : goal.returns-else-is_short-clause-riot
+returns-else-is_short-clause-riot g c =
+    let d = c.args.self.now in
+    rw (left-less d.left c.args.cycles c.if-is_short.false c.requires.behind.most) (riot-later (76 - d.left) d.paid c.args.cycles d.riot c.requires.behind.paid)
 
-pub returns-then-cycles-self-clause-tia : goal.returns-then-cycles-self-clause-tia
-returns-then-cycles-self-clause-tia g c = let d = c.args.self.now in tia-later d.owed c.args.cycles d.tia
+pub returns-else-is_short-clause-tia : goal.returns-else-is_short-clause-tia
+returns-else-is_short-clause-tia g c =
+    let d = c.args.self.now in
+    rw (left-less d.left c.args.cycles c.if-is_short.false c.requires.behind.most) (tia-later (76 - d.left) c.args.cycles d.tia)
 
-pub returns-then-cycles-self-clause-sink : goal.returns-then-cycles-self-clause-sink
-returns-then-cycles-self-clause-sink g c =
-    let d = c.args.self.now in sink-later g.S.Paint.drawn d.owed c.args.cycles d.tia d.sink
+pub returns-else-is_short-clause-sink : goal.returns-else-is_short-clause-sink
+returns-else-is_short-clause-sink g c =
+    let d = c.args.self.now in
+    rw (left-less d.left c.args.cycles c.if-is_short.false c.requires.behind.most)
+    (sink-later g.S.Paint.drawn (76 - d.left) c.args.cycles d.tia d.sink)
