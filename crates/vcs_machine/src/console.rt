@@ -176,6 +176,7 @@ impl<'a, S: Paint> Console<'a, S> {
 
     /// A write of a register of the TIA.
     #[tactic(auto, unfolding(riot_map::specs::Riot::after_cycles, tia_core::specs::Write::written))]
+    #[inline(always)]
     fn write_tia(&mut self, register: u8, value: u8)
         ensures { self.new ≡ tia_written self.old register value }
     {
@@ -188,6 +189,15 @@ impl<'a, S: Paint> Console<'a, S> {
         if is_unchanged(&self.devices.tia.fields(), register, value) {
             return;
         }
+        self.change_tia(register, value);
+    }
+
+    /// A write of a register of the TIA that may change something.
+    #[tactic(auto, unfolding(riot_map::specs::Riot::after_cycles, tia_core::specs::Write::written))]
+    #[inline(never)]
+    fn change_tia(&mut self, register: u8, value: u8)
+        ensures { self.new ≡ tia_written self.old register value }
+    {
         self.devices.settle();
         match self.devices.tia.write(register, value) {
             Effect::Nothing => return,

@@ -9,6 +9,7 @@ use tia_core::fields::TiaFields;
 
 /// Whether a write of a register is known to leave a TIA of these numbers as it is, wherever its beam is. A register keeps the bits
 /// of its mask. Games write most registers in each scanline, and mostly what is there already.
+#[inline(always)]
 pub fn is_unchanged(fields: &TiaFields, register: u8, value: u8) -> bool
     ensures fields { IsTrue result → (fire0 fire1 : Bool) (collisions clock comb : ℕ) →
         fields_after (after_beam fields.now collisions clock comb) fire0 fire1 (register_of register) value
