@@ -11,7 +11,7 @@ use Rattle.mos_cpu.specs.Execution.{executed, step_of}
 use Rattle.mos_cpu.specs.Opcodes.{row_of, row_with}
 use Rattle.mos_cpu.specs.Operands.{and_then, byte_at, branch_target, documented, named_by, operand_of, takes_vector, decoded}
 use Rattle.mos_cpu.specs.Registers.{Registers}
-use Rattle.mos_cpu.specs.Ways.{has_low, row_here, IsRow, IsLow, IsTarget, IsStep, IsReader, IsStorer, IsChanger, IsBranch, IsInner}
+use Rattle.mos_cpu.specs.Private.Ways.{has_low, row_here, IsRow, IsLow, IsTarget, IsStep, IsReader, IsStorer, IsChanger, IsBranch, IsInner}
 use Rattle.mos_cpu.specs.declared.addressing.Target.{Target}
 use Rattle.mos_cpu.specs.declared.fault.CpuFault.{CpuFault}
 use Rattle.mos_cpu.specs.declared.opcode_row.Row.{Row}

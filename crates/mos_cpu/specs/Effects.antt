@@ -9,7 +9,7 @@ use Rattle.mos_cpu.specs.Status.{put_flag, pulled_of}
 use Rattle.mos_cpu.specs.declared.arithmetic.Alu.{Alu}
 use Rattle.mos_cpu.specs.declared.status.Flag.TheVariants.{Carry, Interrupt, Decimal, Overflow}
 use Rattle.mos_cpu.specs.declared.operation.Operation.{Operation}
-use Rattle.mos_cpu.specs.declared.operation.Operation.TheVariants.{Adc, And, Asl, Bcc, Bcs, Beq, Bit, Bmi, Bne, Bpl, Brk, Bvc, Bvs, Clc, Cld, Cli, Clv, Cmp, Cpx, Cpy, Dec, Dex, Dey, Eor, Inc, Inx, Iny, Jmp, Jsr, Lda, Ldx, Ldy, Lsr, Nop, Ora, Pha, Php, Pla, Plp, Rol, Ror, Rti, Rts, Sbc, Sec, Sed, Sei, Sta, Stx, Sty, Tax, Tay, Tsx, Txa, Txs, Tya}
+use Rattle.mos_cpu.specs.declared.operation.Operation.TheVariants.{Adc, And, Asl, Bit, Brk, Clc, Cld, Cli, Clv, Cmp, Cpx, Cpy, Dec, Dex, Dey, Eor, Inc, Inx, Iny, Jmp, Jsr, Lda, Ldx, Ldy, Lsr, Ora, Pha, Php, Pla, Plp, Rol, Ror, Rti, Rts, Sbc, Sec, Sed, Sei, Tax, Tay, Tsx, Txa, Txs, Tya}
 use Rattle.mos_cpu.specs.declared.instruction.Operand.{Operand}
 use Rattle.mos_cpu.specs.declared.instruction.Operand.TheVariants.{Register, Value, Place}
 use Rattle.mos_cpu.specs.declared.instruction.Instruction.{Instruction}
@@ -95,14 +95,6 @@ effect Rol operand r bytes = kept operand r (rol_of (worked_on operand r.a bytes
 effect Ror operand r bytes = kept operand r (ror_of (worked_on operand r.a bytes) r.p)
 effect Inc operand r bytes = kept operand r (inc_of (worked_on operand r.a bytes) r.p)
 effect Dec operand r bytes = kept operand r (dec_of (worked_on operand r.a bytes) r.p)
-effect Bcc operand r bytes = if is_taken Bcc r.p then with_pc r (target_of operand) else r
-effect Bcs operand r bytes = if is_taken Bcs r.p then with_pc r (target_of operand) else r
-effect Beq operand r bytes = if is_taken Beq r.p then with_pc r (target_of operand) else r
-effect Bmi operand r bytes = if is_taken Bmi r.p then with_pc r (target_of operand) else r
-effect Bne operand r bytes = if is_taken Bne r.p then with_pc r (target_of operand) else r
-effect Bpl operand r bytes = if is_taken Bpl r.p then with_pc r (target_of operand) else r
-effect Bvc operand r bytes = if is_taken Bvc r.p then with_pc r (target_of operand) else r
-effect Bvs operand r bytes = if is_taken Bvs r.p then with_pc r (target_of operand) else r
 effect Jmp operand r bytes = with_pc r (target_of operand)
 effect Jsr operand r bytes = with_pc (stack_down r 2) (target_of operand)
 effect Brk operand r bytes =
@@ -131,10 +123,8 @@ effect Inx operand r bytes = with_x r (inc_of r.x r.p)
 effect Iny operand r bytes = with_y r (inc_of r.y r.p)
 effect Dex operand r bytes = with_x r (dec_of r.x r.p)
 effect Dey operand r bytes = with_y r (dec_of r.y r.p)
-effect Nop operand r bytes = r
-effect Sta operand r bytes = r
-effect Stx operand r bytes = r
-effect Sty operand r bytes = r
+-- of the rest NOP and the stores change no register, and a branch that is taken goes to its target
+effect other operand r bytes = if is_taken other r.p then with_pc r (target_of operand) else r
 
 -- The registers after an instruction that read some bytes.
 abbrev pub registers_after : Instruction → Registers → List ℕ → Registers

@@ -2,7 +2,7 @@
 
 ghost use Rattle.std.specs.Prelude.{◌≡◌, ◌+◌, ◌*◌, ◌/◌, ◌%◌, false, IfSome, IfNone, IsErr, Ok};
 ghost use Rattle.mos_cpu.specs.Operands.{byte_at, word_at, operand_word, pointer_at, indexed_by, branch_target, next_in_page_of, named_by};
-ghost use Rattle.mos_cpu.specs.Ways.{IsLow};
+ghost use Rattle.mos_cpu.specs.Private.Ways.{IsLow};
 
 use crate::bus::Bus;
 use crate::fault::CpuFault;

@@ -3,7 +3,7 @@
 ghost use Rattle.std.specs.Prelude.{◌≡◌, false, refl};
 ghost use Rattle.mos_cpu.specs.Accesses.{is_taken};
 ghost use Rattle.mos_cpu.specs.declared.operation.Operation.{Operation};
-ghost use Rattle.mos_cpu.specs.Ways.{IsBranch, IsRow, IsLow, IsWay};
+ghost use Rattle.mos_cpu.specs.Private.Ways.{IsBranch, IsRow, IsLow, IsWay};
 
 use crate::addressing::branch_by;
 use crate::bus::Bus;

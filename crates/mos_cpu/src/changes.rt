@@ -3,7 +3,7 @@
 ghost use Rattle.std.specs.Prelude.{◌≡◌, ◌+◌, ◌/◌, ◌%◌, false, refl, if◌then◌else◌};
 ghost use Rattle.mos_cpu.specs.Effects.{changed_of};
 ghost use Rattle.mos_cpu.specs.declared.operation.Operation.{Operation};
-ghost use Rattle.mos_cpu.specs.Ways.{IsChanger, IsRow, IsLow, IsWay};
+ghost use Rattle.mos_cpu.specs.Private.Ways.{IsChanger, IsRow, IsLow, IsWay};
 
 use crate::arithmetic::{Alu, dec, inc};
 use crate::bus::Bus;

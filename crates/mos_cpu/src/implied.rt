@@ -3,7 +3,7 @@
 ghost use Rattle.std.specs.Prelude.{◌≡◌, [], false, refl};
 ghost use Rattle.mos_cpu.specs.Effects.{effect};
 ghost use Rattle.mos_cpu.specs.declared.operation.Operation.{Operation};
-ghost use Rattle.mos_cpu.specs.Ways.{IsInner, IsRow, IsWay};
+ghost use Rattle.mos_cpu.specs.Private.Ways.{IsInner, IsRow, IsWay};
 
 use crate::arithmetic::{dec, inc, load};
 use crate::bus::Bus;

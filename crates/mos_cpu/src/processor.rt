@@ -4,7 +4,7 @@ ghost use Rattle.std.specs.Prelude.{◌≡◌, ℕ, ◌≤◌, ◌+◌, ◌%◌,
 ghost use Rattle.mos_cpu.specs.Buses.{IsClock};
 ghost use Rattle.mos_cpu.specs.Execution.{step_of};
 ghost use Rattle.mos_cpu.specs.Operands.{decoded};
-ghost use Rattle.mos_cpu.specs.Ways.{IsLow, IsWay, has_low};
+ghost use Rattle.mos_cpu.specs.Private.Ways.{IsLow, IsWay, has_low};
 
 use crate::branches::{Bcc, Bcs, Beq, Bmi, Bne, Bpl, Bvc, Bvs, branch};
 use crate::bus::Bus;

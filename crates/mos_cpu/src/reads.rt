@@ -3,7 +3,7 @@
 ghost use Rattle.std.specs.Prelude.{◌≡◌, ◌+◌, [], false, refl};
 ghost use Rattle.mos_cpu.specs.Effects.{effect};
 ghost use Rattle.mos_cpu.specs.declared.operation.Operation.{Operation};
-ghost use Rattle.mos_cpu.specs.Ways.{IsReader, IsRow, IsLow, IsWay};
+ghost use Rattle.mos_cpu.specs.Private.Ways.{IsReader, IsRow, IsLow, IsWay};
 
 use crate::addressing::Target;
 use crate::arithmetic::{and, bit, compare, eor, load, ora};

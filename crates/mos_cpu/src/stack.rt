@@ -2,7 +2,7 @@
 
 ghost use Rattle.std.specs.Prelude.{◌≡◌, ◌+◌, false};
 ghost use Rattle.mos_cpu.specs.Registers.{after_pushes, after_pulls};
-ghost use Rattle.mos_cpu.specs.Ways.{IsRow, IsLow, IsWay};
+ghost use Rattle.mos_cpu.specs.Private.Ways.{IsRow, IsLow, IsWay};
 
 use crate::addressing::{next_in_page, word_after};
 use crate::arithmetic::load;

@@ -3,7 +3,7 @@
 ghost use Rattle.std.specs.Prelude.{◌≡◌, ◌+◌, false, refl, if◌then◌else◌};
 ghost use Rattle.mos_cpu.specs.Accesses.{held, RegisterA, RegisterX, RegisterY};
 ghost use Rattle.mos_cpu.specs.declared.operation.Operation.{Operation};
-ghost use Rattle.mos_cpu.specs.Ways.{IsStorer, IsRow, IsLow, IsWay};
+ghost use Rattle.mos_cpu.specs.Private.Ways.{IsStorer, IsRow, IsLow, IsWay};
 
 use crate::addressing::Target;
 use crate::bus::Bus;

@@ -9,7 +9,7 @@ use Rattle.std.proofs.lemmas.Bool.Decides.{nat_tests, Decides-int_eq}
 use Rattle.std.proofs.lemmas.Int.{ints}
 use Rattle.std.proofs.lemmas.Nat.{div-add-mod', div-mul-add, mod-mul-add}
 use Rattle.riot_map.specs.Timer.{Countdown, next_count, ticked, shown, part_left, is_running, count_of}
-use Rattle.riot_map.specs.Parts.{ArePartsLawful}
+use Rattle.riot_map.specs.Private.Parts.{ArePartsLawful}
 
 abbrev pub timer : ℤ → ℕ → Bool → Countdown
 timer r i b = record { count = r; interval = i; flag = b }

@@ -8,7 +8,7 @@ use Rattle.std.proofs.lemmas.List.Elements.{All-set, All-replicate}
 use Rattle.std.proofs.lemmas.Nat.{div-add-mod'}
 use Rattle.riot_map.specs.Bits.{has_bit}
 use Rattle.riot_map.specs.Timer.{Countdown, IsTimer, next_count, ticked, shown, part_left, started, is_running, with_clear_flag, interval_of, interval_code, count_of}
-use Rattle.riot_map.specs.Parts.{ArePartsLawful}
+use Rattle.riot_map.specs.Private.Parts.{ArePartsLawful}
 use Rattle.riot_map.specs.RiotFields.{is_riot, timer_of, AreInRange}
 use Rattle.riot_map.specs.Riot.{RiotState, IsRiot, power_on, riot_of, fields_of, with_pins, with_ram, after_cycles, after_timer_read, after_read, after_write, is_timer}
 use Rattle.riot_map.proofs.Lawful.{lawful_parts}

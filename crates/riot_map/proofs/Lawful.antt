@@ -5,7 +5,7 @@ use Rattle.riot_map.specs.Timer.{interval_of, interval_code}
 use Rattle.riot_map.specs.RiotFields.{is_riot, timer_of}
 use Rattle.riot_map.specs.Riot.{fields_of, riot_of}
 use Rattle.riot_map.proofs.Counts.{shown-parts, part-parts, past-parts}
-use Rattle.riot_map.specs.Parts.{ArePartsLawful}
+use Rattle.riot_map.specs.Private.Parts.{ArePartsLawful}
 use Rattle.riot_map.specs.declared.fields.RiotFields.{RiotFields}
 
 pub lawful_interval : (f : RiotFields) → is_riot f ≡ true → f.interval < 4

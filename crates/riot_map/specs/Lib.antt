@@ -1,9 +1,8 @@
 pub mod Bits
-pub mod Place
 pub mod Cart
+pub mod Place
 pub mod Ports
-pub mod Timer
-pub mod Parts
-pub mod Interval
-pub mod RiotFields
+pub mod Private
 pub mod Riot
+pub mod RiotFields
+pub mod Timer

@@ -1,7 +1,11 @@
 //! The numbers of a RIOT.
+ghost use Rattle.std.specs.Prelude.{◌≡◌};
+ghost use Rattle.riot_map.specs.RiotFields.{is_riot};
+
+use crate::interval::Interval;
 
 /// The numbers of a RIOT, in the order of a state's record. The pins of the ports aren't among them.
-#[derive(Clone, Copy)]
+#[derive(Clone, Copy, Debug, PartialEq, Eq)]
 pub struct RiotFields {
     /// The memory, from address 80 (hexadecimal) on.
     pub ram: [u8; 128],
@@ -23,4 +27,19 @@ pub struct RiotFields {
     pub past_zero: u8,
     /// 1 where the timer's flag is set, else 0.
     pub flag: u8,
+}
+
+impl RiotFields {
+    /// Whether there is a RIOT with these numbers: the timer's are in their ranges, and fit one another.
+    #[tactic(auto, unfolding(crate::specs::RiotFields::is_riot))]
+    pub fn is_lawful(&self) -> bool
+        ensures { result ≡ is_riot self.now }
+    {
+        self.interval < 4
+            && 1 <= self.part
+            && self.part <= Interval::of_code(self.interval).cycles()
+            && self.past_zero < 2
+            && (self.past_zero == 0 || self.part == 1)
+            && self.flag < 2
+    }
 }

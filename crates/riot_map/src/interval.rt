@@ -1,6 +1,6 @@
 //! The timer's intervals.
 ghost use Rattle.std.specs.Prelude.{◌≡◌, ◌<◌};
-ghost use Rattle.riot_map.specs.Interval.{cycles_of, code_of};
+ghost use Rattle.riot_map.specs.Private.Interval.{cycles_of, code_of};
 ghost use Rattle.riot_map.specs.Timer.{interval_of};
 
 /// For how many cycles the timer holds each value, named as the registers that start it.

@@ -19,6 +19,6 @@ mod timer;
 pub use address_map::place;
 pub use cart::{BadCartSize, Cart};
 pub use fields::RiotFields;
-pub use laws::{fields_come_back, riots_come_back, riots_stay_lawful};
+pub use laws::{law_of_lawful_riots, law_of_numbers, law_of_riots};
 pub use places::Place;
 pub use riot::Riot;

@@ -3,7 +3,7 @@ ghost use Rattle.std.specs.Prelude.{◌≡◌, ◌<◌, ◌≤◌, ◌==◌, ◌
 ghost use Rattle.std.specs.Fn.{iterate};
 ghost use Rattle.riot_map.specs.Timer.{Countdown, ticked, shown, part_left, started, is_running, interval_of, interval_code, count_of, with_clear_flag};
 ghost use Rattle.riot_map.specs.RiotFields.{timer_of, is_riot};
-ghost use Rattle.riot_map.specs.Interval.{cycles_of};
+ghost use Rattle.riot_map.specs.Private.Interval.{cycles_of};
 
 use crate::fields::RiotFields;
 use crate::interval::Interval;
@@ -23,8 +23,8 @@ pub struct Timer {
 
 impl Model for Timer {
     ghost use Rattle.riot_map.specs.Timer.{Countdown, count_of};
-    ghost use Rattle.riot_map.specs.Interval.{cycles_of};
-    ghost use Rattle.riot_map.specs.Parts.{ArePartsLawful};
+    ghost use Rattle.riot_map.specs.Private.Interval.{cycles_of};
+    ghost use Rattle.riot_map.specs.Private.Parts.{ArePartsLawful};
 
     ghost Value = { Countdown };
 
@@ -69,7 +69,7 @@ impl Timer {
     pub fn from_fields(fields: &RiotFields) -> Option<Timer>
         ensures { result ≡ (if is_riot fields.now then Some (timer_of fields.now) else None) }
     {
-        if !is_lawful(fields) {
+        if !fields.is_lawful() {
             return None;
         }
         let interval = Interval::of_code(fields.interval);
@@ -157,17 +157,4 @@ impl Timer {
             self.flag = true;
         }
     }
-}
-
-/// Whether there is a timer of these numbers.
-#[tactic(auto, unfolding(crate::specs::RiotFields::is_riot))]
-fn is_lawful(fields: &RiotFields) -> bool
-    ensures { result ≡ is_riot fields.now }
-{
-    fields.interval < 4
-        && 1 <= fields.part
-        && fields.part <= Interval::of_code(fields.interval).cycles()
-        && fields.past_zero < 2
-        && (fields.past_zero == 0 || fields.part == 1)
-        && fields.flag < 2
 }

@@ -13,7 +13,8 @@ use Rattle.tia_core.specs.Objects.{objects_at}
 use Rattle.tia_core.specs.Latch.{latches_written, latches_begun}
 use Rattle.tia_core.specs.Position.{strobed_position, moved_position, released_position}
 use Rattle.tia_core.specs.Registers.{register_of, kept_of, mask_of, IsKept}
-use Rattle.tia_core.specs.TiaState.{TiaState, IsLawful, frame_begun}
+use Rattle.tia_core.specs.Private.Lawful.{IsLawful}
+use Rattle.tia_core.specs.TiaState.{TiaState, frame_begun}
 use Rattle.tia_core.specs.Write.{fields_after, written}
 use Rattle.tia_core.specs.declared.fields.TiaFields.{TiaFields}
 use Rattle.tia_core.specs.declared.objects.Objects.{Objects}

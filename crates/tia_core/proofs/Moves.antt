@@ -8,7 +8,7 @@ use Rattle.tia_core.specs.Coverage.{player_covers}
 use Rattle.tia_core.specs.Objects.{ball_at, missile_at, objects_at, shown_of}
 use Rattle.tia_core.specs.Position.{moved_position}
 use Rattle.tia_core.specs.Private.Stretches.{merged}
-use Rattle.tia_core.specs.TiaState.{IsLawful}
+use Rattle.tia_core.specs.Private.Lawful.{IsLawful}
 use Rattle.tia_core.specs.Write.{fields_after}
 use Rattle.tia_core.specs.declared.fields.TiaFields.{TiaFields}
 use Rattle.tia_core.specs.declared.objects.Objects.{Objects}

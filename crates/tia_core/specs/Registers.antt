@@ -1,7 +1,7 @@
 -- The registers that are written, by number, and the bits that each keeps.
 -- Stella Programmer's Guide: the summary of TIA write addresses. This project's own: RSYNC (03), the audio registers (15 to 1A)
 -- and the numbers from 2D on are ignored.
-use Rattle.std.specs.Prelude.{◌≡◌, ℕ, ◌%◌, List, [], ◌∷◌, bit_and, slice_index_or}
+use Rattle.std.specs.Prelude.{◌≡◌, ◌==◌, ℕ, ◌%◌, Bool, List, [], ◌∷◌, bit_and, slice_index_or}
 use Rattle.tia_core.specs.declared.register.Register.{Register}
 use Rattle.tia_core.specs.declared.register.Register.TheVariants.{Vsync, Vblank, Wsync, Nusiz0, Nusiz1, Colup0, Colup1, Colupf, Colubk, Ctrlpf, Refp0, Refp1, Pf0, Pf1, Pf2, Resp0, Resp1, Resm0, Resm1, Resbl, Grp0, Grp1, Enam0, Enam1, Enabl, Hmp0, Hmp1, Hmm0, Hmm1, Hmbl, Vdelp0, Vdelp1, Vdelbl, Resmp0, Resmp1, Hmove, Hmclr, Cxclr, Ignored}
 
@@ -57,3 +57,7 @@ kept_of register value = bit_and value (mask_of register)
 -- a number that has no other bits than those that a register keeps
 abbrev pub IsKept : Register → ℕ → Type 0
 IsKept register number = kept_of register number ≡ number
+
+-- the same as a test
+abbrev pub is_kept : Register → ℕ → Bool
+is_kept register number = kept_of register number == number

@@ -1,8 +1,8 @@
 -- A TIA as contracts see it, and what is true of its numbers. This project's own: the ranges, all 0 at power-on, and how a frame begins.
-use Rattle.std.specs.Prelude.{◌≡◌, ◌<◌, ◌^◌, ℕ, Bool, false}
+use Rattle.std.specs.Prelude.{ℕ, nat_lt, Bool, false, ◌==◌, ◌&&◌, ◌||◌}
 use Rattle.tia_core.specs.Bits.{bit}
 use Rattle.tia_core.specs.Latch.{latches_begun}
-use Rattle.tia_core.specs.Registers.{IsKept}
+use Rattle.tia_core.specs.Registers.{is_kept}
 use Rattle.tia_core.specs.declared.fields.TiaFields.{TiaFields}
 use Rattle.tia_core.specs.declared.register.Register.TheVariants.{Vsync, Vblank, Nusiz0, Nusiz1, Colup0, Colup1, Colupf, Colubk, Ctrlpf, Refp0, Refp1, Pf0, Enam0, Enam1, Enabl, Hmp0, Hmp1, Hmm0, Hmm1, Hmbl, Vdelp0, Vdelp1, Vdelbl, Resmp0, Resmp1}
 
@@ -13,45 +13,39 @@ pub record TiaState : Type 0 where
   pub fire0 : Bool
   pub fire1 : Bool
 
+-- the registers that time and colour the picture have no other bits than those that they keep
+abbrev pub has_lawful_colours : TiaFields → Bool
+has_lawful_colours t =
+    is_kept Vsync t.vsync && is_kept Vblank t.vblank && is_kept Nusiz0 t.nusiz0 && is_kept Nusiz1 t.nusiz1
+    && is_kept Colup0 t.colup0 && is_kept Colup1 t.colup1 && is_kept Colupf t.colupf && is_kept Colubk t.colubk
+
+-- nor those that draw the objects; PF1, PF2, GRP0 and GRP1 keep all bits
+abbrev pub has_lawful_objects : TiaFields → Bool
+has_lawful_objects t =
+    is_kept Ctrlpf t.ctrlpf && is_kept Refp0 t.refp0 && is_kept Refp1 t.refp1 && is_kept Pf0 t.pf0
+    && is_kept Enam0 t.enam0 && is_kept Enam1 t.enam1 && is_kept Enabl t.enabl_new && is_kept Enabl t.enabl_old
+
+-- nor those that move the objects and delay them
+abbrev pub has_lawful_motion : TiaFields → Bool
+has_lawful_motion t =
+    is_kept Hmp0 t.hmp0 && is_kept Hmp1 t.hmp1 && is_kept Hmm0 t.hmm0 && is_kept Hmm1 t.hmm1 && is_kept Hmbl t.hmbl
+    && is_kept Vdelp0 t.vdelp0 && is_kept Vdelp1 t.vdelp1 && is_kept Vdelbl t.vdelbl
+
+-- nor those that lock the missiles, and each object begins at one of the 160 pixels
+abbrev pub has_lawful_positions : TiaFields → Bool
+has_lawful_positions t =
+    is_kept Resmp0 t.resmp0 && is_kept Resmp1 t.resmp1 && nat_lt t.position_p0 160 && nat_lt t.position_p1 160
+    && nat_lt t.position_m0 160 && nat_lt t.position_m1 160 && nat_lt t.position_bl 160
+
+-- fifteen collision bits and two latches, of which none is set where VBLANK has bit 6 clear; 228 clocks of a line; a comb or none
+abbrev pub has_lawful_beam : TiaFields → Bool
+has_lawful_beam t =
+    nat_lt t.collisions 32768 && nat_lt t.latches 4 && (bit t.vblank 6 || (t.latches == 0))
+    && nat_lt t.clock 228 && nat_lt t.comb 2
+
 -- what is true of the numbers of every TIA
-pub record IsLawful (t : TiaFields) : Type 0 where
-  pub vsync : IsKept Vsync t.vsync
-  pub vblank : IsKept Vblank t.vblank
-  pub nusiz0 : IsKept Nusiz0 t.nusiz0
-  pub nusiz1 : IsKept Nusiz1 t.nusiz1
-  pub colup0 : IsKept Colup0 t.colup0
-  pub colup1 : IsKept Colup1 t.colup1
-  pub colupf : IsKept Colupf t.colupf
-  pub colubk : IsKept Colubk t.colubk
-  pub ctrlpf : IsKept Ctrlpf t.ctrlpf
-  pub refp0 : IsKept Refp0 t.refp0
-  pub refp1 : IsKept Refp1 t.refp1
-  pub pf0 : IsKept Pf0 t.pf0
-  pub enam0 : IsKept Enam0 t.enam0
-  pub enam1 : IsKept Enam1 t.enam1
-  pub enabl_new : IsKept Enabl t.enabl_new
-  pub enabl_old : IsKept Enabl t.enabl_old
-  pub hmp0 : IsKept Hmp0 t.hmp0
-  pub hmp1 : IsKept Hmp1 t.hmp1
-  pub hmm0 : IsKept Hmm0 t.hmm0
-  pub hmm1 : IsKept Hmm1 t.hmm1
-  pub hmbl : IsKept Hmbl t.hmbl
-  pub vdelp0 : IsKept Vdelp0 t.vdelp0
-  pub vdelp1 : IsKept Vdelp1 t.vdelp1
-  pub vdelbl : IsKept Vdelbl t.vdelbl
-  pub resmp0 : IsKept Resmp0 t.resmp0
-  pub resmp1 : IsKept Resmp1 t.resmp1
-  pub position_p0 : t.position_p0 < 160
-  pub position_p1 : t.position_p1 < 160
-  pub position_m0 : t.position_m0 < 160
-  pub position_m1 : t.position_m1 < 160
-  pub position_bl : t.position_bl < 160
-  pub collisions : t.collisions < 2 ^ 15
-  pub latches : t.latches < 4
-  -- no latch is set where VBLANK has bit 6 clear
-  pub unlatched : bit t.vblank 6 ≡ false → t.latches ≡ 0
-  pub clock : t.clock < 228
-  pub comb : t.comb < 2
+unfoldable pub is_tia : TiaFields → Bool
+is_tia t = has_lawful_colours t && has_lawful_objects t && has_lawful_motion t && has_lawful_positions t && has_lawful_beam t
 
 -- a TIA with these numbers at line 0, with no button pressed
 abbrev pub state_of : TiaFields → TiaState

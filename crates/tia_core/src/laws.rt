@@ -1,5 +1,5 @@
 //! Laws of what a TIA does, for the machine that runs one.
-ghost use Rattle.std.specs.Prelude.{◌≡◌, ◌↔◌, ◌<◌, ◌+◌, ◌*◌, ◌/◌, ◌%◌, ◌++◌, ◌^◌, ℕ, Bool, true, false, All, map, filter, [], ◌∷◌};
+ghost use Rattle.std.specs.Prelude.{◌≡◌, ◌↔◌, ◌<◌, ◌+◌, ◌*◌, ◌/◌, ◌%◌, ◌++◌, ◌^◌, ℕ, Bool, IsTrue, true, false, All, map, filter, [], ◌∷◌};
 ghost use Rattle.std.specs.Fn.{iterate};
 ghost use Rattle.std.specs.List.{range_with_len};
 ghost use Rattle.std.specs.List.Sorted.{IsStrictlyIncreasing};
@@ -9,7 +9,7 @@ ghost use Rattle.tia_core.specs.Clock.{clocked, pixels};
 ghost use Rattle.tia_core.specs.Collision.{pairs_of, collision_bytes};
 ghost use Rattle.tia_core.specs.Coverage.{player_covers, missile_covers, ball_covers};
 ghost use Rattle.tia_core.specs.Read.{byte_at};
-ghost use Rattle.tia_core.specs.TiaState.{TiaState, IsLawful, frame_begun};
+ghost use Rattle.tia_core.specs.TiaState.{TiaState, is_tia, frame_begun};
 ghost use Rattle.tia_core.specs.Write.{fields_after, effect_after, written};
 
 use crate::effect::Effect;
@@ -18,36 +18,36 @@ use crate::objects::Objects;
 use crate::register::Register;
 
 /// Clocks in two parts are clocks one after another, and so are their pixels.
-pub fn clocks_add_up()
+pub fn law_of_clocks()
     ensures state { (m n : ℕ) (s : TiaState) → iterate clocked (m + n) s ≡ iterate clocked n (iterate clocked m s) }
     ensures pixels { (m n : ℕ) (s : TiaState) → pixels (m + n) s ≡ pixels m s ++ pixels n (iterate clocked m s) }
 {}
 
 /// The beam goes on by a clock each time, from line to line, and lines are counted modulo 65,536.
-pub fn beam_goes_on()
-    ensures clock { (n : ℕ) (s : TiaState) → IsLawful s.fields → (iterate clocked n s).fields.clock ≡ (s.fields.clock + n) % 228 }
-    ensures line { (n : ℕ) (s : TiaState) → IsLawful s.fields → s.line < 2 ^ 16
+pub fn law_of_the_beam()
+    ensures clock { (n : ℕ) (s : TiaState) → IsTrue (is_tia s.fields) → (iterate clocked n s).fields.clock ≡ (s.fields.clock + n) % 228 }
+    ensures line { (n : ℕ) (s : TiaState) → IsTrue (is_tia s.fields) → s.line < 2 ^ 16
         → (iterate clocked n s).line ≡ (s.line + (s.fields.clock + n) / 228) % 2 ^ 16 }
 {}
 
 /// Until lines are counted round, clocks put one pixel for each visible clock, in order, and so no pixel twice.
-pub fn pixels_follow_beam()
-    ensures places { (n : ℕ) (s : TiaState) → IsLawful s.fields → beam_of s + n < 228 * 2 ^ 16
+pub fn law_of_pixels()
+    ensures places { (n : ℕ) (s : TiaState) → IsTrue (is_tia s.fields) → beam_of s + n < 228 * 2 ^ 16
         → map place_of (pixels n s) ≡ filter is_visible (range_with_len (beam_of s) n) }
-    ensures rise { (n : ℕ) (s : TiaState) → IsLawful s.fields → beam_of s + n < 228 * 2 ^ 16 → IsStrictlyIncreasing (map place_of (pixels n s)) }
-    ensures in_line { (n : ℕ) (s : TiaState) → IsLawful s.fields → All (λ p. p.x < 160) (pixels n s) }
+    ensures rise { (n : ℕ) (s : TiaState) → IsTrue (is_tia s.fields) → beam_of s + n < 228 * 2 ^ 16 → IsStrictlyIncreasing (map place_of (pixels n s)) }
+    ensures in_line { (n : ℕ) (s : TiaState) → IsTrue (is_tia s.fields) → All (λ p. p.x < 160) (pixels n s) }
 {}
 
 /// Clocks, writes and frame starts make lawful numbers of lawful ones.
-pub fn numbers_stay_lawful()
-    ensures clocks { (n : ℕ) (s : TiaState) → IsLawful s.fields → IsLawful (iterate clocked n s).fields }
-    ensures writes { (s : TiaState) (number v : ℕ) → IsLawful s.fields → IsLawful (written s number v).fields }
-    ensures frame_starts { (s : TiaState) → IsLawful s.fields → IsLawful (frame_begun s).fields }
+pub fn law_of_lawful_numbers()
+    ensures clocks { (n : ℕ) (s : TiaState) → IsTrue (is_tia s.fields) → IsTrue (is_tia (iterate clocked n s).fields) }
+    ensures writes { (s : TiaState) (number v : ℕ) → IsTrue (is_tia s.fields) → IsTrue (is_tia (written s number v).fields) }
+    ensures frame_starts { (s : TiaState) → IsTrue (is_tia s.fields) → IsTrue (is_tia (frame_begun s).fields) }
 {}
 
 /// Clocks change nothing but the collisions, the clock, the comb and the line.
-pub fn clocks_keep_registers()
-    ensures { (n : ℕ) (s : TiaState) → IsLawful s.fields
+pub fn law_of_unchanged_registers()
+    ensures { (n : ℕ) (s : TiaState) → IsTrue (is_tia s.fields)
         → let after = iterate clocked n s in
         after ≡ record s {
           fields = record s.fields { collisions = after.fields.collisions; clock = after.fields.clock; comb = after.fields.comb };
@@ -56,24 +56,24 @@ pub fn clocks_keep_registers()
 {}
 
 /// A collision bit that is set stays set over clocks.
-pub fn collisions_stay()
+pub fn law_of_collisions()
     ensures { (n : ℕ) (s : TiaState) (k : ℕ) → bit s.fields.collisions k ≡ true → bit (iterate clocked n s).fields.collisions k ≡ true }
 {}
 
 /// A write ends the frame exactly where bit 1 of VSYNC falls.
-pub fn frame_ends_with_vsync()
+pub fn law_of_frame_ends()
     ensures { (t : TiaFields) (fire0 fire1 : Bool) (r : Register) (v : ℕ)
         → (effect_after t r v ≡ Effect.FrameEnd) ↔ ((bit t.vsync 1 ≡ true) × (bit (fields_after t fire0 fire1 r v).vsync 1 ≡ false)) }
 {}
 
 /// After a pixel that these objects cover, with the collisions cleared before, the registers 0 to 7 give the pairs that met.
-pub fn collision_registers_give_pairs()
+pub fn law_of_collision_registers()
     ensures { (t : TiaFields) (fire0 fire1 : Bool) (o : Objects)
         → map (byte_at (record t { collisions = pairs_of o }) fire0 fire1) (0 ∷ 1 ∷ 2 ∷ 3 ∷ 4 ∷ 5 ∷ 6 ∷ 7 ∷ []) ≡ collision_bytes o }
 {}
 
 /// Coverage goes round the line: an object that is moved by k pixels covers the pixels k further, counted modulo 160.
-pub fn coverage_goes_round()
+pub fn law_of_coverage()
     ensures players { (mode : ℕ) (reflected : Bool) (graphic position x k : ℕ) → x < 160 → position < 160
         → player_covers mode reflected graphic ((position + k) % 160) ((x + k) % 160) ≡ player_covers mode reflected graphic position x }
     ensures missiles { (mode size position x k : ℕ) → x < 160 → position < 160

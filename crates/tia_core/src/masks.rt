@@ -5,7 +5,7 @@ ghost use Rattle.tia_core.specs.Collision.{number_from, pairs_of};
 ghost use Rattle.tia_core.specs.Mask.{covers};
 ghost use Rattle.tia_core.specs.Objects.{ball_at, has_object, missile_at, objects_at};
 ghost use Rattle.tia_core.specs.Private.Stretches.{bl, marked, m0, m1, nothing, objects_in, p0, p1, pf, stretch_pairs, stretch_pixels, IsBound, IsMaskOf, MasksFit};
-ghost use Rattle.tia_core.specs.TiaState.{IsLawful};
+ghost use Rattle.tia_core.specs.Private.Lawful.{IsLawful};
 
 use crate::bits::bit;
 use crate::collision::{number_of, with_pairs};

@@ -1,6 +1,6 @@
 use Rattle.std.proofs.Common.{rules, ◌<◌, ◌≤◌, ◌*◌, ◌+◌, ◌∙◌, ap}
 use Rattle.std.specs.Fn.{iterate}
-use Rattle.riot_map.specs.Interval.{cycles_of}
+use Rattle.riot_map.specs.Private.Interval.{cycles_of}
 use Rattle.riot_map.specs.Timer.{ticked}
 use Rattle.riot_map.proofs.Counts.{cycles-past, cycles-within, cycles-ahead, cycles-over}
 use Rattle.riot_map.proofs.timer.Timer.cycles.Goals as goal

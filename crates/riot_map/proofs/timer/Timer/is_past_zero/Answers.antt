@@ -1,5 +1,5 @@
 use Rattle.std.proofs.Common.{◌∙◌, ap, not}
-use Rattle.riot_map.specs.Interval.{cycles_of}
+use Rattle.riot_map.specs.Private.Interval.{cycles_of}
 use Rattle.riot_map.specs.Timer.{Countdown, is_running}
 use Rattle.riot_map.proofs.Counts.{past-parts}
 use Rattle.riot_map.proofs.timer.Timer.is_past_zero.Goals as goal

@@ -1,5 +1,5 @@
 use Rattle.std.proofs.Common.{◌∙◌, ap, false, ◌≡◌, ◌≤◌, subst}
-use Rattle.riot_map.specs.Interval.{cycles_of}
+use Rattle.riot_map.specs.Private.Interval.{cycles_of}
 use Rattle.riot_map.specs.Timer.{Countdown, part_left, is_running}
 use Rattle.riot_map.proofs.Counts.{part-parts, one-parts}
 use Rattle.riot_map.proofs.timer.Timer.part.Goals as goal

@@ -1,5 +1,5 @@
 use Rattle.std.proofs.Common.{◌∙◌, ap, not, ◌≡◌, subst}
-use Rattle.riot_map.specs.Interval.{cycles_of}
+use Rattle.riot_map.specs.Private.Interval.{cycles_of}
 use Rattle.riot_map.specs.Timer.{Countdown, shown, count_of, part_left, is_running}
 use Rattle.riot_map.proofs.Counts.{shown-parts, count-parts}
 use Rattle.riot_map.proofs.timer.Timer.value.Goals as goal

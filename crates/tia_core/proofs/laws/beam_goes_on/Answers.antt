@@ -1,8 +1,0 @@
-use Rattle.tia_core.proofs.Clocks.{iterate-clocked-clock, iterate-clocked-line}
-use Rattle.tia_core.proofs.laws.beam_goes_on.Goals as goal
-
-pub returns-clause-clock : goal.returns-clause-clock
-returns-clause-clock c n s h = iterate-clocked-clock n s h.clock
-
-pub returns-clause-line : goal.returns-clause-line
-returns-clause-line c n s h k = iterate-clocked-line n s h.clock k

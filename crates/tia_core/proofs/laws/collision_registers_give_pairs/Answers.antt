@@ -1,5 +1,0 @@
-use Rattle.tia_core.proofs.CollisionReads.{byte_at-pairs}
-use Rattle.tia_core.proofs.laws.collision_registers_give_pairs.Goals as goal
-
-pub returns : goal.returns
-returns c t fire0 fire1 o = byte_at-pairs t fire0 fire1 o

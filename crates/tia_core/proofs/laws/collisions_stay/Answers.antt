@@ -1,5 +1,0 @@
-use Rattle.tia_core.proofs.Clocks.{iterate-clocked-keeps}
-use Rattle.tia_core.proofs.laws.collisions_stay.Goals as goal
-
-pub returns : goal.returns
-returns c n s k h = iterate-clocked-keeps n s k h
