@@ -52,3 +52,7 @@ and_true false b h = absurd cc
 pub chosen_some : {A : Type 0} (t : Bool) (x y : A) → cond t (Some x) None ≡ Some y → (t ≡ true) × (x ≡ y)
 chosen_some true x y e = (refl, cc)
 chosen_some false x y e = absurd cc
+
+pub unchosen : {A : Type 0} (t : Bool) (x : A) → cond t (Some x) None ≡ None → t ≡ false
+unchosen true x e = absurd cc
+unchosen false x e = refl

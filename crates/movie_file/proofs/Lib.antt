@@ -1,5 +1,6 @@
 pub mod Cells
 pub mod Fronts
+pub mod RecordParts
 pub mod RecordLaws
 pub mod MovieRecords
 pub mod MovieLaws

@@ -1,5 +1,5 @@
 -- Records in movies: version 1 leaves out the bank, which is 0.
-use Rattle.std.proofs.Common.{◌≡◌, ℕ, zero, suc, ◌-◌, ◌<◌, ◌≤◌, Bool, true, false, cond, eqb, List, [], ◌∷◌, ◌++◌, length, get_or, take, Option, Some, None, refl, sym, ap, ◌∙◌, append_assoc, arith, inl, inr}
+use Rattle.std.proofs.Common.{◌≡◌, ℕ, zero, suc, ◌-◌, ◌<◌, ◌≤◌, Bool, true, false, cond, eqb, List, [], ◌∷◌, ◌++◌, length, get_or, take, Option, Some, None, refl, sym, ap, ◌∙◌, arith, inl, inr}
 use Rattle.std.specs.Prelude.{◌||◌, IsTrue}
 use Rattle.std.proofs.lemmas.Bool.{cases_lt}
 use Rattle.std.proofs.lemmas.Bool.Decides.{nat_tests}
@@ -8,8 +8,10 @@ use Rattle.riot_map.specs.Cart.{has_banks}
 use Rattle.vcs_machine.specs.declared.fields.StateFields.{StateFields}
 use Rattle.movie_file.specs.Format.{takes_cart, most_frames, record_length, whole_record}
 use Rattle.movie_file.specs.Movie.{IsState, IsStateWith}
-use Rattle.movie_file.specs.Record.{record_of, state_at, cpu_bytes, rest_bytes, movie_record, fits_bank, with_fitting_bank, movie_state_at}
+use Rattle.movie_file.specs.Record.{record_of, state_at, movie_record, fits_bank, with_fitting_bank, movie_state_at}
+use Rattle.movie_file.specs.RecordParts.{cpu_bytes, riot_bytes, tia_bytes}
 use Rattle.movie_file.proofs.Cells.{IsBytes, chosen_some}
+use Rattle.movie_file.proofs.RecordParts.{length-riot_bytes}
 use Rattle.movie_file.proofs.RecordLaws.{state_takes, state_again, length-record_of}
 
 -- ---- the numbers of a version
@@ -35,14 +37,16 @@ bank_of_old version cart bank old takes fits = grind (arith, nat_tests)
 -- ---- the bank is the last byte
 
 abbrev front_bytes : StateFields → List ℕ
-front_bytes f = cpu_bytes f ++ f.ram ++ take 52 (rest_bytes f)
+front_bytes f = cpu_bytes f.cpu ++ riot_bytes f.riot ++ tia_bytes f.tia
 
 record_parts : (f : StateFields) → record_of f ≡ front_bytes f ++ f.bank ∷ []
 unfolding record_of
-record_parts f = sym (append_assoc (cpu_bytes f ++ f.ram) (take 52 (rest_bytes f)) (f.bank ∷ []))
+record_parts f = refl
 
 front_length : (f : StateFields) → IsState f → length (front_bytes f) ≡ 187
-front_length f h = omega (arith, length-append f.ram (take 52 (rest_bytes f)), h.ram)
+front_length f h =
+    let riot = length-riot_bytes f.riot h.ram in
+    omega (arith, length-append (riot_bytes f.riot) (tia_bytes f.tia))
 
 take_front : (f : StateFields) → IsState f → take 187 (record_of f) ≡ front_bytes f
 take_front f h = ap (take 187) (record_parts f) ∙ take_at (front_bytes f) (f.bank ∷ []) 187 (front_length f h)

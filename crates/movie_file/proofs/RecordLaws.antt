@@ -1,95 +1,194 @@
 -- A record that is read is the record that was written, and what was written is read again.
-use Rattle.std.proofs.Common.{◌≡◌, ℕ, ◌+◌, Bool, cond, List, [], ◌∷◌, ◌++◌, length, get_or, take, drop, Option, Some, None, sym, ap, subst, ◌∙◌, append_assoc, arith}
-use Rattle.std.specs.Prelude.{◌&&◌, nat_eq, IfSome}
-use Rattle.std.specs.Int.{w16, from_be_bytes, to_be_bytes}
-use Rattle.std.proofs.lemmas.Bool.{eqb-true}
-use Rattle.std.proofs.lemmas.List.{append-nil, take_at, drop_at, drop_all, take-append-drop, length-append, length-take, length-drop}
-use Rattle.std.proofs.lemmas.Nat.{from_be_bytes-to_be_bytes_2}
+use Rattle.std.proofs.Common.{◌≡◌, ℕ, ◌*◌, ◌<◌, ◌≤◌, Bool, true, false, cond, List, [], ◌∷◌, ◌++◌, length, get_or, take, drop, set, Option, Some, None, refl, sym, ap, subst, ◌∙◌, append_assoc, arith}
+use Rattle.std.specs.Prelude.{◌&&◌, nat_eq, nat_lt, IfSome, IsTrue}
+use Rattle.std.proofs.Math.Seq.{take-add}
+use Rattle.std.proofs.lemmas.Bool.{eqb-true, ltb-false}
+use Rattle.std.proofs.lemmas.List.{take_at, drop_at, set_at, take_all, take_more, get_or-drop, length-append, length-take, length-drop}
+use borrow.Rule.Slice.PartMut.{put_mid}
+use Rattle.mos_cpu.specs.Registers.{Registers, is_status}
+use Rattle.riot_map.specs.declared.fields.RiotFields.{RiotFields}
+use Rattle.tia_core.specs.declared.fields.TiaFields.{TiaFields}
+use Rattle.vcs_machine.proofs.StateLemmas.{clock_of, clock-thirds}
 use Rattle.vcs_machine.specs.declared.fields.StateFields.{StateFields}
 use Rattle.vcs_machine.specs.States.{is_state}
 use Rattle.movie_file.specs.Format.{state_length}
-use Rattle.movie_file.specs.Record.{record_of, state_at, fields_of, fields_at, cpu_bytes, rest_bytes}
+use Rattle.movie_file.specs.Record.{record_of, state_at, fields_at, cpu_part, riot_part, tia_part}
+use Rattle.movie_file.specs.RecordParts.{cpu_bytes, cpu_at, riot_bytes, riot_at, tia_bytes, tia_at}
 use Rattle.movie_file.specs.Movie.{IsState}
-use Rattle.movie_file.proofs.Cells.{IsBytes, IsBytes-take, IsBytes-drop, cells_whole, two_back, two_below, and_true, chosen_some}
+use Rattle.movie_file.proofs.Cells.{IsBytes, IsBytes-take, IsBytes-drop, two_below, and_true, chosen_some}
+use Rattle.movie_file.proofs.RecordParts.{cpu_back, riot_back, tia_back, cpu_again, riot_again, tia_again, length-riot_bytes}
 
-cpu_back : (c r t : List ℕ) → IsBytes c → length c ≡ 7 → cpu_bytes (fields_of c r t) ≡ c
-cpu_back c r t fits len =
-    ap (λ (w : List ℕ). get_or c 0 0 ∷ get_or c 1 0 ∷ get_or c 2 0 ∷ get_or c 3 0 ∷ get_or c 4 0 ∷ w) (two_back (get_or c 5 0) (get_or c 6 0) (fits 5) (fits 6))
-    ∙ cells_whole 7 c len
+-- ---- a record that is read is written again
 
-rest_back : (c r t : List ℕ) → IsBytes t → length t ≡ 53 → rest_bytes (fields_of c r t) ≡ t
-rest_back c r t fits len =
-    ap (λ (w : List ℕ). (get_or t 0 0 ∷ get_or t 1 0 ∷ get_or t 2 0 ∷ get_or t 3 0 ∷ get_or t 4 0 ∷ w) ++ (get_or t 7 0 ∷ get_or t 8 0 ∷ get_or t 9 0 ∷ get_or t 10 0 ∷ get_or t 11 0 ∷ get_or t 12 0 ∷ get_or t 13 0 ∷ get_or t 14 0 ∷ get_or t 15 0 ∷ get_or t 16 0 ∷ get_or t 17 0 ∷ get_or t 18 0 ∷ get_or t 19 0 ∷ get_or t 20 0 ∷ get_or t 21 0 ∷ get_or t 22 0 ∷ get_or t 23 0 ∷ get_or t 24 0 ∷ get_or t 25 0 ∷ get_or t 26 0 ∷ get_or t 27 0 ∷ get_or t 28 0 ∷ get_or t 29 0 ∷ get_or t 30 0 ∷ get_or t 31 0 ∷ get_or t 32 0 ∷ get_or t 33 0 ∷ get_or t 34 0 ∷ get_or t 35 0 ∷ get_or t 36 0 ∷ get_or t 37 0 ∷ get_or t 38 0 ∷ get_or t 39 0 ∷ get_or t 40 0 ∷ get_or t 41 0 ∷ get_or t 42 0 ∷ get_or t 43 0 ∷ get_or t 44 0 ∷ get_or t 45 0 ∷ get_or t 46 0 ∷ to_be_bytes w16 (from_be_bytes w16 (get_or t 47 0 ∷ get_or t 48 0 ∷ [])) ++ (get_or t 49 0 ∷ get_or t 50 0 ∷ get_or t 51 0 ∷ get_or t 52 0 ∷ []))) (two_back (get_or t 5 0) (get_or t 6 0) (fits 5) (fits 6))
-    ∙ ap (λ (w : List ℕ). get_or t 0 0 ∷ get_or t 1 0 ∷ get_or t 2 0 ∷ get_or t 3 0 ∷ get_or t 4 0 ∷ get_or t 5 0 ∷ get_or t 6 0 ∷ get_or t 7 0 ∷ get_or t 8 0 ∷ get_or t 9 0 ∷ get_or t 10 0 ∷ get_or t 11 0 ∷ get_or t 12 0 ∷ get_or t 13 0 ∷ get_or t 14 0 ∷ get_or t 15 0 ∷ get_or t 16 0 ∷ get_or t 17 0 ∷ get_or t 18 0 ∷ get_or t 19 0 ∷ get_or t 20 0 ∷ get_or t 21 0 ∷ get_or t 22 0 ∷ get_or t 23 0 ∷ get_or t 24 0 ∷ get_or t 25 0 ∷ get_or t 26 0 ∷ get_or t 27 0 ∷ get_or t 28 0 ∷ get_or t 29 0 ∷ get_or t 30 0 ∷ get_or t 31 0 ∷ get_or t 32 0 ∷ get_or t 33 0 ∷ get_or t 34 0 ∷ get_or t 35 0 ∷ get_or t 36 0 ∷ get_or t 37 0 ∷ get_or t 38 0 ∷ get_or t 39 0 ∷ get_or t 40 0 ∷ get_or t 41 0 ∷ get_or t 42 0 ∷ get_or t 43 0 ∷ get_or t 44 0 ∷ get_or t 45 0 ∷ get_or t 46 0 ∷ (w ++ (get_or t 49 0 ∷ get_or t 50 0 ∷ get_or t 51 0 ∷ get_or t 52 0 ∷ []))) (two_back (get_or t 47 0) (get_or t 48 0) (fits 47) (fits 48))
-    ∙ cells_whole 53 t len
+pub same_parts : (c d r s t u : List ℕ) (x : ℕ) → c ≡ d → r ≡ s → t ≡ u
+    → c ++ r ++ t ++ x ∷ [] ≡ d ++ s ++ u ++ x ∷ []
+same_parts c d r s t u x cpu riot tia = cc
 
-parts_are : (b : List ℕ) → b ≡ take 7 b ++ take 128 (drop 7 b) ++ drop 128 (drop 7 b)
-parts_are b =
-    sym (append_assoc (take 7 b) (take 128 (drop 7 b)) (drop 128 (drop 7 b)) ∙ ap (λ (w : List ℕ). take 7 b ++ w) (take-append-drop 128 (drop 7 b)) ∙ take-append-drop 7 b)
+module _ (b : List ℕ) (fits : IsBytes b) (len : length b ≡ state_length) where
+  parts_are : cpu_part b ++ riot_part b ++ tia_part b ++ get_or b 187 0 ∷ [] ≡ b
+  parts_are =
+      ap (λ (w : List ℕ). w ++ tia_part b ++ get_or b 187 0 ∷ []) (sym (take-add 7 138 b))
+      ∙ ap (λ (w : List ℕ). w ++ get_or b 187 0 ∷ []) (sym (take-add 145 42 b))
+      ∙ sym (take_more b 187 0 (omega arith)) ∙ take_all 188 b (omega arith)
 
-record_back : (b : List ℕ) → IsBytes b → length b ≡ state_length → record_of (fields_at b) ≡ b
-unfolding record_of
-record_back b fits len =
-    let c = take 7 b in
-    let r = take 128 (drop 7 b) in
-    let t = drop 128 (drop 7 b) in
-    let c_len : length c ≡ 7 = omega (arith, length-take 7 b) in
-    let t_len : length t ≡ 53 = omega (arith, length-drop 128 (drop 7 b), length-drop 7 b) in
-    let c_back : cpu_bytes (fields_of c r t) ≡ c = cpu_back c r t (IsBytes-take 7 b fits) c_len in
-    let t_back : rest_bytes (fields_of c r t) ≡ t = rest_back c r t (IsBytes-drop 128 (drop 7 b) (IsBytes-drop 7 b fits)) t_len in
-    ap (λ (w : List ℕ). w ++ r ++ rest_bytes (fields_of c r t)) c_back ∙ ap (λ (w : List ℕ). c ++ r ++ w) t_back ∙ sym (parts_are b)
+  cpu_fits : IsBytes (cpu_part b)
+  cpu_fits = IsBytes-take 7 b fits
 
-fields_again : (f : StateFields) → IsState f → fields_at (record_of f) ≡ f
-unfolding record_of
-fields_again f h =
-    let front : take 128 (f.ram ++ rest_bytes f) ≡ f.ram = take_at f.ram (rest_bytes f) 128 h.ram in
-    let back : drop 128 (f.ram ++ rest_bytes f) ≡ rest_bytes f = drop_at f.ram (rest_bytes f) 128 h.ram in
-    ap (λ (w : List ℕ). fields_of (cpu_bytes f) w (drop 128 (f.ram ++ rest_bytes f))) front
-    ∙ ap (λ (w : List ℕ). fields_of (cpu_bytes f) f.ram w) back
-    ∙ ap (λ (n : ℕ). record f { pc = n; part = from_be_bytes w16 (to_be_bytes w16 f.part); collisions = from_be_bytes w16 (to_be_bytes w16 f.collisions) }) (from_be_bytes-to_be_bytes_2 f.pc h.pc)
-    ∙ ap (λ (n : ℕ). record f { part = n; collisions = from_be_bytes w16 (to_be_bytes w16 f.collisions) }) (from_be_bytes-to_be_bytes_2 f.part h.part)
-    ∙ ap (λ (n : ℕ). record f { collisions = n }) (from_be_bytes-to_be_bytes_2 f.collisions h.collisions)
+  riot_fits : IsBytes (riot_part b)
+  riot_fits = IsBytes-take 138 (drop 7 b) (IsBytes-drop 7 b fits)
 
-pub length-record_of : (f : StateFields) → IsState f → length (record_of f) ≡ state_length
-unfolding record_of
-length-record_of f h = omega (arith, length-append f.ram (rest_bytes f), h.ram)
+  tia_fits : IsBytes (tia_part b)
+  tia_fits = IsBytes-take 42 (drop 145 b) (IsBytes-drop 145 b fits)
 
-pub state_takes : (b : List ℕ) (f : StateFields) → IsBytes b → state_at b ≡ Some f → IsState f × (b ≡ record_of f)
+  riot_length : length (riot_part b) ≡ 138
+  riot_length = omega (arith, length-take 138 (drop 7 b), length-drop 7 b)
+
+  record_back : record_of (fields_at b) ≡ b
+  unfolding record_of
+  record_back =
+      let cpu_length : length (cpu_part b) ≡ 7 = omega (arith, length-take 7 b) in
+      let tia_length : length (tia_part b) ≡ 42 =
+      omega (arith, length-take 42 (drop 145 b), length-drop 145 b) in
+      same_parts _ _ _ _ _ _ _ (cpu_back (cpu_part b) cpu_fits cpu_length)
+      (riot_back (riot_part b) riot_fits riot_length) (tia_back (tia_part b) tia_fits tia_length)
+      ∙ parts_are
+
+  lawful_at : IsTrue (is_state (fields_at b)) → IsState (fields_at b)
+  lawful_at lawful =
+      let port_fits = IsBytes-drop 128 (riot_part b) riot_fits in
+      record {
+        lawful = lawful;
+        pc = two_below _ _ (cpu_fits 5) (cpu_fits 6);
+        part = two_below _ _ (port_fits 5) (port_fits 6);
+        collisions = two_below _ _ (tia_fits 37) (tia_fits 38);
+        ram = omega (arith, length-take 128 (riot_part b), riot_length);
+      }
+
+pub state_takes : (b : List ℕ) (f : StateFields) → IsBytes b → state_at b ≡ Some f
+    → IsState f × (b ≡ record_of f)
 unfolding state_at
 state_takes b f fits e =
-    let g = chosen_some (nat_eq (length b) state_length && is_state (fields_at b)) (fields_at b) f e in
-    let both = and_true (nat_eq (length b) state_length) (is_state (fields_at b)) g.0 in
+    let long = nat_eq (length b) state_length in
+    let is = chosen_some (long && is_state (fields_at b)) (fields_at b) f e in
+    let both = and_true long (is_state (fields_at b)) is.0 in
     let len : length b ≡ state_length = eqb-true _ _ both.0 in
-    let c_fits = IsBytes-take 7 b fits in
-    let t_fits = IsBytes-drop 128 (drop 7 b) (IsBytes-drop 7 b fits) in
-    let ram_len : length (take 128 (drop 7 b)) ≡ 128 = omega (arith, length-take 128 (drop 7 b), length-drop 7 b) in
-    let lawful : IsState (fields_at b) = record {
-      lawful = both.1;
-      pc = two_below _ _ (c_fits 5) (c_fits 6);
-      part = two_below _ _ (t_fits 5) (t_fits 6);
-      collisions = two_below _ _ (t_fits 47) (t_fits 48);
-      ram = ram_len;
-    } in
-    subst (λ (x : StateFields). IsState x × (b ≡ record_of x)) g.1 (lawful, sym (record_back b fits len))
+    subst (λ (x : StateFields). IsState x × (b ≡ record_of x)) is.1
+    (lawful_at b fits len both.1, sym (record_back b fits len))
 
-pub state_again : (f : StateFields) → IsState f → state_at (record_of f) ≡ Some f
-unfolding state_at
-state_again f h =
-    ap (λ (g : StateFields). cond (nat_eq (length (record_of f)) state_length && is_state g) (Some g) None) (fields_again f h)
-    ∙ rw (length-record_of f h) (ap (λ (b : Bool). cond b (Some f) None) h.lawful)
-
-pub state_found : (b : List ℕ) (o : Option StateFields) → IsBytes b → o ≡ state_at b → IfSome o (λ f. IsState f × (b ≡ record_of f))
+pub state_found : (b : List ℕ) (o : Option StateFields) → IsBytes b → o ≡ state_at b
+    → IfSome o (λ f. IsState f × (b ≡ record_of f))
 state_found b (Some f) fits e = state_takes b f fits (sym e)
 state_found b None fits e = tt
 
--- three parts written one after the other
-pub pasted : (o o1 o2 o3 c r t : List ℕ) → length o1 ≡ state_length → length o2 ≡ state_length → length c ≡ 7 → length r ≡ 128 → length t ≡ 53
-    → o1 ≡ take 0 o ++ c ++ drop (0 + length c) o → o2 ≡ take 7 o1 ++ r ++ drop (7 + length r) o1 → o3 ≡ take 135 o2 ++ t ++ drop (135 + length t) o2
-    → o3 ≡ c ++ r ++ t
-pasted o o1 o2 o3 c r t l1 l2 cl rl tl e1 e2 e3 =
-    let f1 : take 7 o1 ≡ c = ap (take 7) e1 ∙ take_at c (drop (0 + length c) o) 7 cl in
-    let g2 : o2 ≡ (c ++ r) ++ drop (7 + length r) o1 = e2 ∙ ap (λ (w : List ℕ). w ++ r ++ drop (7 + length r) o1) f1 in
-    let cr : length (c ++ r) ≡ 135 = omega (arith, length-append c r) in
-    let f2 : take 135 o2 ≡ c ++ r = ap (take 135) g2 ∙ take_at (c ++ r) (drop (7 + length r) o1) 135 cr in
-    let rest : drop (135 + length t) o2 ≡ [] = drop_all _ o2 (omega arith) in
-    e3 ∙ ap (λ (w : List ℕ). w ++ t ++ drop (135 + length t) o2) f2 ∙ ap (λ (w : List ℕ). (c ++ r ++ t) ++ w) rest ∙ append-nil (c ++ r ++ t)
+-- ---- a record that is written is read again
+
+abbrev built : Registers → RiotFields → TiaFields → ℕ → StateFields
+built cpu riot tia bank = record { cpu = cpu; riot = riot; tia = tia; bank = bank }
+
+same_state : (c d : Registers) (r s : RiotFields) (t u : TiaFields) (a b : ℕ)
+    → c ≡ d → r ≡ s → t ≡ u → a ≡ b → built c r t a ≡ built d s u b
+same_state c d r s t u a b cpu riot tia bank = cc
+
+-- the bytes after the processor and the RIOT
+abbrev tail_of : StateFields → List ℕ
+tail_of f = tia_bytes f.tia ++ f.bank ∷ []
+
+module _ (f : StateFields) (h : IsState f) where
+  parts_of : record_of f ≡ cpu_bytes f.cpu ++ (riot_bytes f.riot ++ tail_of f)
+  unfolding record_of
+  parts_of =
+      append_assoc (cpu_bytes f.cpu ++ riot_bytes f.riot) (tia_bytes f.tia) (f.bank ∷ [])
+      ∙ append_assoc (cpu_bytes f.cpu) (riot_bytes f.riot) (tail_of f)
+
+  riot_length_of : length (riot_bytes f.riot) ≡ 138
+  riot_length_of = length-riot_bytes f.riot h.ram
+
+  pub length-record_of : length (record_of f) ≡ state_length
+  length-record_of =
+      ap length parts_of
+      ∙ omega (arith, length-append (riot_bytes f.riot) (tail_of f), riot_length_of)
+
+  riot_there : riot_part (record_of f) ≡ riot_bytes f.riot
+  riot_there = ap riot_part parts_of ∙ take_at (riot_bytes f.riot) (tail_of f) 138 riot_length_of
+
+  tail_there : drop 145 (record_of f) ≡ tail_of f
+  tail_there = ap (drop 145) parts_of ∙ drop_at (riot_bytes f.riot) (tail_of f) 138 riot_length_of
+
+  fields_again : fields_at (record_of f) ≡ f
+  fields_again =
+      let tia = ap (λ (w : List ℕ). tia_at (take 42 w)) tail_there in
+      let last = ap (λ (w : List ℕ). get_or w 42 0) tail_there in
+      same_state _ _ _ _ _ _ _ _ (ap (λ (w : List ℕ). cpu_at (cpu_part w)) parts_of ∙ cpu_again f.cpu h.pc)
+      (ap riot_at riot_there ∙ riot_again f.riot h.ram h.part)
+      (tia ∙ tia_again f.tia h.collisions (clock-thirds f h.lawful))
+      (sym (get_or-drop 145 (record_of f) 42 0) ∙ last)
+
+  pub state_again : state_at (record_of f) ≡ Some f
+  unfolding state_at
+  state_again =
+      let long = nat_eq (length (record_of f)) state_length in
+      ap (λ (g : StateFields). cond (long && is_state g) (Some g) None) fields_again
+      ∙ rw length-record_of (ap (λ (b : Bool). cond b (Some f) None) h.lawful)
+
+-- ---- how a record is read
+
+-- the parts were found, and a state has them
+pub state_of_parts : (b : List ℕ) (cpu : Registers) (riot : RiotFields) (tia : TiaFields)
+    (o : Option StateFields) → length b ≡ state_length
+    → cpu ≡ cpu_at (cpu_part b) → riot ≡ riot_at (riot_part b) → tia ≡ tia_at (tia_part b)
+    → let f = built cpu riot tia (get_or b 187 0) in
+    o ≡ cond (is_state f) (Some f) None → o ≡ state_at b
+unfolding state_at
+state_of_parts b cpu riot tia o len first second third e =
+    let same : built cpu riot tia (get_or b 187 0) ≡ fields_at b =
+    same_state _ _ _ _ _ _ _ _ first second third refl in
+    rw len (e ∙ ap (λ (f : StateFields). cond (is_state f) (Some f) None) same)
+
+unlawful : (b : List ℕ) → is_state (fields_at b) ≡ false → state_at b ≡ None
+unfolding state_at
+unlawful b e = rw e (by (nat_eq (length b) state_length))
+  where
+    by : (long : Bool) → cond (long && false) (Some (fields_at b)) None ≡ None
+    by true = refl
+    by false = refl
+
+no_status : (f : StateFields) → is_status f.cpu.p ≡ false → is_state f ≡ false
+unfolding is_state
+no_status f none = rw none
+
+-- no processor has the byte of its status
+pub no_cpu : (b : List ℕ) → is_status (get_or (cpu_part b) 4 0) ≡ false → state_at b ≡ None
+no_cpu b e = unlawful b (no_status (fields_at b) e)
+
+-- the beam is beyond its scanline
+pub no_tia : (b : List ℕ) → nat_lt (get_or (tia_part b) 40 0) 76 ≡ false → state_at b ≡ None
+no_tia b e = by (is_state (fields_at b)) refl
+  where
+    by : (lawful : Bool) → is_state (fields_at b) ≡ lawful → state_at b ≡ None
+    by false is = unlawful b is
+    by true is =
+        let late : 76 ≤ get_or (tia_part b) 40 0 = ltb-false _ _ e in
+        let within : 3 * get_or (tia_part b) 40 0 < 228 = clock_of (fields_at b) is in
+        absurd (omega arith)
+
+-- ---- parts one after another
+
+-- what is put after a beginning
+pub put_after : (a k : ℕ) (front part rest : List ℕ) → length front ≡ a
+    → put_mid a k (front ++ rest) part ≡ front ++ part ++ drop k rest
+put_after a k front part rest len =
+    ap (λ (w : List ℕ). w ++ (part ++ drop k (drop a (front ++ rest)))) (take_at front rest a len)
+    ∙ ap (λ (w : List ℕ). front ++ (part ++ drop k w)) (drop_at front rest a len)
+    ∙ sym (append_assoc front part (drop k rest))
+
+-- three parts and a byte
+pub put_all : (c r t rest : List ℕ) (old bank : ℕ)
+    → length c ≡ 7 → length r ≡ 138 → length t ≡ 42 → drop 42 (drop 138 rest) ≡ old ∷ []
+    → set (put_mid 145 42 (put_mid 7 138 (c ++ rest) r) t) 187 bank ≡ c ++ r ++ t ++ bank ∷ []
+put_all c r t rest old bank cpu riot tia left =
+    let front : length (c ++ r) ≡ 145 = omega (arith, length-append c r) in
+    let whole : length (c ++ r ++ t) ≡ 187 = omega (arith, length-append (c ++ r) t) in
+    ap (λ (w : List ℕ). set (put_mid 145 42 w t) 187 bank) (put_after 7 138 c r rest cpu)
+    ∙ ap (λ (w : List ℕ). set w 187 bank) (put_after 145 42 (c ++ r) t (drop 138 rest) front)
+    ∙ ap (λ (w : List ℕ). set (c ++ r ++ t ++ w) 187 bank) left
+    ∙ set_at (c ++ r ++ t) old [] bank 187 whole

@@ -2,6 +2,7 @@ pub mod Format
 pub mod Movie
 pub mod MovieParts
 pub mod Record
+pub mod RecordParts
 pub mod Spelling
 pub mod MovieError
 pub mod Reading

@@ -19,10 +19,10 @@ pub record MovieData : Type 0 where
 -- numbers that meet the conditions of a state record, in the ranges of their types
 pub record IsState (f : StateFields) : Type 0 where
   pub lawful : IsTrue (is_state f)
-  pub pc : f.pc < 2 ^ 16
-  pub part : f.part < 2 ^ 16
-  pub collisions : f.collisions < 2 ^ 16
-  pub ram : length f.ram ≡ 128
+  pub pc : f.cpu.pc < 2 ^ 16
+  pub part : f.riot.part < 2 ^ 16
+  pub collisions : f.tia.collisions < 2 ^ 16
+  pub ram : length f.riot.ram ≡ 128
 
 -- a state of a console with a cartridge of so many bytes: without banks its bank is 0
 pub record IsStateWith (cart : ℕ) (f : StateFields) : Type 0 where

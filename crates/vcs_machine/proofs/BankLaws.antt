@@ -15,6 +15,7 @@ use Rattle.vcs_machine.specs.Consoles.{Console, meaning_of, passed, read_at, wri
 use Rattle.vcs_machine.specs.Frame.{Machine, machine_at, Stop, Ended, Overlong, Faulted, Went, turn, turn_by, stop_of}
 use Rattle.vcs_machine.specs.Inputs.{Controls}
 use Rattle.vcs_machine.specs.Outcomes.{frame_of, outcome_of, machine_of, left_by}
+use Rattle.vcs_machine.specs.States.{line_cycle_of}
 use Rattle.vcs_machine.specs.declared.fields.StateFields.{StateFields}
 use Rattle.vcs_machine.proofs.OneStop.{stop_of-keeps}
 
@@ -79,5 +80,5 @@ pub frame_of-bank : (cart : List ℕ) (s : StateFields) (i : Controls) → has_b
 unfolding frame_of
 frame_of-bank cart s i single =
     let stop = stop_of (console_rules logged) (machine_of cart s i []) in
-    outcome-bank s.line_cycle stop
+    outcome-bank (line_cycle_of s) stop
     ∙ (stop-holds logged cart s.bank single (machine_of cart s i []) (record { holds_cart = refl; holds_bank = refl })).holds_bank

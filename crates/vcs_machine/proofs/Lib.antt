@@ -2,10 +2,10 @@ pub mod AlongBuses
 pub mod BankLaws
 pub mod BeamLaws
 pub mod FrameOutcomes
-pub mod LawfulParts
 pub mod OneStop
 pub mod Owing
 pub mod PictureTable
 pub mod Runs
 pub mod Sinks
+pub mod StateLemmas
 pub mod Windows

@@ -74,10 +74,18 @@ iterate-clocked-numbers (suc n) s t e =
 byte_at-buttons : (t u : TiaFields) (fire0 fire1 : Bool) (k : ℕ) → 8 ≤ k → t.vblank ≡ u.vblank → t.latches ≡ u.latches
     → byte_at t fire0 fire1 k ≡ byte_at u fire0 fire1 k
 byte_at-buttons t u fire0 fire1 k h ev el =
-    let no_pairs : nat_lt k 6 ≡ false = grind (arith, nat_tests) in
-    let no_six : (k == 6) ≡ false = grind (arith, nat_tests) in
-    let no_seven : (k == 7) ≡ false = grind (arith, nat_tests) in
-    rw (no_pairs, no_six, no_seven, ev, el) refl
+    let e0 = other 0 (omega arith) in
+    let e1 = other 1 (omega arith) in
+    let e2 = other 2 (omega arith) in
+    let e3 = other 3 (omega arith) in
+    let e4 = other 4 (omega arith) in
+    let e5 = other 5 (omega arith) in
+    let e6 = other 6 (omega arith) in
+    let e7 = other 7 (omega arith) in
+    rw (e0, e1, e2, e3, e4, e5, e6, e7, ev, el) refl
+  where
+    other : (n : ℕ) → n < 8 → (k == n) ≡ false
+    other n below = grind (arith, nat_tests)
 
 pub read-buttons : (n : ℕ) (s : TiaState) (r : ℕ) → s.fields.clock < 228 → 8 ≤ r % 16 → read_of s r ≡ read_of (iterate clocked n s) r
 read-buttons n s r h k =
@@ -89,17 +97,15 @@ read-buttons n s r h k =
 -- The registers of collisions see nothing else.
 byte_at-pairs : (t u : TiaFields) (fire0 fire1 other0 other1 : Bool) (k : ℕ) → k < 8 → t.collisions ≡ u.collisions
     → byte_at t fire0 fire1 k ≡ byte_at u other0 other1 k
-byte_at-pairs t u fire0 fire1 other0 other1 k h e =
-    elim (below_six k h) [
-      | inl lt ↦ (let yes : nat_lt k 6 ≡ true = grind (arith, nat_tests) in rw (yes, e) refl)
-      | inr more ↦ elim more [
-        | inl six ↦ rw (six, e) refl
-        | inr seven ↦ rw (seven, e) refl
-      ]
-    ]
-  where
-    below_six : (k : ℕ) → k < 8 → (k < 6) ⊎ ((k ≡ 6) ⊎ (k ≡ 7))
-    below_six k h = grind arith
+byte_at-pairs t u fire0 fire1 other0 other1 zero h e = rw e refl
+byte_at-pairs t u fire0 fire1 other0 other1 (suc zero) h e = rw e refl
+byte_at-pairs t u fire0 fire1 other0 other1 (suc (suc zero)) h e = rw e refl
+byte_at-pairs t u fire0 fire1 other0 other1 (suc (suc (suc zero))) h e = rw e refl
+byte_at-pairs t u fire0 fire1 other0 other1 (suc (suc (suc (suc zero)))) h e = rw e refl
+byte_at-pairs t u fire0 fire1 other0 other1 (suc (suc (suc (suc (suc zero))))) h e = rw e refl
+byte_at-pairs t u fire0 fire1 other0 other1 (suc (suc (suc (suc (suc (suc zero)))))) h e = rw e refl
+byte_at-pairs t u fire0 fire1 other0 other1 (suc (suc (suc (suc (suc (suc (suc zero))))))) h e = rw e refl
+byte_at-pairs t u fire0 fire1 other0 other1 (suc (suc (suc (suc (suc (suc (suc (suc k)))))))) h e = absurd (omega (arith, h))
 
 pub read-pairs : (n : ℕ) (s t : TiaState) (r : ℕ) → s.fields ≡ t.fields → r % 16 < 8 → read_of (iterate clocked n s) r ≡ read_of (iterate clocked n t) r
 read-pairs n s t r e h =

@@ -16,8 +16,9 @@ use Rattle.vcs_machine.specs.declared.fault.FaultKind.{FaultKind}
 use Rattle.vcs_machine.specs.declared.fault.FaultKind.TheVariants.{BadOpcode, FetchOutside, Overlong as TooLong}
 use Rattle.vcs_machine.specs.declared.fields.StateFields.{StateFields}
 use Rattle.vcs_machine.proofs.AlongBuses.{stop_of-along}
-use Rattle.vcs_machine.specs.Frame.{Machine, Stop, Ended, Overlong, Faulted, stop_of, Follows, machine_along, stop_along}
-use Rattle.vcs_machine.specs.Consoles.{Console, meaning_of, passed, value_at, peeked_at, read_at, written_at, rested, wait_of, console_rules, logged, drawn_on}
+use Rattle.vcs_machine.specs.Frame.{Machine, Stop, Ended, Overlong, Faulted, stop_of}
+use Rattle.vcs_machine.specs.Consoles.{Console, meaning_of, passed, value_at, peeked_at, read_at, written_at, rested, wait_of, console_rules, logged}
+use Rattle.vcs_machine.specs.Private.Along.{Follows, machine_along, stop_along, drawn_on}
 
 -- A list takes pixels at its end.
 painted-logged : (log ps : List Pixel) → painted logged log ps ≡ log ++ ps

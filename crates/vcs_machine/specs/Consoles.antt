@@ -108,15 +108,3 @@ console_rules drawn = record { meaning = meaning_of drawn; rested = rested drawn
 -- A sink that lists the pixels in the order in which they were put.
 abbrev pub logged : List Pixel → ℕ → ℕ → ℕ → List Pixel
 logged log line x colour = log ++ record { line = line; x = x; colour = colour } ∷ []
-
--- A console that has drawn its list on a sink.
-abbrev pub drawn_on : {S : Type 0} → (S → ℕ → ℕ → ℕ → S) → S → Console (List Pixel) → Console S
-drawn_on drawn sink c = record {
-  cart = c.cart;
-  bank = c.bank;
-  riot = c.riot;
-  tia = c.tia;
-  synced = c.synced;
-  ended = c.ended;
-  sink = painted drawn sink c.sink;
-}

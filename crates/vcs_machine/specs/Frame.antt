@@ -1,7 +1,7 @@
 -- A frame over any bus: instructions, each with its wait, until the least number of them at which the frame stops.
 -- When a frame stops is this project's own rule.
 use Rattle.std.specs.Prelude.{◌≡◌, ℕ, zero, suc, ◌+◌, ◌<◌, ◌≤◌, ◌||◌, nat_le, Bool, true, false, if◌then◌else◌, Result, Ok, Err}
-use Rattle.mos_cpu.specs.Buses.{Meaning, Respects}
+use Rattle.mos_cpu.specs.Buses.{Meaning}
 use Rattle.mos_cpu.specs.Registers.{Registers}
 use Rattle.mos_cpu.specs.Execution.{step_of}
 use Rattle.mos_cpu.specs.declared.fault.CpuFault.{CpuFault}
@@ -115,19 +115,3 @@ module _ {B : Type 0} (rules : Rules B) where
 
   unfoldable pub stop_of : Machine B → Stop B
   stop_of m = stop_within most_turns m
-
--- A map between buses that keeps what a frame asks of them.
-pub record Follows {B C : Type 0} (b : Rules B) (c : Rules C) (h : B → C) : Type 0 where
-  pub meaning : Respects b.meaning c.meaning h
-  pub rested : (x : B) → c.rested (h x) ≡ h (b.rested x)
-  pub wait : (x : B) → c.wait (h x) ≡ b.wait x
-  pub ended : (x : B) → c.ended (h x) ≡ b.ended x
-
--- The machine, and the way to stop, on the other bus.
-abbrev pub machine_along : {B C : Type 0} → (B → C) → Machine B → Machine C
-machine_along h m = record { registers = m.registers; bus = h m.bus; cycles = m.cycles }
-
-abbrev pub stop_along : {B C : Type 0} → (B → C) → Stop B → Stop C
-stop_along h (Ended m) = Ended (machine_along h m)
-stop_along h (Overlong m) = Overlong (machine_along h m)
-stop_along h (Faulted fault m) = Faulted fault (machine_along h m)

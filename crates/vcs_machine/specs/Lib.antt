@@ -5,5 +5,4 @@ pub mod Inputs
 pub mod Outcomes
 pub mod Pictures
 pub mod Private
-pub mod SameStates
 pub mod States

@@ -8,7 +8,7 @@ use Rattle.vcs_machine.specs.Faults.{kind_of, halted}
 use Rattle.vcs_machine.specs.Frame.{Machine, Stop, Ended, Overlong, Faulted, stop_of}
 use Rattle.vcs_machine.specs.Inputs.{Controls, is_pressed}
 use Rattle.vcs_machine.specs.Pictures.{Rows, picture_of, rows_of}
-use Rattle.vcs_machine.specs.States.{registers_of, riot_fields_of, tia_fields_of, joined}
+use Rattle.vcs_machine.specs.States.{line_cycle_of}
 use Rattle.vcs_machine.specs.declared.fault.FaultKind.{FaultKind}
 use Rattle.vcs_machine.specs.declared.fault.FaultKind.TheVariants.{Overlong as TooLong}
 use Rattle.vcs_machine.specs.declared.fault.FrameError.{FrameError}
@@ -32,19 +32,19 @@ console_of cart s i sink =
     record {
       cart = cart;
       bank = s.bank;
-      riot = with_pins i.swcha i.swchb (riot_of (riot_fields_of s));
-      tia = frame_begun (fire_set (tia_state_of (tia_fields_of s)) (is_pressed 0 i) (is_pressed 1 i));
+      riot = with_pins i.swcha i.swchb (riot_of s.riot);
+      tia = frame_begun (fire_set (tia_state_of s.tia) (is_pressed 0 i) (is_pressed 1 i));
       synced = false;
       ended = false;
       sink = sink;
     }
 
 abbrev pub machine_of : {S : Type 0} → List ℕ → StateFields → Controls → S → Machine (Console S)
-machine_of cart s i sink = record { registers = registers_of s; bus = console_of cart s i sink; cycles = 0 }
+machine_of cart s i sink = record { registers = s.cpu; bus = console_of cart s i sink; cycles = 0 }
 
 -- The state that a machine leaves.
 abbrev pub state_at : {S : Type 0} → Machine (Console S) → StateFields
-state_at m = joined m.registers (fields_of m.bus.riot) m.bus.tia.fields m.bus.bank
+state_at m = record { cpu = m.registers; riot = fields_of m.bus.riot; tia = m.bus.tia.fields; bank = m.bus.bank }
 
 -- The outcome of a way to stop, for a frame that began at this cycle of its scanline.
 abbrev pub outcome_of : ℕ → Stop (Console (List Pixel)) → Outcome
@@ -54,7 +54,7 @@ outcome_of line_cycle (Faulted fault m) = Failed (kind_of fault) (state_at m)
 
 -- What a frame on a cartridge does to a state, with this input.
 unfoldable pub frame_of : List ℕ → StateFields → Controls → Outcome
-frame_of cart s i = outcome_of s.line_cycle (stop_of (console_rules logged) (machine_of cart s i []))
+frame_of cart s i = outcome_of (line_cycle_of s) (stop_of (console_rules logged) (machine_of cart s i []))
 
 -- A frame's error, and the state that it leaves.
 abbrev pub FailsAs : Outcome → FrameError → StateFields → Type 0

@@ -3,7 +3,6 @@ ghost use Rattle.std.specs.Prelude.{◌≡◌, ◌%◌, ◌/◌, ◌-◌, ◌*�
 ghost use Rattle.riot_map.specs.Riot.{riot_of, fields_of, with_pins, with_ram};
 ghost use Rattle.tia_core.specs.TiaState.{state_of as tia_state_of, fire_set, frame_begun};
 ghost use Rattle.vcs_machine.specs.Consoles.{meaning_of, rested, wait_cycles, wait_of};
-ghost use Rattle.vcs_machine.specs.States.{joined};
 ghost use Rattle.vcs_machine.specs.Inputs.{is_pressed};
 
 use crate::devices::{Devices, MOST_OWED};
@@ -14,9 +13,7 @@ use crate::unchanged::is_unchanged;
 use mos_cpu::{Bus, Cpu};
 use riot_map::{Cart, Place, Riot, place};
 use std::marker::Model;
-use tia_core::effect::Effect;
-use tia_core::paint::Paint;
-use tia_core::tia::Tia;
+use tia_core::{Effect, Paint, Tia};
 
 /// The register of the TIA whose write makes the processor wait for the next scanline.
 const WSYNC: u8 = 2;
@@ -151,9 +148,15 @@ impl<'a, S: Paint> Console<'a, S> {
         }
     }
 
-    /// The state that a processor and this console leave, and the sink.
+    /// The state that a processor and this console leave where a cycle begins, and the sink.
     pub fn finish(self, cpu: Cpu) -> (State, S)
-        ensures state { result.0 ≡ joined cpu (fields_of self.entry.riot) self.entry.tia.fields self.entry.bank }
+        requires { self.tia.fields.clock % 3 ≡ 0 }
+        ensures state { result.0 ≡ record {
+          cpu = cpu;
+          riot = fields_of self.entry.riot;
+          tia = self.entry.tia.fields;
+          bank = self.entry.bank;
+        } }
         ensures sink { result.1 ≡ self.entry.sink }
     {
         let Console {

@@ -7,8 +7,7 @@ ghost use Rattle.riot_map.specs.Riot.{after_cycles};
 ghost use Rattle.tia_core.specs.Clock.{clocked, pixels, painted};
 
 use riot_map::Riot;
-use tia_core::paint::{NoPaint, Paint};
-use tia_core::tia::Tia;
+use tia_core::{NoPaint, Paint, Tia};
 
 /// Most cycles that devices are behind: those of a scanline, whose clocks fit a call of the TIA.
 pub const MOST_OWED: u8 = 76;

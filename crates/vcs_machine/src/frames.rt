@@ -1,7 +1,7 @@
 //! One frame.
 ghost use Rattle.std.specs.Prelude.{◌≡◌, ◌≤◌, ◌+◌, true, false, if◌then◌else◌, Some, None, IfOk, IfErr, IfSome, IfNone};
 ghost use Rattle.tia_core.specs.Clock.{Pixel, painted};
-ghost use Rattle.vcs_machine.specs.Consoles.{console_rules, logged, drawn_on, Console};
+ghost use Rattle.vcs_machine.specs.Consoles.{console_rules, logged, Console};
 ghost use Rattle.vcs_machine.specs.Faults.{halted};
 ghost use Rattle.vcs_machine.specs.Frame.{stop_of, Machine, Ended};
 ghost use Rattle.vcs_machine.specs.Outcomes.{frame_of, machine_of, state_at, Played, FailsAs, PlaysOn, Halts};
@@ -15,7 +15,7 @@ use crate::run::run;
 use crate::state::State;
 use riot_map::Cart;
 use std::alloc::Global;
-use tia_core::paint::{NoPaint, Paint};
+use tia_core::{NoPaint, Paint};
 
 /// A frame from a state, whose pixels go to a sink; it answers the sink, and its cycles.
 fn play<S: Paint + Drop>(

@@ -1,5 +1,5 @@
 //! Laws about the definitions of a frame.
-ghost use Rattle.std.specs.Prelude.{◌≡◌, ◌↔◌, ℕ, ◌+◌, ◌*◌, ◌%◌, ◌<◌, ◌≤◌, List, [], length, true, false};
+ghost use Rattle.std.specs.Prelude.{◌≡◌, ◌↔◌, ℕ, ◌+◌, ◌*◌, ◌%◌, ◌<◌, ◌≤◌, List, [], length, IsTrue, true, false};
 ghost use Rattle.mos_cpu.specs.Execution.{step_of};
 ghost use Rattle.riot_map.specs.Cart.{has_banks};
 ghost use Rattle.tia_core.specs.Clock.{Pixel};
@@ -8,6 +8,7 @@ ghost use Rattle.vcs_machine.specs.Frame.{Rules, Machine, Stop, Ended, machine_a
 ghost use Rattle.vcs_machine.specs.Inputs.{Controls};
 ghost use Rattle.vcs_machine.specs.Outcomes.{frame_of, left_by, machine_of, state_at};
 ghost use Rattle.vcs_machine.specs.Pictures.{rows_of};
+ghost use Rattle.vcs_machine.specs.States.{is_state, line_cycle_of};
 ghost use Rattle.vcs_machine.specs.declared.fields.StateFields.{StateFields};
 
 /// A law: on any bus a frame stops in one way, at the least number of instructions at which it can stop, and the function that
@@ -29,7 +30,7 @@ pub const fn law_of_waits<S>()
 /// A law: what the law of waits asks for holds in each frame. After so many instructions with their waits, and one more without
 /// its wait, the beam stands at one of the 228 clocks of a scanline, and a whole number of cycles after its begin.
 pub const fn law_of_whole_cycles()
-    ensures { (cart : List ℕ) (s : StateFields) (i : Controls) (count : ℕ) (m : Machine (Console (List Pixel))) → s.line_cycle < 76
+    ensures { (cart : List ℕ) (s : StateFields) (i : Controls) (count : ℕ) (m : Machine (Console (List Pixel))) → IsTrue (is_state s)
         → turns (console_rules logged) count (machine_of cart s i []) ≡ Went m
         → let c = (step_of (meaning_of logged) m.registers m.bus).bus in
         (c.tia.fields.clock < 228) × (c.tia.fields.clock % 3 ≡ 0) }
@@ -38,16 +39,16 @@ pub const fn law_of_whole_cycles()
 /// A law: however a frame stops, it takes at most 24,401 cycles, its picture has at most 322 rows, and the state that it leaves
 /// has the beam's place: three clocks a cycle on from where it began.
 pub const fn law_of_frame_lengths()
-    ensures cycles { (cart : List ℕ) (s : StateFields) (i : Controls) → s.line_cycle < 76
+    ensures cycles { (cart : List ℕ) (s : StateFields) (i : Controls) → IsTrue (is_state s)
         → (machine_at (stop_of (console_rules logged) (machine_of cart s i []))).cycles ≤ 24401 }
-    ensures rows { (cart : List ℕ) (s : StateFields) (i : Controls) → s.line_cycle < 76
-        → rows_of s.line_cycle (machine_at (stop_of (console_rules logged) (machine_of cart s i []))).cycles ≤ 322 }
-    ensures beam { (cart : List ℕ) (s : StateFields) (i : Controls) → s.line_cycle < 76
+    ensures rows { (cart : List ℕ) (s : StateFields) (i : Controls) → IsTrue (is_state s)
+        → rows_of (line_cycle_of s) (machine_at (stop_of (console_rules logged) (machine_of cart s i []))).cycles ≤ 322 }
+    ensures beam { (cart : List ℕ) (s : StateFields) (i : Controls) → IsTrue (is_state s)
         → let here = machine_at (stop_of (console_rules logged) (machine_of cart s i [])) in
-        here.bus.tia.fields.clock ≡ 3 * (state_at here).line_cycle }
-    ensures line_cycle { (cart : List ℕ) (s : StateFields) (i : Controls) → s.line_cycle < 76
+        here.bus.tia.fields.clock ≡ 3 * line_cycle_of (state_at here) }
+    ensures line_cycle { (cart : List ℕ) (s : StateFields) (i : Controls) → IsTrue (is_state s)
         → let here = machine_at (stop_of (console_rules logged) (machine_of cart s i [])) in
-        (state_at here).line_cycle ≡ (s.line_cycle + here.cycles) % 76 }
+        line_cycle_of (state_at here) ≡ (line_cycle_of s + here.cycles) % 76 }
 {}
 
 /// A law: on a cartridge without banks a frame leaves the bank as it was.

@@ -5,7 +5,7 @@ ghost use Rattle.vcs_machine.specs.Private.Rows.{filled};
 
 use std::alloc::{AllocError, Global};
 use std::marker::Model;
-use tia_core::paint::Paint;
+use tia_core::Paint;
 
 /// The most scanlines that a frame reaches.
 pub const MOST_ROWS: u16 = 322;

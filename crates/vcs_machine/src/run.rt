@@ -8,7 +8,7 @@ ghost use Rattle.vcs_machine.specs.Frame.{turn, Went, Failed, stop_of, Ended};
 use crate::console::Console;
 use crate::fault::{FaultKind, Halt};
 use mos_cpu::{Cpu, CpuFault, step};
-use tia_core::paint::Paint;
+use tia_core::Paint;
 
 /// Cycles after which a frame that has not ended is too long.
 const TOO_MANY_CYCLES: u32 = 24_320;

@@ -1,18 +1,14 @@
 //! States between frames.
-ghost use Rattle.std.specs.Prelude.{◌≡◌, ◌<◌, ◌↔◌, IsTrue, if◌then◌else◌};
-ghost use Rattle.mos_cpu.specs.Registers.{IsStatus};
+ghost use Rattle.std.specs.Prelude.{◌≡◌, ◌<◌, ◌%◌, ◌↔◌, IsTrue, if◌then◌else◌};
 ghost use Rattle.riot_map.specs.Riot.{riot_of, fields_of};
 ghost use Rattle.tia_core.specs.TiaState.{state_of as tia_state_of};
-ghost use Rattle.vcs_machine.specs.States.{is_state, registers_of, riot_fields_of, tia_fields_of, joined, power_on};
+ghost use Rattle.vcs_machine.specs.States.{is_state, line_cycle_of, power_on};
 
 use crate::fields::StateFields;
-use crate::lawful::is_lawful;
-use crate::parts::{join, riot_fields, tia_fields};
-use crate::same::is_same;
 use mos_cpu::Cpu;
 use riot_map::{Cart, Riot};
 use std::marker::Model;
-use tia_core::tia::Tia;
+use tia_core::Tia;
 
 /// Where a processor that was reset finds the address of its first instruction.
 const RESET_VECTOR: u16 = 0xFFFC;
@@ -53,14 +49,21 @@ impl State {
             p: 0x04,
             pc: u16::from_le_bytes([cart.at(bank, RESET_VECTOR), cart.at(bank, RESET_VECTOR + 1)]),
         };
-        State::of_parts(cpu, &Riot::power_on(), &Tia::power_on(), bank)
+        State {
+            fields: StateFields {
+                cpu,
+                riot: Riot::power_on().fields(),
+                tia: Tia::power_on().fields(),
+                bank,
+            },
+        }
     }
 
     /// The state of these numbers, where each condition of the state record holds.
     pub fn from_fields(fields: StateFields) -> Option<State>
         ensures { result ≡ (if is_state fields then Some fields else None) }
     {
-        if is_lawful(&fields) {
+        if fields.is_lawful() {
             Some(State { fields })
         } else {
             None
@@ -80,15 +83,19 @@ impl State {
     pub fn equals(&self, other: &State) -> bool
         ensures { IsTrue result ↔ (self.now ≡ other.now) }
     {
-        is_same(&self.fields, &other.fields)
+        self.fields.cpu == other.fields.cpu
+            && self.fields.riot == other.fields.riot
+            && self.fields.tia.equals(&other.fields.tia)
+            && self.fields.bank == other.fields.bank
     }
 
-    /// The beam's place in its scanline, in cycles.
-    pub(crate) fn line_cycle(&self) -> u8
-        ensures value { result ≡ self.now.line_cycle }
+    /// The beam's place in its scanline, in cycles, 0 to 75.
+    pub fn line_cycle(&self) -> u8
+        ensures value { result ≡ line_cycle_of self.now }
         ensures range { result < 76 }
+        ensures lawful { IsTrue (is_state self.now) }
     {
-        self.fields.line_cycle
+        self.fields.tia.clock / 3
     }
 
     /// A state with the same numbers.
@@ -108,39 +115,43 @@ impl State {
 
     /// The state that these parts are left in, with this bank.
     pub(crate) fn of_parts(cpu: Cpu, riot: &Riot, tia: &Tia, bank: u8) -> State
-        requires { bank < 2 }
-        ensures { result ≡ joined cpu (fields_of riot.now) tia.now.fields bank }
+        requires aligned { tia.now.fields.clock % 3 ≡ 0 }
+        requires bank { bank < 2 }
+        ensures { result ≡ record { cpu = cpu; riot = fields_of riot.now; tia = tia.now.fields; bank = bank } }
     {
+        // (the proof then knows that the status is one)
+        let _ = &cpu.p;
         State {
-            fields: join(cpu, &riot.fields(), &tia.fields(), bank),
+            fields: StateFields {
+                cpu,
+                riot: riot.fields(),
+                tia: tia.fields(),
+                bank,
+            },
         }
     }
 
     /// Its processor.
     pub(crate) fn cpu(&self) -> Cpu
-        ensures { result ≡ registers_of self.now }
+        ensures value { result ≡ self.now.cpu }
+        ensures lawful { IsTrue (is_state self.now) }
     {
-        Cpu {
-            a: self.fields.a,
-            x: self.fields.x,
-            y: self.fields.y,
-            s: self.fields.s,
-            p: self.fields.p,
-            pc: self.fields.pc,
-        }
+        self.fields.cpu
     }
 
     /// Its RIOT, whose pins are up.
+    #[tactic(auto, unfolding(crate::specs::States::is_state))]
     pub(crate) fn riot(&self) -> Riot
-        ensures { result ≡ riot_of (riot_fields_of self.now) }
+        ensures { result ≡ riot_of self.now.riot }
     {
-        Riot::from_fields(riot_fields(&self.fields)).unwrap()
+        Riot::from_fields(self.fields.riot).unwrap()
     }
 
     /// Its TIA, at line 0 with no button pressed.
+    #[tactic(auto, unfolding(crate::specs::States::is_state))]
     pub(crate) fn tia(&self) -> Tia
-        ensures { result ≡ tia_state_of (tia_fields_of self.now) }
+        ensures { result ≡ tia_state_of self.now.tia }
     {
-        Tia::from_fields(tia_fields(&self.fields)).unwrap()
+        Tia::from_fields(self.fields.tia).unwrap()
     }
 }

@@ -1,12 +1,16 @@
-use Rattle.std.proofs.Common.{◌++◌, ◌∙◌, ap, length, List, ℕ, rules}
-use Rattle.movie_file.specs.Record.{record_of, cpu_bytes}
-use Rattle.movie_file.proofs.RecordLaws.{pasted}
+use Rattle.std.proofs.Common.{◌∙◌, ap, length, refl, rules}
+use Rattle.movie_file.specs.Record.{record_of}
+use Rattle.movie_file.proofs.RecordLaws.{put_all, same_parts}
 use Rattle.movie_file.proofs.record.write_state.Goals as goal
 
 pub returns-clause-record : goal.returns-clause-record
 unfolding record_of
 returns-clause-record c =
-    let made = pasted _ c.put.new.out c.put-2.new.out c.put-3.new.out c.cpu_part.result c.fields-fields.result.ram c.rest_part.result c.put.array_long c.put-2.array_long (ap length c.cpu_part.ensures) (search rules) (ap length c.rest_part.ensures) c.put.ensures c.put-2.ensures c.put-3.ensures in
-    made ∙ ap (λ (w : List ℕ). w ++ c.fields-fields.result.ram ++ c.rest_part.result) c.cpu_part.ensures
-    ∙ ap (λ (w : List ℕ). cpu_bytes c.fields-fields.result ++ c.fields-fields.result.ram ++ w) c.rest_part.ensures
+    let cpu = c.copy_from_slice.ensures.after in
+    let riot = c.copy_from_slice-2.ensures.after in
+    let tia = c.copy_from_slice-3.ensures.after in
+    put_all _ _ _ _ 0 _ (ap length cpu ∙ search rules) (ap length riot ∙ search rules)
+    (ap length tia ∙ search rules) refl
+    ∙ same_parts _ _ _ _ _ _ _ (cpu ∙ c.cpu_bytes.ensures) (riot ∙ c.riot_bytes.ensures)
+    (tia ∙ c.tia_bytes.ensures)
     ∙ ap record_of c.fields-fields.ensures.value

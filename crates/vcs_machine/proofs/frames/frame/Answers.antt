@@ -1,6 +1,7 @@
-use Rattle.std.proofs.Common.{◌≡◌, ◌<◌, ◌∙◌, ℕ, take, sym, ap, refl}
+use Rattle.std.proofs.Common.{◌≡◌, ◌∙◌, ℕ, IsTrue, take, sym, ap, refl}
 use Rattle.tia_core.specs.Clock.{painted}
 use Rattle.vcs_machine.specs.Pictures.{Rows, picture_of, rows_of, with_pixel}
+use Rattle.vcs_machine.specs.States.{is_state, line_cycle_of}
 use Rattle.vcs_machine.proofs.FrameOutcomes.{played, failed, ended-rows}
 use Rattle.vcs_machine.proofs.PictureTable.{take-painted}
 use Rattle.vcs_machine.proofs.frames.frame.Goals as goal
@@ -8,7 +9,7 @@ use Rattle.vcs_machine.proofs.frames.frame.Goals as goal
 pub returns-in-Ok-clause-ok : goal.returns-in-Ok-clause-ok
 returns-in-Ok-clause-ok c =
     let p = c.in-Ok.ensures.ok in (
-      picture_of (rows_of c.args.state.now.line_cycle p.0.cycles) p.0.bus.sink,
+      picture_of (rows_of (line_cycle_of c.args.state.now) p.0.cycles) p.0.bus.sink,
       played c.args.cart.now c.args.state.now _ c.args.input p.0 p.1 p.2,
       rw c.if-not-keep.true refl,
     )
@@ -20,13 +21,13 @@ pub returns-in-Ok-play-clause-ok : goal.returns-in-Ok-play-clause-ok
 returns-in-Ok-play-clause-ok c =
     let p = c.in-Ok-play.ensures.ok in
     let line_cycle = c.line_cycle-line_cycle.ensures.value in
-    let small : c.args.state.now.line_cycle < 76 = rw (← line_cycle) c.line_cycle-line_cycle.ensures.range in
-    let rows = rows_of c.args.state.now.line_cycle p.0.cycles in
+    let lawful : IsTrue (is_state c.args.state.now) = c.line_cycle-line_cycle.ensures.lawful in
+    let rows = rows_of (line_cycle_of c.args.state.now) p.0.cycles in
     let kept : c.cut.result ≡ picture_of rows p.0.bus.sink =
     c.cut.ensures
-    ∙ ap (λ (n : ℕ). take n c.in-Ok-play.picture) (c.rows.ensures ∙ ap (λ (n : ℕ). rows_of n c.in-Ok-play.cycles) line_cycle ∙ ap (rows_of c.args.state.now.line_cycle) (sym p.4))
+    ∙ ap (λ (n : ℕ). take n c.in-Ok-play.picture) (c.rows.ensures ∙ ap (λ (n : ℕ). rows_of n c.in-Ok-play.cycles) line_cycle ∙ ap (rows_of (line_cycle_of c.args.state.now)) (sym p.4))
     ∙ ap (take rows) (sym p.3 ∙ ap (λ (blank : Rows). painted with_pixel blank p.0.bus.sink) c.in-Ok-blank.ensures)
-    ∙ take-painted rows 322 p.0.bus.sink (ended-rows c.args.cart.now c.args.state.now c.args.input p.0 small p.1) in
+    ∙ take-painted rows 322 p.0.bus.sink (ended-rows c.args.cart.now c.args.state.now c.args.input p.0 lawful p.1) in
     (picture_of rows p.0.bus.sink, played c.args.cart.now c.args.state.now _ c.args.input p.0 p.1 p.2, rw (c.if-not-keep.false, kept) refl)
 
 pub returns-in-Err-play-clause-err : goal.returns-in-Err-play-clause-err

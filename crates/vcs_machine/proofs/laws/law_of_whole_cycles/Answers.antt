@@ -1,8 +1,10 @@
-use Rattle.std.proofs.Common.{[], arith}
+use Rattle.std.proofs.Common.{[]}
 use Rattle.vcs_machine.specs.Consoles.{logged}
 use Rattle.vcs_machine.specs.Outcomes.{machine_of}
 use Rattle.vcs_machine.proofs.BeamLaws.{step-whole}
+use Rattle.vcs_machine.proofs.StateLemmas.{clock_of, parts_of}
 use Rattle.vcs_machine.proofs.laws.law_of_whole_cycles.Goals as goal
 
 pub returns : goal.returns
-returns c cart s i count m small e = step-whole logged count (machine_of cart s i []) m (omega arith, omega arith) e
+returns c cart s i count m lawful e =
+    step-whole logged count (machine_of cart s i []) m (clock_of s lawful, (parts_of s lawful).aligned) e

@@ -1,19 +1,25 @@
-use Rattle.std.proofs.Common.{◌-◌, ◌*◌, ap, ◌∙◌}
+use Rattle.std.proofs.Common.{◌≡◌, ◌-◌, ◌*◌, Bool, true, false, Some, None, if◌then◌else◌, ap, ◌∙◌}
 use Rattle.tia_core.specs.Read.{read_of}
-use Rattle.tia_core.specs.TiaState.{TiaState}
+use Rattle.tia_core.specs.TiaState.{TiaState, is_tia}
+use Rattle.tia_core.proofs.LawfulNumbers.{lawful_of}
 use Rattle.vcs_machine.proofs.Owing.{read-buttons, read-pairs}
 use Rattle.vcs_machine.proofs.devices.Devices.peek_tia.Goals as goal
+
+-- What is made where a test holds.
+made : (b : Bool) (t u : TiaState) → Some t ≡ (if b then Some u else None) → t ≡ u
+made true t u e = cc
+made false t u e = absurd (cc)
 
 pub returns-then-register-ge8 : goal.returns-then-register-ge8
 returns-then-register-ge8 g c =
     let d = c.args.self.now in
     let lawful = rw c.fields-fields.ensures.value at c.fields-fields.ensures.lawful in
-    c.read.ensures ∙ read-buttons (3 * (76 - d.left)) d.tia c.args.register lawful.clock c.if-register-ge8.true
+    c.read.ensures ∙ read-buttons (3 * (76 - d.left)) d.tia c.args.register (lawful_of _ lawful).clock c.if-register-ge8.true
 
 pub returns : goal.returns
 returns g c =
     let d = c.args.self.now in
-    let same = ap (λ (t : TiaState). t.fields) c.in-Some.ensures.value ∙ c.fields-fields.ensures.value in
+    let same = ap (λ (t : TiaState). t.fields) (made (is_tia c.fields-fields.result) _ _ c.in-Some.ensures) ∙ c.fields-fields.ensures.value in
     c.read-2.ensures
     ∙ ap (λ (t : TiaState). read_of t c.args.register) c.clocks.ensures.value
     ∙ rw c.owed.ensures (read-pairs (3 * (76 - d.left)) c.in-Some.tia d.tia c.args.register same c.if-register-ge8.false)

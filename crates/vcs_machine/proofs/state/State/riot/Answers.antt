@@ -1,6 +1,6 @@
 use Rattle.std.proofs.Common.{rules}
-use Rattle.vcs_machine.proofs.LawfulParts.{riot_lawful}
+use Rattle.vcs_machine.proofs.StateLemmas.{parts_of}
 use Rattle.vcs_machine.proofs.state.State.riot.Goals as goal
 
 pub unwrap-requires : goal.unwrap-requires
-unwrap-requires c = rw (c.from_fields.ensures, c.riot_fields.ensures, riot_lawful c.self.inside.fields c.self.invariant) (search rules)
+unwrap-requires c = rw (c.from_fields.ensures, (parts_of c.self.inside.fields c.self.invariant).riot) (search rules)

@@ -1,0 +1,34 @@
+//! The bytes of a processor in a state's record.
+ghost use Rattle.std.specs.Prelude.{◌≡◌, length, slice_index, Some, None, if◌then◌else◌};
+ghost use Rattle.mos_cpu.specs.Registers.{is_status};
+ghost use Rattle.movie_file.specs.RecordParts.{cpu_bytes, cpu_at};
+
+use mos_cpu::Cpu;
+
+/// The processor that seven bytes spell; none where the one of P isn't a status.
+pub fn cpu_in(bytes: &[u8]) -> Option<Cpu>
+    requires { length bytes.now ≡ 7 }
+    ensures { result
+        ≡ (if is_status (slice_index bytes.now 4) then Some (cpu_at bytes.now) else None) }
+{
+    let p = bytes[4];
+    if !Cpu::is_status(p) {
+        return None;
+    }
+    Some(Cpu {
+        a: bytes[0],
+        x: bytes[1],
+        y: bytes[2],
+        s: bytes[3],
+        p,
+        pc: u16::from_be_bytes([bytes[5], bytes[6]]),
+    })
+}
+
+/// The bytes that spell a processor.
+pub fn cpu_bytes(cpu: &Cpu) -> [u8; 7]
+    ensures { result ≡ cpu_bytes cpu.now }
+{
+    let pc = cpu.pc.to_be_bytes();
+    [cpu.a, cpu.x, cpu.y, cpu.s, cpu.p, pc[0], pc[1]]
+}

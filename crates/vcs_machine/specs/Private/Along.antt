@@ -1,0 +1,34 @@
+-- A frame on one bus, followed on another: a map between buses that keeps what a frame asks of them. This project's own.
+use Rattle.std.specs.Prelude.{ℕ, ◌≡◌, List}
+use Rattle.mos_cpu.specs.Buses.{Respects}
+use Rattle.tia_core.specs.Clock.{Pixel, painted}
+use Rattle.vcs_machine.specs.Consoles.{Console}
+use Rattle.vcs_machine.specs.Frame.{Machine, Rules, Stop, Ended, Overlong, Faulted}
+
+-- A map between buses that keeps what a frame asks of them.
+pub record Follows {B C : Type 0} (b : Rules B) (c : Rules C) (h : B → C) : Type 0 where
+  pub meaning : Respects b.meaning c.meaning h
+  pub rested : (x : B) → c.rested (h x) ≡ h (b.rested x)
+  pub wait : (x : B) → c.wait (h x) ≡ b.wait x
+  pub ended : (x : B) → c.ended (h x) ≡ b.ended x
+
+-- The machine, and the way to stop, on the other bus.
+abbrev pub machine_along : {B C : Type 0} → (B → C) → Machine B → Machine C
+machine_along h m = record { registers = m.registers; bus = h m.bus; cycles = m.cycles }
+
+abbrev pub stop_along : {B C : Type 0} → (B → C) → Stop B → Stop C
+stop_along h (Ended m) = Ended (machine_along h m)
+stop_along h (Overlong m) = Overlong (machine_along h m)
+stop_along h (Faulted fault m) = Faulted fault (machine_along h m)
+
+-- A console that has drawn its list on a sink.
+abbrev pub drawn_on : {S : Type 0} → (S → ℕ → ℕ → ℕ → S) → S → Console (List Pixel) → Console S
+drawn_on drawn sink c = record {
+  cart = c.cart;
+  bank = c.bank;
+  riot = c.riot;
+  tia = c.tia;
+  synced = c.synced;
+  ended = c.ended;
+  sink = painted drawn sink c.sink;
+}
