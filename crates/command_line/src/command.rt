@@ -1,6 +1,8 @@
 //! What a command line asks for.
 
+use replay_plan::{Plan, Workers};
 use std::alloc::AllocError;
+use std::num::NonZeroU32;
 
 /// What a command line asks for.
 #[derive(Debug, Drop)]
@@ -10,22 +12,16 @@ pub enum Command {
     /// Judge a movie.
     Verify {
         file: String,
-        /// How many threads replay it, 1 to 64.
-        workers: u8,
-        /// A cut at every N-th checkpoint, N at least 1.
-        every: u16,
-        /// The first frame whose picture is kept, at least 1.
-        first: u32,
-        /// How many are kept, at most 600; 0 where no pictures are wanted.
-        count: u32,
+        /// Where no file takes pictures it keeps none.
+        plan: Plan,
         /// The file that takes the pictures.
         pictures: Option<String>,
     },
     /// Judge a movie, and say facts about it.
     Report {
         file: String,
-        /// How many threads replay it, 1 to 64.
-        workers: u8,
+        /// How many threads replay it.
+        workers: Workers,
     },
     /// Make a movie of a cartridge and the inputs of its frames.
     Make {
@@ -33,8 +29,8 @@ pub enum Command {
         inputs: String,
         /// Whether the inputs are text.
         text: bool,
-        /// A checkpoint after every N frames, N at least 1.
-        every: u32,
+        /// A checkpoint after every so many frames.
+        every: NonZeroU32,
         out: String,
     },
     /// Say what a movie holds.

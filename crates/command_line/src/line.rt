@@ -1,69 +1,84 @@
 //! From arguments to a command.
-ghost use Rattle.std.specs.Prelude.{IfOk};
-ghost use Rattle.command_line.specs.Ranges.{IsInRange};
+ghost use Rattle.std.specs.Prelude.{◌≡◌, false, IfOk, IfSome};
+ghost use Rattle.command_line.specs.Pictures.{KeepsWhatIsTaken};
 
 use crate::command::{Command, LineFault};
 use crate::parser::program;
 use clap::ArgMatches;
 use clap::error::ErrorKind;
+use replay_plan::{Keep, Plan, Workers};
 use std::alloc::{AllocError, Global};
 use std::convert::AsStr;
+use std::num::{NonZeroU16, NonZeroU32};
 
 fn text_of(alloc: Global, matches: &ArgMatches<'_>, name: &str) -> Result<String, AllocError> {
     String::from_str(alloc, matches.get_str(name).unwrap_or(""))
 }
 
+/// The workers that are asked for.
+fn workers_of(matches: &ArgMatches<'_>) -> Option<Workers> {
+    Workers::new(matches.get_one::<u8>("workers")?)
+}
+
+/// The plan that is asked for, which keeps pictures only where a file takes them.
+fn plan_of(matches: &ArgMatches<'_>, pictures: bool) -> Option<Plan>
+    ensures { IfSome result (λ plan. pictures ≡ false → plan.keep.count ≡ 0) }
+{
+    let workers = workers_of(matches)?;
+    let every = NonZeroU16::new(matches.get_one::<u16>("every")?)?;
+    let first = matches.get_one::<u32>("first")?;
+    let wanted = matches.get_one::<u32>("count")?;
+    let count = if pictures { wanted } else { 0 };
+    let keep = Keep::new(first, count).ok()?;
+    Some(Plan {
+        workers,
+        every,
+        keep,
+    })
+}
+
 /// The command `verify`.
 fn verify_of(alloc: Global, matches: &ArgMatches<'_>) -> Result<Command, LineFault>
-    ensures { IfOk result IsInRange }
+    ensures { IfOk result KeepsWhatIsTaken }
 {
     let file = text_of(alloc, matches, "file")?;
-    let workers = matches.get_one::<u8>("workers").unwrap_or(0);
-    let every = matches.get_one::<u16>("every").unwrap_or(0);
-    let first = matches.get_one::<u32>("first").unwrap_or(0);
-    let wanted = matches.get_one::<u32>("count").unwrap_or(601);
     let pictures = match matches.get_str("pictures") {
         Some(name) => Some(String::from_str(alloc, name)?),
         None => None,
     };
-    if workers < 1 || 64 < workers || every < 1 || first < 1 || 600 < wanted {
+    let Some(plan) = plan_of(matches, pictures.is_some()) else {
         return Err(out_of_range(alloc));
-    }
-    let count = if pictures.is_some() { wanted } else { 0 };
+    };
     Ok(Command::Verify {
         file,
-        workers,
-        every,
-        first,
-        count,
+        plan,
         pictures,
     })
 }
 
 /// The command `report`.
 fn report_of(alloc: Global, matches: &ArgMatches<'_>) -> Result<Command, LineFault>
-    ensures { IfOk result IsInRange }
+    ensures { IfOk result KeepsWhatIsTaken }
 {
     let file = text_of(alloc, matches, "file")?;
-    let workers = matches.get_one::<u8>("workers").unwrap_or(0);
-    if workers < 1 || workers > 64 {
+    let Some(workers) = workers_of(matches) else {
         return Err(out_of_range(alloc));
-    }
+    };
     Ok(Command::Report { file, workers })
 }
 
 /// The command `make`.
 fn make_of(alloc: Global, matches: &ArgMatches<'_>) -> Result<Command, LineFault>
-    ensures { IfOk result IsInRange }
+    ensures { IfOk result KeepsWhatIsTaken }
 {
     let rom = text_of(alloc, matches, "rom")?;
     let inputs = text_of(alloc, matches, "inputs")?;
     let out = text_of(alloc, matches, "out")?;
     let text = matches.get_flag("text");
-    let every = matches.get_one::<u32>("every").unwrap_or(0);
-    if every < 1 {
+    let wanted = matches.get_one::<u32>("every").unwrap_or(0);
+    let Some(every) = NonZeroU32::new(wanted) else {
         return Err(out_of_range(alloc));
-    }
+    };
     Ok(Command::Make {
         rom,
         inputs,
@@ -95,10 +110,10 @@ fn out_of_range(alloc: Global) -> LineFault {
 
 /// The command of some arguments, of which the first is the program's name.
 ///
-/// Where they name no command it is `Command::Stdin`. Each number is tried by `clap`, and once more here, since its range is
-/// promised.
+/// Where they name no command it is `Command::Stdin`. Each number is tried by `clap`, and once more here, since its type promises
+/// its range.
 pub fn parse_line<S: AsStr>(alloc: Global, words: &[S]) -> Result<Command, LineFault>
-    ensures { IfOk result IsInRange }
+    ensures { IfOk result KeepsWhatIsTaken }
 {
     let program = program(alloc)?;
     let matches = match program.try_get_matches_from(words) {

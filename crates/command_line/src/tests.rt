@@ -1,28 +1,45 @@
 use crate::{Command, LineFault, parse_line};
+use replay_plan::{Keep, Plan, Workers};
+use std::num::NonZeroU16;
 use std::test::Fail;
+
+/// The plan of these numbers.
+fn plan(workers: u8, every: u16, first: u32, count: u32) -> Option<Plan> {
+    Some(Plan {
+        workers: Workers::new(workers)?,
+        every: NonZeroU16::new(every)?,
+        keep: Keep::new(first, count).ok()?,
+    })
+}
+
+/// The plan of a command that judges.
+fn plan_in(found: &Result<Command, LineFault>) -> Option<Plan> {
+    match found {
+        Ok(Command::Verify { plan, .. }) => Some(*plan),
+        Ok(Command::Report { workers, .. }) => Some(Plan::without_pictures(*workers)),
+        _ => None,
+    }
+}
+
+/// The checkpoints of a command that makes a movie: one after every so many frames.
+fn every_in(found: &Result<Command, LineFault>) -> Option<u32> {
+    match found {
+        Ok(Command::Make { every, .. }) => Some(every.get()),
+        _ => None,
+    }
+}
 
 #[test]
 fn defaults(rt: HostRuntime) -> Result<(), Fail> {
     let found = parse_line(rt.alloc(), &["vcs_check", "verify", "m"]);
-    assert!(rt;
-        matches!(
-            &found,
-            Ok(Command::Verify {
-                workers: 1,
-                every: 1,
-                first: 1,
-                count: 0,
-                pictures: None,
-                ..
-            })
-        )
-    );
+    assert_eq!(rt; plan_in(&found), plan(1, 1, 1, 0));
+    assert!(rt; matches!(&found, Ok(Command::Verify { pictures: None, .. })));
     let found = parse_line(rt.alloc(), &["vcs_check", "verify", "m", "--pictures", "p"]);
+    assert_eq!(rt; plan_in(&found), plan(1, 1, 1, 600));
     assert!(rt;
         matches!(
             &found,
             Ok(Command::Verify {
-                count: 600,
                 pictures: Some(_),
                 ..
             })
@@ -35,9 +52,10 @@ fn defaults(rt: HostRuntime) -> Result<(), Fail> {
     let found = parse_line(rt.alloc(), &["vcs_check", "convert", "a", "b"]);
     assert!(rt; matches!(&found, Ok(Command::Convert { .. })));
     let found = parse_line(rt.alloc(), &["vcs_check", "report", "m"]);
-    assert!(rt; matches!(&found, Ok(Command::Report { workers: 1, .. })));
+    assert!(rt; matches!(&found, Ok(Command::Report { .. })));
+    assert_eq!(rt; plan_in(&found), plan(1, 1, 1, 0));
     let found = parse_line(rt.alloc(), &["vcs_check", "report", "m", "--workers", "64"]);
-    assert!(rt; matches!(&found, Ok(Command::Report { workers: 64, .. })));
+    assert_eq!(rt; plan_in(&found), plan(64, 1, 1, 0));
     let found = parse_line(rt.alloc(), &["vcs_check"]);
     assert!(rt; matches!(&found, Ok(Command::Stdin)));
     let found = parse_line(rt.alloc(), &["vcs_check", "--"]);
@@ -65,14 +83,11 @@ fn numbers_are_those_of_the_words(rt: HostRuntime) {
         "p",
     ];
     let found = parse_line(rt.alloc(), &words);
+    assert_eq!(rt; plan_in(&found), plan(64, 65_535, 4_294_967_295, 599));
     assert!(rt;
         matches!(
             &found,
             Ok(Command::Verify {
-                workers: 64,
-                every: 65_535,
-                first: 4_294_967_295,
-                count: 599,
                 pictures: Some(_),
                 ..
             })
@@ -80,7 +95,7 @@ fn numbers_are_those_of_the_words(rt: HostRuntime) {
     );
     // Without a file for them no pictures are kept.
     let found = parse_line(rt.alloc(), &["vcs_check", "verify", "m", "--count", "2"]);
-    assert!(rt; matches!(&found, Ok(Command::Verify { count: 0, .. })));
+    assert_eq!(rt; plan_in(&found), plan(1, 1, 1, 0));
     let words = [
         "vcs_check",
         "make",
@@ -92,16 +107,8 @@ fn numbers_are_those_of_the_words(rt: HostRuntime) {
         "o",
     ];
     let found = parse_line(rt.alloc(), &words);
-    assert!(rt;
-        matches!(
-            &found,
-            Ok(Command::Make {
-                text: false,
-                every: 4_294_967_295,
-                ..
-            })
-        )
-    );
+    assert!(rt; matches!(&found, Ok(Command::Make { text: false, .. })));
+    assert_eq!(rt; every_in(&found), Some(4_294_967_295));
     let words = [
         "vcs_check",
         "make",
@@ -114,16 +121,8 @@ fn numbers_are_those_of_the_words(rt: HostRuntime) {
         "o",
     ];
     let found = parse_line(rt.alloc(), &words);
-    assert!(rt;
-        matches!(
-            &found,
-            Ok(Command::Make {
-                text: true,
-                every: 1,
-                ..
-            })
-        )
-    );
+    assert!(rt; matches!(&found, Ok(Command::Make { text: true, .. })));
+    assert_eq!(rt; every_in(&found), Some(1));
 }
 
 #[test]

@@ -5,7 +5,8 @@ use Rattle.std.specs.List.{flat_map, range_with_len}
 use Rattle.std.proofs.Math.Seq.{drop-cons, drop-length}
 use Rattle.std.proofs.lemmas.List.FromFn.{length-range_with_len}
 use Rattle.movie_report.specs.Differences.{Pair, pairs_of, line_if_different, differences_text}
-use Rattle.movie_report.specs.Numbers.{NumberData, numbers, number_at, memory_number, memory_numbers, other_numbers, processor_numbers, nothing}
+use Rattle.movie_report.specs.Numbers.{NumberData, numbers, memory_number, memory_numbers, other_numbers, processor_numbers}
+use Rattle.movie_report.specs.Private.Places.{number_at, nothing}
 use Rattle.movie_report.specs.declared.differences.Comparison.{Comparison}
 use Rattle.movie_report.proofs.NumberLemmas.{length-numbers}
 

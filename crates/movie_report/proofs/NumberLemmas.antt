@@ -6,7 +6,8 @@ use Rattle.std.specs.Prelude.{◌++◌, slice_index_or}
 use Rattle.std.proofs.lemmas.List.{get_or_append_left, get_or-append_right}
 use Rattle.std.proofs.lemmas.List.FromFn.{length-map-range_with_len, get_or-map-range_with_len}
 use Rattle.std.proofs.Math.ListN.{length-append}
-use Rattle.movie_report.specs.Numbers.{NumberData, numbers, number_at, memory_number, memory_numbers, other_numbers, processor_numbers, nothing}
+use Rattle.movie_report.specs.Numbers.{NumberData, numbers, memory_number, memory_numbers, other_numbers, processor_numbers}
+use Rattle.movie_report.specs.Private.Places.{number_at, nothing}
 
 length-memory_numbers : length memory_numbers ≡ 128
 unfolding memory_numbers

@@ -6,8 +6,9 @@ use Rattle.hex.specs.Hex.{encode_lower}
 use Rattle.md5.specs.Md5.{md5}
 use Rattle.sha1.specs.Sha1.{sha1}
 use Rattle.sha2.specs.Sha256.{sha256}
+use Rattle.mos_cpu.specs.Registers.{Registers}
 use Rattle.vcs_machine.specs.Faults.{hex2, hex4}
-use Rattle.vcs_machine.specs.States.{power_on}
+use Rattle.vcs_machine.specs.States.{power_on, line_cycle_of}
 use Rattle.vcs_machine.specs.declared.fields.StateFields.{StateFields}
 use Rattle.movie_file.specs.Movie.{MovieData}
 use Rattle.movie_file.specs.Record.{record_of}
@@ -42,17 +43,18 @@ claim_text c None = []
 claim_text None found = []
 
 -- The processor's registers, with the flags as in a state record.
-abbrev pub registers_text : StateFields → List ℕ
-registers_text f =
-    codes "registers: A " ++ (hex2 f.a ++ (codes ", X " ++ (hex2 f.x ++ (codes ", Y " ++ (hex2 f.y ++ (codes ", S " ++ (hex2 f.s
-    ++ (codes ", P " ++ (hex2 f.p ++ (codes ", PC " ++ (hex4 f.pc ++ 10 ∷ [])))))))))))
+abbrev pub registers_text : Registers → List ℕ
+registers_text c =
+    codes "registers: A " ++ (hex2 c.a ++ (codes ", X " ++ (hex2 c.x ++ (codes ", Y " ++ (hex2 c.y ++ (codes ", S " ++ (hex2 c.s
+    ++ (codes ", P " ++ (hex2 c.p ++ (codes ", PC " ++ (hex4 c.pc ++ 10 ∷ [])))))))))))
 
 -- What a frame left that faults: the registers, and where the beam is.
 abbrev pub left_text : Option LeftState → List ℕ
 left_text None = []
 left_text (Some left) =
-    registers_text left.state
-    ++ (codes "beam: scanline " ++ (decimal left.scanline ++ (codes ", cycle " ++ (decimal left.state.line_cycle ++ 10 ∷ []))))
+    registers_text left.state.cpu
+    ++ (codes "beam: scanline " ++ (decimal left.scanline
+    ++ (codes ", cycle " ++ (decimal (line_cycle_of left.state) ++ 10 ∷ []))))
 
 -- What is to be said of a verdict.
 abbrev pub verdict_text : MovieData → Verdict → List ℕ

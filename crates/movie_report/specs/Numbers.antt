@@ -1,5 +1,5 @@
 -- The numbers of a state record: the name of each and its length in bytes, in the record's order. This project's own.
-use Rattle.std.specs.Prelude.{ℕ, List, [], ◌∷◌, ◌++◌, codes, map, slice_index_or}
+use Rattle.std.specs.Prelude.{ℕ, List, [], ◌∷◌, ◌++◌, codes, map}
 use Rattle.std.specs.List.{range_with_len}
 use Rattle.vcs_machine.specs.Faults.{hex2}
 
@@ -43,11 +43,3 @@ other_numbers =
 
 unfoldable pub numbers : List NumberData
 numbers = processor_numbers ++ memory_numbers ++ other_numbers
-
--- What stands where there is no number.
-abbrev pub nothing : NumberData
-nothing = record { name = []; length = 0 }
-
--- The number at a place, from 0.
-unfoldable pub number_at : ℕ → NumberData
-number_at place = slice_index_or numbers place nothing

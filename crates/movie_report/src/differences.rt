@@ -1,7 +1,7 @@
 //! The numbers in which two state records differ.
 ghost use Rattle.std.specs.Prelude.{◌≡◌, ◌<◌, IfOk, string_bytes};
 ghost use Rattle.movie_report.specs.Differences.{difference_line, differences_text, line_if_different};
-ghost use Rattle.movie_report.specs.Numbers.{number_at};
+ghost use Rattle.movie_report.specs.Private.Places.{number_at};
 
 use crate::numbers::{COUNT, Number};
 use hex::encode_upper;

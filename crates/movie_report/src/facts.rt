@@ -13,13 +13,14 @@ use crate::differences::{Comparison, differences};
 use crate::hexadecimal::{Byte, Word};
 use hex::encode;
 use md5::Md5;
+use mos_cpu::Cpu;
 use movie_file::{Movie, write_state};
 use replay_segments::{LeftState, Verdict, found_state, left_state};
 use riot_map::Cart;
 use sha1::Sha1;
 use sha2::Sha256;
 use std::alloc::{AllocError, Global};
-use vcs_machine::{FaultKind, State, StateFields};
+use vcs_machine::{FaultKind, State};
 
 /// The lines of a cartridge's length and digests.
 fn cartridge_facts(alloc: Global, cart: &Cart) -> Result<String, AllocError>
@@ -60,17 +61,17 @@ fn claim_facts(alloc: Global, movie: &Movie, number: u16, frame: u32) -> Result<
 }
 
 /// The line of the processor's registers.
-fn registers_line(alloc: Global, fields: &StateFields) -> Result<String, AllocError>
-    ensures { IfOk result (λ text. string_bytes text ≡ registers_text fields.now) }
+fn registers_line(alloc: Global, cpu: &Cpu) -> Result<String, AllocError>
+    ensures { IfOk result (λ text. string_bytes text ≡ registers_text cpu.now) }
 {
     format!(in alloc;
         "registers: A {}, X {}, Y {}, S {}, P {}, PC {}\n",
-        Byte(fields.a),
-        Byte(fields.x),
-        Byte(fields.y),
-        Byte(fields.s),
-        Byte(fields.p),
-        Word(fields.pc)
+        Byte(cpu.a),
+        Byte(cpu.x),
+        Byte(cpu.y),
+        Byte(cpu.s),
+        Byte(cpu.p),
+        Word(cpu.pc)
     )
 }
 
@@ -85,9 +86,8 @@ fn fault_facts(
     ensures { IfOk result (λ text. string_bytes text ≡ left_text (left_at movie.now frame)) }
 {
     let LeftState { state, scanline } = left_state(alloc, movie, frame, kind);
-    let fields = state.fields();
-    let registers = registers_line(alloc, &fields)?;
-    let cycle = fields.line_cycle;
+    let registers = registers_line(alloc, &state.fields().cpu)?;
+    let cycle = state.line_cycle();
     format!(in alloc; "{registers}beam: scanline {scanline}, cycle {cycle}\n")
 }
 

@@ -1,6 +1,7 @@
 //! The numbers of a state record.
 ghost use Rattle.std.specs.Prelude.{◌≡◌, ◌<◌, slice_index_or};
-ghost use Rattle.movie_report.specs.Numbers.{number_at, processor_numbers, other_numbers, nothing};
+ghost use Rattle.movie_report.specs.Private.Places.{number_at, nothing};
+ghost use Rattle.movie_report.specs.Numbers.{processor_numbers, other_numbers};
 
 use crate::hexadecimal::Byte;
 use std::fmt;

@@ -6,7 +6,7 @@ use Rattle.vcs_machine.specs.declared.fields.StateFields.{StateFields}
 use Rattle.movie_file.specs.Movie.{MovieData, IsMovie}
 use Rattle.movie_file.specs.declared.checkpoint.Checkpoint.{Checkpoint}
 use Rattle.movie_file.proofs.Orders.{checkpoint_in_range, checkpoints_rise}
-use Rattle.replay_segments.specs.Steps.{IsNext, IsClaim}
+use Rattle.replay_segments.specs.Private.Steps.{IsNext, IsClaim}
 
 -- None stands before the first frame.
 pub IsNext-start : (m : MovieData) → IsMovie m → IsNext m 0 (0 + 1)

@@ -6,12 +6,13 @@ use Rattle.movie_file.specs.Movie.{MovieData}
 use Rattle.movie_file.specs.Run.{run}
 use Rattle.movie_file.specs.Judgement.{AllSound}
 use Rattle.movie_file.proofs.Runs.{run-shift, AllSound-shift}
-use Rattle.replay_segments.specs.declared.keep.Keep.{Keep}
+use Rattle.replay_plan.specs.declared.keep.Keep.{Keep}
 use Rattle.replay_segments.specs.declared.verdict.Verdict.{Verdict}
 use Rattle.replay_segments.specs.declared.verdict.Verdict.TheVariants.{Genuine, FalseCheckpoint, Fault}
-use Rattle.replay_segments.specs.Keeping.{is_kept}
+use Rattle.replay_plan.specs.Keeping.{is_kept}
 use Rattle.replay_segments.specs.KeptPictures.{pictures, picture_after}
-use Rattle.replay_segments.specs.Pieces.{Job, IsJob, IsBad, segments_of}
+use Rattle.replay_segments.specs.Pieces.{Job, IsJob, segments_of}
+use Rattle.replay_segments.specs.Private.Finding.{IsBad}
 use Rattle.replay_segments.specs.Segments.{end_of, from_of, start_of, IsSegment}
 use Rattle.replay_segments.specs.Verdicts.{IsJudged, IsVerdict}
 use Rattle.replay_segments.proofs.SegmentLemmas.{at_cut, end_of-cut, end_of-last, end_of-within, from_of-below, from_of-next, from_of-after, start_of-after}

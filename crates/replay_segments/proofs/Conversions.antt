@@ -5,7 +5,7 @@ use Rattle.movie_file.specs.Conversion.{converted}
 use Rattle.movie_file.specs.Movie.{MovieData}
 use Rattle.movie_file.specs.Run.{run}
 use Rattle.movie_file.proofs.Conversions.{run-converted, sound-converted, sound-back, faults-converted, faults-back, false-converted, false-back}
-use Rattle.replay_segments.specs.declared.keep.Keep.{Keep}
+use Rattle.replay_plan.specs.declared.keep.Keep.{Keep}
 use Rattle.replay_segments.specs.declared.verdict.Verdict.{Verdict}
 use Rattle.replay_segments.specs.declared.verdict.Verdict.TheVariants.{Genuine, FalseCheckpoint, Fault}
 use Rattle.replay_segments.specs.KeptPictures.{picture_after, pictures}

@@ -7,7 +7,7 @@ use Rattle.replay_segments.specs.declared.gathering.GatherError.TheVariants.{Mis
 use Rattle.replay_segments.specs.declared.outcome.Outcome.{Outcome}
 use Rattle.replay_segments.specs.declared.outcome.Outcome.TheVariants.{Judged, NoMemory as NoMemoryOutcome}
 use Rattle.replay_segments.specs.declared.verdict.Verdict.TheVariants.{Genuine, FalseCheckpoint, Fault}
-use Rattle.replay_segments.specs.Finding.{MayPass, IsAnswer}
+use Rattle.replay_segments.specs.Private.Finding.{MayPass, IsAnswer}
 use Rattle.replay_segments.specs.Gathering.{HasNumber, HasPassed}
 use Rattle.replay_segments.specs.Pieces.{PieceData, IsPassed}
 use Rattle.replay_segments.proofs.Places.{each-below}

@@ -8,7 +8,7 @@ use Rattle.replay_segments.specs.declared.outcome.Outcome.{Outcome}
 use Rattle.replay_segments.specs.declared.outcome.Outcome.TheVariants.{Judged, NoMemory as NoMemoryOutcome}
 use Rattle.replay_segments.specs.declared.verdict.Verdict.{Verdict}
 use Rattle.replay_segments.specs.declared.verdict.Verdict.TheVariants.{Genuine, FalseCheckpoint, Fault}
-use Rattle.replay_segments.specs.Finding.{ArePassedBelow, IsFirstUnpassed, IsAnswer}
+use Rattle.replay_segments.specs.Private.Finding.{ArePassedBelow, IsFirstUnpassed, IsAnswer}
 use Rattle.replay_segments.specs.Gathering.{NamesAll, HasPassed, PassedBelow, IsMissing, AllRefused, IsFirstMissing, IsFirstRefused, total}
 use Rattle.replay_segments.specs.Pieces.{PieceData, Job, IsPassed, segments_of}
 use Rattle.replay_segments.specs.Verdicts.{IsVerdict}

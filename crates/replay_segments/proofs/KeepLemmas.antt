@@ -1,8 +1,8 @@
 -- How many frames are kept.
 use Rattle.std.proofs.Common.{◌≡◌, ℕ, ◌+◌, Bool, true, false, arith, if◌then◌else◌, refl, add-zero, ◌∙◌, sym}
 use Rattle.std.proofs.lemmas.Bool.Decides.{nat_tests}
-use Rattle.replay_segments.specs.declared.keep.Keep.{Keep}
-use Rattle.replay_segments.specs.Keeping.{is_kept, kept_count}
+use Rattle.replay_plan.specs.declared.keep.Keep.{Keep}
+use Rattle.replay_plan.specs.Keeping.{is_kept, kept_count}
 
 pub kept_count-zero : (keep : Keep) (from : ℕ) → kept_count keep from 0 ≡ 0
 kept_count-zero keep from = grind (arith, nat_tests)

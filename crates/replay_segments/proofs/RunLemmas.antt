@@ -7,11 +7,11 @@ use Rattle.vcs_machine.specs.declared.fields.StateFields.{StateFields}
 use Rattle.movie_file.specs.Movie.{MovieData}
 use Rattle.movie_file.specs.Run.{run, frame_after}
 use Rattle.movie_file.specs.Judgement.{IsSound, AllSound}
-use Rattle.replay_segments.specs.declared.keep.Keep.{Keep}
-use Rattle.replay_segments.specs.Keeping.{is_kept}
+use Rattle.replay_plan.specs.declared.keep.Keep.{Keep}
+use Rattle.replay_plan.specs.Keeping.{is_kept}
 use Rattle.replay_segments.specs.KeptPictures.{pictures}
 use Rattle.replay_segments.specs.declared.verdict.Verdict.TheVariants.{FalseCheckpoint}
-use Rattle.replay_segments.specs.Steps.{ClaimsHold, IsClaim, SoFar}
+use Rattle.replay_segments.specs.Private.Steps.{ClaimsHold, IsClaim, SoFar}
 use Rattle.replay_segments.specs.Verdicts.{IsJudged}
 
 module _ (m : MovieData) (start : StateFields) (from k : ℕ) (state new : StateFields) (rows : Rows)

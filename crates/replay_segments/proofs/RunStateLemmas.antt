@@ -12,8 +12,8 @@ use Rattle.movie_file.specs.Run.{frame_after, run, state_after}
 use Rattle.movie_file.specs.declared.checkpoint.Checkpoint.{Checkpoint}
 use Rattle.movie_file.proofs.Orders.{checkpoint_in_range, checkpoints_rise}
 use Rattle.movie_file.proofs.Runs.{run-shift, run-fault}
-use Rattle.replay_segments.specs.RunStates.{IsResumable}
-use Rattle.replay_segments.specs.Steps.{IsStep}
+use Rattle.replay_segments.specs.Private.Resuming.{IsResumable}
+use Rattle.replay_segments.specs.Private.Steps.{IsStep}
 use Rattle.replay_segments.specs.Verdicts.{HasVerdict}
 use Rattle.replay_segments.specs.declared.verdict.Verdict.TheVariants.{FalseCheckpoint, Fault}
 

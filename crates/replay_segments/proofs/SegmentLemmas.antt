@@ -7,13 +7,13 @@ use Rattle.vcs_machine.specs.declared.fields.StateFields.{StateFields}
 use Rattle.movie_file.specs.Movie.{MovieData, IsMovie}
 use Rattle.movie_file.specs.declared.checkpoint.Checkpoint.{Checkpoint}
 use Rattle.movie_file.proofs.Orders.{checkpoint_in_range, checkpoints_rise}
-use Rattle.replay_segments.specs.declared.keep.Keep.{Keep}
+use Rattle.replay_plan.specs.declared.keep.Keep.{Keep}
 use Rattle.replay_segments.specs.declared.verdict.Verdict.{Verdict}
 use Rattle.replay_segments.specs.Cuts.{Fits}
-use Rattle.replay_segments.specs.Keeping.{is_kept, kept_count}
+use Rattle.replay_plan.specs.Keeping.{is_kept, kept_count}
 use Rattle.replay_segments.specs.Pieces.{Job, HasKept}
 use Rattle.replay_segments.specs.Segments.{end_of, from_of, start_of, IsSegment}
-use Rattle.replay_segments.specs.Steps.{IsNext}
+use Rattle.replay_segments.specs.Private.Steps.{IsNext}
 use Rattle.replay_segments.specs.Verdicts.{IsJudged}
 use Rattle.replay_segments.proofs.Places.{slice_get-below, same_at}
 

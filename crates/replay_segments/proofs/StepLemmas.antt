@@ -9,7 +9,7 @@ use Rattle.vcs_machine.specs.declared.fault.FrameError.TheVariants.{Fault, NoMem
 use Rattle.vcs_machine.specs.declared.fields.StateFields.{StateFields}
 use Rattle.movie_file.specs.Movie.{MovieData}
 use Rattle.movie_file.specs.Run.{frame_after}
-use Rattle.replay_segments.specs.Steps.{IsStep}
+use Rattle.replay_segments.specs.Private.Steps.{IsStep}
 
 -- The frame of the movie is that of its cartridge and its input.
 frame_after-is : (m : MovieData) (k : ℕ) (old : StateFields) (cart : List ℕ) (input : Controls) (outcome : Outcome)

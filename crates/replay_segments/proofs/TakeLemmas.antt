@@ -8,7 +8,7 @@ use Rattle.replay_segments.specs.declared.outcome.Outcome.{Outcome}
 use Rattle.replay_segments.specs.declared.outcome.Outcome.TheVariants.{Judged, NoMemory}
 use Rattle.replay_segments.specs.declared.verdict.Verdict.{Verdict}
 use Rattle.replay_segments.specs.declared.verdict.Verdict.TheVariants.{Genuine}
-use Rattle.replay_segments.specs.Finding.{IsPassedAt, IsTaken}
+use Rattle.replay_segments.specs.Private.Finding.{IsPassedAt, IsTaken}
 use Rattle.replay_segments.specs.Gathering.{NamesAll, HasPassed}
 use Rattle.replay_segments.specs.Pieces.{PieceData, IsPiece, IsOutcome, Job, IsJob, segments_of, frames_in}
 use Rattle.replay_segments.specs.Segments.{IsSegment}

@@ -4,8 +4,8 @@ use Rattle.vcs_machine.specs.Pictures.{Rows}
 use Rattle.vcs_machine.specs.declared.fields.StateFields.{StateFields}
 use Rattle.movie_file.specs.Movie.{MovieData}
 use Rattle.movie_file.specs.Run.{frame_after, pictures_of, run}
-use Rattle.replay_segments.specs.declared.keep.Keep.{Keep}
-use Rattle.replay_segments.specs.Keeping.{is_kept}
+use Rattle.replay_plan.specs.declared.keep.Keep.{Keep}
+use Rattle.replay_plan.specs.Keeping.{is_kept}
 
 -- The picture of frame k + 1 of a movie, from a state, where it ends.
 abbrev pub picture_after : MovieData → ℕ → Option StateFields → List Rows

@@ -1,10 +1,8 @@
 pub mod Cuts
-pub mod Finding
 pub mod Gathering
-pub mod Keeping
 pub mod KeptPictures
 pub mod Pieces
+pub mod Private
 pub mod RunStates
 pub mod Segments
-pub mod Steps
 pub mod Verdicts

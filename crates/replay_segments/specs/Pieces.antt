@@ -1,13 +1,12 @@
 -- What a piece is to contracts. This project's own.
 use Rattle.std.specs.Prelude.{ℕ, ◌+◌, ◌<◌, ◌≤◌, ◌≡◌, true, List, length}
 use Rattle.movie_file.specs.Movie.{MovieData, IsMovie}
-use Rattle.replay_segments.specs.declared.keep.Keep.{Keep}
+use Rattle.replay_plan.specs.declared.keep.Keep.{Keep}
 use Rattle.replay_segments.specs.declared.outcome.Outcome.{Outcome}
 use Rattle.replay_segments.specs.declared.outcome.Outcome.TheVariants.{Judged, NoMemory}
-use Rattle.replay_segments.specs.declared.verdict.Verdict.{Verdict}
 use Rattle.replay_segments.specs.declared.verdict.Verdict.TheVariants.{Genuine, FalseCheckpoint, Fault}
 use Rattle.replay_segments.specs.Cuts.{Fits}
-use Rattle.replay_segments.specs.Keeping.{is_kept}
+use Rattle.replay_plan.specs.Keeping.{is_kept}
 use Rattle.replay_segments.specs.Segments.{IsSegment, from_of, end_of}
 
 -- What a piece is a piece of: a movie, its cuts, and which frames are kept.
@@ -49,12 +48,6 @@ IsPassed (Judged (Genuine frames)) = Unit {0}
 IsPassed (Judged (FalseCheckpoint number frame)) = ⊥
 IsPassed (Judged (Fault frame kind)) = ⊥
 IsPassed NoMemory = ⊥
-
--- A verdict that is not genuine.
-abbrev pub IsBad : Verdict → Type 0
-IsBad (Genuine frames) = ⊥
-IsBad (FalseCheckpoint number frame) = Unit {0}
-IsBad (Fault frame kind) = Unit {0}
 
 -- Some frame of the segment is kept.
 abbrev pub HasKept : Job → ℕ → Type 0

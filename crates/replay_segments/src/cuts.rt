@@ -1,10 +1,12 @@
 //! Where a movie is cut.
-ghost use Rattle.std.specs.Prelude.{◌≡◌, ◌+◌, ◌≤◌, ◌↔◌, length, slice_get, Err, IsOk, IfOk, IsTrue};
+ghost use Rattle.std.specs.Prelude.{◌≡◌, ◌+◌, ◌≤◌, ◌↔◌, length, slice_get, IsOk, IfOk, OnErr, IsTrue};
+ghost use Rattle.std.specs.NonZero.{non_zero_u16_get};
 ghost use Rattle.movie_file.specs.Format.{most_checkpoints};
 
-use movie_file::Movie;
+use movie_file::{Movie, NoMemory};
 use std::alloc::Global;
 use std::marker::Model;
+use std::num::NonZeroU16;
 
 /// Numbers of checkpoints, counted from 1, in rising order. The movie is cut after the frame of
 /// each.
@@ -29,15 +31,6 @@ impl Model for Cuts {
 #[derive(Clone, Copy, Debug, PartialEq, Eq)]
 pub struct BadCuts;
 
-/// Why a movie is not cut at every so many checkpoints.
-#[derive(Clone, Copy, Debug, PartialEq, Eq)]
-pub enum CutsError {
-    /// At every 0 checkpoints.
-    BadCuts,
-    /// The growth of the list of the numbers was refused.
-    NoMemory,
-}
-
 impl Cuts {
     ghost use Rattle.replay_segments.specs.Cuts.{AreCuts, Fits, IsEvery};
 
@@ -59,18 +52,17 @@ impl Cuts {
     }
 
     /// The cuts at checkpoints k, 2k, .. up to the movie's last one.
-    pub fn every(alloc: Global, movie: &Movie, k: u16) -> Result<Cuts, CutsError>
-        ensures every { IfOk result (λ cuts. IsEvery k (length movie.now.checkpoints) cuts) }
+    ///
+    /// NoMemory comes only where the growth of the list of their numbers was refused.
+    pub fn every(alloc: Global, movie: &Movie, k: NonZeroU16) -> Result<Cuts, NoMemory>
+        ensures every { IfOk result (λ cuts. IsEvery (non_zero_u16_get k) (length movie.now.checkpoints) cuts) }
         ensures fit { IfOk result (λ cuts. Fits cuts movie.now) }
-        ensures bad { (result ≡ Err CutsError.BadCuts) ↔ (k ≡ 0) }
-        ensures memory { result ≡ Err CutsError.NoMemory → k ≤ length movie.now.checkpoints }
+        ensures memory { OnErr result (non_zero_u16_get k ≤ length movie.now.checkpoints) }
     {
-        if k == 0 {
-            return Err(CutsError::BadCuts);
-        }
+        let k = k.get();
         let count = movie.checkpoints() / k;
         let Ok(mut numbers) = Vec::with_capacity(alloc, usize::from(count)) else {
-            return Err(CutsError::NoMemory);
+            return Err(NoMemory);
         };
         for i in 0..count {
             numbers.push_reserved((i + 1) * k);

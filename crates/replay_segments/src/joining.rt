@@ -2,7 +2,7 @@
 ghost use Rattle.std.specs.Prelude.{◌≡◌, ◌<◌, IfOk, OnErr, IfSome, IfNone};
 ghost use Rattle.replay_segments.specs.Gathering.{NamesAll, HasPassed, PassedBelow, total};
 ghost use Rattle.replay_segments.specs.Pieces.{Job, segments_of};
-ghost use Rattle.replay_segments.specs.Finding.{IsTaken};
+ghost use Rattle.replay_segments.specs.Private.Finding.{IsTaken};
 ghost use Rattle.replay_segments.specs.Verdicts.{IsVerdict};
 ghost use Rattle.replay_segments.specs.declared.verdict.Verdict.{Verdict};
 

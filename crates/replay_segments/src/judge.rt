@@ -1,12 +1,12 @@
 //! Replays frames from a state, and judges them.
 ghost use Rattle.std.specs.Prelude.{◌≡◌, ℕ, ◌+◌, ◌<◌, ◌≤◌, length, IfOk, OnOk, OnErr, true, vec_len, vec_capacity, if◌then◌else◌};
-ghost use Rattle.replay_segments.specs.Keeping.{is_kept, kept_count};
-ghost use Rattle.replay_segments.specs.Steps.{IsStep, IsNext, IsClaim, IsAdvance};
+ghost use Rattle.replay_plan.specs.Keeping.{is_kept, kept_count};
+ghost use Rattle.replay_segments.specs.Private.Steps.{IsStep, IsNext, IsClaim, IsAdvance};
 ghost use Rattle.replay_segments.specs.Verdicts.{IsJudged, IsVerdict};
 
-use crate::keep::Keep;
 use crate::verdict::{Frames, Verdict};
 use movie_file::{Movie, NoMemory};
+use replay_plan::Keep;
 use std::alloc::Global;
 use vcs_machine::{FrameError, Picture, State, frame};
 

@@ -2,7 +2,7 @@
 ghost use Rattle.std.specs.Prelude.{◌≡◌, ◌↔◌, List, ℕ};
 ghost use Rattle.movie_file.specs.Conversion.{converted};
 ghost use Rattle.movie_file.specs.Movie.{MovieData, IsMovie};
-ghost use Rattle.replay_segments.specs.declared.keep.Keep.{Keep};
+ghost use Rattle.replay_plan.specs.declared.keep.Keep.{Keep};
 ghost use Rattle.replay_segments.specs.declared.verdict.Verdict.{Verdict};
 ghost use Rattle.replay_segments.specs.Segments.{IsSegment};
 ghost use Rattle.replay_segments.specs.Verdicts.{IsVerdict};

@@ -2,10 +2,10 @@
 ghost use Rattle.std.specs.Prelude.{◌≡◌, ◌↔◌, IsTrue, IfSome, IfNone};
 
 use crate::cuts::Cuts;
-use crate::keep::Keep;
 use crate::outcome::Outcome;
 use crate::verdict::{Frames, Verdict};
 use movie_file::Movie;
+use replay_plan::Keep;
 use std::marker::Model;
 use std::mem;
 use std::snapshot::Snapshot;
@@ -41,8 +41,8 @@ impl Model for Piece {
 }
 
 impl Piece {
-    ghost use Rattle.replay_segments.specs.Pieces.{IsPiece, IsPassed, IsBad, frames_in};
-    ghost use Rattle.replay_segments.specs.Finding.{MayPass};
+    ghost use Rattle.replay_segments.specs.Pieces.{IsPiece, IsPassed, frames_in};
+    ghost use Rattle.replay_segments.specs.Private.Finding.{IsBad, MayPass};
 
     /// The number of its segment, from 0.
     pub fn number(&self) -> u32

@@ -2,7 +2,8 @@
 ghost use Rattle.std.specs.Prelude.{◌≡◌, ℕ, ◌+◌, ◌<◌, ◌≤◌, length, slice_get, IsSome, Some};
 ghost use Rattle.movie_file.specs.Run.{run};
 ghost use Rattle.movie_file.specs.declared.checkpoint.Checkpoint.{Checkpoint};
-ghost use Rattle.replay_segments.specs.RunStates.{IsResumable, left_at};
+ghost use Rattle.replay_segments.specs.Private.Resuming.{IsResumable};
+ghost use Rattle.replay_segments.specs.RunStates.{left_at};
 ghost use Rattle.replay_segments.specs.Verdicts.{HasVerdict};
 ghost use Rattle.replay_segments.specs.declared.verdict.Verdict.TheVariants.{FalseCheckpoint, Fault};
 
@@ -88,7 +89,7 @@ pub fn left_state(alloc: Global, movie: &Movie, frame: u32, kind: FaultKind) -> 
     let _ = movie.frames();
     let next = checkpoints_before(movie, frame);
     let mut state = resumed(alloc, movie, next, frame - 1);
-    let begun = state.fields().line_cycle;
+    let begun = state.line_cycle();
     let Some(halt) = halt(movie.cart(), &mut state, movie.input(frame)) else {
         unreachable!()
     };

@@ -6,11 +6,11 @@ ghost use Rattle.replay_segments.specs.Segments.{end_of, IsSegment};
 
 use crate::cuts::Cuts;
 use crate::judge::judge;
-use crate::keep::Keep;
 use crate::outcome::Outcome;
 use crate::piece::Piece;
 use crate::verdict::Verdict;
 use movie_file::{Movie, NoMemory};
+use replay_plan::Keep;
 use std::alloc::Global;
 use std::snapshot::Snapshot;
 

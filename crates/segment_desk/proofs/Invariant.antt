@@ -1,9 +1,9 @@
 -- The invariant of the events, from which all that is claimed of a desk follows.
-use Rattle.std.proofs.Common.{◌≡◌, ℕ, ◌+◌, ◌^◌, ◌<◌, ◌≤◌, ◌⊎◌, true, if◌then◌else◌, List, Some}
+use Rattle.std.proofs.Common.{◌≡◌, ℕ, ◌+◌, ◌^◌, ◌<◌, ◌≤◌, ◌⊎◌, true, if◌then◌else◌, List, Some, sum_by}
 use mathlib.Core.Option.{some}
 use lib.ListN.{get_elem?}
 use Rattle.segment_desk.specs.declared.part.Part.{Part}
-use Rattle.segment_desk.specs.Desk.{total, times, spent_part}
+use Rattle.segment_desk.specs.Desk.{times, spent_part}
 
 -- How often a part has k on its drawn list, and on its reported list.
 abbrev pub drawn_of : ℕ → Part → ℕ
@@ -35,14 +35,14 @@ pub record IsSound (n w count least : ℕ) (v : Part) : Type 0 where
 pub record IsLawful (n w count least : ℕ) (parts : List Part) : Type 0 where
   pub small : n + w < 2 ^ 33
   -- the numbers below the count and below n are each on one drawn list, once, and no other number is on any
-  pub once : (k : ℕ) → k < count → k < n → total (drawn_of k) parts ≡ 1
-  pub not_yet : (k : ℕ) → count ≤ k → total (drawn_of k) parts ≡ 0
-  pub within : (k : ℕ) → n ≤ k → total (drawn_of k) parts ≡ 0
+  pub once : (k : ℕ) → k < count → k < n → sum_by (drawn_of k) parts ≡ 1
+  pub not_yet : (k : ℕ) → count ≤ k → sum_by (drawn_of k) parts ≡ 0
+  pub within : (k : ℕ) → n ≤ k → sum_by (drawn_of k) parts ≡ 0
   -- only a ticket that then ends draws past n, so the count is at most n + w
-  pub few : count ≤ n + total ended_share parts
+  pub few : count ≤ n + sum_by ended_share parts
   -- the least number is the least on any reported list, or n where there is none
   pub least_le : least ≤ n
-  pub none_below : (k : ℕ) → k < least → total (reported_of k) parts ≡ 0
-  pub is_reported : least < n → 0 < total (reported_of least) parts
-  pub shares : total share_of parts ≡ w
+  pub none_below : (k : ℕ) → k < least → sum_by (reported_of k) parts ≡ 0
+  pub is_reported : least < n → 0 < sum_by (reported_of least) parts
+  pub shares : sum_by share_of parts ≡ w
   pub each : (j : ℕ) (v : Part) → get_elem? parts j ≡ some v → IsSound n w count least v

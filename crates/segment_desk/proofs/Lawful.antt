@@ -1,15 +1,17 @@
 -- Each event keeps the invariant, and what follows from it.
-use Rattle.std.proofs.Common.{◌≡◌, ℕ, zero, suc, ◌+◌, ◌-◌, ◌^◌, ◌<◌, ◌≤◌, ◌≢◌, min, Bool, true, false, if◌then◌else◌, List, [], ◌∷◌, ◌++◌, set, refl, sym, ap, ◌∙◌, subst, ⊎_elim, arith, lt_of_not-le, Some}
+use Rattle.std.proofs.Common.{◌≡◌, ℕ, zero, suc, ◌+◌, ◌-◌, ◌^◌, ◌<◌, ◌≤◌, ◌≢◌, min, Bool, true, false, if◌then◌else◌, List, [], ◌∷◌, ◌++◌, set, refl, sym, ap, ◌∙◌, subst, ⊎_elim, arith, lt_of_not-le, Some, sum_by}
 use mathlib.Core.Logic.{dite}
 use mathlib.Core.Option.{some, some-injective, some-ne-none}
 use native.Mathlib.Decide.{dec_le}
 use lib.ListN.{get_elem?}
+use Rattle.std.proofs.lemmas.List.Sums.{sum_by-append}
 use Rattle.atomic_table.proofs.Lists.{at_set, at_snoc, set_else}
-use Rattle.segment_desk.specs.Desk.{total, times, fresh_part, spent_part, with_drawn, at_end, draw_at, look_at, report_at, kept_of, split_of, with_handed_in}
+use Rattle.segment_desk.specs.Desk.{times, fresh_part, spent_part, with_drawn, at_end, draw_at, look_at, report_at, with_handed_in}
+use Rattle.segment_desk.specs.Private.Plays.{kept_of, split_of}
 use Rattle.segment_desk.specs.Kept.{IsWhole, IsKnown}
 use Rattle.segment_desk.proofs.Invariant.{drawn_of, reported_of, share_of, ended_share, IsSound, IsLawful}
 use Rattle.segment_desk.specs.declared.part.Part.{Part}
-use Rattle.segment_desk.proofs.Sums.{total-append, total-set, term_le, total_le, alone, times-append, times-snoc}
+use Rattle.segment_desk.proofs.Sums.{sum_by-set-at, term_le, sum_by-le-each, alone, times-append, times-snoc}
 use Rattle.segment_desk.proofs.Parts.{tested, with_number-else, with_number-here, both_ended, later, size_of, sound_drawn, sound_end, sound_look, sound_report, sound_kept, sound_fresh, sound_spent, sound_handed}
 
 abbrev All : ℕ → ℕ → ℕ → ℕ → List Part → Type 0
@@ -33,18 +35,18 @@ module _ (n w : ℕ) where
 
   module _ (c l : ℕ) (ps : List Part) (o : IsLawful n w c l ps) where
     pub count_le : c ≤ n + w
-    count_le = let few = o.few in let le = total_le share_of ended_share ps ended_le in let all = o.shares in omega arith
+    count_le = let few = o.few in let le = sum_by-le-each share_of ended_share ps ended_le in let all = o.shares in omega arith
 
     -- No number is drawn twice.
-    once_at_most : (k : ℕ) → total (drawn_of k) ps ≤ 1
+    once_at_most : (k : ℕ) → sum_by (drawn_of k) ps ≤ 1
     once_at_most k = dite (dec_le c k)
         (λ h. omega (arith, o.not_yet k h))
         (λ a. dite (dec_le n k) (λ h. omega (arith, o.within k h)) (λ b. omega (arith, o.once k (lt_of_not-le a) (lt_of_not-le b))))
 
     -- Parts that have each number drawn and reported as often, and the same shares, are lawful where each is sound.
     same_numbers : (c' : ℕ) (ps' : List Part) → c ≤ c' → ((k : ℕ) → k < c' → k < n → k < c)
-        → ((k : ℕ) → total (drawn_of k) ps' ≡ total (drawn_of k) ps) → ((k : ℕ) → total (reported_of k) ps' ≡ total (reported_of k) ps)
-        → total share_of ps' ≡ total share_of ps → c' ≤ n + total ended_share ps' → All n w c' l ps' → IsLawful n w c' l ps'
+        → ((k : ℕ) → sum_by (drawn_of k) ps' ≡ sum_by (drawn_of k) ps) → ((k : ℕ) → sum_by (reported_of k) ps' ≡ sum_by (reported_of k) ps)
+        → sum_by share_of ps' ≡ sum_by share_of ps → c' ≤ n + sum_by ended_share ps' → All n w c' l ps' → IsLawful n w c' l ps'
     same_numbers c' ps' more below drawn reported shares few each = record {
       small = o.small;
       once = λ k h h'. drawn k ∙ o.once k (below k h h') h';
@@ -66,7 +68,7 @@ module _ (n w : ℕ) where
       size = size_of n w c l v s pos
 
       -- A ticket of all shares has all that there is.
-      only_here : (f : Part → ℕ) → f spent_part ≡ 0 → v.share ≡ v.workers → total f ps ≡ f v
+      only_here : (f : Part → ℕ) → f spent_part ≡ 0 → v.share ≡ v.workers → sum_by f ps ≡ f v
       only_here f zero_there all = alone share_of f ps j v at
           (λ i u e none. ⊎_elim (λ (is : u ≡ spent_part). ap f is ∙ zero_there)
           (λ (t : (u.segments ≡ n) × (u.workers ≡ w) × (0 < u.share)). absurd (omega (arith, t.2))) (o.each i u e).sized)
@@ -102,9 +104,9 @@ module _ (n w : ℕ) where
 
       draws_more : c < n → IsLawful n w (c + 1) l (set ps j (with_drawn c v))
       draws_more lt = let v' : Part = with_drawn c v in
-          let D : (k : ℕ) → total (drawn_of k) (set ps j v') + times k v.drawn ≡ total (drawn_of k) ps + times k (v.drawn ++ c ∷ []) =
-          λ k. total-set (drawn_of k) ps j v v' at in
-          let R : (k : ℕ) → total (reported_of k) (set ps j v') ≡ total (reported_of k) ps = λ k. omega (arith, total-set (reported_of k) ps j v v' at) in record {
+          let D : (k : ℕ) → sum_by (drawn_of k) (set ps j v') + times k v.drawn ≡ sum_by (drawn_of k) ps + times k (v.drawn ++ c ∷ []) =
+          λ k. sum_by-set-at (drawn_of k) ps j v v' at in
+          let R : (k : ℕ) → sum_by (reported_of k) (set ps j v') ≡ sum_by (reported_of k) ps = λ k. omega (arith, sum_by-set-at (reported_of k) ps j v v' at) in record {
             small = o.small;
             once = λ k h h'. times-snoc k c v.drawn
                 (λ is one. omega (arith, D k, o.not_yet k (omega (arith, is))))
@@ -115,16 +117,16 @@ module _ (n w : ℕ) where
             least_le = o.least_le;
             none_below = λ k h. R k ∙ o.none_below k h;
             is_reported = λ h. omega (arith, R l, o.is_reported h);
-            shares = omega (arith, total-set share_of ps j v v' at, o.shares);
+            shares = omega (arith, sum_by-set-at share_of ps j v v' at, o.shares);
             each = all_set c l (c + 1) l ps j v' o.each (omega arith) (omega arith) (sound_drawn n w c l v s pos);
           }
 
       draws_none : n ≤ c → v.ended ≡ false → IsLawful n w (c + 1) l (set ps j (at_end v))
       draws_none le going = let v' : Part = at_end v in
-          let same : (f : Part → ℕ) → f v' ≡ f v → total f (set ps j v') ≡ total f ps = λ f e. omega (arith, total-set f ps j v v' at) in
+          let same : (f : Part → ℕ) → f v' ≡ f v → sum_by f (set ps j v') ≡ sum_by f ps = λ f e. omega (arith, sum_by-set-at f ps j v v' at) in
           let none_yet : ended_share v ≡ 0 = ap (λ b. if b then v.share else 0) going in
           same_numbers (c + 1) (set ps j v') (omega arith) (λ k h h'. omega arith) (λ k. same (drawn_of k) refl) (λ k. same (reported_of k) refl)
-          (same share_of refl) (omega (arith, total-set ended_share ps j v v' at, o.few))
+          (same share_of refl) (omega (arith, sum_by-set-at ended_share ps j v v' at, o.few))
           (all_set c l (c + 1) l ps j v' o.each (omega arith) (omega arith) (sound_end n w c l v s pos le))
 
       pub draws : v.ended ≡ false → IsLawful n w (c + 1) l (set ps j (draw_at c v))
@@ -134,15 +136,15 @@ module _ (n w : ℕ) where
 
       pub looks : IsLawful n w c l (set ps j (look_at l v))
       looks = let v' : Part = look_at l v in
-          let same : (f : Part → ℕ) → f v' ≡ f v → total f (set ps j v') ≡ total f ps = λ f e. omega (arith, total-set f ps j v v' at) in
+          let same : (f : Part → ℕ) → f v' ≡ f v → sum_by f (set ps j v') ≡ sum_by f ps = λ f e. omega (arith, sum_by-set-at f ps j v v' at) in
           same_numbers c (set ps j v') (omega arith) (λ k h h'. h) (λ k. same (drawn_of k) refl) (λ k. same (reported_of k) refl)
           (same share_of refl) (omega (arith, same ended_share refl, o.few))
           (all_set c l c l ps j v' o.each (omega arith) (omega arith) (sound_look n w c l v s pos))
 
       pub reports : (f : ℕ) → v.last ≡ Some f → IsLawful n w c (min l f) (set ps j (report_at l f v))
       reports f last = let v' : Part = report_at l f v in
-          let same : (g : Part → ℕ) → g v' ≡ g v → total g (set ps j v') ≡ total g ps = λ g e. omega (arith, total-set g ps j v v' at) in
-          let other : (k : ℕ) → k ≢ f → total (reported_of k) (set ps j v') ≡ total (reported_of k) ps =
+          let same : (g : Part → ℕ) → g v' ≡ g v → sum_by g (set ps j v') ≡ sum_by g ps = λ g e. omega (arith, sum_by-set-at g ps j v v' at) in
+          let other : (k : ℕ) → k ≢ f → sum_by (reported_of k) (set ps j v') ≡ sum_by (reported_of k) ps =
           λ k ne. same (reported_of k) (with_number-else f k v.reported ne) in record {
             small = o.small;
             once = λ k h h'. same (drawn_of k) refl ∙ o.once k h h';
@@ -154,11 +156,11 @@ module _ (n w : ℕ) where
             is_reported = λ h. dite (dec_le f l)
                 (λ le. let is : f ≡ min l f = omega arith in
                 let mine = with_number-here f v.reported in let in_mine = term_le (reported_of f) ps j v at in
-                let here : 0 < total (reported_of f) (set ps j v') = omega (arith, total-set (reported_of f) ps j v v' at) in
-                subst (λ (k : ℕ). 0 < total (reported_of k) (set ps j v')) is here)
+                let here : 0 < sum_by (reported_of f) (set ps j v') = omega (arith, sum_by-set-at (reported_of f) ps j v v' at) in
+                subst (λ (k : ℕ). 0 < sum_by (reported_of k) (set ps j v')) is here)
                 (λ nle. let lt : l < f = lt_of_not-le nle in let is : l ≡ min l f = omega arith in let before = o.is_reported (omega arith) in
                 let same_one = other l (λ (e : l ≡ f). absurd (omega arith)) in
-                subst (λ (k : ℕ). 0 < total (reported_of k) (set ps j v')) is (omega arith));
+                subst (λ (k : ℕ). 0 < sum_by (reported_of k) (set ps j v')) is (omega arith));
             shares = same share_of refl ∙ o.shares;
             each = all_set c l c (min l f) ps j v' o.each (omega arith) (omega arith) (sound_report n w c l f v s pos last);
           }
@@ -166,8 +168,8 @@ module _ (n w : ℕ) where
       pub splits : 1 < v.share → v.ended ≡ false → IsLawful n w c l (set ps j (kept_of v) ++ split_of v ∷ [])
       splits more going = let v' : Part = kept_of v in let u' : Part = split_of v in let size = size_of n w c l v s pos in
           let ps' : List Part = set ps j v' ++ u' ∷ [] in
-          let same : (f : Part → ℕ) → f v' + f u' ≡ f v → total f ps' ≡ total f ps =
-          λ f e. omega (arith, total-set f ps j v v' at, total-append f (set ps j v') (u' ∷ [])) in
+          let same : (f : Part → ℕ) → f v' + f u' ≡ f v → sum_by f ps' ≡ sum_by f ps =
+          λ f e. omega (arith, sum_by-set-at f ps j v v' at, sum_by-append f (set ps j v') (u' ∷ [])) in
           let before : ended_share v ≡ 0 = ap (λ b. if b then v.share else 0) going in
           let after : ended_share v' ≡ 0 = ap (λ b. if b then v.share - 1 else 0) going in
           same_numbers c ps' (omega arith) (λ k h h'. h) (λ k. same (drawn_of k) (omega arith)) (λ k. same (reported_of k) (omega arith))
@@ -180,11 +182,11 @@ module _ (n w : ℕ) where
           → IsLawful n w c l (set (set ps j (with_handed_in v u)) i spent_part)
       joins i u ne at' = let b : Part = with_handed_in v u in let ps' : List Part = set ps j b in
           let there : get_elem? ps i ≡ some u = sym (set_else ps j i b ne) ∙ at' in
-          let same : (f : Part → ℕ) → f b ≡ f v + f u → f spent_part ≡ 0 → total f (set ps' i spent_part) ≡ total f ps =
-          λ f e z. omega (arith, total-set f ps j v b at, total-set f ps' i u spent_part at') in
+          let same : (f : Part → ℕ) → f b ≡ f v + f u → f spent_part ≡ 0 → sum_by f (set ps' i spent_part) ≡ sum_by f ps =
+          λ f e z. omega (arith, sum_by-set-at f ps j v b at, sum_by-set-at f ps' i u spent_part at') in
           same_numbers c (set ps' i spent_part) (omega arith) (λ k h h'. h)
           (λ k. same (drawn_of k) (times-append k v.drawn u.drawn) refl) (λ k. same (reported_of k) (times-append k v.reported u.reported) refl)
-          (same share_of refl refl) (omega (arith, total-set ended_share ps j v b at, total-set ended_share ps' i u spent_part at', both_ended v u, o.few))
+          (same share_of refl refl) (omega (arith, sum_by-set-at ended_share ps j v b at, sum_by-set-at ended_share ps' i u spent_part at', both_ended v u, o.few))
           (all_set c l c l ps' i spent_part
           (all_set c l c l ps j b o.each (omega arith) (omega arith) (sound_handed n w c l v u s (o.each i u there) pos))
           (omega arith) (omega arith) (sound_spent n w c l))

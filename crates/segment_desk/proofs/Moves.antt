@@ -7,12 +7,13 @@ use lib.ListN.{get_elem?}
 use lib.Seq.{set-get_or}
 use Rattle.atomic_table.specs.Table.{step, keeps, opening, Allows, Splits, Joins}
 use Rattle.atomic_table.proofs.Lists.{set_here, set_again, set_else}
-use Rattle.segment_desk.specs.Desk.{times, fresh_part, spent_part, with_drawn, at_end, with_number, with_passed, draw_at, look_at, report_at, kept_of, split_of, with_handed_in, Reached, opened, went_on, DeskState, desk_at, Event, StandsIn}
+use Rattle.segment_desk.specs.Desk.{times, fresh_part, spent_part, with_drawn, at_end, with_number, with_passed, draw_at, look_at, report_at, with_handed_in, Reached, opened, went_on, DeskState, desk_at, StandsIn}
+use Rattle.segment_desk.specs.Private.Plays.{kept_of, split_of, Seat, Drew, Looked, Reported, Settled}
 use Rattle.segment_desk.specs.Desk as event
 use Rattle.segment_desk.specs.Kept.{IsKnown}
 use Rattle.segment_desk.proofs.Invariant.{IsSound, IsLawful}
 use Rattle.segment_desk.proofs.Reach.{lawful}
-use Rattle.segment_desk.specs.Plays.{TableState, Seat, IsRuled, Drew, Looked, Reported, Settled}
+use Rattle.segment_desk.specs.Tables.{TableState, IsRuled}
 use Rattle.segment_desk.specs.declared.part.Part.{Part}
 use Rattle.segment_desk.proofs.Sums.{slice_get-of_some, times-append}
 use Rattle.segment_desk.proofs.Parts.{tested, size_of, with_number-here}

@@ -2,7 +2,8 @@
 use Rattle.std.proofs.Common.{◌≡◌, ℕ, ◌+◌, ◌-◌, ◌<◌, ◌≤◌, ◌≢◌, ◌⊎◌, min, Bool, true, false, if◌then◌else◌, ◌||◌, nat_lt, List, [], ◌∷◌, ◌++◌, refl, sym, ap, ◌∙◌, subst, inl, inr, ⊎_elim, arith, lt-ltb, le-ltb, lt_of_not-le, Option, Some, None}
 use mathlib.Core.Logic.{dite}
 use native.Mathlib.Decide.{dec_le}
-use Rattle.segment_desk.specs.Desk.{times, with_number, part, fresh_part, spent_part, with_drawn, at_end, with_passed, look_at, report_at, kept_of, smaller_of, with_handed_in}
+use Rattle.segment_desk.specs.Desk.{times, with_number, part, fresh_part, spent_part, with_drawn, at_end, with_passed, look_at, report_at, smaller_of, with_handed_in}
+use Rattle.segment_desk.specs.Private.Plays.{kept_of}
 use Rattle.segment_desk.proofs.Invariant.{ended_share, IsSound}
 use Rattle.segment_desk.specs.declared.part.Part.{Part}
 use Rattle.segment_desk.proofs.Sums.{times-append, times-snoc}

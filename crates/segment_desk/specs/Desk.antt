@@ -1,18 +1,12 @@
 -- The desk: it gives out the numbers below n, each once, to w tickets, and keeps the least number that was reported bad.
 -- Its state is a count, a least number and, for each ticket, its part of the history. A state changes by events alone.
 -- This project's own.
-use Rattle.std.specs.Prelude.{◌≡◌, ◌≢◌, ℕ, ◌+◌, ◌-◌, ◌^◌, ◌<◌, min, Bool, true, false, if◌then◌else◌, ◌||◌, ◌==◌, nat_lt, List, [], ◌∷◌, ◌++◌, slice_get, slice_set, Option, None, Some}
+use Rattle.std.specs.Prelude.{◌≡◌, ◌≢◌, ℕ, ◌+◌, ◌-◌, ◌^◌, ◌<◌, min, Bool, true, false, if◌then◌else◌, ◌||◌, ◌==◌, nat_lt, List, [], ◌∷◌, ◌++◌, count_by, slice_get, slice_set, Option, None, Some}
 use Rattle.segment_desk.specs.declared.part.Part.{Part}
-
--- The sum of f over a list.
-abbrev pub total : {A : Type 0} → (A → ℕ) → List A → ℕ
-total f [] = 0
-total f (x ∷ xs) = f x + total f xs
 
 -- How many times k stands in a list.
 abbrev pub times : ℕ → List ℕ → ℕ
-times k [] = 0
-times k (x ∷ xs) = (if x == k then 1 else 0) + times k xs
+times k xs = count_by (λ x. x == k) xs
 
 -- A list with k in it, which is not put into it twice.
 abbrev pub with_number : ℕ → List ℕ → List ℕ
@@ -67,13 +61,6 @@ look_at x v = part v.segments v.workers v.drawn v.reported (with_passed x v.last
 abbrev pub report_at : ℕ → ℕ → Part → Part
 report_at x k v = part v.segments v.workers v.drawn (with_number k v.reported) v.passed_over v.last (Some (min x k)) v.ended v.share
 
--- A ticket that gave one of its shares to a fresh ticket, and that fresh ticket.
-abbrev pub kept_of : Part → Part
-kept_of v = part v.segments v.workers v.drawn v.reported v.passed_over v.last v.seen v.ended (v.share - 1)
-
-abbrev pub split_of : Part → Part
-split_of v = fresh_part v.segments v.workers 1
-
 -- The smaller of two numbers of which each may be none.
 abbrev pub smaller_of : Option ℕ → Option ℕ → Option ℕ
 smaller_of None y = y
@@ -127,11 +114,3 @@ pub data Reached (n w : ℕ) : DeskState → Type 0 where
 -- The part v is that of a ticket in some state that events reach, of which this holds.
 abbrev pub StandsIn : (DeskState → Type 0) → Part → Type 0
 StandsIn holds v = (s : DeskState) × (j : ℕ) × Reached v.segments v.workers s × IsTicket s.parts j v × holds s
-
--- How many draws a ticket has at most, the one that finds no number included. It falls at each number drawn.
-abbrev pub to_draw : ℕ → Option ℕ → ℕ
-to_draw n None = n + 1
-to_draw n (Some k) = n - k
-
-abbrev pub left_of : Part → ℕ
-left_of v = to_draw v.segments v.last

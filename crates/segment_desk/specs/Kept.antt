@@ -1,7 +1,7 @@
 -- What holds of each state of a desk, and of a ticket's part by itself. This project's own.
-use Rattle.std.specs.Prelude.{◌≡◌, ℕ, ◌+◌, ◌<◌, ◌≤◌, true, slice_get, Some}
+use Rattle.std.specs.Prelude.{◌≡◌, ℕ, ◌+◌, ◌<◌, ◌≤◌, true, slice_get, sum_by, Some}
 use Rattle.segment_desk.specs.declared.part.Part.{Part}
-use Rattle.segment_desk.specs.Desk.{total, times, DeskState, IsTicket}
+use Rattle.segment_desk.specs.Desk.{times, DeskState, IsTicket}
 
 -- Each number is drawn, and one that is passed over has a smaller one that is reported. So none up to the least reported number is
 -- passed over, and where nothing is reported nothing is.
@@ -23,10 +23,10 @@ pub record IsKnown (v : Part) : Type 0 where
 
 -- On how many drawn lists k stands, each counted as often as it stands there; and the same of the reported lists.
 abbrev pub drawn_times : ℕ → DeskState → ℕ
-drawn_times k s = total (λ (v : Part). times k v.drawn) s.parts
+drawn_times k s = sum_by (λ (v : Part). times k v.drawn) s.parts
 
 abbrev pub reported_times : ℕ → DeskState → ℕ
-reported_times k s = total (λ (v : Part). times k v.reported) s.parts
+reported_times k s = sum_by (λ (v : Part). times k v.reported) s.parts
 
 -- What holds of each state of a desk of n numbers and w tickets.
 pub record IsKept (n w : ℕ) (s : DeskState) : Type 0 where
@@ -49,5 +49,5 @@ pub record IsKept (n w : ℕ) (s : DeskState) : Type 0 where
   pub smaller_reported : (j : ℕ) (v : Part) (k : ℕ) → slice_get s.parts j ≡ Some v → 0 < times k v.passed_over
       → (f : ℕ) × (f < k) × (0 < reported_times f s)
   -- shares add up to w, and a ticket of all shares that has ended misses nothing
-  pub shares : total (λ (v : Part). v.share) s.parts ≡ w
+  pub shares : sum_by (λ (v : Part). v.share) s.parts ≡ w
   pub whole : (j : ℕ) (v : Part) → IsTicket s.parts j v → v.ended ≡ true → v.share ≡ w → IsWhole v

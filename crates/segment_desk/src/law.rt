@@ -2,7 +2,7 @@
 ghost use Rattle.std.specs.Prelude.{ℕ};
 ghost use Rattle.segment_desk.specs.Desk.{DeskState, Reached};
 ghost use Rattle.segment_desk.specs.Kept.{IsKept};
-ghost use Rattle.segment_desk.specs.Plays.{TableState, IsRuled, desk_of};
+ghost use Rattle.segment_desk.specs.Tables.{TableState, IsRuled, desk_of};
 
 /// What holds between any two steps at a desk, whoever takes them: it follows from the events
 /// alone, and the rule of the desk's table is that it shows a state that events reach.

@@ -1,6 +1,6 @@
 //! The rule of the desk's table.
 ghost use Rattle.segment_desk.specs.Desk.{fresh_part};
-ghost use Rattle.segment_desk.specs.Plays.{IsRuled};
+ghost use Rattle.segment_desk.specs.Tables.{IsRuled};
 
 use crate::part::Part;
 use atomic_table::TableRule;

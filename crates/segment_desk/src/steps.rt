@@ -1,6 +1,6 @@
 //! The steps on the desk's table, one for each kind of event, and one more load.
-ghost use Rattle.segment_desk.specs.Desk.{kept_of, split_of, with_handed_in, spent_part};
-ghost use Rattle.segment_desk.specs.Plays.{Drew, Looked, Reported, Settled};
+ghost use Rattle.segment_desk.specs.Private.Plays.{kept_of, split_of, Drew, Looked, Reported, Settled};
+ghost use Rattle.segment_desk.specs.Desk.{with_handed_in, spent_part};
 
 use crate::part::Part;
 use atomic_table::{Join, Play, Split};

@@ -1,7 +1,11 @@
 -- From what a command's function answers to what the command does.
 use Rattle.std.proofs.Common.{◌≡◌, ℕ, Bool, List, refl, subst, Result, Ok, Err, Option, Some, None, String, Global, string_bytes}
+use Rattle.std.specs.NonZero.{non_zero_u32_get}
+use Rattle.std.specs.declared.num.NonZeroU32.{NonZeroU32}
 use Rattle.std.specs.Io.KnownBytes.{Keeps}
 use Rattle.command_line.specs.declared.command.Command.TheVariants.{Stdin, Verify, Make}
+use Rattle.replay_plan.specs.declared.keep.Keep.{Keep}
+use Rattle.replay_plan.specs.declared.plan.Plan.{Plan}
 use Rattle.vcs_check.specs.Commands.{Answers, form_of, IsJudged, IsMade, ReadsFile, Writes}
 use Rattle.vcs_check.specs.declared.commands.Failure.{Failure}
 use Rattle.vcs_engine.specs.Streams.{ReadsAll}
@@ -13,10 +17,6 @@ keeps : (known : Option (List ℕ)) → Keeps known known
 keeps None = tt
 keeps (Some xs) = refl
 
--- The same verdict, by equal numbers.
-numbered : (a b c d : ℕ) (input line : List ℕ) (status : Status) → a ≡ c → b ≡ d → IsJudged a b input status line → IsJudged c d input status line
-numbered a b c d input line status e f h = subst (λ (z : ℕ × ℕ). IsJudged z.0 z.1 input status line) (λ i. (e i, f i)) h
-
 module _ (before after : Option (List ℕ)) where
   -- What is said of the line that was written, for what was said of it.
   says : (Says Then : Status → List ℕ → Type 0) → ((status : Status) (line : List ℕ) → Says status line → Then status line)
@@ -24,23 +24,21 @@ module _ (before after : Option (List ℕ)) where
   says Says Then so (Ok status) h = (h.0, so status h.0 h.1, h.2)
   says Says Then so (Err failure) h = tt
 
-  pub standard_input_answers : (old new : Option (List ℕ)) (first count : ℕ) → first ≡ 1 → count ≡ 0 → (answer : Result Status Failure)
-      → Writes before after (λ status line. (input : List ℕ) × ReadsAll old new input × IsJudged first count input status line) answer
+  pub standard_input_answers : (old new : Option (List ℕ)) (keep : Keep) → keep.count ≡ 0 → (answer : Result Status Failure)
+      → Writes before after (λ status line. (input : List ℕ) × ReadsAll old new input × IsJudged keep input status line) answer
       → Writes before after (Answers Stdin old new) answer
-  standard_input_answers old new first count e f =
-      says _ (Answers Stdin old new) (λ status line h. (h.0, h.1, numbered first count 1 0 h.0 line status e f h.2))
+  standard_input_answers old new keep none = says _ (Answers Stdin old new) (λ status line h. (h.0, h.1, (keep, none, h.2)))
 
-  pub verify_answers : (old new : Option (List ℕ)) (name : List ℕ) (file : String Global) (workers every first count a b : ℕ) (pictures : Option (String Global))
-      → name ≡ string_bytes file → a ≡ first → b ≡ count → (answer : Result Status Failure)
-      → Writes before after (λ status line. (input : List ℕ) × ReadsFile name old new input × IsJudged a b input status line) answer
-      → Writes before after (Answers (Verify file workers every first count pictures) old new) answer
-  verify_answers old new name file workers every first count a b pictures same e f =
-      says _ (Answers (Verify file workers every first count pictures) old new)
-      (λ status line h. (h.0, subst (λ n. ReadsFile n old new h.0) same h.1, numbered a b first count h.0 line status e f h.2))
+  pub verify_answers : (old new : Option (List ℕ)) (name : List ℕ) (file : String Global) (plan : Plan) (pictures : Option (String Global))
+      → name ≡ string_bytes file → (answer : Result Status Failure)
+      → Writes before after (λ status line. (input : List ℕ) × ReadsFile name old new input × IsJudged plan.keep input status line) answer
+      → Writes before after (Answers (Verify file plan pictures) old new) answer
+  verify_answers old new name file plan pictures same =
+      says _ (Answers (Verify file plan pictures) old new) (λ status line h. (h.0, subst (λ n. ReadsFile n old new h.0) same h.1, h.2))
 
-  pub make_answers : (known : Option (List ℕ)) (rom inputs : String Global) (text : Bool) (form : InputForm) (every : ℕ) (out : String Global)
+  pub make_answers : (known : Option (List ℕ)) (rom inputs : String Global) (text : Bool) (form : InputForm) (every : NonZeroU32) (out : String Global)
       → form ≡ form_of text → (answer : Result Status Failure)
-      → Writes before after (IsMade form every) answer → Writes before after (Answers (Make rom inputs text every out) known known) answer
+      → Writes before after (IsMade form (non_zero_u32_get every)) answer → Writes before after (Answers (Make rom inputs text every out) known known) answer
   make_answers known rom inputs text form every out same =
       says _ (Answers (Make rom inputs text every out) known known)
-      (λ status line h. (keeps known, subst (λ f. IsMade f every status line) same h))
+      (λ status line h. (keeps known, subst (λ f. IsMade f (non_zero_u32_get every) status line) same h))

@@ -1,10 +1,11 @@
 -- What a command reads of standard input and writes to standard output, and its status. This project's own.
 use Rattle.std.specs.Prelude.{◌≡◌, ◌≢◌, ◌≤◌, ℕ, Bool, if◌then◌else◌, List, Option, Result, Err, IfOk, OnErr, codes, string_bytes}
+use Rattle.std.specs.NonZero.{non_zero_u32_get}
 use Rattle.std.specs.Io.KnownBytes.{Appends, Keeps}
 use Rattle.command_line.specs.declared.command.Command.{Command}
 use Rattle.command_line.specs.declared.command.Command.TheVariants.{Stdin, Verify, Report, Make, Info, Inputs, Convert}
 use Rattle.movie_file.specs.Reading.{movie_at}
-use Rattle.replay_segments.specs.declared.keep.Keep.{Keep}
+use Rattle.replay_plan.specs.declared.keep.Keep.{Keep}
 use Rattle.vcs_check.specs.declared.commands.Failure.{Failure}
 use Rattle.vcs_check.specs.declared.commands.Failure.TheVariants.{Run}
 use Rattle.vcs_engine.specs.Conversions.{converted_of}
@@ -27,10 +28,9 @@ Writes old new Says answer = IfOk answer (λ status. (line : List ℕ) × Says s
 abbrev pub IsQuiet : Option (List ℕ) → Option (List ℕ) → Result Status Failure → Type 0
 IsQuiet old new answer = OnErr answer (answer ≢ Err (Run WriteFault) → Keeps old new)
 
--- The line of these bytes' verdict, with the pictures of `count` frames from `first` on kept.
-abbrev pub IsJudged : ℕ → ℕ → List ℕ → Status → List ℕ → Type 0
-IsJudged first count input status line =
-    (keep : Keep) × (told : Told) × (keep.first ≡ first) × (keep.count ≡ count) × Tells keep input told × (status ≡ told.status) × (line ≡ told.line)
+-- The line of these bytes' verdict, with these pictures kept.
+abbrev pub IsJudged : Keep → List ℕ → Status → List ℕ → Type 0
+IsJudged keep input status line = (told : Told) × Tells keep input told × (status ≡ told.status) × (line ≡ told.line)
 
 -- The line of a movie that was made of some bytes, or of why there is none.
 abbrev pub IsMade : InputForm → ℕ → Status → List ℕ → Type 0
@@ -58,11 +58,12 @@ ReadsFile name old new input = (name ≡ codes "-" → ReadsAll old new input) �
 -- What a command answers, where standard input has the bytes `old` before it and `new` after it. Without arguments standard input
 -- is judged, and no picture is kept.
 abbrev pub Answers : Command → Option (List ℕ) → Option (List ℕ) → Status → List ℕ → Type 0
-Answers Stdin old new status line = (input : List ℕ) × ReadsAll old new input × IsJudged 1 0 input status line
-Answers (Verify file workers every first count pictures) old new status line =
-    (input : List ℕ) × ReadsFile (string_bytes file) old new input × IsJudged first count input status line
+Answers Stdin old new status line =
+    (input : List ℕ) × ReadsAll old new input × ((keep : Keep) × (keep.count ≡ 0) × IsJudged keep input status line)
+Answers (Verify file plan pictures) old new status line =
+    (input : List ℕ) × ReadsFile (string_bytes file) old new input × IsJudged plan.keep input status line
 Answers (Report file workers) old new status line = (input : List ℕ) × ReadsFile (string_bytes file) old new input × Reports input status line
-Answers (Make rom inputs text every out) old new status line = Keeps old new × IsMade (form_of text) every status line
+Answers (Make rom inputs text every out) old new status line = Keeps old new × IsMade (form_of text) (non_zero_u32_get every) status line
 Answers (Info file) old new status line = (input : List ℕ) × ReadsFile (string_bytes file) old new input × IsInformation input status line
 Answers (Inputs file) old new status line = (input : List ℕ) × ReadsFile (string_bytes file) old new input × Lists (movie_at input) status line
 Answers (Convert older newer) old new status line = Keeps old new × IsConverted status line
@@ -70,8 +71,8 @@ Answers (Convert older newer) old new status line = Keeps old new × IsConverted
 -- More than one worker judges: only `verify` and `report` with more than one start threads.
 abbrev pub StartsThreads : Command → Type 0
 StartsThreads Stdin = ⊥
-StartsThreads (Verify file workers every first count pictures) = 2 ≤ workers
-StartsThreads (Report file workers) = 2 ≤ workers
+StartsThreads (Verify file plan pictures) = 2 ≤ plan.workers.number
+StartsThreads (Report file workers) = 2 ≤ workers.number
 StartsThreads (Make rom inputs text every out) = ⊥
 StartsThreads (Info file) = ⊥
 StartsThreads (Inputs file) = ⊥

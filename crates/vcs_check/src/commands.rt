@@ -1,5 +1,6 @@
 //! What each command does with files.
 ghost use Rattle.std.specs.Prelude.{◌≡◌, ◌≢◌, ◌≤◌, List, ℕ, Err, OnErr, IsSome};
+ghost use Rattle.std.specs.NonZero.{non_zero_u16_get, non_zero_u32_get};
 ghost use Rattle.vcs_check.specs.Commands.{form_of, IsConverted, IsInformation, IsJudged, IsMade, IsQuiet, ReadsFile, Writes};
 ghost use Rattle.movie_file.specs.Reading.{movie_at};
 ghost use Rattle.vcs_engine.specs.Listings.{Lists};
@@ -8,16 +9,17 @@ ghost use Rattle.vcs_engine.specs.Streams.{ReadsAll};
 
 use crate::faults::FileFault;
 use crate::files::{Identity, create, open};
-use replay_segments::Keep;
+use replay_plan::{Plan, Workers};
 use std::alloc::Global;
 use std::io::{self, BufWriter, Read, Write};
+use std::num::NonZeroU32;
 use std::rt::Files;
 use std::sync::Wait;
 use std::thread::Threads;
 use thiserror::Error;
 use vcs_engine::{
-    CountedGate, InputForm, Plan, RunError, Status, run, run_convert, run_info, run_inputs,
-    run_make, run_report,
+    CountedGate, InputForm, RunError, Status, run, run_convert, run_info, run_inputs, run_make,
+    run_report,
 };
 
 /// The name of a file that is standard input.
@@ -63,29 +65,13 @@ fn flushed<W: Write>(writer: &mut W) -> Result<(), Failure>
     }
 }
 
-/// The plan of a command, whose numbers are in their ranges.
-pub(crate) fn plan_of(workers: u8, every: u16, first: u32, count: u32) -> Plan
-    requires some_workers { 1 ≤ workers }
-    requires few_workers { workers ≤ 64 }
-    requires every { 1 ≤ every }
-    requires first { 1 ≤ first }
-    requires count { count ≤ 600 }
-    ensures workers { result.workers ≡ workers }
-    ensures every { result.every ≡ every }
-    ensures first { result.keep.first ≡ first }
-    ensures count { result.keep.count ≡ count }
-{
-    let keep = Keep::new(first, count).unwrap();
-    Plan::new(workers, every, keep).unwrap()
-}
-
 /// The plan by which standard input is judged: one worker, and no picture is kept.
 pub(crate) fn plan_of_standard_input() -> Plan
-    ensures workers { result.workers ≡ 1 }
-    ensures every { result.every ≡ 1 }
+    ensures workers { result.workers.number ≡ 1 }
+    ensures every { non_zero_u16_get result.every ≡ 1 }
     ensures keep { (result.keep.first ≡ 1) × (result.keep.count ≡ 0) }
 {
-    plan_of(1, 1, 1, 0)
+    Plan::without_pictures(Workers::ONE)
 }
 
 /// Judges a movie without pictures.
@@ -97,9 +83,9 @@ pub(crate) fn judge<
 >(rt: &T, movie: &mut R, plan: &Plan, line: &mut W, gate: &G) -> Result<Status, Failure>
     ensures ok { Writes (W.contents line.old) (W.contents line.new) (λ status text.
         (input : List ℕ) × ReadsAll (R.remaining movie.old) (R.remaining movie.new) input
-        × IsJudged plan.now.keep.first plan.now.keep.count input status text) result }
+        × IsJudged plan.now.keep input status text) result }
     ensures quiet { IsQuiet (W.contents line.old) (W.contents line.new) result }
-    ensures no_thread { result ≡ Err (Failure.Run RunError.NoThread) → 2 ≤ plan.now.workers }
+    ensures no_thread { result ≡ Err (Failure.Run RunError.NoThread) → 2 ≤ plan.now.workers.number }
     ensures read { result ≢ Err Failure.Open }
 {
     Ok(run(rt, rt.alloc(), movie, plan, line, &mut io::sink(), gate)?)
@@ -123,9 +109,9 @@ pub(crate) fn verify<
 ) -> Result<Status, Failure>
     ensures ok { Writes (W.contents line.old) (W.contents line.new) (λ status text.
         (bytes : List ℕ) × ReadsFile file.now (I.remaining input.old) (I.remaining input.new) bytes
-        × IsJudged plan.now.keep.first plan.now.keep.count bytes status text) result }
+        × IsJudged plan.now.keep bytes status text) result }
     ensures quiet { IsQuiet (W.contents line.old) (W.contents line.new) result }
-    ensures no_thread { result ≡ Err (Failure.Run RunError.NoThread) → 2 ≤ plan.now.workers }
+    ensures no_thread { result ≡ Err (Failure.Run RunError.NoThread) → 2 ≤ plan.now.workers.number }
     ensures named { result ≡ Err Failure.Open → IsSome fault.new }
 {
     if file == STANDARD_INPUT {
@@ -154,9 +140,9 @@ fn judge_with_pictures<
 ) -> Result<Status, Failure>
     ensures ok { Writes (W.contents line.old) (W.contents line.new) (λ status text.
         (input : List ℕ) × ReadsAll (M.remaining movie.old) (M.remaining movie.new) input
-        × IsJudged plan.now.keep.first plan.now.keep.count input status text) result }
+        × IsJudged plan.now.keep input status text) result }
     ensures quiet { IsQuiet (W.contents line.old) (W.contents line.new) result }
-    ensures no_thread { result ≡ Err (Failure.Run RunError.NoThread) → 2 ≤ plan.now.workers }
+    ensures no_thread { result ≡ Err (Failure.Run RunError.NoThread) → 2 ≤ plan.now.workers.number }
     ensures read { result ≢ Err Failure.Open }
 {
     let mut pictures = buffered(rt.alloc(), pictures)?;
@@ -184,9 +170,9 @@ pub(crate) fn verify_with_pictures<
 ) -> Result<Status, Failure>
     ensures ok { Writes (W.contents line.old) (W.contents line.new) (λ status text.
         (bytes : List ℕ) × ReadsFile file.now (I.remaining input.old) (I.remaining input.new) bytes
-        × IsJudged plan.now.keep.first plan.now.keep.count bytes status text) result }
+        × IsJudged plan.now.keep bytes status text) result }
     ensures quiet { IsQuiet (W.contents line.old) (W.contents line.new) result }
-    ensures no_thread { result ≡ Err (Failure.Run RunError.NoThread) → 2 ≤ plan.now.workers }
+    ensures no_thread { result ≡ Err (Failure.Run RunError.NoThread) → 2 ≤ plan.now.workers.number }
     ensures named { result ≡ Err Failure.Open → IsSome fault.new }
 {
     if file == STANDARD_INPUT {
@@ -224,7 +210,7 @@ pub(crate) fn report<
     ensures ok { Writes (W.contents text.old) (W.contents text.new) (λ status output.
         (bytes : List ℕ) × ReadsFile file.now (I.remaining input.old) (I.remaining input.new) bytes × Reports bytes status output) result }
     ensures quiet { IsQuiet (W.contents text.old) (W.contents text.new) result }
-    ensures no_thread { result ≡ Err (Failure.Run RunError.NoThread) → 2 ≤ plan.now.workers }
+    ensures no_thread { result ≡ Err (Failure.Run RunError.NoThread) → 2 ≤ plan.now.workers.number }
     ensures named { result ≡ Err Failure.Open → IsSome fault.new }
 {
     if file == STANDARD_INPUT {
@@ -253,12 +239,12 @@ pub(crate) fn make<'a, R: Files + AllocGlobal, W: Write>(
     rom: &'a str,
     inputs: &'a str,
     form: InputForm,
-    every: u32,
+    every: NonZeroU32,
     out: &'a str,
     line: &mut W,
     fault: &mut Option<FileFault<'a>>,
 ) -> Result<Status, Failure>
-    ensures ok { Writes (W.contents line.old) (W.contents line.new) (IsMade form every) result }
+    ensures ok { Writes (W.contents line.old) (W.contents line.new) (IsMade form (non_zero_u32_get every)) result }
     ensures quiet { IsQuiet (W.contents line.old) (W.contents line.new) result }
     ensures no_thread { result ≢ Err (Failure.Run RunError.NoThread) }
     ensures named { result ≡ Err Failure.Open → IsSome fault.new }
@@ -272,7 +258,7 @@ pub(crate) fn make<'a, R: Files + AllocGlobal, W: Write>(
         &mut rom,
         form,
         &mut inputs,
-        every,
+        every.get(),
         &mut movie,
         line,
     );

@@ -11,21 +11,21 @@ mod files;
 mod named;
 mod progress;
 
-ghost use Rattle.std.specs.Prelude.{◌≡◌, Err, IfOk, IsSome};
-ghost use Rattle.command_line.specs.Ranges.{IsInRange};
+ghost use Rattle.std.specs.Prelude.{◌≡◌, Err, IsSome};
 ghost use Rattle.vcs_check.specs.Commands.{Answers, IsQuiet, StartsThreads, Writes};
 ghost use Rattle.vcs_engine.specs.declared.run_error.RunError.TheVariants.{NoThread};
 
 use command_line::{Command, LineFault, parse_line};
 use commands::{
-    Failure, convert, form_of, info, inputs, judge, make, plan_of, plan_of_standard_input, report,
-    verify, verify_with_pictures,
+    Failure, convert, form_of, info, inputs, judge, make, plan_of_standard_input, report, verify,
+    verify_with_pictures,
 };
 use ending::Ending;
 use faults::FileFault;
 use files::{STANDARD_INPUT, STANDARD_OUTPUT};
 use named::Named;
 use progress::Progress;
+use replay_plan::Plan;
 use std::alloc::Global;
 use std::env::{self, Args, Env};
 use std::io::{self, IsTerminal, Read, Write};
@@ -36,9 +36,7 @@ use std::thread::Threads;
 use vcs_engine::{CountedGate, Status};
 
 /// The command of the arguments.
-fn command_of(alloc: Global, arguments: Args) -> Result<Command, LineFault>
-    ensures { IfOk result IsInRange }
-{
+fn command_of(alloc: Global, arguments: Args) -> Result<Command, LineFault> {
     let arguments: Vec<String> = arguments.collect(alloc)?;
     parse_line(alloc, &arguments)
 }
@@ -58,7 +56,6 @@ fn execute<
     fault: &mut Option<FileFault<'a>>,
     gate: &G,
 ) -> Result<Status, Failure>
-    requires { IsInRange command.now }
     ensures ok { Writes (W.contents line.old) (W.contents line.new) (Answers command.now (I.remaining input.old) (I.remaining input.new)) result }
     ensures quiet { IsQuiet (W.contents line.old) (W.contents line.new) result }
     ensures no_thread { result ≡ Err (Failure.Run NoThread) → StartsThreads command.now }
@@ -68,23 +65,17 @@ fn execute<
         Command::Stdin => judge(rt, input, &plan_of_standard_input(), line, gate),
         Command::Verify {
             file,
-            workers,
-            every,
-            first,
-            count,
+            plan,
             pictures,
-        } => {
-            let plan = plan_of(*workers, *every, *first, *count);
-            match pictures {
-                Some(pictures) => {
-                    verify_with_pictures(rt, input, file, &plan, pictures, line, fault, gate)
-                }
-                None => verify(rt, input, file, &plan, line, fault, gate),
+        } => match pictures {
+            Some(pictures) => {
+                verify_with_pictures(rt, input, file, plan, pictures, line, fault, gate)
             }
-        }
+            None => verify(rt, input, file, plan, line, fault, gate),
+        },
         Command::Report { file, workers } => {
-            let without_pictures = plan_of(*workers, 1, 1, 0);
-            report(rt, input, file, &without_pictures, line, fault, gate)
+            let plan = Plan::without_pictures(*workers);
+            report(rt, input, file, &plan, line, fault, gate)
         }
         Command::Make {
             rom,
@@ -100,9 +91,7 @@ fn execute<
 }
 
 /// The command of the program's arguments.
-fn command_of_program<R: Env + AllocGlobal>(rt: &R) -> Result<Command, Ending>
-    ensures { IfOk result IsInRange }
-{
+fn command_of_program<R: Env + AllocGlobal>(rt: &R) -> Result<Command, Ending> {
     let arguments = env::args(rt)?;
     Ok(command_of(rt.alloc(), arguments)?)
 }

@@ -1,12 +1,10 @@
+pub mod Conversions
 pub mod Information
 pub mod Lines
 pub mod Listings
 pub mod Makings
-pub mod Conversions
-pub mod MakingViews
-pub mod OutputViews
 pub mod Outputs
-pub mod Reports
 pub mod Private
+pub mod Reports
 pub mod Status
 pub mod Streams

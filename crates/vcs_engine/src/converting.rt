@@ -3,7 +3,7 @@ ghost use Rattle.std.specs.Prelude.{◌≡◌, ◌≢◌, List, ℕ, IfOk, OnErr
 ghost use Rattle.std.specs.Io.KnownBytes.{Appends, Keeps};
 ghost use Rattle.movie_file.specs.Reading.{movie_at};
 ghost use Rattle.vcs_engine.specs.Conversions.{converted_of};
-ghost use Rattle.vcs_engine.specs.MakingViews.{made_by};
+ghost use Rattle.vcs_engine.specs.Private.MakingViews.{made_by};
 ghost use Rattle.vcs_engine.specs.Streams.{ReadsAll, WritesPart, IsTooLong};
 
 use crate::line::Line;

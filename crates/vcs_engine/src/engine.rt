@@ -7,10 +7,10 @@ ghost use Rattle.vcs_engine.specs.Streams.{ReadsAll, IsTooLong, WritesPart};
 
 use crate::counted_gate::CountedGate;
 use crate::output::Output;
-use crate::plan::Plan;
 use crate::run_error::RunError;
 use crate::status::Status;
 use crate::streams::read_all;
+use replay_plan::Plan;
 use std::alloc::Global;
 use std::io::{Read, Write};
 use std::sync::Wait;
@@ -45,7 +45,7 @@ pub fn run<T: Threads + Wait + Sync, R: Read, W: Write, P: Write, G: CountedGate
     ensures quiet_line { OnErr result (result ≢ Err RunError.WriteFault → Keeps (W.contents verdict.old) (W.contents verdict.new)) }
     ensures quiet_pictures { OnErr result (result ≢ Err RunError.WriteFault → Keeps (P.contents pictures.old) (P.contents pictures.new)) }
     ensures too_long { result ≡ Err RunError.TooLong → IsTooLong (R.remaining movie.old) }
-    ensures no_thread { result ≡ Err RunError.NoThread → 2 ≤ plan.now.workers }
+    ensures no_thread { result ≡ Err RunError.NoThread → 2 ≤ plan.now.workers.number }
 {
     let bytes = read_all(alloc, movie)?;
     let output = Output::of_bytes(rt, alloc, &bytes, plan, gate)?;

@@ -2,7 +2,7 @@
 ghost use Rattle.std.specs.Prelude.{◌≡◌, ◌≢◌, ◌⊎◌, List, ℕ, IfOk, OnErr};
 ghost use Rattle.std.specs.Io.KnownBytes.{Appends, Keeps};
 ghost use Rattle.vcs_engine.specs.Makings.{Made, Makes, MakesFrom, MakesOf};
-ghost use Rattle.vcs_engine.specs.MakingViews.{made_by};
+ghost use Rattle.vcs_engine.specs.Private.MakingViews.{made_by};
 ghost use Rattle.vcs_engine.specs.Streams.{ReadsAll, WritesPart, IsTooLong};
 
 use crate::line::Line;

@@ -3,19 +3,19 @@ ghost use Rattle.std.specs.Prelude.{◌≡◌, ◌≤◌, Err, IfOk, OnErr, stri
 ghost use Rattle.std.specs.Io.KnownBytes.{Appends};
 ghost use Rattle.picture_file.specs.PictureBytes.{pictures_bytes};
 ghost use Rattle.vcs_engine.specs.Lines.{line_bytes};
-ghost use Rattle.vcs_engine.specs.OutputViews.{pictures_in, told_by};
+ghost use Rattle.vcs_engine.specs.Private.OutputViews.{pictures_in, told_by};
 ghost use Rattle.vcs_engine.specs.Outputs.{Tells, told_of, told_refused};
 ghost use Rattle.vcs_engine.specs.Streams.{WritesPart};
 ghost use Rattle.replay_segments.specs.Verdicts.{IsVerdict};
 
 use crate::counted_gate::CountedGate;
 use crate::line::Line;
-use crate::plan::Plan;
 use crate::run_error::JudgeError;
 use crate::status::Status;
 use movie_file::{Movie, MovieError, read_movie};
 use picture_file::{WriteFault, write_bytes, write_pictures};
-use replay_segments::{Cuts, CutsError, Frames, Verdict};
+use replay_plan::Plan;
+use replay_segments::{Cuts, Frames, Verdict};
 use std::alloc::{AllocError, Global};
 use std::io::Write;
 use std::sync::Wait;
@@ -57,21 +57,18 @@ pub(crate) fn verdict_of<T: Threads + Wait + Sync, G: CountedGate + Sync>(
     gate: &G,
 ) -> Result<Verdict, JudgeError>
     ensures verdict { IfOk result (λ verdict. IsVerdict movie.now plan.now.keep verdict) }
-    ensures no_thread { result ≡ Err JudgeError.NoThread → 2 ≤ plan.now.workers }
+    ensures no_thread { result ≡ Err JudgeError.NoThread → 2 ≤ plan.now.workers.number }
 {
-    let cuts = match Cuts::every(alloc, movie, plan.every()) {
-        Ok(cuts) => cuts,
-        Err(CutsError::NoMemory) => return Err(JudgeError::NoMemory),
-        Err(CutsError::BadCuts) => unreachable!(),
+    let Ok(cuts) = Cuts::every(alloc, movie, plan.every) else {
+        return Err(JudgeError::NoMemory);
     };
     gate.begin(cuts.segments());
-    let answer = verify(rt, alloc, movie, &cuts, plan.workers(), plan.keep(), gate);
+    let answer = verify(rt, alloc, movie, &cuts, plan.workers, plan.keep, gate);
     gate.end();
     match answer {
         Ok(verdict) => Ok(verdict),
         Err(VerifyError::NoMemory) => Err(JudgeError::NoMemory),
         Err(VerifyError::NoThread) => Err(JudgeError::NoThread),
-        Err(VerifyError::BadWorkers) => unreachable!(),
     }
 }
 
@@ -128,7 +125,7 @@ impl Output {
         gate: &G,
     ) -> Result<Output, JudgeError>
         ensures told { IfOk result (λ output. Tells plan.now.keep bytes.now (told_by output)) }
-        ensures no_thread { result ≡ Err JudgeError.NoThread → 2 ≤ plan.now.workers }
+        ensures no_thread { result ≡ Err JudgeError.NoThread → 2 ≤ plan.now.workers.number }
     {
         let movie = match read_movie(alloc, bytes) {
             Ok(movie) => movie,

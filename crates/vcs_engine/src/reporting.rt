@@ -8,13 +8,13 @@ ghost use Rattle.vcs_engine.specs.Streams.{ReadsAll, IsTooLong};
 use crate::counted_gate::CountedGate;
 use crate::line::Line;
 use crate::output::{line_of, verdict_of};
-use crate::plan::Plan;
 use crate::run_error::{JudgeError, RunError};
 use crate::status::Status;
 use crate::streams::read_all;
 use movie_file::{MovieError, read_movie};
 use movie_report::report;
 use picture_file::write_bytes;
+use replay_plan::Plan;
 use std::alloc::Global;
 use std::io::{Read, Write};
 use std::sync::Wait;
@@ -29,7 +29,7 @@ fn reported<T: Threads + Wait + Sync, G: CountedGate + Sync>(
     gate: &G,
 ) -> Result<(Status, String), JudgeError>
     ensures told { IfOk result (λ told. Reports bytes.now told.0 (string_bytes told.1)) }
-    ensures no_thread { result ≡ Err JudgeError.NoThread → 2 ≤ plan.now.workers }
+    ensures no_thread { result ≡ Err JudgeError.NoThread → 2 ≤ plan.now.workers.number }
 {
     let movie = match read_movie(alloc, bytes) {
         Ok(movie) => movie,
@@ -69,7 +69,7 @@ pub fn run_report<T: Threads + Wait + Sync, R: Read, W: Write, G: CountedGate + 
     // What was written after the other errors.
     ensures quiet { OnErr result (result ≢ Err RunError.WriteFault → Keeps (W.contents text.old) (W.contents text.new)) }
     ensures too_long { result ≡ Err RunError.TooLong → IsTooLong (R.remaining movie.old) }
-    ensures no_thread { result ≡ Err RunError.NoThread → 2 ≤ plan.now.workers }
+    ensures no_thread { result ≡ Err RunError.NoThread → 2 ≤ plan.now.workers.number }
 {
     let bytes = read_all(alloc, movie)?;
     let (status, output) = reported(rt, alloc, &bytes, plan, gate)?;

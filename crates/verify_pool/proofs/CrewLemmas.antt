@@ -3,7 +3,7 @@ use Rattle.std.proofs.Common.{◌≡◌, ℕ, ◌+◌, ◌*◌, ◌<◌, ◌≤�
 use Rattle.std.proofs.lemmas.List.Elements.{All-pop}
 use Rattle.movie_file.specs.Movie.{MovieData}
 use Rattle.replay_segments.specs.Pieces.{Job, job_of}
-use Rattle.replay_segments.specs.declared.keep.Keep.{Keep}
+use Rattle.replay_plan.specs.declared.keep.Keep.{Keep}
 use Rattle.verify_pool.specs.declared.hand.Hand.{Hand}
 use Rattle.verify_pool.specs.declared.workers.WorkerPromise.{WorkerPromise}
 use Rattle.verify_pool.specs.Crew.{IsReady, AreReady, IsWorked, first_room, shares}
@@ -12,10 +12,10 @@ use Rattle.segment_desk.specs.Kept.{IsKnown}
 use Rattle.segment_desk.specs.Views.{DeskView, IsOf}
 use Rattle.segment_desk.specs.declared.part.Part.{Part}
 use Rattle.verify_pool.proofs.ExactLemmas.{exact_handed}
-use Rattle.segment_desk.proofs.Sums.{total-append}
+use Rattle.std.proofs.lemmas.List.Sums.{sum_by-append}
 
 pub shares-append : (hands : List Hand) (hand : Hand) → shares (hands ++ hand ∷ []) ≡ shares hands + hand.ticket.part.share
-shares-append hands hand = omega (arith, total-append (λ (h : Hand). h.ticket.part.share) hands (hand ∷ []))
+shares-append hands hand = omega (arith, sum_by-append (λ (h : Hand). h.ticket.part.share) hands (hand ∷ []))
 
 pub first_room-append : (hands : List Hand) (hand : Hand) → 0 < length hands → first_room (hands ++ hand ∷ []) ≡ first_room hands
 first_room-append [] hand some = absurd (omega arith)

@@ -1,6 +1,8 @@
 -- What the steps of a worker do to its pieces, beside its ticket's part.
 use Rattle.std.proofs.Common.{◌≡◌, ℕ, ◌+◌, ◌-◌, ◌<◌, ◌≤◌, if◌then◌else◌, nat_lt, List, [], ◌∷◌, ◌++◌, refl, sym, ap, ◌∙◌, subst, arith, lt_of_not-le, Option, Some, None}
+use Rattle.std.proofs.lemmas.List.{map-append}
 use Rattle.std.proofs.lemmas.List.Elements.{All-push, All-append}
+use Rattle.std.proofs.lemmas.Grind.{flat_map-append}
 use mathlib.Core.Logic.{dite}
 use native.Mathlib.Decide.{dec_le}
 use Rattle.replay_segments.specs.declared.outcome.Outcome.{Outcome}
@@ -8,19 +10,19 @@ use Rattle.replay_segments.specs.declared.outcome.Outcome.TheVariants.{Judged, N
 use Rattle.replay_segments.specs.declared.verdict.Verdict.TheVariants.{Genuine, FalseCheckpoint, Fault}
 use Rattle.replay_segments.specs.Pieces.{PieceData, Job, IsPassed, HasKept}
 use Rattle.segment_desk.specs.declared.part.Part.{Part}
-use Rattle.segment_desk.specs.Desk.{times, with_number, with_drawn, at_end, look_at, report_at, with_handed_in, to_draw, left_of}
-use Rattle.verify_pool.specs.Exact.{numbers, if_bad, bad_numbers, IsExact, IsReplayed, WantsMemoryForPictures}
+use Rattle.segment_desk.specs.Desk.{times, with_number, with_drawn, at_end, look_at, report_at, with_handed_in}
+use Rattle.segment_desk.specs.Private.Draws.{to_draw, left_of}
+use Rattle.verify_pool.specs.Exact.{numbers, if_bad, bad_numbers, IsExact, WantsMemoryForPictures}
+use Rattle.verify_pool.specs.Private.Replays.{IsReplayed}
 use Rattle.segment_desk.specs.Kept.{IsKnown}
 use Rattle.segment_desk.proofs.Parts.{tested}
 use Rattle.segment_desk.proofs.Sums.{times-append}
 
 times-numbers : (k : ℕ) (ps qs : List PieceData) → times k (numbers (ps ++ qs)) ≡ times k (numbers ps) + times k (numbers qs)
-times-numbers k [] qs = omega arith
-times-numbers k (p ∷ ps) qs = omega (arith, times-numbers k ps qs)
+times-numbers k ps qs = ap (times k) (map-append (λ (p : PieceData). p.number) ps qs) ∙ times-append k (numbers ps) (numbers qs)
 
 times-bad : (k : ℕ) (ps qs : List PieceData) → times k (bad_numbers (ps ++ qs)) ≡ times k (bad_numbers ps) + times k (bad_numbers qs)
-times-bad k [] qs = omega arith
-times-bad k (p ∷ ps) qs = omega (arith, times-bad k ps qs, times-append k (if_bad p.number p.outcome) (bad_numbers (ps ++ qs)), times-append k (if_bad p.number p.outcome) (bad_numbers ps))
+times-bad k ps qs = ap (times k) (flat_map-append (λ (p : PieceData). if_bad p.number p.outcome) ps qs) ∙ times-append k (bad_numbers ps) (bad_numbers qs)
 
 -- A number that is not in the list is put behind it.
 added : (k : ℕ) (xs : List ℕ) → times k xs ≡ 0 → with_number k xs ≡ xs ++ k ∷ []

@@ -1,5 +1,5 @@
 -- The pieces of a hand that stands for all tickets and has ended miss no number up to the first bad one.
-use Rattle.std.proofs.Common.{◌≡◌, ℕ, zero, suc, ◌<◌, ◌≤◌, List, [], ◌∷◌, Some, slice_get, refl, ap, sym, ◌∙◌, arith}
+use Rattle.std.proofs.Common.{◌≡◌, ℕ, zero, suc, ◌+◌, ◌<◌, ◌≤◌, List, [], ◌∷◌, Some, slice_get, refl, ap, sym, ◌∙◌, arith}
 use Rattle.replay_segments.specs.declared.outcome.Outcome.{Outcome}
 use Rattle.replay_segments.specs.declared.outcome.Outcome.TheVariants.{Judged, NoMemory}
 use Rattle.replay_segments.specs.declared.verdict.Verdict.TheVariants.{Genuine, FalseCheckpoint, Fault}
@@ -12,9 +12,13 @@ use Rattle.verify_pool.specs.Exact.{numbers, if_bad, bad_numbers}
 use Rattle.segment_desk.specs.Views.{DeskView}
 use Rattle.segment_desk.proofs.Sums.{times-append, times-same, times-other}
 
+-- The number of a first piece, and those of the others.
+times-numbers-cons : (k : ℕ) (p : PieceData) (ps : List PieceData) → times k (numbers (p ∷ ps)) ≡ times k (p.number ∷ []) + times k (numbers ps)
+times-numbers-cons k p ps = times-append k (p.number ∷ []) (numbers ps)
+
 missing-none : (k : ℕ) (ps : List PieceData) → IsMissing ps k → times k (numbers ps) ≡ 0
 missing-none k [] missing = refl
-missing-none k (p ∷ ps) missing = omega (arith, times-other k p.number (missing 0 p refl), missing-none k ps (λ i q at. missing (suc i) q at))
+missing-none k (p ∷ ps) missing = omega (arith, times-numbers-cons k p ps, times-other k p.number (missing 0 p refl), missing-none k ps (λ i q at. missing (suc i) q at))
 
 bad_one : (k number : ℕ) (o : Outcome) → times k (if_bad number o) ≤ times k (number ∷ [])
 bad_one k number (Judged (Genuine frames)) = omega arith
@@ -30,7 +34,7 @@ passed_one k number NoMemory good = absurd good
 
 bad-le : (k : ℕ) (ps : List PieceData) → times k (bad_numbers ps) ≤ times k (numbers ps)
 bad-le k [] = omega arith
-bad-le k (p ∷ ps) = omega (arith, bad-le k ps, bad_one k p.number p.outcome, times-append k (if_bad p.number p.outcome) (bad_numbers ps))
+bad-le k (p ∷ ps) = omega (arith, bad-le k ps, bad_one k p.number p.outcome, times-numbers-cons k p ps, times-append k (if_bad p.number p.outcome) (bad_numbers ps))
 
 -- A number with a piece that passed has fewer bad pieces than pieces.
 passed-less : (k : ℕ) (ps : List PieceData) (i : ℕ) (p : PieceData) → slice_get ps i ≡ Some p → p.number ≡ k → IsPassed p.outcome → times k (bad_numbers ps) < times k (numbers ps)
@@ -38,9 +42,9 @@ passed-less k [] i p at is good = absurd cc
 passed-less k (q ∷ ps) zero p at is good = let same : q ≡ p = cc in
     let here : times k (q.number ∷ []) ≡ 1 = ap (λ (n : ℕ). times k (n ∷ [])) (ap (λ (x : PieceData). x.number) same ∙ is) ∙ times-same k k refl in
     let none : times k (if_bad q.number q.outcome) ≡ 0 = ap (λ (x : PieceData). times k (if_bad x.number x.outcome)) same ∙ passed_one k p.number p.outcome good in
-    omega (arith, bad-le k ps, here, none, times-append k (if_bad q.number q.outcome) (bad_numbers ps))
+    omega (arith, bad-le k ps, here, none, times-numbers-cons k q ps, times-append k (if_bad q.number q.outcome) (bad_numbers ps))
 passed-less k (q ∷ ps) (suc i) p at is good =
-    omega (arith, passed-less k ps i p at is good, bad_one k q.number q.outcome, times-append k (if_bad q.number q.outcome) (bad_numbers ps))
+    omega (arith, passed-less k ps i p at is good, bad_one k q.number q.outcome, times-numbers-cons k q ps, times-append k (if_bad q.number q.outcome) (bad_numbers ps))
 
 -- No piece is missing whose segment would have to be known.
 pub none_missing : (desk : DeskView) (job : Job) (hand : Hand) (k : ℕ) → IsWorked desk job desk.workers hand → IsFirstMissing hand.pieces.items desk.segments k → ⊥

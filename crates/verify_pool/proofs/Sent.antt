@@ -9,7 +9,7 @@ use Rattle.std.proofs.Crossing.{crosses}
 use Rattle.replay_segments.specs.contracts.piece.Piece as Piece
 use Rattle.replay_segments.specs.contracts.piece.Piece.TheInside as inside
 use Rattle.replay_segments.proofs.outcome.Outcome.TheSendSync as outcome
-use Rattle.replay_segments.proofs.keep.Keep.TheSendSync as keep
+use Rattle.replay_plan.proofs.keep.Keep.TheSendSync as keep
 use Rattle.segment_desk.proofs.ticket.Ticket.TheSendSync as ticket
 use Rattle.verify_pool.specs.contracts.hand.Hand as Hand
 

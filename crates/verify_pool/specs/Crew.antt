@@ -1,8 +1,7 @@
 -- What a crew is given, and what it gives back. This project's own.
-use Rattle.std.specs.Prelude.{ℕ, ◌*◌, ◌<◌, ◌≤◌, ◌≡◌, true, List, [], ◌∷◌, All, length, vec_capacity}
+use Rattle.std.specs.Prelude.{ℕ, ◌*◌, ◌<◌, ◌≤◌, ◌≡◌, true, List, [], ◌∷◌, All, length, sum_by, vec_capacity}
 use Rattle.replay_segments.specs.Pieces.{Job}
 use Rattle.verify_pool.specs.declared.hand.Hand.{Hand}
-use Rattle.segment_desk.specs.Desk.{total}
 use Rattle.verify_pool.specs.Exact.{IsExact}
 use Rattle.segment_desk.specs.Kept.{IsKnown}
 use Rattle.segment_desk.specs.Views.{DeskView, IsOf}
@@ -21,7 +20,7 @@ first_room (hand ∷ hands) = vec_capacity hand.pieces
 
 -- The shares of all hands together.
 abbrev pub shares : List Hand → ℕ
-shares hands = total (λ (hand : Hand). hand.ticket.part.share) hands
+shares hands = sum_by (λ (hand : Hand). hand.ticket.part.share) hands
 
 -- Hands that have drawn nothing, at least one, each with room for its own pieces and the first with room for those of all.
 pub record AreReady (desk : DeskView) (hands : List Hand) : Type 0 where

@@ -1,17 +1,16 @@
 -- The pieces of a worker, beside what its ticket drew, passed over and reported. This project's own.
-use Rattle.std.specs.Prelude.{ℕ, ◌+◌, ◌≡◌, List, [], ◌∷◌, ◌++◌, All}
+use Rattle.std.specs.Prelude.{ℕ, ◌+◌, ◌≡◌, List, [], ◌∷◌, map, flat_map, All}
 use Rattle.replay_segments.specs.declared.outcome.Outcome.{Outcome}
 use Rattle.replay_segments.specs.declared.outcome.Outcome.TheVariants.{Judged, NoMemory}
 use Rattle.replay_segments.specs.declared.verdict.Verdict.TheVariants.{Genuine, FalseCheckpoint, Fault}
 use Rattle.replay_segments.specs.Gathering.{NamesAll}
 use Rattle.replay_segments.specs.Pieces.{PieceData, Job, HasKept}
 use Rattle.segment_desk.specs.declared.part.Part.{Part}
-use Rattle.segment_desk.specs.Desk.{times, report_at}
+use Rattle.segment_desk.specs.Desk.{times}
 
 -- The numbers of pieces.
 abbrev pub numbers : List PieceData → List ℕ
-numbers [] = []
-numbers (p ∷ ps) = p.number ∷ numbers ps
+numbers pieces = map (λ (p : PieceData). p.number) pieces
 
 -- A number is bad unless its segment passed: refused memory is bad too.
 abbrev pub if_bad : ℕ → Outcome → List ℕ
@@ -22,8 +21,7 @@ if_bad number NoMemory = number ∷ []
 
 -- The numbers of the pieces that did not pass.
 abbrev pub bad_numbers : List PieceData → List ℕ
-bad_numbers [] = []
-bad_numbers (p ∷ ps) = if_bad p.number p.outcome ++ bad_numbers ps
+bad_numbers pieces = flat_map (λ (p : PieceData). if_bad p.number p.outcome) pieces
 
 -- Memory is refused to a piece only where its segment has a kept frame.
 abbrev pub WantsMemoryForPictures : PieceData → Type 0
@@ -37,10 +35,3 @@ pub record IsExact (job : Job) (v : Part) (pieces : List PieceData) : Type 0 whe
   -- Such a number is reported exactly where its piece did not pass.
   pub reports_of : (k : ℕ) → times k (bad_numbers pieces) ≡ times k v.reported
   pub memory : All WantsMemoryForPictures pieces
-
--- What a ticket knows after a replay of the number that it drew last: that is reported unless it passed.
-abbrev pub IsReplayed : Outcome → ℕ → Part → Part → Type 0
-IsReplayed (Judged (Genuine frames)) number old new = new ≡ old
-IsReplayed (Judged (FalseCheckpoint checkpoint frame)) number old new = (x : ℕ) × (new ≡ report_at x number old)
-IsReplayed (Judged (Fault frame kind)) number old new = (x : ℕ) × (new ≡ report_at x number old)
-IsReplayed NoMemory number old new = (x : ℕ) × (new ≡ report_at x number old)

@@ -10,5 +10,5 @@ mod workers;
 pub use gate::{Gate, NoGate};
 pub use hand::Hand;
 pub use segment_desk::{Desk, NoMemory, Ticket};
-pub use verification::{MOST_WORKERS, VerifyError, verify};
+pub use verification::{VerifyError, verify};
 pub use workers::{NoThread, crew};

@@ -1,5 +1,5 @@
 //! The verdict of a movie, by workers.
-ghost use Rattle.std.specs.Prelude.{◌≡◌, ℕ, ◌+◌, ◌<◌, ◌≤◌, ◌↔◌, ◌⊎◌, length, replicate, Err, IfOk};
+ghost use Rattle.std.specs.Prelude.{◌≡◌, ℕ, ◌+◌, ◌<◌, ◌≤◌, length, replicate, Err, IfOk};
 ghost use Rattle.replay_segments.specs.Cuts.{Fits};
 ghost use Rattle.replay_segments.specs.Verdicts.{IsVerdict};
 ghost use Rattle.verify_pool.specs.Crew.{AreReady, shares};
@@ -9,20 +9,16 @@ use crate::gate::Gate;
 use crate::hand::Hand;
 use crate::workers::crew;
 use movie_file::Movie;
-use replay_segments::{Cuts, GatherError, Keep, Verdict, gather};
+use replay_plan::{Keep, Workers};
+use replay_segments::{Cuts, GatherError, Verdict, gather};
 use segment_desk::{Desk, Ticket};
 use std::alloc::{AllocError, Global};
 use std::sync::Wait;
 use std::thread::Threads;
 
-/// The most workers.
-pub const MOST_WORKERS: u8 = 64;
-
 /// Why a movie gets no verdict.
 #[derive(Clone, Copy, Debug, PartialEq, Eq)]
 pub enum VerifyError {
-    /// No worker, or more than 64.
-    BadWorkers,
     /// The start of a thread was refused.
     NoThread,
     /// A growth was refused: for the desk, for the lists of pieces, or for pictures.
@@ -55,33 +51,28 @@ fn hands_of(
     Ok(hands)
 }
 
-/// The verdict of a movie, which is that of one unbroken run from its start state, by 1 to 64
-/// workers, who replay the segments between the cuts: one on the calling thread, each other one in a
-/// thread of its own. The cuts fit the movie. Where there is one worker, or one segment, no thread is
-/// started.
+/// The verdict of a movie, which is that of one unbroken run from its start state, by workers, who
+/// replay the segments between the cuts: one on the calling thread, each other one in a thread of its
+/// own. The cuts fit the movie. Where there is one worker, or one segment, no thread is started.
 ///
-/// It joins its threads, so it returns where each of them does. It is refused in this order:
-/// BadWorkers; NoMemory for the desk or the lists of pieces; NoThread; and NoMemory, where that was
-/// the outcome of the first segment that did not pass, or for the list of all pictures.
+/// It joins its threads, so it returns where each of them does. It is refused in this order: NoMemory
+/// for the desk or the lists of pieces; NoThread; and NoMemory, where that was the outcome of the first
+/// segment that did not pass, or for the list of all pictures.
 pub fn verify<G: Gate + Sync, R: Threads + Wait + Sync>(
     rt: &R,
     alloc: Global,
     movie: &Movie,
     cuts: &Cuts,
-    workers: u8,
+    workers: Workers,
     keep: Keep,
     gate: &G,
 ) -> Result<Verdict, VerifyError>
     requires fit { Fits cuts.now movie.now }
     ensures verdict { IfOk result (λ verdict. IsVerdict movie.now keep verdict) }
-    ensures workers { (result ≡ Err VerifyError.BadWorkers) ↔ ((workers ≡ 0) ⊎ (64 < workers)) }
-    ensures no_thread { result ≡ Err VerifyError.NoThread → (2 ≤ workers) × (2 ≤ length cuts.now + 1) }
+    ensures no_thread { result ≡ Err VerifyError.NoThread → (2 ≤ workers.number) × (2 ≤ length cuts.now + 1) }
 {
-    if workers == 0 || workers > MOST_WORKERS {
-        return Err(VerifyError::BadWorkers);
-    }
     let segments = cuts.segments();
-    let workers = u32::from(workers).min(segments) as u8;
+    let workers = u32::from(workers.get()).min(segments) as u8;
     let Ok((desk, tickets)) = Desk::new(alloc, segments, workers) else {
         return Err(VerifyError::NoMemory);
     };

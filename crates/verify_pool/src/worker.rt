@@ -4,15 +4,18 @@ ghost use Rattle.replay_segments.specs.Cuts.{Fits};
 ghost use Rattle.replay_segments.specs.Pieces.{job_of, HasKept, IsPassed};
 ghost use Rattle.replay_segments.specs.declared.outcome.Outcome.{Outcome};
 ghost use Rattle.verify_pool.specs.Crew.{IsReady, IsWorked};
-ghost use Rattle.segment_desk.specs.Desk.{times, left_of};
-ghost use Rattle.verify_pool.specs.Exact.{IsExact, IsReplayed};
+ghost use Rattle.segment_desk.specs.Desk.{times};
+ghost use Rattle.segment_desk.specs.Private.Draws.{left_of};
+ghost use Rattle.verify_pool.specs.Exact.{IsExact};
+ghost use Rattle.verify_pool.specs.Private.Replays.{IsReplayed};
 ghost use Rattle.segment_desk.specs.Kept.{IsKnown};
 ghost use Rattle.segment_desk.specs.Views.{IsOf};
 
 use crate::gate::Gate;
 use crate::hand::Hand;
 use movie_file::Movie;
-use replay_segments::{Cuts, Keep, Piece, replay};
+use replay_plan::Keep;
+use replay_segments::{Cuts, Piece, replay};
 use segment_desk::{Desk, Ticket};
 use std::alloc::Global;
 

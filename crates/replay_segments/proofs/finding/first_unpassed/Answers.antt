@@ -1,5 +1,5 @@
 use Rattle.std.proofs.Common.{ℕ, below_more}
-use Rattle.replay_segments.specs.Finding.{IsPassedAt}
+use Rattle.replay_segments.specs.Private.Finding.{IsPassedAt}
 use Rattle.replay_segments.proofs.FindLemmas.{found}
 use Rattle.replay_segments.proofs.finding.first_unpassed.Goals as goal
 

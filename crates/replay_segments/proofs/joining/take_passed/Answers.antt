@@ -1,6 +1,6 @@
 use Rattle.std.proofs.Common.{refl, rules, subst, sym, List}
 use Rattle.std.proofs.lemmas.Option.{slice_get_read, slice_get_within}
-use Rattle.replay_segments.specs.Finding.{IsPassedAt}
+use Rattle.replay_segments.specs.Private.Finding.{IsPassedAt}
 use Rattle.replay_segments.specs.Gathering.{HasPassed}
 use Rattle.replay_segments.specs.Pieces.{PieceData, IsPassed}
 use Rattle.replay_segments.proofs.Places.{same_at}

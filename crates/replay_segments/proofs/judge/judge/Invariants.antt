@@ -1,6 +1,6 @@
 use Rattle.std.proofs.Common.{◌≡◌, ◌+◌, ◌≤◌, vec_len, vec_capacity}
-use Rattle.replay_segments.specs.Keeping.{kept_count}
-use Rattle.replay_segments.specs.Steps.{IsNext, SoFar}
+use Rattle.replay_plan.specs.Keeping.{kept_count}
+use Rattle.replay_segments.specs.Private.Steps.{IsNext, SoFar}
 use Rattle.replay_segments.proofs.judge.judge.Given as goal
 
 abbrev pub invariant-loop-k : goal.invariant-loop-k

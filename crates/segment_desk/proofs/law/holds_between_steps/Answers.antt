@@ -1,4 +1,4 @@
-use Rattle.segment_desk.specs.Plays.{desk_of}
+use Rattle.segment_desk.specs.Tables.{desk_of}
 use Rattle.segment_desk.proofs.Reach.{kept}
 use Rattle.segment_desk.proofs.law.holds_between_steps.Goals as goal
 

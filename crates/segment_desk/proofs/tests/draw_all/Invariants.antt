@@ -1,4 +1,4 @@
-use Rattle.segment_desk.specs.Desk.{left_of}
+use Rattle.segment_desk.specs.Private.Draws.{left_of}
 use Rattle.segment_desk.specs.Views.{IsOf}
 use Rattle.segment_desk.proofs.tests.draw_all.Given as goal
 

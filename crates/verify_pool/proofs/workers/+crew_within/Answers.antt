@@ -7,7 +7,7 @@ use denote.Param.Send.{arg_send, param_send, shr_send}
 use Rattle.std.proofs.alloc.Global.TheSendSync as heap
 use Rattle.movie_file.proofs.movie.Movie.TheSendSync as movie
 use Rattle.replay_segments.proofs.cuts.Cuts.TheSendSync as cuts
-use Rattle.replay_segments.proofs.keep.Keep.TheSendSync as keep
+use Rattle.replay_plan.proofs.keep.Keep.TheSendSync as keep
 use Rattle.segment_desk.proofs.desk.Desk.TheSendSync as desk
 use Rattle.verify_pool.proofs.Sent.{hand_send, seven_send}
 use Rattle.verify_pool.proofs.workers.+crew_within.Lts-crew_within as lts

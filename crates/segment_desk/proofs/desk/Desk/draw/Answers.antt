@@ -1,4 +1,6 @@
-use Rattle.std.proofs.Common.{ap, sym, ◌∙◌, arith}
+use Rattle.std.proofs.Common.{ap, sym, subst, ◌∙◌, ◌<◌, arith}
+use Rattle.segment_desk.specs.Desk.{times}
+use Rattle.segment_desk.specs.Views.{TicketView}
 use Rattle.segment_desk.proofs.Parts.{end_again}
 use Rattle.segment_desk.proofs.Moves.{allows_draw, drawn_fresh}
 use Rattle.segment_desk.proofs.desk.Desk.draw.Goals as goal
@@ -19,3 +21,6 @@ returns-then-found-self-clause-after_last c = λ j e. c.fetch_add-found.ensures.
 
 pub returns-then-found-self-clause-not_passed : goal.returns-then-found-self-clause-not_passed
 returns-then-found-self-clause-not_passed c = let told = c.fetch_add-found.ensures.2 in drawn_fresh _ _ _ told.0.1 c.ticket.invariant.3 told.1
+
+pub returns-then-found-self-clause-rising : goal.returns-then-found-self-clause-rising
+returns-then-found-self-clause-rising c = λ j some. c.fetch_add-found.ensures.2.1 j (subst (λ (t : TicketView). 0 < times j t.part.drawn) (sym c.ticket.view_is) some)

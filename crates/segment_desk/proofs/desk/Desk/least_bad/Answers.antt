@@ -1,6 +1,7 @@
 use Rattle.std.proofs.Common.{ap, sym, subst, ◌∙◌, ◌≡◌, ◌<◌, arith}
 use Rattle.segment_desk.proofs.Moves.{allows_look, look_keeps, look_passes}
 use Rattle.segment_desk.specs.Desk.{times}
+use Rattle.segment_desk.specs.Views.{TicketView, IsBelowSeen}
 use Rattle.segment_desk.specs.declared.part.Part.{Part}
 use Rattle.segment_desk.proofs.desk.Desk.least_bad.Goals as goal
 
@@ -23,3 +24,9 @@ returns-clause-still c = λ k last le. let is = c.load.ensures.2.0.1 in let same
 pub returns-clause-passes : goal.returns-clause-passes
 returns-clause-passes c = λ k last lt. let is = c.load.ensures.2.0.1 in
     subst (λ (p : Part). 0 < times k p.passed_over) (sym is) (look_passes c.load.result k c.ticket.inside.seat.me.0 (ap (λ t. t.part.last) c.ticket.view_is ∙ last) lt)
+
+pub returns-clause-least : goal.returns-clause-least
+returns-clause-least c = let told = c.load.ensures.2 in (
+  omega (arith, told.1, ap (λ t. t.part.segments) c.ticket.view_is ∙ c.requires.1),
+  subst (λ (t : TicketView). IsBelowSeen c.load.result t.part) c.ticket.view_is told.2,
+)

@@ -1,0 +1,51 @@
+-- What replaying a frame answers, and how far a replay has come. This project's own.
+use Rattle.std.specs.Prelude.{ℕ, ◌+◌, ◌<◌, ◌≤◌, ◌≡◌, ◌≢◌, List, length, Option, Some, None, Result, Ok, Err, Bool, true, slice_get, [], ◌∷◌, ◌++◌, if◌then◌else◌}
+use Rattle.vcs_machine.specs.Outcomes.{Played, Failed}
+use Rattle.vcs_machine.specs.Pictures.{Rows}
+use Rattle.vcs_machine.specs.declared.fault.FrameError.{FrameError}
+use Rattle.vcs_machine.specs.declared.fault.FrameError.TheVariants.{Fault, NoMemory}
+use Rattle.vcs_machine.specs.declared.fields.StateFields.{StateFields}
+use Rattle.movie_file.specs.Movie.{MovieData}
+use Rattle.movie_file.specs.Judgement.{AllSound}
+use Rattle.movie_file.specs.Run.{frame_after, run}
+use Rattle.movie_file.specs.declared.checkpoint.Checkpoint.{Checkpoint}
+use Rattle.replay_plan.specs.Keeping.{is_kept}
+use Rattle.replay_segments.specs.KeptPictures.{pictures}
+use Rattle.replay_plan.specs.declared.keep.Keep.{Keep}
+
+-- What replaying frame k + 1 answers, which leaves a state.
+abbrev pub IsStep : MovieData → ℕ → StateFields → Bool → StateFields → Result (Option Rows) FrameError → Type 0
+IsStep m k old keep new (Ok picture) =
+    (rows : Rows) × (frame_after m k old ≡ Some (Played new rows)) × (picture ≡ (if keep then Some rows else None))
+IsStep m k old keep new (Err (Fault kind)) = (left : StateFields) × (frame_after m k old ≡ Some (Failed kind left))
+IsStep m k old keep new (Err NoMemory) = keep ≡ true
+
+-- The same, where a kept picture goes to the end of a list.
+abbrev pub IsAdvance : MovieData → Keep → ℕ → StateFields → List Rows → StateFields → List Rows → Result (Unit {0}) FrameError → Type 0
+IsAdvance m keep before old olds new news (Ok _) =
+    (rows : Rows) × (frame_after m before old ≡ Some (Played new rows))
+    × (news ≡ olds ++ (if is_kept keep (before + 1) then rows ∷ [] else []))
+IsAdvance m keep before old olds new news (Err (Fault kind)) =
+    (left : StateFields) × (frame_after m before old ≡ Some (Failed kind left))
+IsAdvance m keep before old olds new news (Err NoMemory) = is_kept keep (before + 1) ≡ true
+
+-- The checkpoints before index `next` stand before a frame, and no other does.
+pub record IsNext (m : MovieData) (next frame : ℕ) : Type 0 where
+  pub within : next ≤ length m.checkpoints
+  pub before : (j : ℕ) (c : Checkpoint) → slice_get m.checkpoints j ≡ Some c → j < next → c.frame < frame
+  pub after : (j : ℕ) (c : Checkpoint) → slice_get m.checkpoints j ≡ Some c → next ≤ j → frame ≤ c.frame
+
+-- Each checkpoint after a frame claims this state.
+abbrev pub ClaimsHold : MovieData → ℕ → StateFields → Type 0
+ClaimsHold m frame state = (j : ℕ) (c : Checkpoint) → slice_get m.checkpoints j ≡ Some c → c.frame ≡ frame → c.state ≡ state
+
+-- What a comparison answers: the first checkpoint after the frame, or that the one there is false.
+abbrev pub IsClaim : MovieData → ℕ → ℕ → StateFields → Option ℕ → Type 0
+IsClaim m next frame state (Some after) = IsNext m after (frame + 1) × ClaimsHold m frame state
+IsClaim m next frame state None = (c : Checkpoint) × (slice_get m.checkpoints next ≡ Some c) × (c.frame ≡ frame) × (c.state ≢ state)
+
+-- k frames from a state were sound, and left this state and these pictures.
+pub record SoFar (m : MovieData) (keep : Keep) (start : StateFields) (from k : ℕ) (state : StateFields) (frames : List Rows) : Type 0 where
+  pub state_is : run m start from k ≡ Some state
+  pub sound : AllSound m start from k
+  pub frames_are : frames ≡ pictures m keep start from k
