@@ -2,12 +2,12 @@
 
 use crate::failure::{Failure, right};
 use crate::movies::{CONVERTED_LENGTH, LENGTH, converted, two_frames, two_frames_to_the_end};
-use replay_segments::Keep;
+use replay_plan::{Keep, Plan, Workers};
 use std::alloc::Global;
 use std::sync::Wait;
 use std::thread::Threads;
 use vcs_engine::{
-    InputForm, NoGate, Plan, RunError, Status, run, run_convert, run_info, run_inputs, run_make,
+    InputForm, NoGate, RunError, Status, run, run_convert, run_info, run_inputs, run_make,
     run_report,
 };
 
@@ -32,7 +32,11 @@ pub(crate) fn is_judged<R: Threads + Wait + Sync>(
     alloc: Global,
     workers: u8,
 ) -> Result<(), Failure> {
-    let plan = Plan::new(workers, 1, Keep::new(1, 2)?)?;
+    let workers = Workers::new(workers).ok_or(Failure::Wrong)?;
+    let plan = Plan {
+        keep: Keep::new(1, 2)?,
+        ..Plan::without_pictures(workers)
+    };
     let mut line = [0u8; ROOM];
     let mut pictures = [0u8; PICTURES];
     let mut line_left = line.as_mut_slice();
@@ -130,7 +134,8 @@ pub(crate) fn is_reported<R: Threads + Wait + Sync>(
     alloc: Global,
     workers: u8,
 ) -> Result<(), Failure> {
-    let plan = Plan::new(workers, 1, Keep::new(1, 0)?)?;
+    let workers = Workers::new(workers).ok_or(Failure::Wrong)?;
+    let plan = Plan::without_pictures(workers);
     let mut text = [0u8; 512];
     let mut left = text.as_mut_slice();
     let answer = run_report(

@@ -1,10 +1,11 @@
 //! Why a call is not right.
 
-use movie_file::{MakeError, MovieError};
-use replay_segments::{BadCuts, BadKeep, CutsError, GatherError};
+use movie_file::{MakeError, MovieError, NoMemory};
+use replay_plan::BadKeep;
+use replay_segments::{BadCuts, GatherError};
 use std::alloc::{AllocError, AllocFailed};
 use thiserror::Error;
-use vcs_engine::{BadPlan, RunError};
+use vcs_engine::RunError;
 use verify_pool::{NoThread, VerifyError};
 
 /// Why a call is not right, or not with a growth of its own refused.
@@ -59,12 +60,9 @@ impl From<MakeError> for Failure {
     }
 }
 
-impl From<CutsError> for Failure {
-    fn from(error: CutsError) -> Failure {
-        match error {
-            CutsError::NoMemory => OUT_OF_MEMORY,
-            CutsError::BadCuts => Failure::Wrong,
-        }
+impl From<NoMemory> for Failure {
+    fn from(_refused: NoMemory) -> Failure {
+        OUT_OF_MEMORY
     }
 }
 
@@ -82,7 +80,6 @@ impl From<VerifyError> for Failure {
         match error {
             VerifyError::NoMemory => OUT_OF_MEMORY,
             VerifyError::NoThread => Failure::Run(RunError::NoThread),
-            VerifyError::BadWorkers => Failure::Wrong,
         }
     }
 }
@@ -101,12 +98,6 @@ impl From<BadKeep> for Failure {
 
 impl From<BadCuts> for Failure {
     fn from(_bad: BadCuts) -> Failure {
-        Failure::Wrong
-    }
-}
-
-impl From<BadPlan> for Failure {
-    fn from(_bad: BadPlan) -> Failure {
         Failure::Wrong
     }
 }

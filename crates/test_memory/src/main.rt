@@ -1,4 +1,5 @@
 //! A program that tries each call which takes memory, reads or writes: with memory enough, or with one growth of memory refused.
+//! It is a program, since the growth that is refused is chosen for a whole process.
 //!
 //! Each line of standard input names a call, and is answered by a line: the call is right, or failed with out of memory or another
 //! error, or is wrong, which means any other value, or something written where nothing was to be.

@@ -2,8 +2,10 @@
 
 use crate::failure::{Failure, OUT_OF_MEMORY, right};
 use crate::movies::movie;
-use replay_segments::{Cuts, Keep, Verdict, gather, replay, verify_one};
+use replay_plan::Keep;
+use replay_segments::{Cuts, Verdict, gather, replay, verify_one};
 use std::alloc::Global;
+use std::num::NonZeroU16;
 
 /// Right for a genuine verdict with so many pictures.
 pub(crate) fn is_genuine(verdict: &Verdict, pictures: usize) -> Result<(), Failure> {
@@ -32,7 +34,7 @@ pub(crate) fn is_judged_without_pictures(alloc: Global) -> Result<(), Failure> {
 
 pub(crate) fn is_cut(alloc: Global) -> Result<(), Failure> {
     let movie = movie(alloc)?;
-    let cuts = Cuts::every(alloc, &movie, 1)?;
+    let cuts = Cuts::every(alloc, &movie, NonZeroU16::MIN)?;
     right(cuts.segments() == 2)
 }
 
@@ -53,7 +55,7 @@ pub(crate) fn is_replayed(alloc: Global) -> Result<(), Failure> {
 /// Two segments of a frame each, with the pictures of so many frames.
 pub(crate) fn is_gathered(alloc: Global, pictures: u32) -> Result<(), Failure> {
     let movie = movie(alloc)?;
-    let cuts = Cuts::every(alloc, &movie, 1)?;
+    let cuts = Cuts::every(alloc, &movie, NonZeroU16::MIN)?;
     let keep = Keep::new(1, pictures)?;
     let mut pieces = Vec::with_capacity(alloc, 2)?;
     for number in 0..cuts.segments() {

@@ -5,8 +5,10 @@ use crate::growths::TakesRefused;
 use crate::movies::{made, movie};
 use crate::segments::is_genuine;
 use movie_file::Movie;
-use replay_segments::{Cuts, Keep, gather};
+use replay_plan::{Keep, Workers};
+use replay_segments::{Cuts, gather};
 use std::alloc::Global;
+use std::num::NonZeroU16;
 use std::sync::Wait;
 use std::thread::Threads;
 use verify_pool::{Desk, Gate, Hand, NoGate, NoMemory, crew, verify};
@@ -26,7 +28,7 @@ pub(crate) fn has_desk(alloc: Global) -> Result<(), Failure> {
 /// One hand gets the pieces of both segments, in order, and no thread is started.
 pub(crate) fn is_worked_on<R: Threads + Wait + Sync>(rt: &R, alloc: Global) -> Result<(), Failure> {
     let movie = movie(alloc)?;
-    let cuts = Cuts::every(alloc, &movie, 1)?;
+    let cuts = Cuts::every(alloc, &movie, NonZeroU16::MIN)?;
     let (desk, mut tickets) = match Desk::new(alloc, cuts.segments(), 1) {
         Ok(made) => made,
         Err(NoMemory) => return Err(OUT_OF_MEMORY),
@@ -63,7 +65,8 @@ fn judged_with<G: Gate + Sync, R: Threads + Wait + Sync>(
     workers: u8,
     gate: &G,
 ) -> Result<(), Failure> {
-    let cuts = Cuts::every(alloc, movie, 1)?;
+    let workers = Workers::new(workers).ok_or(Failure::Wrong)?;
+    let cuts = Cuts::every(alloc, movie, NonZeroU16::MIN)?;
     let keep = Keep::new(1, 600)?;
     let verdict = verify(rt, alloc, movie, &cuts, workers, keep, gate)?;
     is_genuine(&verdict, movie.frames() as usize)

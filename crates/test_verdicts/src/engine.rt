@@ -1,0 +1,285 @@
+//! The engine over memory, and over devices that fail.
+
+use crate::devices::{FailingReader, FailingWriter, Zeros};
+use crate::movies::{
+    ENDLESS_FRAMES, SEVEN_FRAMES, first_of_two_false, movie, power_on, timer_part_left, two_frames,
+};
+use replay_plan::{Keep, Plan, Workers};
+use std::alloc::Global;
+use std::io;
+use std::sync::Wait;
+use std::test::Fail;
+use std::thread::Threads;
+use vcs_engine::{NoGate, RunError, Status, rgb, run};
+
+/// Two workers, and a cut at each checkpoint.
+fn plan() -> Plan {
+    let without_pictures = Plan::without_pictures(Workers::new(2).unwrap());
+    Plan {
+        keep: Keep::new(1, 600).unwrap(),
+        ..without_pictures
+    }
+}
+
+/// What a run over memory answers, and its line.
+fn told<T: Threads + Wait + Sync + AllocGlobal>(
+    rt: &T,
+    mut bytes: &[u8],
+) -> (Result<Status, RunError>, Vec<u8>) {
+    let mut line = Vec::new(rt.alloc());
+    let status = run(
+        rt,
+        rt.alloc(),
+        &mut bytes,
+        &plan(),
+        &mut line,
+        &mut io::sink(),
+        &NoGate,
+    );
+    (status, line)
+}
+
+#[test]
+fn genuine_movies(rt: HostRuntime) -> Result<(), Fail> {
+    let uncut = movie(rt.alloc(), &ENDLESS_FRAMES, &power_on(), 1, 1, &[])?;
+    for (bytes, wanted) in [
+        (
+            two_frames(rt.alloc())?,
+            b"genuine: 2 frames, 1 checkpoints\n".as_slice(),
+        ),
+        (uncut, b"genuine: 1 frames, 0 checkpoints\n".as_slice()),
+    ] {
+        let (status, line) = told(&rt, &bytes);
+        assert_eq!(rt; status, Ok(Status::Done));
+        assert!(rt; line.as_slice() == wanted);
+    }
+    Ok(())
+}
+
+#[test]
+fn false_checkpoints(rt: HostRuntime) -> Result<(), Fail> {
+    for bytes in [
+        first_of_two_false(rt.alloc())?,
+        timer_part_left(rt.alloc(), 88)?,
+    ] {
+        let (status, line) = told(&rt, &bytes);
+        assert_eq!(rt; status, Ok(Status::False));
+        assert!(rt; line.as_slice() == b"false checkpoint 1 at frame 1\n".as_slice());
+    }
+    let (status, _line) = told(&rt, &timer_part_left(rt.alloc(), 87)?);
+    assert_eq!(rt; status, Ok(Status::Done));
+    Ok(())
+}
+
+#[test]
+fn fault_comes_before_the_checkpoint_of_its_frame(rt: HostRuntime) -> Result<(), Fail> {
+    let bytes = movie(rt.alloc(), &SEVEN_FRAMES, &power_on(), 7, 7, &[power_on()])?;
+    let (status, line) = told(&rt, &bytes);
+    assert_eq!(rt; status, Ok(Status::Fault));
+    assert!(rt; line.as_slice() == b"fault at frame 7: bad opcode 02 at F010\n".as_slice());
+    Ok(())
+}
+
+#[test]
+fn faults_of_a_first_frame(rt: HostRuntime) -> Result<(), Fail> {
+    for (program, wanted) in [
+        (
+            [0x4C, 0x00, 0xF0],
+            b"fault at frame 1: overlong\n".as_slice(),
+        ),
+        (
+            [0x4C, 0x80, 0x02],
+            b"fault at frame 1: fetch outside at 0280\n".as_slice(),
+        ),
+    ] {
+        let bytes = movie(rt.alloc(), &program, &power_on(), 1, 1, &[])?;
+        let (status, line) = told(&rt, &bytes);
+        assert_eq!(rt; status, Ok(Status::Fault));
+        assert!(rt; line.as_slice() == wanted);
+    }
+    Ok(())
+}
+
+#[test]
+fn empty_input_is_refused(rt: HostRuntime) {
+    let (status, line) = told(&rt, &[]);
+    assert_eq!(rt; status, Ok(Status::Refused));
+    assert!(rt; line.as_slice() == b"refused: Short\n".as_slice());
+}
+
+/// What a run over so many zeros answers, its line, and how many reads it made.
+fn told_of_zeros<T: Threads + Wait + Sync + AllocGlobal>(
+    rt: &T,
+    left: u64,
+) -> (Result<Status, RunError>, Vec<u8>, u64) {
+    let mut zeros = Zeros { left, reads: 0 };
+    let mut line = Vec::new(rt.alloc());
+    let status = run(
+        rt,
+        rt.alloc(),
+        &mut zeros,
+        &plan(),
+        &mut line,
+        &mut io::sink(),
+        &NoGate,
+    );
+    (status, line, zeros.reads)
+}
+
+#[test]
+fn longest_input_is_read(rt: HostRuntime) {
+    let (status, line, reads) = told_of_zeros(&rt, 16_777_216);
+    assert_eq!(rt; reads, 16_777_217);
+    assert_eq!(rt; status, Ok(Status::Refused));
+    assert!(rt; status != Ok(Status::Done));
+    assert!(rt; line.as_slice() == b"refused: BadMagic\n".as_slice());
+}
+
+#[test]
+fn endless_input_is_too_long(rt: HostRuntime) {
+    let (status, line, reads) = told_of_zeros(&rt, u64::MAX);
+    assert_eq!(rt; status, Err(RunError::TooLong));
+    assert!(rt; status != Err(RunError::NoMemory));
+    assert!(rt; line.is_empty());
+    assert_eq!(rt; reads, 16_777_217);
+}
+
+/// What a run answers over a reader whose read of a given number fails, and its line.
+fn told_in_parts<T: Threads + Wait + Sync + AllocGlobal>(
+    rt: &T,
+    bytes: &[u8],
+    left: u64,
+) -> (Result<Status, RunError>, Vec<u8>) {
+    let mut reader = FailingReader { bytes, left };
+    let mut line = Vec::new(rt.alloc());
+    let status = run(
+        rt,
+        rt.alloc(),
+        &mut reader,
+        &plan(),
+        &mut line,
+        &mut io::sink(),
+        &NoGate,
+    );
+    (status, line)
+}
+
+#[test]
+fn failed_read_writes_nothing(rt: HostRuntime) -> Result<(), Fail> {
+    let bytes = two_frames(rt.alloc())?;
+    for left in 0..6u64 {
+        let (status, line) = told_in_parts(&rt, &bytes, left);
+        assert_eq!(rt; status, Err(RunError::ReadFault));
+        assert!(rt; line.is_empty());
+    }
+    let (status, _line) = told_in_parts(&rt, &bytes, 6);
+    assert_eq!(rt; status, Ok(Status::Done));
+    Ok(())
+}
+
+#[test]
+fn failed_write_leaves_a_front_of_the_line(rt: HostRuntime) -> Result<(), Fail> {
+    let bytes = two_frames(rt.alloc())?;
+    let wanted = b"genuine: 2 frames, 1 checkpoints\n".as_slice();
+    for left in 0..33usize {
+        let mut writer = FailingWriter {
+            taken: Vec::new(rt.alloc()),
+            left: left as u64,
+        };
+        let status = run(
+            &rt,
+            rt.alloc(),
+            &mut bytes.as_slice(),
+            &plan(),
+            &mut writer,
+            &mut io::sink(),
+            &NoGate,
+        );
+        assert_eq!(rt; status, Err(RunError::WriteFault));
+        assert!(rt; writer.taken.as_slice() == &wanted[..left]);
+    }
+    let mut writer = FailingWriter {
+        taken: Vec::new(rt.alloc()),
+        left: 33,
+    };
+    let status = run(
+        &rt,
+        rt.alloc(),
+        &mut bytes.as_slice(),
+        &plan(),
+        &mut writer,
+        &mut io::sink(),
+        &NoGate,
+    );
+    assert_eq!(rt; status, Ok(Status::Done));
+    assert!(rt; writer.taken.as_slice() == wanted);
+    Ok(())
+}
+
+#[test]
+fn statuses(rt: HostRuntime) {
+    let codes = [
+        Status::Done.code(),
+        Status::False.code(),
+        Status::Fault.code(),
+        Status::Refused.code(),
+    ];
+    assert_eq!(rt; codes, [0, 1, 2, 3]);
+}
+
+/// The bytes of two pictures of one row of zeros each.
+fn two_black_pictures(alloc: Global) -> Result<Vec<u8>, Fail> {
+    let mut bytes = Vec::new(alloc);
+    for _picture in 0..2 {
+        bytes.extend_from_slice(b"P6\n160 1\n255\n")?;
+        bytes.extend_from_slice(&[0; 480])?;
+    }
+    Ok(bytes)
+}
+
+#[test]
+fn kept_pictures_follow_the_line(rt: HostRuntime) -> Result<(), Fail> {
+    let bytes = two_frames(rt.alloc())?;
+    let wanted = two_black_pictures(rt.alloc())?;
+    assert_eq!(rt; wanted.len(), 986);
+    let mut line = Vec::new(rt.alloc());
+    let mut pictures = Vec::new(rt.alloc());
+    let status = run(
+        &rt,
+        rt.alloc(),
+        &mut bytes.as_slice(),
+        &plan(),
+        &mut line,
+        &mut pictures,
+        &NoGate,
+    );
+    assert_eq!(rt; status, Ok(Status::Done));
+    assert!(rt; pictures.as_slice() == wanted.as_slice());
+    for left in [0, 500, 985] {
+        let mut line = Vec::new(rt.alloc());
+        let mut writer = FailingWriter {
+            taken: Vec::new(rt.alloc()),
+            left,
+        };
+        let status = run(
+            &rt,
+            rt.alloc(),
+            &mut bytes.as_slice(),
+            &plan(),
+            &mut line,
+            &mut writer,
+            &NoGate,
+        );
+        assert_eq!(rt; status, Err(RunError::WriteFault));
+        assert!(rt; line.as_slice() == b"genuine: 2 frames, 1 checkpoints\n".as_slice());
+        assert!(rt; Some(writer.taken.as_slice()) == wanted.get(..left as usize));
+    }
+    Ok(())
+}
+
+#[test]
+fn colours_of_the_palette(rt: HostRuntime) {
+    assert_eq!(rt; rgb(0x00), [0, 0, 0]);
+    assert_eq!(rt; rgb(0x1E), [232, 232, 168]);
+    assert_eq!(rt; rgb(0x8E), [168, 168, 255]);
+}

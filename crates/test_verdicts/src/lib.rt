@@ -1,0 +1,24 @@
+//! Worked movies with their verdicts and reports. They stand apart, since each of them goes through several crates: what reads a
+//! movie, what replays it, and what answers.
+#![tactic(auto)]
+
+#[cfg(test)]
+mod devices;
+#[cfg(test)]
+mod engine;
+#[cfg(test)]
+mod gates;
+#[cfg(test)]
+mod making;
+#[cfg(test)]
+mod movies;
+#[cfg(test)]
+mod reports;
+#[cfg(test)]
+mod segments;
+#[cfg(test)]
+mod verdicts;
+#[cfg(test)]
+mod versions;
+#[cfg(test)]
+mod workers;

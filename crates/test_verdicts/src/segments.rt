@@ -1,0 +1,162 @@
+//! Movies cut into segments, whose pieces are gathered.
+
+use crate::movies::{endless, going_on_at_no_opcode, read, two, two_frames_with_a_last_checkpoint};
+use crate::verdicts::{FIRST_FALSE, kept};
+use movie_file::Movie;
+use replay_plan::Keep;
+use replay_segments::{BadCuts, Cuts, GatherError, Piece, Verdict, gather, replay, verify_one};
+use std::alloc::Global;
+use std::num::NonZeroU16;
+use std::test::Fail;
+
+/// The cuts at these checkpoints.
+fn cuts_at(alloc: Global, movie: &Movie, numbers: &[u16]) -> Result<Result<Cuts, BadCuts>, Fail> {
+    let mut list = Vec::new(alloc);
+    list.extend_from_slice(numbers)?;
+    Ok(Cuts::new(movie, list))
+}
+
+/// A value that may go to another thread.
+fn sent<T: Send>(value: T) -> T {
+    value
+}
+
+/// The pieces of segments 0 and 1 of a movie that is cut at checkpoint 1, replayed in the order in
+/// which they are named. All pictures are kept.
+fn pieces_of(alloc: Global, movie: &Movie, numbers: &[u32]) -> Result<Vec<Piece>, Fail> {
+    let keep = Keep::new(1, 600)?;
+    let cuts = cuts_at(alloc, movie, &[1])??;
+    let mut pieces = Vec::new(alloc);
+    if cuts.fits(movie) && cuts.segments() == 2 {
+        for number in numbers {
+            pieces.push(sent(replay(alloc, movie, &cuts, keep, *number % 2)))?;
+        }
+    }
+    Ok(pieces)
+}
+
+/// The verdict of one replay that keeps all pictures.
+fn whole(alloc: Global, movie: &Movie) -> Result<Verdict, Fail> {
+    Ok(verify_one(alloc, movie, Keep::new(1, 600)?)?)
+}
+
+/// What the pieces of these segments give.
+fn gathered(
+    alloc: Global,
+    movie: &Movie,
+    numbers: &[u32],
+) -> Result<Result<Verdict, GatherError>, Fail> {
+    let pieces = pieces_of(alloc, movie, numbers)?;
+    Ok(gather(alloc, pieces, 2))
+}
+
+#[test]
+fn pieces_pass_or_do_not(rt: HostRuntime) -> Result<(), Fail> {
+    for (movie, passed) in [
+        (two(rt.alloc())?, true),
+        (going_on_at_no_opcode(rt.alloc())?, false),
+    ] {
+        let pieces = pieces_of(rt.alloc(), &movie, &[1, 1, 0, 0])?;
+        assert_eq!(rt; pieces.len(), 4);
+        assert!(rt; pieces.iter().all(|piece| piece.passed() == passed));
+    }
+    Ok(())
+}
+
+#[test]
+fn pieces_in_any_order_give_the_verdict_of_one_replay(rt: HostRuntime) -> Result<(), Fail> {
+    let genuine = two(rt.alloc())?;
+    let whole = whole(rt.alloc(), &genuine)?;
+    for order in [
+        [1u32, 0].as_slice(),
+        [0, 1].as_slice(),
+        [1, 1, 0, 0].as_slice(),
+    ] {
+        let verdict = gathered(rt.alloc(), &genuine, order)??;
+        assert!(rt; verdict.equals(&whole));
+    }
+    Ok(())
+}
+
+#[test]
+fn first_missing_segment_is_named(rt: HostRuntime) -> Result<(), Fail> {
+    let genuine = two(rt.alloc())?;
+    for (order, missing) in [
+        ([1u32].as_slice(), 0),
+        ([].as_slice(), 0),
+        ([0].as_slice(), 1),
+        ([1, 1].as_slice(), 0),
+    ] {
+        let verdict = gathered(rt.alloc(), &genuine, order)?;
+        assert_eq!(rt; verdict.err(), Some(GatherError::Missing(missing)));
+        assert!(rt; GatherError::Missing(missing) != GatherError::NoMemory);
+    }
+    Ok(())
+}
+
+#[test]
+fn bad_segment_that_came_first_is_no_verdict(rt: HostRuntime) -> Result<(), Fail> {
+    let claims = going_on_at_no_opcode(rt.alloc())?;
+    for order in [[1u32, 0].as_slice(), [0, 1].as_slice(), [0].as_slice()] {
+        let verdict = gathered(rt.alloc(), &claims, order)??;
+        assert!(rt; verdict.equals(&FIRST_FALSE));
+    }
+    let alone = gathered(rt.alloc(), &claims, &[1])?;
+    assert!(rt; matches!(alone, Err(GatherError::Missing(0))));
+    Ok(())
+}
+
+#[test]
+fn segment_after_the_last_checkpoint_has_no_frames(rt: HostRuntime) -> Result<(), Fail> {
+    let genuine = read(rt.alloc(), &two_frames_with_a_last_checkpoint(rt.alloc())?)?;
+    let last = pieces_of(rt.alloc(), &genuine, &[1])?;
+    assert!(rt;
+        last.iter()
+            .all(|piece| piece.passed() && piece.number() == 1)
+    );
+    let verdict = gathered(rt.alloc(), &genuine, &[1, 0])??;
+    assert_eq!(rt; kept(&verdict), Some(2));
+    assert!(rt; verdict.equals(&whole(rt.alloc(), &genuine)?));
+    Ok(())
+}
+
+#[test]
+fn cuts_are_rising_numbers_of_checkpoints(rt: HostRuntime) -> Result<(), Fail> {
+    let genuine = two(rt.alloc())?;
+    for (numbers, segments) in [
+        ([].as_slice(), Ok(1)),
+        ([1u16].as_slice(), Ok(2)),
+        ([2].as_slice(), Err(BadCuts)),
+        ([0].as_slice(), Err(BadCuts)),
+        ([1, 1].as_slice(), Err(BadCuts)),
+        ([1, 2].as_slice(), Err(BadCuts)),
+    ] {
+        let cuts = cuts_at(rt.alloc(), &genuine, numbers)?;
+        assert_eq!(rt; cuts.map(|cuts| cuts.segments()), segments);
+    }
+    Ok(())
+}
+
+#[test]
+fn cuts_are_at_each_so_many_checkpoints(rt: HostRuntime) -> Result<(), Fail> {
+    let genuine = two(rt.alloc())?;
+    for (every, segments) in [(1, 2), (2, 1)] {
+        let every = NonZeroU16::new(every).ok_or("every")?;
+        let cuts = Cuts::every(rt.alloc(), &genuine, every)?;
+        assert_eq!(rt; cuts.segments(), segments);
+    }
+    Ok(())
+}
+
+#[test]
+fn cuts_fit_a_movie_with_their_checkpoints(rt: HostRuntime) -> Result<(), Fail> {
+    let genuine = two(rt.alloc())?;
+    let uncut = endless(rt.alloc(), 1, &[])?;
+    for (every, fits) in [(1, false), (2, true)] {
+        let every = NonZeroU16::new(every).ok_or("every")?;
+        let cuts = Cuts::every(rt.alloc(), &genuine, every)?;
+        assert!(rt; cuts.fits(&genuine));
+        assert_eq!(rt; cuts.fits(&uncut), fits);
+    }
+    Ok(())
+}
