@@ -21,7 +21,7 @@ use Rattle.movie_file.specs.declared.error.MakeError.TheVariants.{Fault, BadCoun
 use Rattle.movie_file.specs.Format.{is_version, takes_cart, most_frames, most_checkpoints}
 use Rattle.movie_file.specs.Judgement.{IsSound, AllSound, FaultsAt, IsGenuine}
 use Rattle.movie_file.specs.Making.{bare, counts_fit, version_made, Explains, IsMadeOf}
-use Rattle.movie_file.specs.MakingSteps.{checkpoint_if, Records, RunFails}
+use Rattle.movie_file.specs.Private.MakingSteps.{checkpoint_if, Records, RunFails}
 use Rattle.movie_file.specs.Movie.{MovieData, IsState, IsStateWith, AreCheckpoints}
 use Rattle.movie_file.specs.Record.{fits_bank}
 use Rattle.movie_file.specs.Run.{run, frame_after, state_after}

@@ -7,7 +7,7 @@ ghost use Rattle.vcs_machine.specs.Outcomes.{Played, Failed, frame_of};
 ghost use Rattle.vcs_machine.specs.Pictures.{Rows};
 ghost use Rattle.movie_file.specs.Judgement.{IsGenuine};
 ghost use Rattle.movie_file.specs.Making.{Explains, IsMadeOf, counts_fit, version_made};
-ghost use Rattle.movie_file.specs.MakingSteps.{Records, RunFails, checkpoint_if};
+ghost use Rattle.movie_file.specs.Private.MakingSteps.{Records, RunFails, checkpoint_if};
 ghost use Rattle.movie_file.specs.Movie.{IsState};
 
 use crate::checkpoint::Checkpoint;

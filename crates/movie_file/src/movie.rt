@@ -43,7 +43,7 @@ impl Model for Movie {
 impl Movie {
     ghost use Rattle.movie_file.specs.Movie.{MovieData, IsMovie};
     ghost use Rattle.movie_file.specs.Conversion.{converted};
-    ghost use Rattle.movie_file.specs.MovieParts.{data_of};
+    ghost use Rattle.movie_file.specs.Private.MovieParts.{data_of};
 
     /// The movie of these parts.
     pub(crate) fn from_parts(parts: MovieParts) -> Movie

@@ -1,7 +1,7 @@
 use Rattle.std.proofs.Common.{◌≡◌, ◌/◌, ℕ, length, refl, subst, arith}
 use Rattle.std.specs.Prelude.{vec_len, vec_capacity}
 use Rattle.std.proofs.lemmas.Option.{slice_get_read}
-use Rattle.movie_file.specs.MakingSteps.{Records}
+use Rattle.movie_file.specs.Private.MakingSteps.{Records}
 use Rattle.movie_file.proofs.MakingRuns.{Records-next, run_next, faults_here, has_room, counts_are}
 use Rattle.movie_file.proofs.making.checkpoints_of_run.Goals as goal
 

@@ -2,7 +2,7 @@ use Rattle.std.proofs.Common.{◌≡◌, ◌≤◌, ◌/◌, length, Some}
 use Rattle.std.specs.Prelude.{vec_capacity}
 use Rattle.vcs_machine.specs.States.{power_on}
 use Rattle.movie_file.specs.Making.{bare}
-use Rattle.movie_file.specs.MakingSteps.{Records}
+use Rattle.movie_file.specs.Private.MakingSteps.{Records}
 use Rattle.movie_file.specs.Run.{run}
 use Rattle.movie_file.proofs.making.checkpoints_of_run.Given as goal
 

@@ -4,7 +4,7 @@ use Rattle.std.specs.List.{AllByRecursion}
 use Rattle.vcs_machine.specs.Inputs.{Controls, is_input}
 use Rattle.movie_file.specs.Making.{counts_fit, version_made}
 use Rattle.movie_file.specs.Record.{fits_bank}
-use Rattle.movie_file.specs.MakingSteps.{Records}
+use Rattle.movie_file.specs.Private.MakingSteps.{Records}
 use Rattle.movie_file.proofs.MakingRuns.{AreCheckpoints-run, made_of_parts, counts_are, version_takes, bank_at_start, explains}
 use Rattle.movie_file.proofs.making.make_movie.Goals as goal
 

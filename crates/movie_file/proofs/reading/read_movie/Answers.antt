@@ -1,7 +1,7 @@
 use Rattle.std.proofs.Common.{Result, Ok, ap, sym, subst, ◌∙◌, arith}
 use Rattle.movie_file.specs.declared.error.MovieError.{MovieError}
 use Rattle.movie_file.specs.Movie.{MovieData}
-use Rattle.movie_file.specs.MovieParts.{data_of}
+use Rattle.movie_file.specs.Private.MovieParts.{data_of}
 use Rattle.movie_file.specs.Spelling.{Spells}
 use Rattle.movie_file.specs.Reading.{movie_at}
 use Rattle.movie_file.proofs.Loops.{fails_is, fails_exact}

@@ -1,5 +1,6 @@
 -- The making of a movie frame by frame. This project's own.
-use Rattle.std.specs.Prelude.{◌≡◌, ℕ, ◌+◌, ◌*◌, ◌/◌, ◌%◌, List, [], ◌∷◌, length, Some, slice_get, ◌==◌, if◌then◌else◌}
+use Rattle.std.specs.Prelude.{◌≡◌, ℕ, ◌+◌, ◌*◌, ◌/◌, ◌%◌, List, [], ◌∷◌, length, Some, slice_get}
+use Rattle.std.specs.Prelude.{◌==◌, if◌then◌else◌}
 use Rattle.vcs_machine.specs.Inputs.{Controls}
 use Rattle.vcs_machine.specs.States.{power_on}
 use Rattle.vcs_machine.specs.declared.fields.StateFields.{StateFields}
@@ -15,7 +16,8 @@ use Rattle.movie_file.specs.Run.{run}
 abbrev pub checkpoint_if : ℕ → ℕ → StateFields → List Checkpoint
 checkpoint_if every frame state = if frame % every == 0 then record { frame = frame; state = state } ∷ [] else []
 
--- k frames of the run from power-on have ended, and these are the checkpoints at the multiples up to k
+-- k frames of the run from power-on have ended, and these are the checkpoints at the multiples up
+-- to k
 pub record Records (cart : List ℕ) (inputs : List Controls) (every k : ℕ) (made : List Checkpoint) : Type 0 where
   pub sound : AllSound (bare cart inputs) (power_on cart) 0 k
   pub count : length made ≡ k / every
