@@ -12,7 +12,7 @@ use Rattle.movie_file.specs.Reading.{◌>>=◌, inputs_at}
 use Rattle.movie_file.specs.declared.error.MovieError.{MovieError}
 use Rattle.movie_file.specs.declared.error.MovieError.TheVariants.{Short, NoMemory}
 use Rattle.movie_file.proofs.Cells.{IsBytes}
-use Rattle.movie_file.proofs.Loops.{fails_is, fails_exact}
+use Rattle.movie_file.proofs.Loops.{fails_is}
 use Rattle.movie_file.proofs.MovieLaws.{bind_ok, guard_then, inputs_take, inputs_again, length-inputs}
 
 abbrev first_of : List Controls × List ℕ → Result (List Controls) MovieError
@@ -56,4 +56,4 @@ module _ {X : Type 0} (view : X → List Controls) (bytes : List ℕ) where
 
   pub refused_exact : (r : Result X MovieError) → Gives view r (all_inputs_at bytes) → IfErr r (λ e. e ≢ NoMemory → all_inputs_at bytes ≡ Err e)
   refused_exact (Ok x) h = tt
-  refused_exact (Err e) h = fails_exact e (all_inputs_at bytes) h
+  refused_exact (Err e) h = h

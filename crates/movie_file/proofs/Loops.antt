@@ -1,10 +1,10 @@
 -- Reading items one after the other, as a loop does.
-use Rattle.std.proofs.Common.{◌≡◌, ◌≢◌, ℕ, suc, ◌-◌, ◌+◌, ◌≤◌, ◌<◌, List, [], ◌∷◌, ◌++◌, drop, Result, Ok, Err, refl, sym, ap, ◌∙◌, append_assoc, arith}
+use Rattle.std.proofs.Common.{◌≡◌, ℕ, suc, ◌-◌, ◌+◌, ◌≤◌, ◌<◌, List, [], ◌∷◌, ◌++◌, drop, Result}
+use Rattle.std.proofs.Common.{Ok, Err, refl, sym, ap, ◌∙◌, append_assoc, arith}
 use Rattle.std.proofs.lemmas.List.{append-nil}
 use Rattle.vcs_machine.specs.Inputs.{Controls}
 use Rattle.movie_file.specs.Format.{input_length, checkpoint_length}
 use Rattle.movie_file.specs.declared.error.MovieError.{MovieError}
-use Rattle.movie_file.specs.declared.error.MovieError.TheVariants.{Short, BadMagic, BadVersion, BadCartSize, BadCounts, BadState, BadInput, BadOrder, Trailing, NoMemory}
 use Rattle.movie_file.specs.declared.checkpoint.Checkpoint.{Checkpoint}
 use Rattle.movie_file.specs.declared.reading.sizes.Sizes.{Sizes}
 use Rattle.movie_file.specs.Reading.{◌>>=◌, input_at, inputs_at, checkpoint_at, checkpoints_at}
@@ -20,42 +20,11 @@ regroup front n (Err f) = refl
 
 -- a refusal is what any reading that is refused so gives
 pub fails_is : {A : Type 0} (e : MovieError) (x y : Result A MovieError) → x ≡ y → Fails e x → Fails e y
-fails_is Short x y e h = sym e ∙ h
-fails_is BadMagic x y e h = sym e ∙ h
-fails_is BadVersion x y e h = sym e ∙ h
-fails_is BadCartSize x y e h = sym e ∙ h
-fails_is BadCounts x y e h = sym e ∙ h
-fails_is (BadState k) x y e h = sym e ∙ h
-fails_is (BadInput k) x y e h = sym e ∙ h
-fails_is (BadOrder k) x y e h = sym e ∙ h
-fails_is Trailing x y e h = sym e ∙ h
-fails_is NoMemory x y e h = tt
-
--- a refusal other than out of memory is exact
-pub fails_exact : {A : Type 0} (e : MovieError) (x : Result A MovieError) → Fails e x → e ≢ NoMemory → x ≡ Err e
-fails_exact Short x h n = h
-fails_exact BadMagic x h n = h
-fails_exact BadVersion x h n = h
-fails_exact BadCartSize x h n = h
-fails_exact BadCounts x h n = h
-fails_exact (BadState k) x h n = h
-fails_exact (BadInput k) x h n = h
-fails_exact (BadOrder k) x h n = h
-fails_exact Trailing x h n = h
-fails_exact NoMemory x h n = absurd (n refl)
+fails_is e x y same h = λ n. sym same ∙ h n
 
 -- a refusal of the first step is one of the whole
 pub fails_on : {A B : Type 0} (e : MovieError) (x : Result A MovieError) (f : A → Result B MovieError) → Fails e x → Fails e (x >>= f)
-fails_on Short x f h = ap (λ (r : Result _ MovieError). r >>= f) h
-fails_on BadMagic x f h = ap (λ (r : Result _ MovieError). r >>= f) h
-fails_on BadVersion x f h = ap (λ (r : Result _ MovieError). r >>= f) h
-fails_on BadCartSize x f h = ap (λ (r : Result _ MovieError). r >>= f) h
-fails_on BadCounts x f h = ap (λ (r : Result _ MovieError). r >>= f) h
-fails_on (BadState k) x f h = ap (λ (r : Result _ MovieError). r >>= f) h
-fails_on (BadInput k) x f h = ap (λ (r : Result _ MovieError). r >>= f) h
-fails_on (BadOrder k) x f h = ap (λ (r : Result _ MovieError). r >>= f) h
-fails_on Trailing x f h = ap (λ (r : Result _ MovieError). r >>= f) h
-fails_on NoMemory x f h = tt
+fails_on e x f h = λ n. ap (λ (r : Result _ MovieError). r >>= f) (h n)
 
 -- ---- inputs
 

@@ -2,6 +2,7 @@
 use Rattle.std.proofs.Common.{◌≡◌, ℕ, zero, suc, ◌+◌, ◌-◌, ◌*◌, ◌^◌, ◌<◌, ◌≤◌, Bool, true, false, cond, eqb, ltb, leb, List, [], ◌∷◌, ◌++◌, length, take, drop, Option, Some, None, Result, Ok, Err, refl, sym, ap, subst, ◌∙◌, append_assoc, arith, lit<}
 use Rattle.std.specs.Prelude.{◌&&◌, IsTrue}
 use Rattle.std.specs.List.{flat_map, AllByRecursion}
+use Rattle.std.specs.Option.{ok_or}
 use Rattle.std.specs.Int.{Width, w16, w32, byte_len, from_be_bytes, to_be_bytes}
 use Rattle.std.proofs.lemmas.Bool.{ltb-false, le-ltb, eqb-true, lt-ltb, le-leb}
 use Rattle.std.proofs.lemmas.Bool.Decides.{nat_tests}
@@ -21,7 +22,7 @@ use Rattle.movie_file.specs.Movie.{MovieData, IsMovie, AreCheckpoints}
 use Rattle.movie_file.specs.declared.checkpoint.Checkpoint.{Checkpoint}
 use Rattle.movie_file.specs.Spelling.{header_of, checkpoint_bytes, spelling, Spells}
 use Rattle.vcs_machine.specs.Inputs.{input_bytes}
-use Rattle.movie_file.specs.Reading.{◌>>=◌, or_refuse, number_at, magic_at, version_at, cart_length_at, counts_at, enough_of, sizes_at, controls_at, input_at, inputs_at, frame_at, head_state_at, checkpoint_at, checkpoints_at, body_at, movie_at}
+use Rattle.movie_file.specs.Reading.{◌>>=◌, number_at, magic_at, version_at, cart_length_at, counts_at, enough_of, sizes_at, controls_at, input_at, inputs_at, frame_at, head_state_at, checkpoint_at, checkpoints_at, body_at, movie_at}
 use Rattle.movie_file.proofs.Cells.{IsBytes, IsBytes-take, IsBytes-drop, cells_is, and_true}
 use Rattle.movie_file.proofs.MovieRecords.{movie_state_takes, movie_state_again, length-movie_record, most_frames-most}
 
@@ -43,7 +44,7 @@ pub guard_then : {A : Type 0} (b : Bool) (d : MovieError) (r : Result A MovieErr
 guard_then true d r y e = (refl, e)
 guard_then false d r y e = absurd cc
 
-some_ok : {A : Type 0} (o : Option A) (d : MovieError) (y : A) → or_refuse o d ≡ Ok y → o ≡ Some y
+some_ok : {A : Type 0} (o : Option A) (d : MovieError) (y : A) → ok_or o d ≡ Ok y → o ≡ Some y
 some_ok (Some x) d y e = cc
 some_ok None d y e = absurd cc
 
@@ -313,8 +314,8 @@ unfolding checkpoint_at
 checkpoint_takes h j last bytes c long fits e =
     let f = frame_at bytes in
     let fits4 = IsBytes-drop 4 bytes fits in
-    let g = guard_then (ltb last f && leb f h.frames) (BadOrder j) (or_refuse (head_state_at h (drop 4 bytes)) (BadState j) >>= λ s. Ok (record { frame = f; state = s })) c e in
-    let b = bind_ok (or_refuse (head_state_at h (drop 4 bytes)) (BadState j)) (λ s. Ok (record { frame = f; state = s })) c g.1 in
+    let g = guard_then (ltb last f && leb f h.frames) (BadOrder j) (ok_or (head_state_at h (drop 4 bytes)) (BadState j) >>= λ s. Ok (record { frame = f; state = s })) c e in
+    let b = bind_ok (ok_or (head_state_at h (drop 4 bytes)) (BadState j)) (λ s. Ok (record { frame = f; state = s })) c g.1 in
     let s = head_state_takes h (drop 4 bytes) b.0 (omega (arith, length-drop 4 bytes)) fits4 (some_ok (head_state_at h (drop 4 bytes)) (BadState j) b.0 b.1) in
     let both = and_true (ltb last f) (leb f h.frames) g.0 in
     let front : to_be_bytes w32 f ≡ take 4 bytes = wide32.back (take 4 bytes) (omega (arith, length-take 4 bytes)) (IsBytes-take 4 bytes fits) in
@@ -326,7 +327,7 @@ checkpoint_takes h j last bytes c long fits e =
 checkpoint_again : (h : Sizes) (j last : ℕ) (c : Checkpoint) (rest : List ℕ) → IsTrue (takes_cart h.version h.cart) → last < c.frame → c.frame ≤ h.frames → h.frames < 2 ^ 32 → IsStateWith h.cart c.state → checkpoint_at h j last (checkpoint_bytes h.version c ++ rest) ≡ Ok c
 unfolding checkpoint_at
 checkpoint_again h j last c rest takes after within small state =
-    let P = λ (f : ℕ) (o : Option StateFields). cond {A = Result Checkpoint MovieError} (ltb last f && leb f h.frames) (or_refuse o (BadState j) >>= λ s. Ok (record { frame = f; state = s })) (Err (BadOrder j)) in
+    let P = λ (f : ℕ) (o : Option StateFields). cond {A = Result Checkpoint MovieError} (ltb last f && leb f h.frames) (ok_or o (BadState j) >>= λ s. Ok (record { frame = f; state = s })) (Err (BadOrder j)) in
     let b = checkpoint_bytes h.version c ++ rest in
     let f-is : frame_at b ≡ c.frame = wide32.again c.frame (omega arith) in
     let s-is : head_state_at h (drop 4 b) ≡ Some c.state = head_state_again h c.state rest takes state in
@@ -411,7 +412,7 @@ body_takes h bytes m long fits e =
     let b1 = drop h.cart bytes in
     let b2 = drop n b1 in
     let last = λ (s : StateFields) (i : List Controls × List ℕ) (c : List Checkpoint × List ℕ). cond {A = Result MovieData MovieError} (eqb (length c.1) 0) (Ok (record { version = h.version; cart = take h.cart bytes; start = s; inputs = i.0; checkpoints = c.0 })) (Err Trailing) in
-    let s = bind_ok (or_refuse (head_state_at h b1) (BadState 0)) (λ s. inputs_at h.frames 1 b2 >>= λ i. checkpoints_at h h.checkpoints 1 0 i.1 >>= λ c. last s i c) m e in
+    let s = bind_ok (ok_or (head_state_at h b1) (BadState 0)) (λ s. inputs_at h.frames 1 b2 >>= λ i. checkpoints_at h h.checkpoints 1 0 i.1 >>= λ c. last s i c) m e in
     let i = bind_ok (inputs_at h.frames 1 b2) (λ i. checkpoints_at h h.checkpoints 1 0 i.1 >>= λ c. last s.0 i c) m s.2 in
     let c = bind_ok (checkpoints_at h h.checkpoints 1 0 i.0.1) (λ c. last s.0 i.0 c) m i.2 in
     let made : MovieData = record { version = h.version; cart = take h.cart bytes; start = s.0; inputs = i.0.0; checkpoints = c.0.0 } in
@@ -461,9 +462,9 @@ body_again m l =
     let small : length m.inputs < 2 ^ 32 = omega (arith, l.few_frames, most_frames-most m.version) in
     let checkpoints-is : checkpoints_at h (length m.checkpoints) 1 0 checkpoints ≡ Ok (m.checkpoints, []) =
     ap (checkpoints_at h (length m.checkpoints) 1 0) (sym (append-nil checkpoints)) ∙ checkpoints_again h m.checkpoints 1 0 [] l.cart small l.checkpoints in
-    ap (λ (cart : List ℕ). or_refuse (head_state_at h (drop (length m.cart) bytes)) (BadState 0) >>= λ s. k1 cart (drop n (drop (length m.cart) bytes)) s) cart-is
-    ∙ ap (λ (b : List ℕ). or_refuse (head_state_at h b) (BadState 0) >>= λ s. k1 m.cart (drop n b) s) b1-is
-    ∙ ap (λ (o : Option StateFields). or_refuse o (BadState 0) >>= λ s. k1 m.cart (drop n b1) s) s-is
+    ap (λ (cart : List ℕ). ok_or (head_state_at h (drop (length m.cart) bytes)) (BadState 0) >>= λ s. k1 cart (drop n (drop (length m.cart) bytes)) s) cart-is
+    ∙ ap (λ (b : List ℕ). ok_or (head_state_at h b) (BadState 0) >>= λ s. k1 m.cart (drop n b) s) b1-is
+    ∙ ap (λ (o : Option StateFields). ok_or o (BadState 0) >>= λ s. k1 m.cart (drop n b1) s) s-is
     ∙ ap (λ (b : List ℕ). k1 m.cart b m.start) b2-is
     ∙ ap (λ (r : Result (List Controls × List ℕ) MovieError). r >>= λ i. checkpoints_at h (length m.checkpoints) 1 0 i.1 >>= λ c. last m.cart m.start i c) (inputs_again m.inputs 1 checkpoints l.inputs)
     ∙ ap (λ (r : Result (List Checkpoint × List ℕ) MovieError). r >>= λ c. last m.cart m.start (m.inputs, checkpoints) c) checkpoints-is

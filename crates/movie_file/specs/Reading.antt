@@ -1,14 +1,20 @@
--- Reading a movie, with the first refusal that is met, in the order of the format: the fields of the header front to
--- back, the length of the file, the start state, the inputs, the checkpoints, the end. This project's own.
-use Rattle.std.specs.Prelude.{ℕ, zero, suc, ◌&&◌, List, [], ◌∷◌, length, take, drop, slice_index, Option, Some, None, Result, Ok, Err, nat_lt, nat_le, ◌==◌, if◌then◌else◌}
+-- Reading a movie, with the first refusal that is met, in the order of the format: the fields of the
+-- header front to back, the length of the file, the start state, the inputs, the checkpoints, the
+-- end. This project's own.
+use Rattle.std.specs.Prelude.{ℕ, zero, suc, ◌&&◌, List, [], ◌∷◌, length, take, drop, slice_index}
+use Rattle.std.specs.Prelude.{Option, Result, Ok, Err, nat_lt, nat_le, ◌==◌, if◌then◌else◌}
+use Rattle.std.specs.Option.{ok_or}
 use Rattle.std.specs.Int.{Width, w16, w32, byte_len, from_be_bytes}
 use Rattle.vcs_machine.specs.Inputs.{Controls, is_input}
 use Rattle.vcs_machine.specs.declared.fields.StateFields.{StateFields}
 use Rattle.movie_file.specs.declared.checkpoint.Checkpoint.{Checkpoint}
 use Rattle.movie_file.specs.declared.error.MovieError.{MovieError}
-use Rattle.movie_file.specs.declared.error.MovieError.TheVariants.{Short, BadMagic, BadVersion, BadCartSize, BadCounts, BadState, BadInput, BadOrder, Trailing}
+use Rattle.movie_file.specs.declared.error.MovieError.TheVariants.{Short, BadMagic, BadVersion}
+use Rattle.movie_file.specs.declared.error.MovieError.TheVariants.{BadCartSize, BadCounts, BadState}
+use Rattle.movie_file.specs.declared.error.MovieError.TheVariants.{BadInput, BadOrder, Trailing}
 use Rattle.movie_file.specs.declared.reading.sizes.Sizes.{Sizes}
-use Rattle.movie_file.specs.Format.{magic, is_version, takes_cart, most_frames, most_checkpoints, record_length, input_length, checkpoint_length, body_length}
+use Rattle.movie_file.specs.Format.{magic, is_version, takes_cart, most_frames, most_checkpoints}
+use Rattle.movie_file.specs.Format.{record_length, input_length, checkpoint_length, body_length}
 use Rattle.movie_file.specs.Movie.{MovieData}
 use Rattle.movie_file.specs.Record.{movie_state_at}
 
@@ -17,11 +23,6 @@ infixl 10 ◌>>=◌
 abbrev pub ◌>>=◌ : {A B : Type 0} → Result A MovieError → (A → Result B MovieError) → Result B MovieError
 (Ok x) >>= f = f x
 (Err e) >>= f = Err e
-
--- the value, or the refusal where there is none
-abbrev pub or_refuse : {A : Type 0} → Option A → MovieError → Result A MovieError
-or_refuse (Some x) e = Ok x
-or_refuse None e = Err e
 
 -- a number and the bytes after it
 abbrev pub number_at : Width → List ℕ → Result (ℕ × List ℕ) MovieError
@@ -87,11 +88,12 @@ frame_at bytes = from_be_bytes w32 (take 4 bytes)
 abbrev pub head_state_at : Sizes → List ℕ → Option StateFields
 head_state_at h bytes = movie_state_at h.version h.cart (take (record_length h.version) bytes)
 
--- the checkpoint of number j: its frame is greater than the last one and one of the movie's, and its state is one
+-- the checkpoint of number j: its frame is greater than the last one and one of the movie's, and
+-- its state is one
 unfoldable pub checkpoint_at : Sizes → ℕ → ℕ → List ℕ → Result Checkpoint MovieError
 checkpoint_at h j last bytes =
     if nat_lt last (frame_at bytes) && nat_le (frame_at bytes) h.frames
-    then (or_refuse (head_state_at h (drop 4 bytes)) (BadState j) >>= λ s. Ok (record { frame = frame_at bytes; state = s }))
+    then (ok_or (head_state_at h (drop 4 bytes)) (BadState j) >>= λ s. Ok (record { frame = frame_at bytes; state = s }))
     else Err (BadOrder j)
 
 -- so many checkpoints, the first of number j, and the bytes after them
@@ -105,7 +107,7 @@ checkpoints_at h (suc m) j last bytes = do
 -- what stands after the header, to the end
 unfoldable pub body_at : Sizes → List ℕ → Result MovieData MovieError
 body_at h bytes = do
-  start ← or_refuse (head_state_at h (drop h.cart bytes)) (BadState 0)
+  start ← ok_or (head_state_at h (drop h.cart bytes)) (BadState 0)
   inputs ← inputs_at h.frames 1 (drop (record_length h.version) (drop h.cart bytes))
   checkpoints ← checkpoints_at h h.checkpoints 1 0 inputs.1
   if length checkpoints.1 == 0

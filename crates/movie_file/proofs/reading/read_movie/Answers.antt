@@ -4,7 +4,7 @@ use Rattle.movie_file.specs.Movie.{MovieData}
 use Rattle.movie_file.specs.Private.MovieParts.{data_of}
 use Rattle.movie_file.specs.Spelling.{Spells}
 use Rattle.movie_file.specs.Reading.{movie_at}
-use Rattle.movie_file.proofs.Loops.{fails_is, fails_exact}
+use Rattle.movie_file.proofs.Loops.{fails_is}
 use Rattle.movie_file.proofs.MovieLaws.{read_is_spelled, spelled_is_read}
 use Rattle.movie_file.proofs.reading.read_movie.Goals as goal
 
@@ -24,4 +24,4 @@ pub returns-in-Err-clause-only : goal.returns-in-Err-clause-only
 returns-in-Err-clause-only c = λ m h. fails_is c.in-Err.e (movie_at c.args.bytes.now) (read m) (spelled_is_read c.args.bytes.now m h) c.in-Err.ensures.gives
 
 pub returns-in-Err-clause-refused : goal.returns-in-Err-clause-refused
-returns-in-Err-clause-refused c = fails_exact c.in-Err.e (movie_at c.args.bytes.now) c.in-Err.ensures.gives
+returns-in-Err-clause-refused c = c.in-Err.ensures.gives
