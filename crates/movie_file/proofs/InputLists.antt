@@ -1,5 +1,6 @@
 -- Inputs by themselves: what is read is spelled so, and what is spelled so is read.
-use Rattle.std.proofs.Common.{◌≡◌, ℕ, ◌*◌, ◌/◌, ◌%◌, eqb, List, [], ◌++◌, length, Result, Ok, Err, refl, sym, ap, ◌∙◌, arith}
+use Rattle.std.proofs.Common.{◌≡◌, ℕ, ◌*◌, ◌/◌, ◌%◌, eqb, List, [], ◌++◌, length, Result, Ok, Err}
+use Rattle.std.proofs.Common.{refl, sym, ap, ◌∙◌, arith}
 use Rattle.std.specs.Prelude.{IfOk, IfErr, ◌≢◌}
 use Rattle.std.specs.List.{flat_map}
 use Rattle.std.proofs.lemmas.Bool.{eqb-true}
@@ -13,7 +14,8 @@ use Rattle.movie_file.specs.declared.error.MovieError.{MovieError}
 use Rattle.movie_file.specs.declared.error.MovieError.TheVariants.{Short, NoMemory}
 use Rattle.movie_file.proofs.Cells.{IsBytes}
 use Rattle.movie_file.proofs.Loops.{fails_is}
-use Rattle.movie_file.proofs.MovieLaws.{bind_ok, guard_then, inputs_take, inputs_again, length-inputs}
+use Rattle.movie_file.proofs.ReadLemmas.{bind_ok, guard_then}
+use Rattle.movie_file.proofs.InputLemmas.{inputs_take, inputs_again, length-inputs}
 
 abbrev first_of : List Controls × List ℕ → Result (List Controls) MovieError
 first_of read = Ok read.0

@@ -3,6 +3,10 @@ pub mod Fronts
 pub mod RecordParts
 pub mod RecordLaws
 pub mod MovieRecords
+pub mod ReadLemmas
+pub mod HeaderLemmas
+pub mod InputLemmas
+pub mod CheckpointReads
 pub mod MovieLaws
 pub mod Loops
 pub mod Orders
