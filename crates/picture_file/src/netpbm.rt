@@ -8,9 +8,8 @@ ghost use Rattle.picture_file.specs.Fronts.{AppendsFront};
 use crate::bytes::{WriteFault, write_bytes};
 use crate::palette::rgb;
 use arrayvec::ArrayVec;
-use replay_segments::Frames;
 use std::io::Write;
-use vcs_machine::Picture;
+use vcs_machine::{Picture, Pictures};
 
 /// The bytes of a row of 160 pixels.
 const ROW_BYTES: usize = 480;
@@ -99,12 +98,12 @@ pub fn ppm<W: Write>(picture: &Picture, writer: &mut W) -> Result<(), WriteFault
 }
 
 /// Writes pictures one after another, or with a fault a prefix of them.
-pub fn write_pictures<W: Write>(frames: &Frames, writer: &mut W) -> Result<(), WriteFault>
-    ensures ok { OnOk result (Appends (W.contents writer.old) (W.contents writer.new) (pictures_bytes frames.now)) }
-    ensures err { OnErr result (AppendsFront (W.contents writer.old) (W.contents writer.new) (pictures_bytes frames.now)) }
+pub fn write_pictures<W: Write>(pictures: &Pictures, writer: &mut W) -> Result<(), WriteFault>
+    ensures ok { OnOk result (Appends (W.contents writer.old) (W.contents writer.new) (pictures_bytes pictures.now)) }
+    ensures err { OnErr result (AppendsFront (W.contents writer.old) (W.contents writer.new) (pictures_bytes pictures.now)) }
 {
-    for i in 0..frames.len() {
-        ppm(frames.at(i), writer)?;
+    for i in 0..pictures.len() {
+        ppm(pictures.at(i), writer)?;
     }
     Ok(())
 }

@@ -8,12 +8,12 @@ ghost use Rattle.replay_segments.specs.declared.verdict.Verdict.{Verdict};
 
 use crate::finding::find_passed;
 use crate::piece::Piece;
-use crate::verdict::Frames;
 use movie_file::NoMemory;
 use std::alloc::Global;
+use vcs_machine::Pictures;
 
 /// Takes the pictures of a piece of this number that passed.
-fn take_passed(pieces: &mut Vec<Piece>, number: u32) -> Frames
+fn take_passed(pieces: &mut Vec<Piece>, number: u32) -> Pictures
     requires { HasPassed pieces.old.items number }
     ensures { IsTaken pieces.old.items number result pieces.new.items }
 {
@@ -37,7 +37,7 @@ fn pictures_in(pieces: &[Piece]) -> Option<usize>
 }
 
 /// The pictures of all segments, each of which passed. The only growth is for all of them.
-pub(crate) fn joined(alloc: Global, mut pieces: Vec<Piece>, n: u32) -> Result<Frames, NoMemory>
+pub(crate) fn joined(alloc: Global, mut pieces: Vec<Piece>, n: u32) -> Result<Pictures, NoMemory>
     requires { PassedBelow pieces.items n }
     ensures frames { IfOk result (λ frames. (job : Job) → NamesAll job pieces.items
         → n ≡ segments_of job → IsVerdict job.movie job.keep (Verdict.Genuine frames)) }
@@ -50,10 +50,10 @@ pub(crate) fn joined(alloc: Global, mut pieces: Vec<Piece>, n: u32) -> Result<Fr
         return Err(NoMemory);
     };
     for number in 0..n {
-        let mut part = take_passed(&mut pieces, number).pictures;
+        let mut part = take_passed(&mut pieces, number).into_vec();
         let Ok(()) = all.append(&mut part) else {
             unreachable!()
         };
     }
-    Ok(Frames { pictures: all })
+    Ok(Pictures::new(all))
 }

@@ -4,11 +4,11 @@ ghost use Rattle.replay_plan.specs.Keeping.{is_kept, kept_count};
 ghost use Rattle.replay_segments.specs.Private.Steps.{IsStep, IsNext, IsClaim, IsAdvance};
 ghost use Rattle.replay_segments.specs.Verdicts.{IsJudged, IsVerdict};
 
-use crate::verdict::{Frames, Verdict};
+use crate::verdict::Verdict;
 use movie_file::{Movie, NoMemory};
 use replay_plan::Keep;
 use std::alloc::Global;
-use vcs_machine::{FrameError, Picture, State, frame};
+use vcs_machine::{FrameError, Picture, Pictures, State, frame};
 
 /// Frame `before` + 1 of the movie.
 pub(crate) fn step(
@@ -111,7 +111,7 @@ pub(crate) fn judge(
         next = after;
     }
     Ok(Verdict::Genuine {
-        frames: Frames { pictures },
+        frames: Pictures::new(pictures),
     })
 }
 

@@ -25,4 +25,4 @@ pub use outcome::Outcome;
 pub use piece::Piece;
 pub use run_states::{LeftState, found_state, left_state};
 pub use segment::replay;
-pub use verdict::{Frames, Verdict};
+pub use verdict::Verdict;

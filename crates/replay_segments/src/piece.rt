@@ -3,12 +3,13 @@ ghost use Rattle.std.specs.Prelude.{◌≡◌, ◌↔◌, IsTrue, IfSome, IfNone
 
 use crate::cuts::Cuts;
 use crate::outcome::Outcome;
-use crate::verdict::{Frames, Verdict};
+use crate::verdict::Verdict;
 use movie_file::Movie;
 use replay_plan::Keep;
 use std::marker::Model;
 use std::mem;
 use std::snapshot::Snapshot;
+use vcs_machine::Pictures;
 
 /// The outcome of one segment, right by its type: it is what the rule says of that segment, or
 /// that memory was wanted. For contracts alone a piece names its movie, its cuts and which frames
@@ -92,7 +93,7 @@ impl Piece {
     }
 
     /// Takes the pictures of a segment that passed.
-    pub(crate) fn take_frames(&mut self) -> Frames
+    pub(crate) fn take_frames(&mut self) -> Pictures
         requires { IsPassed self.old.outcome }
         ensures frames { self.old.outcome ≡ Outcome.Judged (Verdict.Genuine result) }
         ensures rest { self.new ≡ record self.old { outcome = Outcome.NoMemory } }

@@ -15,11 +15,12 @@ use crate::status::Status;
 use movie_file::{Movie, MovieError, read_movie};
 use picture_file::{WriteFault, write_bytes, write_pictures};
 use replay_plan::Plan;
-use replay_segments::{Cuts, Frames, Verdict};
+use replay_segments::{Cuts, Verdict};
 use std::alloc::{AllocError, Global};
 use std::io::Write;
 use std::sync::Wait;
 use std::thread::Threads;
+use vcs_machine::Pictures;
 use verify_pool::{VerifyError, verify};
 
 /// The status and the line of a movie with this verdict.
@@ -77,7 +78,7 @@ pub(crate) fn verdict_of<T: Threads + Wait + Sync, G: CountedGate + Sync>(
 pub(crate) struct Output {
     status: Status,
     line: String,
-    pictures: Option<Frames>,
+    pictures: Option<Pictures>,
 }
 
 impl Output {
@@ -85,7 +86,7 @@ impl Output {
         alloc: Global,
         status: Status,
         line: Line,
-        pictures: Option<Frames>,
+        pictures: Option<Pictures>,
     ) -> Result<Output, AllocError>
         ensures { IfOk result (λ output. told_by output
             ≡ record { status = status; line = line_bytes line; pictures = pictures_in pictures }) }

@@ -9,6 +9,7 @@ mod frames;
 mod input;
 mod laws;
 mod picture;
+mod pictures;
 mod run;
 mod socket;
 mod state;
@@ -22,4 +23,5 @@ pub use laws::{
     law_of_banks, law_of_frame_lengths, law_of_one_stop, law_of_waits, law_of_whole_cycles,
 };
 pub use picture::{MOST_ROWS, Picture};
+pub use pictures::Pictures;
 pub use state::State;

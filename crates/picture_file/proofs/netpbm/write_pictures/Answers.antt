@@ -11,5 +11,5 @@ returns-in_err-ppm-clause-err g c =
     let a = g.W.Write.contents c.args.writer.now in
     let b = g.W.Write.contents c.loop-i.writer in
     let d = g.W.Write.contents c.ppm.new.writer in
-    rw p.1 (front_in picture_bytes c.args.frames.now c.loop-i.i c.at.result.now a b d (search rules) c.loop-i.invariant
+    rw p.1 (front_in picture_bytes c.args.pictures.now c.loop-i.i c.at.result.now a b d (search rules) c.loop-i.invariant
     (subst (λ (r : List (List ℕ)). AppendsFront b d (picture_bytes r)) c.at.ensures c.in_err-ppm.ensures.err))

@@ -28,10 +28,10 @@ loop-number-preserved c =
           let of = taken.of job (c.loop-number.invariant.names job names) in
           let begun = c.loop-number.invariant.prefix job names whole in
           let next = IsPrefix-next job c.loop-number.number c.loop-number.all.items c.take_passed.result of.0 of.1 begun of.2 in
-          let items : c.append.new.self.items ≡ c.loop-number.all.items ++ c.take_passed.result = c.in-Ok-append.ensures.items ∙ ap (λ (xs : List Rows). c.loop-number.all.items ++ xs) c.part.view_is in
+          let items : c.append.new.self.items ≡ c.loop-number.all.items ++ c.take_passed.result = c.in-Ok-append.ensures.items ∙ ap (λ (xs : List Rows). c.loop-number.all.items ++ xs) c.into_vec-part.ensures in
           subst (λ (xs : List Rows). IsPrefix job (c.loop-number.number + 1) xs) (sym items) next;
       room =
-          let part : vec_len c.part.inside.pictures ≡ length c.take_passed.result = c.part.inside.pictures.ok.0 ∙ ap length c.part.view_is in
+          let part : vec_len c.into_vec-part.result ≡ length c.take_passed.result = c.into_vec-part.result.ok.0 ∙ ap length c.into_vec-part.ensures in
           let rest = taken.rest in
           let len = c.in-Ok-append.ensures.len in
           let grown = c.in-Ok-append.ensures.capacity in
@@ -42,4 +42,4 @@ pub returns-clause-frames : goal.returns-clause-frames
 returns-clause-frames c = λ job names whole.
     let same : c.loop-number.number ≡ c.args.n = omega arith in
     let begun = c.loop-number.invariant.prefix job names whole in
-    IsVerdict-genuine job c.loop-number.number c.loop-number.all.items (same ∙ whole) begun
+    rw (← c.new.ensures) at (IsVerdict-genuine job c.loop-number.number c.loop-number.all.items (same ∙ whole) begun)

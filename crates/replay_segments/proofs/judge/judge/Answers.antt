@@ -1,4 +1,4 @@
-use Rattle.std.proofs.Common.{◌≡◌, ℕ, ◌+◌, refl, arith, subst}
+use Rattle.std.proofs.Common.{◌≡◌, ◌∙◌, ℕ, ◌+◌, refl, arith, subst}
 use Rattle.replay_segments.specs.Private.Steps.{IsNext, SoFar}
 use Rattle.replay_segments.proofs.RunLemmas.{SoFar-next, IsJudged-false}
 use Rattle.replay_segments.proofs.KeepLemmas.{kept_count-next, kept_count-zero}
@@ -34,4 +34,4 @@ pub returns-clause-judged : goal.returns-clause-judged
 returns-clause-judged c =
     let all : c.loop-k.k ≡ c.args.len = omega arith in
     let far = subst (λ (k : ℕ). SoFar c.args.movie.now c.args.keep c.args.start.now c.args.from k c.loop-k.state c.loop-k.pictures.items) all c.loop-k.invariant.far in
-    (far.sound, far.frames_are)
+    (far.sound, c.new.ensures ∙ far.frames_are)

@@ -1,6 +1,6 @@
 use Rattle.std.proofs.Common.{◌∙◌, [], refl, sym, arith}
 use Rattle.std.proofs.lemmas.List.{ext_get_or}
-use Rattle.replay_segments.proofs.verdict.Frames.equals.Goals as goal
+use Rattle.vcs_machine.proofs.pictures.Pictures.equals.Goals as goal
 
 pub returns : goal.returns
 returns c =
