@@ -1,6 +1,7 @@
 //! The commands of the program, as `clap` knows them.
 
 use clap::{Arg, ArgAction, Command, value_parser};
+use replay_plan::{MOST_KEPT, MOST_WORKERS};
 use std::alloc::{AllocError, Global};
 
 /// What help says at its end.
@@ -39,7 +40,7 @@ fn workers<'a>(alloc: Global) -> Arg<'a> {
         .long("workers")
         .value_name("N")
         .help("How many threads replay the movie, 1 to 64")
-        .value_parser(value_parser!(u8).range(1..=64))
+        .value_parser(value_parser!(u8).range(1..=i64::from(MOST_WORKERS)))
         .default_value("1")
 }
 
@@ -69,7 +70,7 @@ fn count<'a>(alloc: Global) -> Arg<'a> {
         .long("count")
         .value_name("N")
         .help("Of how many frames pictures are written, 0 to 600; ignored without --pictures")
-        .value_parser(value_parser!(u32).range(0..=600))
+        .value_parser(value_parser!(u32).range(0..=i64::from(MOST_KEPT)))
         .default_value("600")
 }
 

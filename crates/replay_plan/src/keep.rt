@@ -1,5 +1,6 @@
 //! Which pictures are kept.
 ghost use Rattle.std.specs.Prelude.{◌≡◌, ℕ, ◌+◌, ◌<◌, ◌≤◌, ◌↔◌, IsOk, IfOk};
+ghost use Rattle.replay_plan.specs.Limits.{most_kept};
 
 /// The most frames whose pictures are kept.
 pub const MOST_KEPT: u32 = 600;
@@ -10,7 +11,7 @@ pub struct Keep {
     first: u32,
     count: u32,
     ghost first_is: { 0 < first },
-    ghost count_is: { count ≤ 600 },
+    ghost count_is: { count ≤ most_kept },
 }
 
 /// The first frame is 0, or the count is above 600.
@@ -25,7 +26,7 @@ impl Keep {
 
     /// So many frames from `first` on.
     pub fn new(first: u32, count: u32) -> Result<Keep, BadKeep>
-        ensures range { IsOk result ↔ ((0 < first) × (count ≤ 600)) }
+        ensures range { IsOk result ↔ ((0 < first) × (count ≤ most_kept)) }
         ensures value { IfOk result (λ keep. (keep.first ≡ first) × (keep.count ≡ count)) }
     {
         if first == 0 || count > MOST_KEPT {

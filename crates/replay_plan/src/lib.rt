@@ -6,6 +6,6 @@ mod keep;
 mod plan;
 mod workers;
 
-pub use keep::{BadKeep, Keep};
+pub use keep::{BadKeep, Keep, MOST_KEPT};
 pub use plan::Plan;
 pub use workers::{MOST_WORKERS, Workers};

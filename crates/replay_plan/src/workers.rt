@@ -1,5 +1,6 @@
 //! How many workers judge a movie.
 ghost use Rattle.std.specs.Prelude.{◌≡◌, ◌≤◌, ◌↔◌, IsSome, IfSome};
+ghost use Rattle.replay_plan.specs.Limits.{most_workers};
 
 /// The most workers.
 pub const MOST_WORKERS: u8 = 64;
@@ -9,7 +10,7 @@ pub const MOST_WORKERS: u8 = 64;
 pub struct Workers {
     number: u8,
     ghost some: { 1 ≤ number },
-    ghost few: { number ≤ 64 },
+    ghost few: { number ≤ most_workers },
 }
 
 impl Workers {
@@ -18,7 +19,7 @@ impl Workers {
 
     /// So many workers, or None where they are not 1 to 64.
     pub fn new(number: u8) -> Option<Workers>
-        ensures range { IsSome result ↔ ((1 ≤ number) × (number ≤ 64)) }
+        ensures range { IsSome result ↔ ((1 ≤ number) × (number ≤ most_workers)) }
         ensures value { IfSome result (λ workers. workers.number ≡ number) }
     {
         if number == 0 || number > MOST_WORKERS {
@@ -30,7 +31,7 @@ impl Workers {
     /// How many they are.
     pub fn get(self) -> u8
         ensures value { result ≡ self.number }
-        ensures range { (1 ≤ result) × (result ≤ 64) }
+        ensures range { (1 ≤ result) × (result ≤ most_workers) }
     {
         self.number
     }

@@ -29,6 +29,11 @@ pub data Turn (B : Type 0) : Type 0 where
 abbrev pub too_many_cycles : ℕ
 too_many_cycles = 24320
 
+-- The most cycles that a frame takes: its last instruction begins before it is too long, at 24,319
+-- at the latest, and takes at most 7 cycles and a wait of 75.
+abbrev pub most_frame_cycles : ℕ
+most_frame_cycles = 24401
+
 module _ {B : Type 0} (rules : Rules B) where
   abbrev pub turn_by : ℕ → Registers → B → Result ℕ CpuFault → Turn B
   turn_by cycles r bus (Err fault) = Failed fault

@@ -21,6 +21,12 @@ picture_of rows pixels =
 abbrev pub rows_of : ℕ → ℕ → ℕ
 rows_of line_cycle cycles = (line_cycle + cycles + 75) / 76
 
+-- The most rows of a frame's picture. Its last instruction ends at most 75 + 24,319 + 7 cycles
+-- after its first scanline began: 321 lines and 5 cycles. A wait after it ends where the next line
+-- begins, after at most 322 lines.
+abbrev pub most_rows : ℕ
+most_rows = 322
+
 -- Rows after one pixel. One outside of them changes nothing.
 abbrev pub with_pixel : Rows → ℕ → ℕ → ℕ → Rows
 with_pixel rows line x colour =

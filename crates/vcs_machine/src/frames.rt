@@ -3,7 +3,7 @@ ghost use Rattle.std.specs.Prelude.{◌≡◌, ◌≤◌, ◌+◌, true, false, 
 ghost use Rattle.tia_core.specs.Clock.{Pixel, painted};
 ghost use Rattle.vcs_machine.specs.Consoles.{console_rules, logged, Console};
 ghost use Rattle.vcs_machine.specs.Faults.{halted};
-ghost use Rattle.vcs_machine.specs.Frame.{stop_of, Machine, Ended};
+ghost use Rattle.vcs_machine.specs.Frame.{stop_of, Machine, Ended, most_frame_cycles};
 ghost use Rattle.vcs_machine.specs.Outcomes.{frame_of, machine_of, state_at, Played, FailsAs, PlaysOn, Halts};
 ghost use Rattle.vcs_machine.specs.Pictures.{Rows};
 
@@ -26,7 +26,7 @@ fn play<S: Paint + Drop>(
 ) -> Result<(S, u32), Halt>
     ensures ok { IfOk result (λ played. PlaysOn S.drawn cart.now state.old input sink state.new played.0 played.1) }
     ensures err { IfErr result (λ halt. Halts cart.now state.old input halt.kind state.new halt.cycles) }
-    ensures most { IfOk result (λ played. played.1 ≤ 24401) }
+    ensures most { IfOk result (λ played. played.1 ≤ most_frame_cycles) }
 {
     let mut cpu = state.cpu();
     let mut console = Console::begin(cart, state, input, sink);

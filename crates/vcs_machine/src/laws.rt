@@ -4,10 +4,11 @@ ghost use Rattle.mos_cpu.specs.Execution.{step_of};
 ghost use Rattle.riot_map.specs.Cart.{has_banks};
 ghost use Rattle.tia_core.specs.Clock.{Pixel};
 ghost use Rattle.vcs_machine.specs.Consoles.{Console, console_rules, logged, meaning_of, rested, wait_cycles};
-ghost use Rattle.vcs_machine.specs.Frame.{Rules, Machine, Stop, Ended, machine_at, StopsAs, stop_of, turn, turns, Went};
+ghost use Rattle.vcs_machine.specs.Frame.{Rules, Machine, Stop, Ended, machine_at, StopsAs};
+ghost use Rattle.vcs_machine.specs.Frame.{most_frame_cycles, stop_of, turn, turns, Went};
 ghost use Rattle.vcs_machine.specs.Inputs.{Controls};
 ghost use Rattle.vcs_machine.specs.Outcomes.{frame_of, left_by, machine_of, state_at};
-ghost use Rattle.vcs_machine.specs.Pictures.{rows_of};
+ghost use Rattle.vcs_machine.specs.Pictures.{most_rows, rows_of};
 ghost use Rattle.vcs_machine.specs.States.{is_state, line_cycle_of};
 ghost use Rattle.vcs_machine.specs.declared.fields.StateFields.{StateFields};
 
@@ -40,9 +41,9 @@ pub const fn law_of_whole_cycles()
 /// has the beam's place: three clocks a cycle on from where it began.
 pub const fn law_of_frame_lengths()
     ensures cycles { (cart : List ℕ) (s : StateFields) (i : Controls) → IsTrue (is_state s)
-        → (machine_at (stop_of (console_rules logged) (machine_of cart s i []))).cycles ≤ 24401 }
+        → (machine_at (stop_of (console_rules logged) (machine_of cart s i []))).cycles ≤ most_frame_cycles }
     ensures rows { (cart : List ℕ) (s : StateFields) (i : Controls) → IsTrue (is_state s)
-        → rows_of (line_cycle_of s) (machine_at (stop_of (console_rules logged) (machine_of cart s i []))).cycles ≤ 322 }
+        → rows_of (line_cycle_of s) (machine_at (stop_of (console_rules logged) (machine_of cart s i []))).cycles ≤ most_rows }
     ensures beam { (cart : List ℕ) (s : StateFields) (i : Controls) → IsTrue (is_state s)
         → let here = machine_at (stop_of (console_rules logged) (machine_of cart s i [])) in
         here.bus.tia.fields.clock ≡ 3 * line_cycle_of (state_at here) }

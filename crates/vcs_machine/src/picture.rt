@@ -1,5 +1,6 @@
 //! The picture of a frame.
 ghost use Rattle.std.specs.Prelude.{◌≡◌, ◌↔◌, ◌<◌, ◌≤◌, ◌-◌, [], length, take, slice_index, slice_index_or, vec_capacity, IsTrue, IfOk};
+ghost use Rattle.vcs_machine.specs.Frame.{most_frame_cycles};
 ghost use Rattle.vcs_machine.specs.Pictures.{with_pixel, blank, rows_of};
 ghost use Rattle.vcs_machine.specs.Private.Rows.{filled};
 
@@ -20,12 +21,13 @@ pub struct Picture {
 
 impl Model for Picture {
     ghost use Rattle.std.specs.Prelude.{List, ℕ, length, ◌≤◌};
+    ghost use Rattle.vcs_machine.specs.Pictures.{most_rows};
 
     ghost Value = { List (List ℕ) };
 
     ghost view = { λ p. p.rows.items };
 
-    ghost invariant = { λ p. length p.rows.items ≤ 322 };
+    ghost invariant = { λ p. length p.rows.items ≤ most_rows };
 }
 
 impl Paint for Picture {
@@ -123,7 +125,7 @@ impl Picture {
 
 /// The rows of a frame that began at this cycle of its scanline and took so many cycles.
 pub(crate) fn rows(line_cycle: u8, cycles: u32) -> u16
-    requires { cycles ≤ 24401 }
+    requires { cycles ≤ most_frame_cycles }
     ensures { result ≡ rows_of line_cycle cycles }
 {
     ((line_cycle as u32 + cycles + 75) / 76) as u16

@@ -3,7 +3,7 @@ ghost use Rattle.std.specs.Prelude.{◌≡◌, ◌<◌, ◌≤◌, ◌+◌, Matc
 ghost use Rattle.mos_cpu.specs.Registers.{Registers};
 ghost use Rattle.vcs_machine.specs.Consoles.{console_rules};
 ghost use Rattle.vcs_machine.specs.Faults.{halted};
-ghost use Rattle.vcs_machine.specs.Frame.{turn, Went, Failed, stop_of, Ended};
+ghost use Rattle.vcs_machine.specs.Frame.{turn, Went, Failed, stop_of, Ended, most_frame_cycles};
 
 use crate::console::Console;
 use crate::fault::{FaultKind, Halt};
@@ -38,7 +38,7 @@ pub fn run<S: Paint>(cpu: &mut Cpu, console: &mut Console<S>) -> Result<u32, Hal
         ≡ Ended (record { registers = cpu.new; bus = console.new; cycles = total })) }
     ensures err { IfErr result (λ halt. stop_of (console_rules S.drawn) (record { registers = cpu.old; bus = console.old; cycles = 0 })
         ≡ halted halt.kind (record { registers = cpu.new; bus = console.new; cycles = halt.cycles })) }
-    ensures most { IfOk result (λ total. total ≤ 24401) }
+    ensures most { IfOk result (λ total. total ≤ most_frame_cycles) }
 {
     let mut cycles = 0;
     while cycles < TOO_MANY_CYCLES {
