@@ -44,17 +44,16 @@ worked_united desk job a b first second hand own known part items one two = reco
 }
 
 -- What a worker promised, at the values that the promise was made of.
-pub promised : (m : MovieData) (cuts : List ℕ) (keep : Keep) (desk : DeskView) (given : Hand) (a b : WorkerPromise)
-    → a ≡ b → b.movie.value ≡ m → b.cuts.value ≡ cuts → b.keep ≡ keep → b.desk.value ≡ desk → b.hand.value ≡ given
-    → (hand : Hand) → IsWorked a.desk.value (job_of a.movie.value a.cuts.value a.keep) a.hand.value.ticket.part.share hand × (vec_len hand.pieces ≤ a.desk.value.segments)
+pub promised : (m : MovieData) (cuts : List ℕ) (keep : Keep) (desk : DeskView) (given : Hand) (p : WorkerPromise)
+    → p.movie.value ≡ m → p.cuts.value ≡ cuts → p.keep ≡ keep → p.desk.value ≡ desk → p.hand.value ≡ given
+    → (hand : Hand) → IsWorked p.desk.value (job_of p.movie.value p.cuts.value p.keep) p.hand.value.ticket.part.share hand × (vec_len hand.pieces ≤ p.desk.value.segments)
     → IsWorked desk (job_of m cuts keep) given.ticket.part.share hand × (vec_len hand.pieces ≤ desk.segments)
-promised m cuts keep desk given a b is of_movie of_cuts of_keep of_desk of_hand hand kept =
+promised m cuts keep desk given p of_movie of_cuts of_keep of_desk of_hand hand kept =
     let P : MovieData → List ℕ → Keep → DeskView → Hand → Type 0 = λ m c k d h. IsWorked d (job_of m c k) h.ticket.part.share hand × (vec_len hand.pieces ≤ d.segments) in
-    let at_b : P b.movie.value b.cuts.value b.keep b.desk.value b.hand.value = subst (λ (p : WorkerPromise). P p.movie.value p.cuts.value p.keep p.desk.value p.hand.value) is kept in
-    let one : P m b.cuts.value b.keep b.desk.value b.hand.value = subst (λ (x : MovieData). P x b.cuts.value b.keep b.desk.value b.hand.value) of_movie at_b in
-    let two : P m cuts b.keep b.desk.value b.hand.value = subst (λ (x : List ℕ). P m x b.keep b.desk.value b.hand.value) of_cuts one in
-    let three : P m cuts keep b.desk.value b.hand.value = subst (λ (x : Keep). P m cuts x b.desk.value b.hand.value) of_keep two in
-    let four : P m cuts keep desk b.hand.value = subst (λ (x : DeskView). P m cuts keep x b.hand.value) of_desk three in
+    let one : P m p.cuts.value p.keep p.desk.value p.hand.value = subst (λ (x : MovieData). P x p.cuts.value p.keep p.desk.value p.hand.value) of_movie kept in
+    let two : P m cuts p.keep p.desk.value p.hand.value = subst (λ (x : List ℕ). P m x p.keep p.desk.value p.hand.value) of_cuts one in
+    let three : P m cuts keep p.desk.value p.hand.value = subst (λ (x : Keep). P m cuts x p.desk.value p.hand.value) of_keep two in
+    let four : P m cuts keep desk p.hand.value = subst (λ (x : DeskView). P m cuts keep x p.hand.value) of_desk three in
     subst (λ (x : Hand). P m cuts keep desk x) of_hand four
 
 module _ (desk : DeskView) (all rest : List Hand) (last : Hand) (is : all ≡ rest ++ last ∷ []) (some : 0 < length rest) where

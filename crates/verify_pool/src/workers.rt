@@ -2,12 +2,12 @@
 ghost use Rattle.std.specs.Prelude.{◌≡◌, ℕ, ◌+◌, ◌*◌, ◌≤◌, length, IfOk, OnErr, vec_len, vec_capacity};
 ghost use Rattle.replay_segments.specs.Cuts.{Fits};
 ghost use Rattle.replay_segments.specs.Pieces.{Job, job_of};
-ghost use Rattle.verify_pool.specs.Crew.{AreReady, IsWorked, first_room, shares};
+ghost use Rattle.verify_pool.specs.Crew.{AreReady, IsReady, IsWorked, first_room, shares};
 ghost use Rattle.segment_desk.specs.Views.{IsOf};
 
 use crate::gate::Gate;
 use crate::hand::Hand;
-use crate::worker::work;
+use crate::worker::Shared;
 use movie_file::Movie;
 use replay_plan::Keep;
 use replay_segments::Cuts;
@@ -16,7 +16,7 @@ use std::alloc::Global;
 use std::snapshot::Snapshot;
 use std::sync::Wait;
 use std::thread;
-use std::thread::{Promise, Scope, Threads};
+use std::thread::{Promise, PromisedHandle, Scope, Threads};
 
 /// A thread could not be started.
 #[derive(Clone, Copy, Debug, PartialEq, Eq)]
@@ -65,32 +65,28 @@ fn united(desk: &Desk, first: Hand, second: Hand) -> Hand
     Hand { ticket, pieces }
 }
 
-/// Works on all hands, the last one in a thread of its own, and the first one on the calling thread.
-fn crew_within<'s, E, G: Gate + Sync, R: Threads + Wait + Sync>(
+/// Starts a thread that works on a hand. Its handle promises what a worker does of what is shared
+/// and of that hand.
+fn start<'s, E, G: Gate + Sync>(
     scope: &'s Scope<'s, E>,
-    rt: &'s R,
-    alloc: Global,
-    movie: &'s Movie,
-    cuts: &'s Cuts,
-    keep: Keep,
-    desk: &'s Desk,
-    mut hands: Vec<Hand>,
-    gate: &'s G,
-) -> Result<Hand, NoThread>
-    requires fit { Fits cuts.now movie.now }
-    requires desk { desk.now.segments ≡ length cuts.now + 1 }
-    requires ready { AreReady desk.now hands.items }
-    ensures worked { IfOk result (λ hand. IsWorked desk.now (job_of movie.now cuts.now keep) (shares hands.items) hand) }
-    ensures few { IfOk result (λ hand. vec_len hand.pieces ≤ desk.now.segments * length hands.items) }
-    ensures room { IfOk result (λ hand. first_room hands.items ≤ vec_capacity hand.pieces) }
-    ensures refused { OnErr result (2 ≤ length hands.items) }
+    shared: &Shared<'s, G>,
+    hand: Hand,
+) -> Result<PromisedHandle<Hand, WorkerPromise>, NoThread>
+    requires ready { IsReady shared.now.desk.now hand }
+    ensures movie { IfOk result (λ worker. worker.promise.movie.value ≡ shared.now.movie.now) }
+    ensures cuts { IfOk result (λ worker. worker.promise.cuts.value ≡ shared.now.cuts.now) }
+    ensures keep { IfOk result (λ worker. worker.promise.keep ≡ shared.now.keep) }
+    ensures desk { IfOk result (λ worker. worker.promise.desk.value ≡ shared.now.desk.now) }
+    ensures hand { IfOk result (λ worker. worker.promise.hand.value ≡ hand) }
 {
-    let Some(hand) = hands.pop() else {
-        unreachable!()
-    };
-    if hands.is_empty() {
-        return Ok(work(alloc, movie, cuts, keep, desk, gate, hand));
-    }
+    let Shared {
+        alloc,
+        movie,
+        cuts,
+        keep,
+        desk,
+        gate,
+    } = *shared;
     let promise = WorkerPromise {
         movie: Snapshot::of(movie),
         cuts: Snapshot::of(cuts),
@@ -98,18 +94,58 @@ fn crew_within<'s, E, G: Gate + Sync, R: Threads + Wait + Sync>(
         desk: Snapshot::of(desk),
         hand: Snapshot::of(&hand),
     };
-    let started = scope.spawn_with(promise, move || {
-        work(alloc, movie, cuts, keep, desk, gate, hand)
-    });
+    let started = scope.spawn_with(
+        promise,
+        move || -> Hand
+            requires fit { Fits cuts.now movie.now }
+            requires size { desk.now.segments ≡ length cuts.now + 1 }
+            requires ready { IsReady desk.now hand }
+            ensures worked { IsWorked desk.entry.now (job_of movie.entry.now cuts.entry.now keep) hand.ticket.part.share result }
+            ensures few { vec_len result.pieces ≤ desk.entry.now.segments }
+        {
+            let shared = Shared {
+                alloc,
+                movie,
+                cuts,
+                keep,
+                desk,
+                gate,
+            };
+            shared.work(hand)
+        },
+    );
     let Ok(worker) = started else {
         return Err(NoThread);
     };
-    let rest = crew_within(scope, rt, alloc, movie, cuts, keep, desk, hands, gate);
+    Ok(worker)
+}
+
+/// Works on all hands, the last one in a thread of its own, and the first one on the calling thread.
+fn crew_within<'s, E, G: Gate + Sync, R: Threads + Wait + Sync>(
+    scope: &'s Scope<'s, E>,
+    rt: &'s R,
+    shared: &Shared<'s, G>,
+    mut hands: Vec<Hand>,
+) -> Result<Hand, NoThread>
+    requires ready { AreReady shared.now.desk.now hands.items }
+    ensures worked { IfOk result (λ hand. IsWorked shared.now.desk.now (job_of shared.now.movie.now shared.now.cuts.now shared.now.keep) (shares hands.items) hand) }
+    ensures few { IfOk result (λ hand. vec_len hand.pieces ≤ shared.now.desk.now.segments * length hands.items) }
+    ensures room { IfOk result (λ hand. first_room hands.items ≤ vec_capacity hand.pieces) }
+    ensures refused { OnErr result (2 ≤ length hands.items) }
+{
+    let Some(hand) = hands.pop() else {
+        unreachable!()
+    };
+    if hands.is_empty() {
+        return Ok(shared.work(hand));
+    }
+    let worker = start(scope, shared, hand)?;
+    let rest = crew_within(scope, rt, shared, hands);
     let last = worker.join(rt);
     let Ok(first) = rest else {
         return Err(NoThread);
     };
-    Ok(united(desk, first, last))
+    Ok(united(shared.desk, first, last))
 }
 
 /// Works on all hands until their tickets have ended, each hand but the first in a thread of its
@@ -128,7 +164,7 @@ pub fn crew<G: Gate + Sync, R: Threads + Wait + Sync>(
     cuts: &Cuts,
     keep: Keep,
     desk: &Desk,
-    mut hands: Vec<Hand>,
+    hands: Vec<Hand>,
     gate: &G,
 ) -> Result<Hand, NoThread>
     requires fit { Fits cuts.now movie.now }
@@ -137,12 +173,6 @@ pub fn crew<G: Gate + Sync, R: Threads + Wait + Sync>(
     ensures worked { IfOk result (λ hand. IsWorked desk.now (job_of movie.now cuts.now keep) (shares hands.items) hand) }
     ensures refused { OnErr result (2 ≤ length hands.items) }
 {
-    if hands.len() == 1 {
-        let Some(hand) = hands.pop() else {
-            unreachable!()
-        };
-        return Ok(work(alloc, movie, cuts, keep, desk, gate, hand));
-    }
     thread::scope(
         thread::scope_env(),
         rt,
@@ -152,6 +182,16 @@ pub fn crew<G: Gate + Sync, R: Threads + Wait + Sync>(
             requires ready { AreReady desk.now hands.items }
             ensures worked { IfOk result (λ hand. IsWorked desk.entry.now (job_of movie.entry.now cuts.entry.now keep) (shares hands.items) hand) }
             ensures refused { OnErr result (2 ≤ length hands.items) }
-        { crew_within(scope, rt, alloc, movie, cuts, keep, desk, hands, gate) },
+        {
+            let shared = Shared {
+                alloc,
+                movie,
+                cuts,
+                keep,
+                desk,
+                gate,
+            };
+            crew_within(scope, rt, &shared, hands)
+        },
     )
 }
