@@ -54,12 +54,12 @@ bad_many done line many =
     (lt-leb (frames_in (done ++ line ∷ [])) 262143 (omega (arith, sum_by-append frames_on done (line ∷ []))))
 
 -- what comes before good lines is good
-pub good_before : (front back : List (List ℕ)) → are_good (front ++ back) ≡ true → are_good front ≡ true
-good_before front back good =
-    let parts = and_parts (list_all can_be_read (front ++ back)) (nat_le (frames_in (front ++ back)) most_frames) good in
-    let few = leb-true (frames_in (front ++ back)) 262143 parts.1 in
-    and_from _ _ (and_parts _ _ (sym (list_all-append can_be_read front back) ∙ parts.0)).0
-    (le-leb (frames_in front) 262143 (omega (arith, sum_by-append frames_on front back)))
+pub good_before : (prefix back : List (List ℕ)) → are_good (prefix ++ back) ≡ true → are_good prefix ≡ true
+good_before prefix back good =
+    let parts = and_parts (list_all can_be_read (prefix ++ back)) (nat_le (frames_in (prefix ++ back)) most_frames) good in
+    let few = leb-true (frames_in (prefix ++ back)) 262143 parts.1 in
+    and_from _ _ (and_parts _ _ (sym (list_all-append can_be_read prefix back) ∙ parts.0)).0
+    (le-leb (frames_in prefix) 262143 (omega (arith, sum_by-append frames_on prefix back)))
 
 good_up_to : (lines : List (List ℕ)) (n : ℕ) → are_good lines ≡ true → are_good (take n lines) ≡ true
 good_up_to lines n good = good_before (take n lines) (drop n lines) (ap are_good (take-append-drop n lines) ∙ good)
@@ -75,9 +75,9 @@ first_bad-none lines good =
     found_nowhere (find (is_bad_up_to lines)) (is_bad_up_to lines) Some None refl (λ _ _. refl) (range_with_len 1 (length lines)) 0
     (λ k h. ap not (good_up_to lines (get_or (range_with_len 1 (length lines)) k 0) good))
 
-take_to : (front : List (List ℕ)) (x : List ℕ) (back : List (List ℕ)) → take (suc (length front)) (front ++ x ∷ back) ≡ front ++ x ∷ []
+take_to : (prefix : List (List ℕ)) (x : List ℕ) (back : List (List ℕ)) → take (suc (length prefix)) (prefix ++ x ∷ back) ≡ prefix ++ x ∷ []
 take_to [] x back = refl
-take_to (y ∷ front) x back = ap (λ (ls : List (List ℕ)). y ∷ ls) (take_to front x back)
+take_to (y ∷ prefix) x back = ap (λ (ls : List (List ℕ)). y ∷ ls) (take_to prefix x back)
 
 pub first_bad-at : (done : List (List ℕ)) (line : List ℕ) (more : List (List ℕ)) → are_good done ≡ true → are_good (done ++ line ∷ []) ≡ false
     → first_bad (done ++ line ∷ more) ≡ Some (length done + 1)

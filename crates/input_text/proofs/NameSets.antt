@@ -9,8 +9,8 @@ use Rattle.std.proofs.lemmas.Nat.Bits.{bit_at_or, bit_at_xor, bit_at-lt, bit_at-
 use Rattle.input_text.specs.declared.name.Name.{Name}
 use Rattle.input_text.specs.declared.name.Name.TheVariants.{Up0, Down0, Left0, Right0, Fire0, Up1, Down1, Left1, Right1, Fire1, Reset, Select, Monochrome, Pro0, Pro1}
 use Rattle.input_text.specs.declared.name.Port.{Port}
-use Rattle.input_text.specs.Names.{entry_of, names, idle, byte_of, bit_in, bits_in, is_held, holding}
-use Rattle.input_text.proofs.Holding.{by_port, bits_onto}
+use Rattle.input_text.specs.Names.{bit_of_name, names, idle, port_byte, bit_in, bits_in, is_held, input_with}
+use Rattle.input_text.proofs.HeldLemmas.{by_port, bits_onto}
 
 -- where a name stands in the table
 place_of : (name : Name) → (k : ℕ) × (k < 15) × (get_or names k Up0 ≡ name)
@@ -47,10 +47,10 @@ same_from_truth false false e = refl
 
 -- whether the bit of a name is one of another's, and whether they are written alike
 abbrev has_its_bit : Name → Name → Bool
-has_its_bit name other = nat_eq (bit_at (bit_in (entry_of name).port other) (entry_of name).bit) 1
+has_its_bit name other = nat_eq (bit_at (bit_in (bit_of_name name).port other) (bit_of_name name).bit) 1
 
 abbrev is_its_word : Name → Name → Bool
-is_its_word name other = bytes_eq (entry_of other).word (entry_of name).word
+is_its_word name other = bytes_eq (bit_of_name other).word (bit_of_name name).word
 
 one_bit : (name other : Name) → has_its_bit name other ≡ is_its_word name other
 one_bit name other =
@@ -84,12 +84,12 @@ or_more false b c = refl
 
 -- the bit of a name is there where it was there before, or the name is among those that are added
 bits_found : (name : Name) (held : List Name) (bits : ℕ)
-    → nat_eq (bit_at (bits_onto (entry_of name).port bits held) (entry_of name).bit) 1
-    ≡ (nat_eq (bit_at bits (entry_of name).bit) 1 || list_any (is_its_word name) held)
+    → nat_eq (bit_at (bits_onto (bit_of_name name).port bits held) (bit_of_name name).bit) 1
+    ≡ (nat_eq (bit_at bits (bit_of_name name).bit) 1 || list_any (is_its_word name) held)
 bits_found name [] bits = or_none _
 bits_found name (other ∷ held) bits =
-    let port : Port = (entry_of name).port in
-    let bit : ℕ = (entry_of name).bit in
+    let port : Port = (bit_of_name name).port in
+    let bit : ℕ = (bit_of_name name).bit in
     let own : nat_eq (bit_at (bit_or bits (bit_in port other)) bit) 1 ≡ (nat_eq (bit_at bits bit) 1 || is_its_word name other) =
     ap (λ (n : ℕ). nat_eq n 1) (bit_at_or bits (bit_in port other) bit)
     ∙ either_bit (bit_at bits bit) (bit_at (bit_in port other) bit) (bit_at-lt bits bit) (bit_at-lt (bit_in port other) bit)
@@ -98,14 +98,14 @@ bits_found name (other ∷ held) bits =
     ∙ ap (λ (b : Bool). b || list_any (is_its_word name) held) own
     ∙ or_more (nat_eq (bit_at bits bit) 1) (is_its_word name other) (list_any (is_its_word name) held)
 
-pub held_found : (held : List Name) (name : Name) → is_held (holding held) name ≡ list_any (is_its_word name) held
+pub held_found : (held : List Name) (name : Name) → is_held (input_with held) name ≡ list_any (is_its_word name) held
 held_found held name =
-    let port : Port = (entry_of name).port in
-    let bit : ℕ = (entry_of name).bit in
-    let byte : byte_of port (holding held) ≡ bit_xor (byte_of port idle) (bits_in port held) =
-    by_port (λ (p : Port). byte_of p (holding held) ≡ bit_xor (byte_of p idle) (bits_in p held)) refl refl refl port in
-    ap (λ (n : ℕ). not (nat_eq (bit_at n bit) (bit_at (byte_of port idle) bit))) byte
-    ∙ ap (λ (n : ℕ). not (nat_eq n (bit_at (byte_of port idle) bit))) (bit_at_xor (byte_of port idle) (bits_in port held) bit)
-    ∙ turned_bit (bit_at (byte_of port idle) bit) (bit_at (bits_in port held) bit) (bit_at-lt (byte_of port idle) bit) (bit_at-lt (bits_in port held) bit)
+    let port : Port = (bit_of_name name).port in
+    let bit : ℕ = (bit_of_name name).bit in
+    let byte : port_byte port (input_with held) ≡ bit_xor (port_byte port idle) (bits_in port held) =
+    by_port (λ (p : Port). port_byte p (input_with held) ≡ bit_xor (port_byte p idle) (bits_in p held)) refl refl refl port in
+    ap (λ (n : ℕ). not (nat_eq (bit_at n bit) (bit_at (port_byte port idle) bit))) byte
+    ∙ ap (λ (n : ℕ). not (nat_eq n (bit_at (port_byte port idle) bit))) (bit_at_xor (port_byte port idle) (bits_in port held) bit)
+    ∙ turned_bit (bit_at (port_byte port idle) bit) (bit_at (bits_in port held) bit) (bit_at-lt (port_byte port idle) bit) (bit_at-lt (bits_in port held) bit)
     ∙ bits_found name held 0
     ∙ ap (λ (n : ℕ). nat_eq n 1 || list_any (is_its_word name) held) (bit_at-zero bit)

@@ -13,10 +13,10 @@ use Rattle.input_text.specs.declared.held.Held.{Held}
 use Rattle.input_text.specs.declared.name.Name.{Name}
 use Rattle.input_text.specs.declared.name.Name.TheVariants.{Up0}
 use Rattle.input_text.specs.declared.name.Port.{Port}
-use Rattle.input_text.specs.Names.{entry_of, names, idle, byte_of, is_held, held_in}
-use Rattle.input_text.specs.Private.HeldBits.{bits_of, has_bit}
+use Rattle.input_text.specs.Names.{bit_of_name, names, idle, port_byte, is_held, names_in}
+use Rattle.input_text.specs.Private.HeldBits.{bits_of, holds_name}
 use Rattle.input_text.specs.Stretches.{name_after_space}
-use Rattle.input_text.proofs.Holding.{by_port}
+use Rattle.input_text.proofs.HeldLemmas.{by_port}
 
 -- the names up to a place of the table
 abbrev pub printed_names : Controls → ℕ → List ℕ
@@ -39,7 +39,7 @@ pub printed_other : (input : Controls) (place : ℕ) → place < length names �
     → printed_names input (place + 1) ≡ printed_names input place
 printed_other input place h other = one_name input place h ∙ rw other (append-nil (printed_names input place))
 
-pub printed_all : (input : Controls) (place : ℕ) → place ≡ length names → printed_names input place ≡ flat_map name_after_space (held_in input)
+pub printed_all : (input : Controls) (place : ℕ) → place ≡ length names → printed_names input place ≡ flat_map name_after_space (names_in input)
 printed_all input place e =
     ap (λ (ns : List Name). flat_map name_after_space (filter (is_held input) ns)) (ap (λ (n : ℕ). take n names) e ∙ take-length names)
 
@@ -53,15 +53,15 @@ differ a (suc (suc b)) h k = absurd (omega arith)
 
 -- the bits in which an input differs from an idle one are those of the names that are held
 pub held_bits : (held : Held) (input : Controls) (name : Name) → held.swcha ≡ bit_xor input.swcha idle.swcha → held.swchb ≡ bit_xor input.swchb idle.swchb
-    → held.buttons ≡ bit_xor input.buttons idle.buttons → has_bit held name ≡ is_held input name
+    → held.buttons ≡ bit_xor input.buttons idle.buttons → holds_name held name ≡ is_held input name
 held_bits held input name a b c =
-    let port : Port = (entry_of name).port in
-    let bit : ℕ = (entry_of name).bit in
-    let bits : bits_of port held ≡ bit_xor (byte_of port input) (byte_of port idle) =
-    by_port (λ (p : Port). bits_of p held ≡ bit_xor (byte_of p input) (byte_of p idle)) a b c port in
+    let port : Port = (bit_of_name name).port in
+    let bit : ℕ = (bit_of_name name).bit in
+    let bits : bits_of port held ≡ bit_xor (port_byte port input) (port_byte port idle) =
+    by_port (λ (p : Port). bits_of p held ≡ bit_xor (port_byte p input) (port_byte p idle)) a b c port in
     ap (λ (n : ℕ). eqb (bit_at n bit) 1) bits
-    ∙ ap (λ (n : ℕ). eqb n 1) (bit_at_xor (byte_of port input) (byte_of port idle) bit)
-    ∙ differ (bit_at (byte_of port input) bit) (bit_at (byte_of port idle) bit) (bit_at-lt (byte_of port input) bit) (bit_at-lt (byte_of port idle) bit)
+    ∙ ap (λ (n : ℕ). eqb n 1) (bit_at_xor (port_byte port input) (port_byte port idle) bit)
+    ∙ differ (bit_at (port_byte port input) bit) (bit_at (port_byte port idle) bit) (bit_at-lt (port_byte port input) bit) (bit_at-lt (port_byte port idle) bit)
 
 -- a text, a count and names, and one more name
 pub after_name : (before count names word : List ℕ) → ((before ++ (count ++ names)) ++ 32 ∷ []) ++ word ≡ before ++ (count ++ (names ++ 32 ∷ word))

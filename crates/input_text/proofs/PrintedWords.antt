@@ -16,14 +16,14 @@ use Rattle.std.proofs.Math.Seq.{take-length}
 use Rattle.input_text.specs.declared.name.Name.{Name}
 use Rattle.input_text.specs.declared.name.Name.TheVariants.{Up0, Down0, Left0, Right0, Fire0, Up1, Down1, Left1, Right1, Fire1, Reset, Select, Monochrome, Pro0, Pro1}
 use Rattle.input_text.specs.declared.stretch.Stretch.{Stretch}
-use Rattle.input_text.specs.Names.{entry_of, held_in}
+use Rattle.input_text.specs.Names.{bit_of_name, names_in}
 use Rattle.input_text.specs.Stretches.{name_after_space}
-use Rattle.input_text.specs.Texts.{number_of, is_count, named}
-use Rattle.input_text.specs.Words.{is_blank, words_in, uncommented, words_of}
-use Rattle.input_text.proofs.Splits.{is_part, part_kept}
+use Rattle.input_text.specs.Texts.{number_of, is_count, name_of}
+use Rattle.input_text.specs.Words.{is_blank, words_in, without_comment, words_of}
+use Rattle.input_text.proofs.LineLemmas.{is_part, part_kept}
 
 abbrev pub word_of : Name → List ℕ
-word_of name = (entry_of name).word
+word_of name = (bit_of_name name).word
 
 -- digits and small letters stand above space, tab, carriage return, line feed and `#`
 abbrev is_word : List ℕ → Bool
@@ -47,7 +47,7 @@ name_is_word Pro0 = refl
 name_is_word Pro1 = refl
 
 -- a name's word is that name
-word_is_named : (name : Name) → named (word_of name) ≡ Some name
+word_is_named : (name : Name) → name_of (word_of name) ≡ Some name
 word_is_named Up0 = refl
 word_is_named Down0 = refl
 word_is_named Left0 = refl
@@ -128,12 +128,12 @@ names_in_line (name ∷ held) =
 
 -- a printed line without its line feed
 abbrev pub line_text : Stretch → List ℕ
-line_text s = decimal s.count ++ flat_map name_after_space (held_in s.input)
+line_text s = decimal s.count ++ flat_map name_after_space (names_in s.input)
 
 line_bytes : (s : Stretch) → s.count < 2 ^ 64 → list_all is_line_byte (line_text s) ≡ true
 line_bytes s h =
-    list_all-append is_line_byte (decimal s.count) (flat_map name_after_space (held_in s.input))
-    ∙ and_from _ _ (word_in_line (decimal s.count) (and_parts _ _ (decimal_is_word s.count h)).0) (names_in_line (held_in s.input))
+    list_all-append is_line_byte (decimal s.count) (flat_map name_after_space (names_in s.input))
+    ∙ and_from _ _ (word_in_line (decimal s.count) (and_parts _ _ (decimal_is_word s.count h)).0) (names_in_line (names_in s.input))
 
 other_byte : (b c : ℕ) → c ≤ 35 → c ≢ 32 → is_line_byte b ≡ true → nat_eq b c ≡ false
 other_byte b c h k e =
@@ -146,20 +146,20 @@ pub without_byte : (s : Stretch) (c : ℕ) → s.count < 2 ^ 64 → c ≤ 35 →
 without_byte s c h low other k d within =
     other_byte (get_or (line_text s) k d) c low other (AllPass-from_list_all is_line_byte (line_text s) (line_bytes s h) k d within)
 
-whole_line : (s : Stretch) → s.count < 2 ^ 64 → uncommented (line_text s) ≡ line_text s
+whole_line : (s : Stretch) → s.count < 2 ^ 64 → without_comment (line_text s) ≡ line_text s
 whole_line s h =
     ap (λ (n : ℕ). take n (line_text s))
     (position_or_len_is (λ b. nat_eq b 35) (line_text s) (length (line_text s)) 0 (omega arith)
     (λ k within. without_byte s 35 h (omega arith) (λ e. omega arith) k 0 within) (λ past. absurd (omega arith)))
     ∙ take-length (line_text s)
 
-pub words_of-line : (s : Stretch) → s.count < 2 ^ 64 → words_of (line_text s) ≡ decimal s.count ∷ map word_of (held_in s.input)
-words_of-line s h = ap words_in (whole_line s h) ∙ words_then (decimal s.count) (held_in s.input) (decimal_is_word s.count h)
+pub words_of-line : (s : Stretch) → s.count < 2 ^ 64 → words_of (line_text s) ≡ decimal s.count ∷ map word_of (names_in s.input)
+words_of-line s h = ap words_in (whole_line s h) ∙ words_then (decimal s.count) (names_in s.input) (decimal_is_word s.count h)
 
-pub names_readable : (held : List Name) → list_all (λ word. is_some (named word)) (map word_of held) ≡ true
+pub names_readable : (held : List Name) → list_all (λ word. is_some (name_of word)) (map word_of held) ≡ true
 names_readable [] = refl
 names_readable (name ∷ held) = and_from _ _ (ap is_some (word_is_named name)) (names_readable held)
 
-pub names_named : (held : List Name) → filter_map named (map word_of held) ≡ held
+pub names_named : (held : List Name) → filter_map name_of (map word_of held) ≡ held
 names_named [] = refl
 names_named (name ∷ held) = rw (word_is_named name) (ap (λ (ns : List Name). name ∷ ns) (names_named held))

@@ -8,7 +8,7 @@ use Rattle.std.proofs.lemmas.List.Concat.{flat_map-append}
 use Rattle.std.proofs.lemmas.List.Splits.{slice_split_at}
 use Rattle.vcs_machine.specs.Inputs.{Controls}
 use Rattle.input_text.specs.declared.stretch.Stretch.{Stretch}
-use Rattle.input_text.specs.Names.{held_in, holding, IsLawful}
+use Rattle.input_text.specs.Names.{names_in, input_with, IsInputOfBytes}
 use Rattle.input_text.specs.Stretches.{IsPrinted, inputs_along, line_of}
 use Rattle.input_text.specs.Texts.{is_readable, frames_of, input_of, inputs_of, are_good, inputs_in}
 use Rattle.input_text.specs.Words.{lines_of, words_of}
@@ -20,17 +20,17 @@ use Rattle.input_text.proofs.PrintedWords.{line_text, without_byte, words_of-lin
 record IsPrintable (s : Stretch) : Type 0 where
   some : 1 ≤ s.count
   small : s.count < 2 ^ 64
-  lawful : IsLawful s.input
+  lawful : IsInputOfBytes s.input
 
-lawful_first : (n : ℕ) (input : Controls) (others : List Controls) → 1 ≤ n → AllByRecursion IsLawful (replicate n input ++ others) → IsLawful input
+lawful_first : (n : ℕ) (input : Controls) (others : List Controls) → 1 ≤ n → AllByRecursion IsInputOfBytes (replicate n input ++ others) → IsInputOfBytes input
 lawful_first zero input others h lawful = absurd (omega arith)
 lawful_first (suc n) input others h lawful = lawful.0
 
-lawful_after : (inputs others : List Controls) → AllByRecursion IsLawful (inputs ++ others) → AllByRecursion IsLawful others
+lawful_after : (inputs others : List Controls) → AllByRecursion IsInputOfBytes (inputs ++ others) → AllByRecursion IsInputOfBytes others
 lawful_after [] others lawful = lawful
 lawful_after (input ∷ inputs) others lawful = lawful_after inputs others lawful.1
 
-printable : (stretches : List Stretch) → AllByRecursion (λ s. 1 ≤ s.count) stretches → AllByRecursion IsLawful (flat_map inputs_along stretches)
+printable : (stretches : List Stretch) → AllByRecursion (λ s. 1 ≤ s.count) stretches → AllByRecursion IsInputOfBytes (flat_map inputs_along stretches)
     → length (flat_map inputs_along stretches) ≤ 262143 → AllByRecursion IsPrintable stretches
 printable [] counts lawful few = tt
 printable (s ∷ stretches) counts lawful few =
@@ -50,13 +50,13 @@ lines_of-printed (s ∷ stretches) so =
     ∙ ap (λ (lines : List (List ℕ)). line_text s ∷ lines) (lines_of-printed stretches so.1)
 
 line_readable : (s : Stretch) → IsPrintable s → can_be_read (line_text s) ≡ true
-line_readable s so = ap is_readable (words_of-line s so.small) ∙ and_from _ _ (decimal_is_count s.count so.some so.small) (names_readable (held_in s.input))
+line_readable s so = ap is_readable (words_of-line s so.small) ∙ and_from _ _ (decimal_is_count s.count so.some so.small) (names_readable (names_in s.input))
 
 inputs_of-line : (s : Stretch) → IsPrintable s → inputs_of (line_text s) ≡ inputs_along s
 inputs_of-line s so =
     let words = words_of-line s so.small in
     let frames : frames_of (words_of (line_text s)) ≡ s.count = ap frames_of words ∙ number_of-decimal s.count so.small in
-    let input : input_of (words_of (line_text s)) ≡ s.input = ap input_of words ∙ ap holding (names_named (held_in s.input))
+    let input : input_of (words_of (line_text s)) ≡ s.input = ap input_of words ∙ ap input_with (names_named (names_in s.input))
     ∙ holding-held s.input so.lawful in
     rw (frames, input) refl
 
@@ -79,10 +79,10 @@ read_lines stretches so few =
     said (flat_map line_of stretches) (lines ++ [] ∷ []) (lines_of-printed stretches so) (good_more lines [] good refl (omega arith))
     ∙ ap (λ (is : List Controls). Ok is) (flat_map-append inputs_of lines ([] ∷ []) ∙ append-nil (flat_map inputs_of lines) ∙ same)
 
-pub read_printed : (inputs : List Controls) (text : List ℕ) → AllByRecursion IsLawful inputs → length inputs ≤ 262143 → IsPrinted inputs text
+pub read_printed : (inputs : List Controls) (text : List ℕ) → AllByRecursion IsInputOfBytes inputs → length inputs ≤ 262143 → IsPrinted inputs text
     → inputs_in text ≡ Ok inputs
 read_printed inputs text lawful few so =
     let few : length (flat_map inputs_along so.stretches) ≤ 262143 = omega (arith, ap length so.inputs_are) in
-    let lawful : AllByRecursion IsLawful (flat_map inputs_along so.stretches) = rw (← so.inputs_are) lawful in
+    let lawful : AllByRecursion IsInputOfBytes (flat_map inputs_along so.stretches) = rw (← so.inputs_are) lawful in
     ap inputs_in so.text_is ∙ read_lines so.stretches (printable so.stretches so.counts lawful few) few
     ∙ ap (λ (is : List Controls). Ok is) (sym so.inputs_are)

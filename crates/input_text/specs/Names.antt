@@ -10,30 +10,30 @@ use Rattle.input_text.specs.declared.name.Name.TheVariants.{Up0, Down0, Left0, R
 
 -- A name as it is written, and its bit: the port, which is a byte of an input, and the bit's number there. The buttons are a port
 -- like the others.
-pub record Entry : Type 0 where
+pub record NamedBit : Type 0 where
   pub word : List ℕ
   pub port : Port
   pub bit : ℕ
 
-abbrev pub entry : List ℕ → Port → ℕ → Entry
-entry word port bit = record { word = word; port = port; bit = bit }
+abbrev pub named_bit : List ℕ → Port → ℕ → NamedBit
+named_bit word port bit = record { word = word; port = port; bit = bit }
 
-abbrev pub entry_of : Name → Entry
-entry_of Up0 = entry (codes "up0") Swcha 4
-entry_of Down0 = entry (codes "down0") Swcha 5
-entry_of Left0 = entry (codes "left0") Swcha 6
-entry_of Right0 = entry (codes "right0") Swcha 7
-entry_of Fire0 = entry (codes "fire0") Buttons 0
-entry_of Up1 = entry (codes "up1") Swcha 0
-entry_of Down1 = entry (codes "down1") Swcha 1
-entry_of Left1 = entry (codes "left1") Swcha 2
-entry_of Right1 = entry (codes "right1") Swcha 3
-entry_of Fire1 = entry (codes "fire1") Buttons 1
-entry_of Reset = entry (codes "reset") Swchb 0
-entry_of Select = entry (codes "select") Swchb 1
-entry_of Monochrome = entry (codes "monochrome") Swchb 3
-entry_of Pro0 = entry (codes "pro0") Swchb 6
-entry_of Pro1 = entry (codes "pro1") Swchb 7
+abbrev pub bit_of_name : Name → NamedBit
+bit_of_name Up0 = named_bit (codes "up0") Swcha 4
+bit_of_name Down0 = named_bit (codes "down0") Swcha 5
+bit_of_name Left0 = named_bit (codes "left0") Swcha 6
+bit_of_name Right0 = named_bit (codes "right0") Swcha 7
+bit_of_name Fire0 = named_bit (codes "fire0") Buttons 0
+bit_of_name Up1 = named_bit (codes "up1") Swcha 0
+bit_of_name Down1 = named_bit (codes "down1") Swcha 1
+bit_of_name Left1 = named_bit (codes "left1") Swcha 2
+bit_of_name Right1 = named_bit (codes "right1") Swcha 3
+bit_of_name Fire1 = named_bit (codes "fire1") Buttons 1
+bit_of_name Reset = named_bit (codes "reset") Swchb 0
+bit_of_name Select = named_bit (codes "select") Swchb 1
+bit_of_name Monochrome = named_bit (codes "monochrome") Swchb 3
+bit_of_name Pro0 = named_bit (codes "pro0") Swchb 6
+bit_of_name Pro1 = named_bit (codes "pro1") Swchb 7
 
 -- all of them, in the order of printing
 abbrev pub names : List Name
@@ -53,38 +53,38 @@ idle = record { swcha = 0xFF; swchb = 0x3F; buttons = 0 }
 
 -- the bit of a name in the byte of a port: none where another port has it
 abbrev pub bit_in : Port → Name → ℕ
-bit_in port name = if is_same_port port (entry_of name).port then 2 ^ (entry_of name).bit else 0
+bit_in port name = if is_same_port port (bit_of_name name).port then 2 ^ (bit_of_name name).bit else 0
 
 -- the bits of names in the byte of a port, each bit once, however often its name is there
 abbrev pub bits_in : Port → List Name → ℕ
 bits_in port held = fold (λ bits name. bit_or bits (bit_in port name)) 0 held
 
 -- the input in which these names are held: an idle one whose bits of the names are turned over
-abbrev pub holding : List Name → Controls
-holding held = record {
+abbrev pub input_with : List Name → Controls
+input_with held = record {
   swcha = bit_xor idle.swcha (bits_in Swcha held);
   swchb = bit_xor idle.swchb (bits_in Swchb held);
   buttons = bit_xor idle.buttons (bits_in Buttons held);
 }
 
 -- the byte of a port
-abbrev pub byte_of : Port → Controls → ℕ
-byte_of Swcha c = c.swcha
-byte_of Swchb c = c.swchb
-byte_of Buttons c = c.buttons
+abbrev pub port_byte : Port → Controls → ℕ
+port_byte Swcha c = c.swcha
+port_byte Swchb c = c.swchb
+port_byte Buttons c = c.buttons
 
 -- whether a name is held in an input: its bit is another than in an idle one
 abbrev pub is_held : Controls → Name → Bool
 is_held c name =
-    let port = (entry_of name).port in let bit = (entry_of name).bit in
-    not (bit_at (byte_of port c) bit == bit_at (byte_of port idle) bit)
+    let port = (bit_of_name name).port in let bit = (bit_of_name name).bit in
+    not (bit_at (port_byte port c) bit == bit_at (port_byte port idle) bit)
 
 -- the names that are held in an input, in their order
-abbrev pub held_in : Controls → List Name
-held_in c = filter (is_held c) names
+abbrev pub names_in : Controls → List Name
+names_in c = filter (is_held c) names
 
 -- an input as a movie has it: its numbers are bytes, and meet the conditions of an input
-pub record IsLawful (c : Controls) : Type 0 where
+pub record IsInputOfBytes (c : Controls) : Type 0 where
   pub swcha : c.swcha < 2 ^ 8
   pub swchb : c.swchb < 2 ^ 8
   pub input : IsTrue (is_input c)

@@ -5,7 +5,7 @@ use Rattle.std.specs.List.{AllByRecursion, flat_map}
 use Rattle.vcs_machine.specs.Inputs.{Controls}
 use Rattle.input_text.specs.declared.name.Name.{Name}
 use Rattle.input_text.specs.declared.stretch.Stretch.{Stretch}
-use Rattle.input_text.specs.Names.{entry_of, held_in}
+use Rattle.input_text.specs.Names.{bit_of_name, names_in}
 
 -- the inputs of a stretch of frames
 abbrev pub inputs_along : Stretch → List Controls
@@ -19,11 +19,11 @@ AreApart (s ∷ t ∷ more) = (s.input ≢ t.input) × AreApart (t ∷ more)
 
 -- a space and a name
 abbrev pub name_after_space : Name → List ℕ
-name_after_space name = 32 ∷ (entry_of name).word
+name_after_space name = 32 ∷ (bit_of_name name).word
 
 -- how many frames, the names that are held, each after a space, and a line feed
 abbrev pub line_of : Stretch → List ℕ
-line_of s = decimal s.count ++ flat_map name_after_space (held_in s.input) ++ 10 ∷ []
+line_of s = decimal s.count ++ flat_map name_after_space (names_in s.input) ++ 10 ∷ []
 
 -- The text is the lines of stretches that make up the inputs, none of them empty, and each as long as it can be.
 pub record IsPrinted (inputs : List Controls) (text : List ℕ) : Type 0 where

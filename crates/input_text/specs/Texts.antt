@@ -4,7 +4,7 @@ use Rattle.std.specs.List.{list_all, filter_map, flat_map, range_with_len}
 use Rattle.std.specs.Str.{all_ascii_digits, bytes_eq}
 use Rattle.vcs_machine.specs.Inputs.{Controls}
 use Rattle.input_text.specs.declared.name.Name.{Name}
-use Rattle.input_text.specs.Names.{entry_of, names, holding}
+use Rattle.input_text.specs.Names.{bit_of_name, names, input_with}
 use Rattle.input_text.specs.Words.{lines_of, words_of}
 
 -- the most frames that a movie can have: no text says more
@@ -20,13 +20,13 @@ abbrev pub is_count : List ℕ → Bool
 is_count word = all_ascii_digits word && nat_le 1 (number_of word)
 
 -- the name that a word is
-abbrev pub named : List ℕ → Option Name
-named word = find (λ name. bytes_eq (entry_of name).word word) names
+abbrev pub name_of : List ℕ → Option Name
+name_of word = find (λ name. bytes_eq (bit_of_name name).word word) names
 
 -- Words that can be read: none, or how many frames and then names.
 abbrev pub is_readable : List (List ℕ) → Bool
 is_readable [] = true
-is_readable (count ∷ held) = is_count count && list_all (λ word. is_some (named word)) held
+is_readable (count ∷ held) = is_count count && list_all (λ word. is_some (name_of word)) held
 
 -- how many frames a line's words say
 abbrev pub frames_of : List (List ℕ) → ℕ
@@ -35,8 +35,8 @@ frames_of (count ∷ held) = number_of count
 
 -- and with which input
 abbrev pub input_of : List (List ℕ) → Controls
-input_of [] = holding []
-input_of (count ∷ held) = holding (filter_map named held)
+input_of [] = input_with []
+input_of (count ∷ held) = input_with (filter_map name_of held)
 
 -- the inputs of a line
 abbrev pub inputs_of : List ℕ → List Controls

@@ -7,8 +7,8 @@ abbrev pub lines_of : List ℕ → List (List ℕ)
 lines_of text = slice_split (λ byte. byte == 10) text
 
 -- the line without its comment, which begins at `#`
-abbrev pub uncommented : List ℕ → List ℕ
-uncommented line = before_first (λ byte. byte == 35) line
+abbrev pub without_comment : List ℕ → List ℕ
+without_comment line = before_first (λ byte. byte == 35) line
 
 -- space, tab and carriage return
 abbrev pub is_blank : ℕ → Bool
@@ -19,4 +19,4 @@ abbrev pub words_in : List ℕ → List (List ℕ)
 words_in bytes = filter (λ part. not (length part == 0)) (slice_split is_blank bytes)
 
 abbrev pub words_of : List ℕ → List (List ℕ)
-words_of line = words_in (uncommented line)
+words_of line = words_in (without_comment line)

@@ -20,7 +20,7 @@ pub(crate) struct Held {
 }
 
 impl Held {
-    ghost use Rattle.input_text.specs.Private.HeldBits.{has_bit};
+    ghost use Rattle.input_text.specs.Private.HeldBits.{holds_name};
 
     pub(crate) const NOTHING: Held = Held {
         swcha: 0,
@@ -57,7 +57,7 @@ impl Held {
 
     /// Whether a name is there.
     pub(crate) fn has(self, name: Name) -> bool
-        ensures { result ≡ has_bit self name }
+        ensures { result ≡ holds_name self name }
     {
         let byte = match name.port() {
             Port::Swcha => self.swcha,

@@ -1,6 +1,6 @@
 //! The names of what can be held.
 ghost use Rattle.std.specs.Prelude.{◌≡◌, ◌^◌};
-ghost use Rattle.input_text.specs.Names.{entry_of};
+ghost use Rattle.input_text.specs.Names.{bit_of_name};
 
 /// The port that has a name's bit, which is a byte of an input: ports A and B of the RIOT, and the
 /// buttons.
@@ -56,7 +56,7 @@ pub(crate) const NAMES: [Name; 15] = [
 impl Name {
     /// The name as it is written.
     pub(crate) fn word(self) -> &'static str
-        ensures { result.now ≡ (entry_of self).word }
+        ensures { result.now ≡ (bit_of_name self).word }
     {
         match self {
             Name::Up0 => "up0",
@@ -79,7 +79,7 @@ impl Name {
 
     /// The port that has its bit.
     pub(crate) fn port(self) -> Port
-        ensures { result ≡ (entry_of self).port }
+        ensures { result ≡ (bit_of_name self).port }
     {
         match self {
             Name::Up0
@@ -97,7 +97,7 @@ impl Name {
 
     /// Its bit, as a mask of that port's byte.
     pub(crate) fn mask(self) -> u8
-        ensures { result ≡ 2 ^ (entry_of self).bit }
+        ensures { result ≡ 2 ^ (bit_of_name self).bit }
     {
         match self {
             Name::Up1 | Name::Fire0 | Name::Reset => 0x01,

@@ -1,15 +1,15 @@
 //! Reading inputs that are written as text.
 ghost use Rattle.std.specs.Prelude.{◌≡◌, ◌≢◌, ◌+◌, ℕ, List, min, is_some, IfOk, IfSome, Ok, Err};
 ghost use Rattle.std.specs.List.{list_all, filter_map};
-ghost use Rattle.input_text.specs.Names.{holding};
-ghost use Rattle.input_text.specs.Texts.{is_count, number_of, named, is_readable, frames_of, input_of, inputs_in, SaysFrames};
+ghost use Rattle.input_text.specs.Names.{input_with};
+ghost use Rattle.input_text.specs.Texts.{is_count, number_of, name_of, is_readable, frames_of, input_of, inputs_in, SaysFrames};
 ghost use Rattle.input_text.specs.Words.{words_in, words_of};
 
 use crate::error::TextError;
 use crate::held::Held;
 use crate::name::{NAMES, Name};
 use crate::stretch::Stretch;
-use crate::words::{first_line, first_word, uncommented};
+use crate::words::{first_line, first_word, without_comment};
 use std::alloc::Global;
 use vcs_machine::Input;
 
@@ -33,7 +33,7 @@ fn count_in(word: &[u8]) -> Option<u64>
 
 /// The name that a word is.
 fn name_in(word: &[u8]) -> Option<Name>
-    ensures { result ≡ named word.now }
+    ensures { result ≡ name_of word.now }
 {
     for name in NAMES {
         if name.word().as_bytes() == word {
@@ -45,9 +45,9 @@ fn name_in(word: &[u8]) -> Option<Name>
 
 /// The input in which is held what words name, if all of them are names.
 fn input_in(bytes: &[u8]) -> Option<Input>
-    ensures readable { is_some result ≡ list_all (λ word. is_some (named word)) (words_in bytes.now) }
+    ensures readable { is_some result ≡ list_all (λ word. is_some (name_of word)) (words_in bytes.now) }
     ensures value { IfSome result (λ input.
-        input ≡ holding (filter_map named (words_in bytes.now))) }
+        input ≡ input_with (filter_map name_of (words_in bytes.now))) }
 {
     let mut held = Held::NOTHING;
     let mut rest = bytes;
@@ -66,7 +66,7 @@ fn stretch_in(line: &[u8]) -> Option<Stretch>
         s.count ≡ min (frames_of (words_of line.now)) (MOST_FRAMES + 1)) }
     ensures input { IfSome result (λ s. s.input ≡ input_of (words_of line.now)) }
 {
-    match first_word(uncommented(line)) {
+    match first_word(without_comment(line)) {
         None => Some(Stretch {
             count: 0,
             input: Held::NOTHING.input(),

@@ -1,9 +1,9 @@
 //! The lines of a text and the words of a line.
 ghost use Rattle.std.specs.Prelude.{◌≡◌, ◌<◌, ◌⊎◌, ◌==◌, not, [], ◌∷◌, length, position, IfSome, MatchOption};
-ghost use Rattle.input_text.specs.Words.{lines_of, uncommented, is_blank, words_in};
+ghost use Rattle.input_text.specs.Words.{lines_of, without_comment, is_blank, words_in};
 
 /// The place of the first byte of a value.
-fn place_of(value: u8, bytes: &[u8]) -> Option<usize>
+fn index_of(value: u8, bytes: &[u8]) -> Option<usize>
     ensures { result ≡ position (λ byte. byte == value) bytes.now }
 {
     bytes.iter().position(|byte| *byte == value)
@@ -16,17 +16,17 @@ pub(crate) fn first_line(text: &[u8]) -> (&[u8], &[u8])
         ⊎ ((lines_of text.now ≡ result.0.now ∷ []) × (result.1.now ≡ [])) }
     ensures shorter { 0 < length text.now → length result.1.now < length text.now }
 {
-    match place_of(b'\n', text) {
+    match index_of(b'\n', text) {
         Some(end) => (&text[..end], &text[end + 1..]),
         None => (text, &[]),
     }
 }
 
 /// A line without its comment.
-pub(crate) fn uncommented(line: &[u8]) -> &[u8]
-    ensures { result.now ≡ uncommented line.now }
+pub(crate) fn without_comment(line: &[u8]) -> &[u8]
+    ensures { result.now ≡ without_comment line.now }
 {
-    match place_of(b'#', line) {
+    match index_of(b'#', line) {
         Some(end) => &line[..end],
         None => line,
     }

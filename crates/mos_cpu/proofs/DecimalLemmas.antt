@@ -6,7 +6,7 @@ use Rattle.std.proofs.lemmas.Bool.{lt-ltb, le-ltb}
 use Rattle.std.proofs.lemmas.Bool.Decides.{nat_tests}
 use Rattle.mos_cpu.proofs.SumLemmas.{modulo_is, negative_is, top_bits-overflow, signed_sum-modulo}
 use Rattle.mos_cpu.specs.Numbers.{overflows, modulo}
-use Rattle.mos_cpu.specs.Decimal.{high, low_sum, decimal_sum_of, signed_sum_of, low_borrowed, high_borrowed}
+use Rattle.mos_cpu.specs.Decimal.{high_digit, low_sum, decimal_sum_of, signed_sum_of, low_borrowed, high_borrowed}
 
 pub low_sum-lt : (a m p : ℕ) → low_sum a m p < 32
 low_sum-lt a m p = grind (arith, nat_tests)
@@ -17,17 +17,17 @@ pub decimal_overflow : (a m p : ℕ) → a < 256 → m < 256
     ≡ overflows (signed_sum_of a m p)
 decimal_overflow a m p ha hm =
     let small : low_sum a m p < 32 = low_sum-lt a m p in
-    let xa : high a < 256 = omega arith in
-    let xm : high m < 256 = omega arith in
-    let ta : a / 128 % 2 ≡ high a / 128 = omega arith in
-    let tm : m / 128 % 2 ≡ high m / 128 = omega arith in
-    let room : high a % 128 + high m % 128 + low_sum a m p < 256 = omega arith in
-    top_bits-overflow a m (high a) (high m) (low_sum a m p) (decimal_sum_of a m p % 256) xa xm ta tm room refl
+    let xa : high_digit a < 256 = omega arith in
+    let xm : high_digit m < 256 = omega arith in
+    let ta : a / 128 % 2 ≡ high_digit a / 128 = omega arith in
+    let tm : m / 128 % 2 ≡ high_digit m / 128 = omega arith in
+    let room : high_digit a % 128 + high_digit m % 128 + low_sum a m p < 256 = omega arith in
+    top_bits-overflow a m (high_digit a) (high_digit m) (low_sum a m p) (decimal_sum_of a m p % 256) xa xm ta tm room refl
 
 -- The digits' sum modulo 256 is that of the signed sum.
 pub decimal_modulo : (a m p : ℕ) → a < 256 → m < 256
     → modulo (signed_sum_of a m p) 256 ≡ decimal_sum_of a m p % 256
-decimal_modulo a m p ha hm = signed_sum-modulo (high a) (high m) (low_sum a m p) (omega arith) (omega arith)
+decimal_modulo a m p ha hm = signed_sum-modulo (high_digit a) (high_digit m) (low_sum a m p) (omega arith) (omega arith)
 
 -- The binary sum in two steps.
 pub carried : (a m c : ℕ) → ((a + m) % 256 + c) % 256 ≡ (a + m + c) % 256

@@ -3,7 +3,7 @@ use Rattle.std.proofs.Common.{◌≡◌, ℕ, ◌+◌, ◌-◌, ◌*◌, ◌/◌
 use Rattle.std.specs.Prelude.{not, if◌then◌else◌}
 use Rattle.std.proofs.lemmas.Bool.{agree_below, agree_below_at, eqb-true}
 use Rattle.std.proofs.lemmas.Grind.{common_steps}
-use Rattle.mos_cpu.specs.Status.{weight, has_flag, put_flag}
+use Rattle.mos_cpu.specs.Status.{flag_weight, has_flag, put_flag}
 use Rattle.mos_cpu.specs.declared.status.Flag.{Flag}
 use Rattle.mos_cpu.specs.declared.status.Flag.TheVariants.{Carry, Zero, Interrupt, Decimal, Overflow, Negative}
 
@@ -14,10 +14,10 @@ at_byte test p e h = agree_below_at test (λ q. true) 256 p e h
 
 -- The bit of a flag tested.
 abbrev tests : Flag → ℕ → Bool
-tests flag q = not (nat_eq (bit_and q (weight flag)) 0)
+tests flag q = not (nat_eq (bit_and q (flag_weight flag)) 0)
 
 pub and_weight : (flag : Flag) (p : ℕ) → p < 256
-    → not (nat_eq (bit_and p (weight flag)) 0) ≡ has_flag flag p
+    → not (nat_eq (bit_and p (flag_weight flag)) 0) ≡ has_flag flag p
 and_weight Carry p h = agree_below_at (tests Carry) (has_flag Carry) 256 p refl h
 and_weight Zero p h = agree_below_at (tests Zero) (has_flag Zero) 256 p refl h
 and_weight Interrupt p h = agree_below_at (tests Interrupt) (has_flag Interrupt) 256 p refl h
@@ -27,10 +27,10 @@ and_weight Negative p h = agree_below_at (tests Negative) (has_flag Negative) 25
 
 -- The bit of a flag set.
 abbrev sets : Flag → ℕ → Bool
-sets flag q = nat_eq (bit_or (bit_and q (255 - weight flag)) (weight flag)) (put_flag flag true q)
+sets flag q = nat_eq (bit_or (bit_and q (255 - flag_weight flag)) (flag_weight flag)) (put_flag flag true q)
 
 pub or_weight : (flag : Flag) (p : ℕ) → p < 256
-    → bit_or (bit_and p (255 - weight flag)) (weight flag) ≡ put_flag flag true p
+    → bit_or (bit_and p (255 - flag_weight flag)) (flag_weight flag) ≡ put_flag flag true p
 or_weight Carry p h = eqb-true _ _ (at_byte (sets Carry) p refl h)
 or_weight Zero p h = eqb-true _ _ (at_byte (sets Zero) p refl h)
 or_weight Interrupt p h = eqb-true _ _ (at_byte (sets Interrupt) p refl h)
@@ -40,10 +40,10 @@ or_weight Negative p h = eqb-true _ _ (at_byte (sets Negative) p refl h)
 
 -- The bit of a flag cleared.
 abbrev clears : Flag → ℕ → Bool
-clears flag q = nat_eq (bit_and q (255 - weight flag)) (put_flag flag false q)
+clears flag q = nat_eq (bit_and q (255 - flag_weight flag)) (put_flag flag false q)
 
 pub and_not_weight : (flag : Flag) (p : ℕ) → p < 256
-    → bit_and p (255 - weight flag) ≡ put_flag flag false p
+    → bit_and p (255 - flag_weight flag) ≡ put_flag flag false p
 and_not_weight Carry p h = eqb-true _ _ (at_byte (clears Carry) p refl h)
 and_not_weight Zero p h = eqb-true _ _ (at_byte (clears Zero) p refl h)
 and_not_weight Interrupt p h = eqb-true _ _ (at_byte (clears Interrupt) p refl h)

@@ -4,12 +4,12 @@ use Rattle.std.proofs.Common.{◌≡◌, ℕ, ◌+◌, ◌-◌, ◌*◌, ◌%◌
 use Rattle.std.proofs.Math.Nat.{mod-add-mod}
 use Rattle.std.specs.Result.{result_unwrap_or}
 use Rattle.std.specs.Prelude.{fold, map, IfOk, IfSome, OnErr}
-use Rattle.mos_cpu.specs.Buses.{Meaning, IsClock, IsKept}
+use Rattle.mos_cpu.specs.Buses.{Meaning, IsClock, IsInvariant}
 use Rattle.mos_cpu.specs.Registers.{Registers}
 use Rattle.mos_cpu.specs.Opcodes.{row_of}
-use Rattle.mos_cpu.specs.Operands.{and_then, byte_at, operand_of, documented, decoded}
-use Rattle.mos_cpu.specs.Accesses.{accesses_of, cycles_of, use_of}
-use Rattle.mos_cpu.specs.Execution.{Step, Progress, reached, transferred, accessed, begun, executed, step_by, step_of}
+use Rattle.mos_cpu.specs.Operands.{and_then, instruction_byte, operand_of, row_or_fault, instruction_at}
+use Rattle.mos_cpu.specs.Accesses.{accesses_of, instruction_cycles, use_of}
+use Rattle.mos_cpu.specs.Execution.{Step, Progress, bus_at, after_transfer, after_access, at_start, execution_of, step_by, step_of}
 use Rattle.mos_cpu.specs.Timing.{IsTimed, least_of, AscendsTo, access_clocks, KeepsTime}
 use Rattle.mos_cpu.proofs.AccessLemmas.{accesses_of-ascend, cycles_of-least, cycles_of-most}
 use Rattle.mos_cpu.proofs.OpcodeLemmas.{row_of-timed}
@@ -29,25 +29,25 @@ and_then-ok P (Err fault) next h = tt
 
 documented-ok : {U : Type 0} (P : U → Type 0) (x : Option Row) (opcode at : ℕ) (next : Row → Result U CpuFault)
     → IfSome x IsTimed → ((row : Row) → IsTimed row → IfOk (next row) P)
-    → IfOk (and_then (documented x opcode at) next) P
+    → IfOk (and_then (row_or_fault x opcode at) next) P
 documented-ok P (Some row) opcode at next timed h = h row timed
 documented-ok P None opcode at next timed h = tt
 
 -- An instruction that was decoded is one of the table.
 pub decoded-timed : {S : Type 0} (m : Meaning S) (s : S) (r : Registers)
-    → IfOk (decoded m s r) (λ i. IsTimed i.row)
+    → IfOk (instruction_at m s r) (λ i. IsTimed i.row)
 decoded-timed m s r =
     let Timed : Instruction → Type 0 = λ i. IsTimed i.row in
-    and_then-ok Timed (byte_at m s r.pc) _
+    and_then-ok Timed (instruction_byte m s r.pc) _
     (λ opcode. documented-ok Timed (row_of opcode) opcode r.pc _ (row_of-timed opcode)
     (λ row timed. and_then-ok Timed (operand_of m s r row) _ (λ operand. timed)))
 
 pub timed-if : {S : Type 0} (m : Meaning S) (s : S) (r : Registers) (i : Instruction)
-    → ◌≡◌ {A = Result Instruction CpuFault} (Ok i) (decoded m s r) → IsTimed i.row
+    → ◌≡◌ {A = Result Instruction CpuFault} (Ok i) (instruction_at m s r) → IsTimed i.row
 timed-if m s r i e = rw (← e) at (decoded-timed m s r)
 
 pub cycles_of-timed : (i : Instruction) (p : ℕ) → IsTimed i.row
-    → (2 ≤ cycles_of i p) × (cycles_of i p ≤ 7) × (least_of (use_of i.row.operation) ≤ cycles_of i p)
+    → (2 ≤ instruction_cycles i p) × (instruction_cycles i p ≤ 7) × (least_of (use_of i.row.operation) ≤ instruction_cycles i p)
 cycles_of-timed i p timed =
     let low = cycles_of-least i p in
     let high = cycles_of-most i p in
@@ -58,7 +58,7 @@ cycles_of-timed i p timed =
 
 -- The cycles that an instruction answers.
 pub answered : (n : ℕ) (i : Instruction) (p : ℕ)
-    → ◌≡◌ {A = Result ℕ CpuFault} (Ok n) (Ok (cycles_of i p)) → n ≡ cycles_of i p
+    → ◌≡◌ {A = Result ℕ CpuFault} (Ok n) (Ok (instruction_cycles i p)) → n ≡ instruction_cycles i p
 answered n i p e = ap (λ (x : Result ℕ CpuFault). result_unwrap_or x 0) e
 
 module _ {S : Type 0} (m : Meaning S) where
@@ -69,7 +69,7 @@ module _ {S : Type 0} (m : Meaning S) where
 
   -- An instruction takes at least 2 cycles.
   pub step_of-least : (r : Registers) (s : S) → IfOk (step_of m r s).answer (λ cycles. 2 ≤ cycles)
-  step_of-least r s = step_by-least r s (decoded m s r) (decoded-timed m s r)
+  step_of-least r s = step_by-least r s (instruction_at m s r) (decoded-timed m s r)
 
   step_by-most : (r : Registers) (s : S) (d : Result Instruction CpuFault)
       → IfOk d (λ i. IsTimed i.row) → IfOk (step_by m r s d).answer (λ cycles. cycles ≤ 7)
@@ -78,7 +78,7 @@ module _ {S : Type 0} (m : Meaning S) where
 
   -- It takes at most 7.
   pub step_of-most : (r : Registers) (s : S) → IfOk (step_of m r s).answer (λ cycles. cycles ≤ 7)
-  step_of-most r s = step_by-most r s (decoded m s r) (decoded-timed m s r)
+  step_of-most r s = step_by-most r s (instruction_at m s r) (decoded-timed m s r)
 
   step_by-fault_registers : (r : Registers) (s : S) (d : Result Instruction CpuFault)
       → OnErr (step_by m r s d).answer ((step_by m r s d).registers ≡ r)
@@ -93,22 +93,22 @@ module _ {S : Type 0} (m : Meaning S) where
   -- After a fault the registers and the bus are as before.
   pub step_of-fault_registers : (r : Registers) (s : S)
       → OnErr (step_of m r s).answer ((step_of m r s).registers ≡ r)
-  step_of-fault_registers r s = step_by-fault_registers r s (decoded m s r)
+  step_of-fault_registers r s = step_by-fault_registers r s (instruction_at m s r)
 
   pub step_of-fault_bus : (r : Registers) (s : S)
       → OnErr (step_of m r s).answer ((step_of m r s).bus ≡ s)
-  step_of-fault_bus r s = step_by-fault_bus r s (decoded m s r)
+  step_of-fault_bus r s = step_by-fault_bus r s (instruction_at m s r)
 
 module _ {S : Type 0} (m : Meaning S) (advance : ℕ → ℕ → ℕ) (clock : S → ℕ) (is : IsClock m advance clock) where
   -- A clock is ahead of a time by the cycles of an instruction that are over.
   abbrev IsAhead : ℕ → Progress S → Type 0
   IsAhead t g = (n : ℕ) → advance (clock g.bus) n ≡ advance t (g.cycle + n)
 
-  begun-ahead : (s : S) → IsAhead (clock s) (begun s)
+  begun-ahead : (s : S) → IsAhead (clock s) (at_start s)
   begun-ahead s n = ap (advance (clock s)) (sym (zero-add n))
 
   ahead-after : (t : ℕ) (g : Progress S) (cycle : ℕ) (bus : S) → g.cycle ≤ cycle → IsAhead t g
-      → clock bus ≡ clock (reached m g cycle) → (n : ℕ)
+      → clock bus ≡ clock (bus_at m g cycle) → (n : ℕ)
       → advance (clock bus) n ≡ advance t (cycle + n)
   ahead-after t g cycle bus le ahead e n =
       let over = cycle - g.cycle in
@@ -120,47 +120,47 @@ module _ {S : Type 0} (m : Meaning S) (advance : ℕ → ℕ → ℕ) (clock : S
 
   transferred-ahead : (o : Operation) (p t : ℕ) (g : Progress S) (cycle address : ℕ) (transfer : Transfer)
       → g.cycle ≤ cycle → IsAhead t g
-      → IsAhead t (transferred m o p g cycle address transfer)
+      → IsAhead t (after_transfer m o p g cycle address transfer)
   transferred-ahead o p t g cycle address Read le ahead n = ahead-after t g cycle _ le ahead (is.read _ address) n
   transferred-ahead o p t g cycle address (Write source) le ahead n = ahead-after t g cycle _ le ahead (is.written _ address _) n
 
   accessed-ahead : (o : Operation) (p t : ℕ) (g : Progress S) (access : Access)
-      → g.cycle ≤ access.cycle → IsAhead t g → IsAhead t (accessed m o p g access)
+      → g.cycle ≤ access.cycle → IsAhead t g → IsAhead t (after_access m o p g access)
   accessed-ahead o p t g access le ahead = transferred-ahead o p t g access.cycle access.address access.transfer le ahead
 
   transferred-ascends : (o : Operation) (p : ℕ) (g : Progress S) (cycle address : ℕ) (transfer : Transfer) (accesses : List Access) (last : ℕ)
       → AscendsTo cycle accesses last
-      → AscendsTo (transferred m o p g cycle address transfer).cycle accesses last
+      → AscendsTo (after_transfer m o p g cycle address transfer).cycle accesses last
   transferred-ascends o p g cycle address Read accesses last h = h
   transferred-ascends o p g cycle address (Write source) accesses last h = h
 
   accessed-ascends : (o : Operation) (p : ℕ) (g : Progress S) (access : Access)
       (accesses : List Access) (last : ℕ) → AscendsTo access.cycle accesses last
-      → AscendsTo (accessed m o p g access).cycle accesses last
+      → AscendsTo (after_access m o p g access).cycle accesses last
   accessed-ascends o p g access accesses last h =
       transferred-ascends o p g access.cycle access.address access.transfer accesses last h
 
   reached-clock : (t : ℕ) (g : Progress S) (cycle : ℕ) → g.cycle ≤ cycle → IsAhead t g
-      → clock (reached m g cycle) ≡ advance t cycle
+      → clock (bus_at m g cycle) ≡ advance t cycle
   reached-clock t g cycle le ahead =
       let e : g.cycle + (cycle - g.cycle) ≡ cycle = omega arith in
       is.passed g.bus (cycle - g.cycle) ∙ ahead (cycle - g.cycle) ∙ ap (advance t) e
 
   ended-clock : (o : Operation) (p t : ℕ) (g : Progress S) (accesses : List Access) (last : ℕ)
       → AscendsTo g.cycle accesses last → IsAhead t g
-      → (let end = fold (accessed m o p) g accesses in clock (reached m end last)) ≡ advance t last
+      → (let end = fold (after_access m o p) g accesses in clock (bus_at m end last)) ≡ advance t last
   ended-clock o p t g [] last ascends ahead = reached-clock t g last ascends ahead
   ended-clock o p t g (access ∷ accesses) last ascends ahead =
-      ended-clock o p t (accessed m o p g access) accesses last
+      ended-clock o p t (after_access m o p g access) accesses last
       (accessed-ascends o p g access accesses last ascends.1)
       (accessed-ahead o p t g access ascends.0 ahead)
 
   pub executed-clock : (r : Registers) (s : S) (i : Instruction) → IsTimed i.row
-      → clock (executed m r s i).bus ≡ advance (clock s) (cycles_of i r.p)
+      → clock (execution_of m r s i).bus ≡ advance (clock s) (instruction_cycles i r.p)
   executed-clock r s i timed =
-      let cycles = cycles_of i r.p in
+      let cycles = instruction_cycles i r.p in
       let ascends = accesses_of-ascend i r cycles (cycles_of-timed i r.p timed).2 in
-      ended-clock i.row.operation r.p (clock s) (begun s) (accesses_of i r cycles) cycles ascends
+      ended-clock i.row.operation r.p (clock s) (at_start s) (accesses_of i r cycles) cycles ascends
       (begun-ahead s)
 
   step_by-clock : (r : Registers) (s : S) (d : Result Instruction CpuFault)
@@ -172,14 +172,14 @@ module _ {S : Type 0} (m : Meaning S) (advance : ℕ → ℕ → ℕ) (clock : S
   -- A clock of the bus is advanced by the cycles of the instruction.
   pub step_of-clock : (r : Registers) (s : S)
       → IfOk (step_of m r s).answer (λ cycles. clock (step_of m r s).bus ≡ advance (clock s) cycles)
-  step_of-clock r s = step_by-clock r s (decoded m s r) (decoded-timed m s r)
+  step_of-clock r s = step_by-clock r s (instruction_at m s r) (decoded-timed m s r)
 
   access_clocks-ahead : (o : Operation) (p t : ℕ) (g : Progress S) (accesses : List Access) (last : ℕ)
       → AscendsTo g.cycle accesses last → IsAhead t g
       → access_clocks m clock o p g accesses ≡ map (λ access. advance t access.cycle) accesses
   access_clocks-ahead o p t g [] last ascends ahead = refl
   access_clocks-ahead o p t g (access ∷ accesses) last ascends ahead =
-      let rest = access_clocks-ahead o p t (accessed m o p g access) accesses last
+      let rest = access_clocks-ahead o p t (after_access m o p g access) accesses last
       (accessed-ascends o p g access accesses last ascends.1)
       (accessed-ahead o p t g access ascends.0 ahead) in
       rw (reached-clock t g access.cycle ascends.0 ahead, rest) refl
@@ -188,41 +188,41 @@ module _ {S : Type 0} (m : Meaning S) (advance : ℕ → ℕ → ℕ) (clock : S
 pub timed-keeps : {S : Type 0} (m : Meaning S) (r : Registers) (s : S) (i : Instruction)
     → IsTimed i.row → KeepsTime m r s i
 timed-keeps m r s i timed advance clock is =
-    let cycles = cycles_of i r.p in
+    let cycles = instruction_cycles i r.p in
     let ascends = accesses_of-ascend i r cycles (cycles_of-timed i r.p timed).2 in
-    access_clocks-ahead m advance clock is i.row.operation r.p (clock s) (begun s)
+    access_clocks-ahead m advance clock is i.row.operation r.p (clock s) (at_start s)
     (accesses_of i r cycles) cycles ascends (begun-ahead m advance clock is s)
 
 pub decoded-keeps : {S : Type 0} (m : Meaning S) (r : Registers) (s : S)
-    → IfOk (decoded m s r) (KeepsTime m r s)
-decoded-keeps m r s = by (decoded m s r) (decoded-timed m s r)
+    → IfOk (instruction_at m s r) (KeepsTime m r s)
+decoded-keeps m r s = by (instruction_at m s r) (decoded-timed m s r)
   where
     by : (d : Result Instruction CpuFault) → IfOk d (λ i. IsTimed i.row) → IfOk d (KeepsTime m r s)
     by (Ok i) timed = timed-keeps m r s i timed
     by (Err fault) timed = tt
 
-module _ {S : Type 0} (m : Meaning S) (Fact : S → Type 0) (kept : IsKept m Fact) where
+module _ {S : Type 0} (m : Meaning S) (Fact : S → Type 0) (kept : IsInvariant m Fact) where
   transferred-kept : (o : Operation) (p : ℕ) (g : Progress S) (cycle address : ℕ) (t : Transfer)
-      → Fact g.bus → Fact (transferred m o p g cycle address t).bus
+      → Fact g.bus → Fact (after_transfer m o p g cycle address t).bus
   transferred-kept o p g cycle address Read h = kept.read _ address (kept.passed g.bus (cycle - g.cycle) h)
   transferred-kept o p g cycle address (Write source) h = kept.written _ address _ (kept.passed g.bus (cycle - g.cycle) h)
 
   fold-kept : (o : Operation) (p : ℕ) (g : Progress S) (accesses : List Access) → Fact g.bus
-      → Fact (fold (accessed m o p) g accesses).bus
+      → Fact (fold (after_access m o p) g accesses).bus
   fold-kept o p g [] h = h
   fold-kept o p g (access ∷ accesses) h =
-      fold-kept o p (accessed m o p g access) accesses (transferred-kept o p g access.cycle access.address access.transfer h)
+      fold-kept o p (after_access m o p g access) accesses (transferred-kept o p g access.cycle access.address access.transfer h)
 
   step_by-kept : (r : Registers) (s : S) (d : Result Instruction CpuFault) → Fact s
       → Fact (step_by m r s d).bus
   step_by-kept r s (Ok i) h =
-      let cycles = cycles_of i r.p in
-      kept.passed _ _ (fold-kept i.row.operation r.p (begun s) (accesses_of i r cycles) h)
+      let cycles = instruction_cycles i r.p in
+      kept.passed _ _ (fold-kept i.row.operation r.p (at_start s) (accesses_of i r cycles) h)
   step_by-kept r s (Err fault) h = h
 
   -- What each call of a bus keeps, an instruction keeps.
   pub step_of-kept : (r : Registers) (s : S) → Fact s → Fact (step_of m r s).bus
-  step_of-kept r s h = step_by-kept r s (decoded m s r) h
+  step_of-kept r s h = step_by-kept r s (instruction_at m s r) h
 
 -- Counts that may be clocks: one that goes on without end, and one modulo a number, at a rate of so
 -- many a cycle.

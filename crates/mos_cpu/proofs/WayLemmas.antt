@@ -3,15 +3,15 @@ use Rattle.std.proofs.Common.{◌≡◌, ℕ, ◌+◌, ◌%◌, Bool, true, fals
 use Rattle.std.proofs.Math.Nat.{sub-zero}
 use Rattle.std.proofs.lemmas.Bool.{and_parts}
 use Rattle.std.specs.Prelude.{IsErr, IfSome, not, if◌then◌else◌}
-use Rattle.mos_cpu.specs.Accesses.{Held, held, is_taken}
+use Rattle.mos_cpu.specs.Accesses.{StoredByte, stored_byte, is_taken}
 use Rattle.mos_cpu.proofs.OpcodeLemmas.{names_low, needs_low, row_of-needs}
 use Rattle.mos_cpu.specs.Buses.{Meaning}
 use Rattle.mos_cpu.specs.Effects.{changed_of, effect, with_a, with_p, with_pc}
-use Rattle.mos_cpu.specs.Execution.{executed, step_of}
+use Rattle.mos_cpu.specs.Execution.{execution_of, step_of}
 use Rattle.mos_cpu.specs.Opcodes.{row_of, row_with}
-use Rattle.mos_cpu.specs.Operands.{and_then, byte_at, branch_target, documented, named_by, operand_of, takes_vector, decoded}
+use Rattle.mos_cpu.specs.Operands.{and_then, instruction_byte, branch_target, row_or_fault, operand_by_mode, operand_of, takes_vector, instruction_at}
 use Rattle.mos_cpu.specs.Registers.{Registers}
-use Rattle.mos_cpu.specs.Private.Ways.{has_low, row_here, IsRow, IsLow, IsTarget, IsStep, IsReader, IsStorer, IsChanger, IsBranch, IsInner}
+use Rattle.mos_cpu.specs.Private.Ways.{has_low, row_here, IsRow, IsLow, IsTarget, IsStepOf, IsReader, IsStorer, IsChanger, IsBranch, IsInner}
 use Rattle.mos_cpu.specs.declared.addressing.Target.{Target}
 use Rattle.mos_cpu.specs.declared.fault.CpuFault.{CpuFault}
 use Rattle.mos_cpu.specs.declared.opcode_row.Row.{Row}
@@ -40,29 +40,29 @@ and_then-err (Err fault) f h = h
 module _ {S : Type 0} (m : Meaning S) (r : Registers) (s : S) where
   pub step_of-operand : (row : Row) (operand : Operand) → ◌≡◌ {A = Result Row CpuFault} (row_here m s r) (Ok row)
       → ◌≡◌ {A = Result Operand CpuFault} (operand_of m s r row) (Ok operand)
-      → step_of m r s ≡ executed m r s (record { row = row; operand = operand })
+      → step_of m r s ≡ execution_of m r s (record { row = row; operand = operand })
   step_of-operand row operand here named =
       rw (
-        chained {U = Instruction} (byte_at m s r.pc) (λ opcode. documented (row_of opcode) opcode r.pc)
+        chained {U = Instruction} (instruction_byte m s r.pc) (λ opcode. row_or_fault (row_of opcode) opcode r.pc)
             (λ (row : Row). and_then (operand_of m s r row) (λ operand. Ok (record { row = row; operand = operand }))) row here,
         named,
       ) refl
 
   pub step_of-known : (row : Row) (operand : Operand) → ◌≡◌ {A = Result Row CpuFault} (row_here m s r) (Ok row)
-      → takes_vector row.operation ≡ false → ◌≡◌ {A = Result Operand CpuFault} (named_by m s r row.mode) (Ok operand)
-      → step_of m r s ≡ executed m r s (record { row = row; operand = operand })
+      → takes_vector row.operation ≡ false → ◌≡◌ {A = Result Operand CpuFault} (operand_by_mode m s r row.mode) (Ok operand)
+      → step_of m r s ≡ execution_of m r s (record { row = row; operand = operand })
   step_of-known row operand here plain named = step_of-operand row operand here (rw (plain, named) refl)
 
   -- An instruction whose operand is a fault is one.
   pub decoded-operand_err : (row : Row) → ◌≡◌ {A = Result Row CpuFault} (row_here m s r) (Ok row)
-      → IsErr (operand_of m s r row) → IsErr (decoded m s r)
+      → IsErr (operand_of m s r row) → IsErr (instruction_at m s r)
   decoded-operand_err row here err =
-      chained-err {U = Instruction} (byte_at m s r.pc) (λ opcode. documented (row_of opcode) opcode r.pc)
+      chained-err {U = Instruction} (instruction_byte m s r.pc) (λ opcode. row_or_fault (row_of opcode) opcode r.pc)
       (λ (row : Row). and_then (operand_of m s r row) (λ operand. Ok (record { row = row; operand = operand }))) row here
       (and_then-err (operand_of m s r row) _ err)
 
   pub decoded-err : (row : Row) → ◌≡◌ {A = Result Row CpuFault} (row_here m s r) (Ok row)
-      → takes_vector row.operation ≡ false → IsErr (named_by m s r row.mode) → IsErr (decoded m s r)
+      → takes_vector row.operation ≡ false → IsErr (operand_by_mode m s r row.mode) → IsErr (instruction_at m s r)
   decoded-err row here plain err = decoded-operand_err row here (rw plain err)
 
   pub step_of-read : (o : Operation) (mode : Mode) (cycles : ℕ) (crossing : Bool) (t : Target) (n : ℕ)
@@ -79,15 +79,15 @@ module _ {S : Type 0} (m : Meaning S) (r : Registers) (s : S) where
       rw (known, reads.used, reads.straight, ← target.next, e, reads.same) (search rules)
 
   pub step_of-value : (o : Operation) (low : ℕ) → IsReader o → IsRow m s r o Immediate 2 false → IsLow m s r low
-      → IsStep m r s 2 (effect o (Value low) (with_pc r ((r.pc + 2) % 65536)) []) (m.passed s 2)
+      → IsStepOf m r s 2 (effect o (Value low) (with_pc r ((r.pc + 2) % 65536)) []) (m.passed s 2)
   step_of-value o low reads here e =
-      let named : ◌≡◌ {A = Result Operand CpuFault} (named_by m s r Immediate) (Ok (Value low)) = rw e refl in
+      let named : ◌≡◌ {A = Result Operand CpuFault} (operand_by_mode m s r Immediate) (Ok (Value low)) = rw e refl in
       let known = step_of-known (row_with o Immediate 2 false) (Value low) here reads.plain named in
       rw (known, reads.used, reads.straight) refl
 
-  pub step_of-store : (o : Operation) (what : Held) (mode : Mode) (cycles : ℕ) (t : Target) → IsStorer o what
+  pub step_of-store : (o : Operation) (what : StoredByte) (mode : Mode) (cycles : ℕ) (t : Target) → IsStorer o what
       → IsRow m s r o mode cycles false → IsTarget m s r mode t
-      → IsStep m r s cycles (with_pc r t.next) (m.passed (m.after_write (m.passed s cycles) t.address (held what r)) 0)
+      → IsStepOf m r s cycles (with_pc r t.next) (m.passed (m.after_write (m.passed s cycles) t.address (stored_byte what r)) 0)
   step_of-store o what mode cycles t stores here target =
       let known = step_of-known (row_with o mode cycles false) (Place t.address t.crossed) here stores.plain target.named in
       rw (known, stores.used, stores.straight, ← target.next, stores.idle) (search rules)
@@ -98,31 +98,31 @@ module _ {S : Type 0} (m : Meaning S) (r : Registers) (s : S) where
       let byte = m.read_value reached t.address in
       let written_back = m.after_write (m.passed (m.after_read reached t.address) 1) t.address byte in
       let outcome = changed_of o byte r.p in
-      IsStep m r s (reading + 2) (with_p (with_pc r t.next) outcome.p)
+      IsStepOf m r s (reading + 2) (with_p (with_pc r t.next) outcome.p)
       (m.passed (m.after_write (m.passed written_back 1) t.address outcome.value) 0))
   step_of-change o mode reading t changes here target =
       let known = step_of-known (row_with o mode (reading + 2) false) (Place t.address t.crossed) here changes.plain target.named in
       rw (known, changes.used, changes.straight, ← target.next, changes.in_memory) (search rules)
 
   pub step_of-change_a : (o : Operation) → IsChanger o → IsRow m s r o Accumulator 2 false
-      → IsStep m r s 2 (with_a (with_pc r ((r.pc + 1) % 65536)) (changed_of o r.a r.p)) (m.passed s 2)
+      → IsStepOf m r s 2 (with_a (with_pc r ((r.pc + 1) % 65536)) (changed_of o r.a r.p)) (m.passed s 2)
   step_of-change_a o changes here =
       let known = step_of-known (row_with o Accumulator 2 false) Register here changes.plain refl in
       rw (known, changes.used, changes.straight, changes.in_a) refl
 
   pub step_of-inner : (o : Operation) → IsInner o → IsRow m s r o Implied 2 false
-      → IsStep m r s 2 (effect o Register (with_pc r ((r.pc + 1) % 65536)) []) (m.passed s 2)
+      → IsStepOf m r s 2 (effect o Register (with_pc r ((r.pc + 1) % 65536)) []) (m.passed s 2)
   step_of-inner o inner here =
       let known = step_of-known (row_with o Implied 2 false) Register here inner.plain refl in
       rw (known, inner.used, inner.straight) refl
 
   branch_named : (low : ℕ) → IsLow m s r low
-      → ◌≡◌ {A = Result Operand CpuFault} (named_by m s r Relative) (Ok (branch_target ((r.pc + 2) % 65536) low))
+      → ◌≡◌ {A = Result Operand CpuFault} (operand_by_mode m s r Relative) (Ok (branch_target ((r.pc + 2) % 65536) low))
   branch_named low e = rw e refl
 
   pub step_of-taken : (o : Operation) (low : ℕ) (t : Target) (cycles : ℕ) → cycles ≡ 3 + (if t.crossed then 1 else 0) → IsBranch o → IsRow m s r o Relative 2 false → IsLow m s r low
       → Place t.address t.crossed ≡ branch_target ((r.pc + 2) % 65536) low → is_taken o r.p ≡ true
-      → IsStep m r s cycles (with_pc r t.address) (m.passed s cycles)
+      → IsStepOf m r s cycles (with_pc r t.address) (m.passed s cycles)
   step_of-taken o low t cycles sum goes here e place taken =
       let named = rw (← place) at (branch_named low e) in
       let known = step_of-known (row_with o Relative 2 false) (Place t.address t.crossed) here goes.plain named in
@@ -130,17 +130,17 @@ module _ {S : Type 0} (m : Meaning S) (r : Registers) (s : S) where
       rw (known, goes.used, goes.goes, taken, sum, sub-zero cycles) refl
 
   pub step_of-straight : (o : Operation) (low : ℕ) → IsBranch o → IsRow m s r o Relative 2 false → IsLow m s r low
-      → is_taken o r.p ≡ false → IsStep m r s 2 (with_pc r ((r.pc + 2) % 65536)) (m.passed s 2)
+      → is_taken o r.p ≡ false → IsStepOf m r s 2 (with_pc r ((r.pc + 2) % 65536)) (m.passed s 2)
   step_of-straight o low goes here e straight =
       let known = step_of-known (row_with o Relative 2 false) (branch_target ((r.pc + 2) % 65536) low) here goes.plain (branch_named low e) in
       rw (known, goes.used, goes.goes, straight) refl
 
   -- An instruction whose opcode is none of the table is a fault.
   pub decoded-unknown : (opcode : ℕ) → m.peeked s r.pc ≡ Some opcode → ◌≡◌ {A = Option Row} None (row_of opcode)
-      → IsErr (decoded m s r)
+      → IsErr (instruction_at m s r)
   decoded-unknown opcode e absent = rw (e, ← absent) refl
 
-  named-err : (mode : Mode) → names_low mode ≡ true → m.peeked s ((r.pc + 1) % 65536) ≡ None → IsErr (named_by m s r mode)
+  named-err : (mode : Mode) → names_low mode ≡ true → m.peeked s ((r.pc + 1) % 65536) ≡ None → IsErr (operand_by_mode m s r mode)
   named-err Implied e none = cc
   named-err Accumulator e none = cc
   named-err Immediate e none = rw none refl
@@ -163,10 +163,10 @@ module _ {S : Type 0} (m : Meaning S) (r : Registers) (s : S) where
 
   -- An instruction whose opcode is there and the byte after it isn't is a fault.
   pub decoded-short : (opcode : ℕ) → m.peeked s r.pc ≡ Some opcode → has_low opcode ≡ true
-      → m.peeked s ((r.pc + 1) % 65536) ≡ None → IsErr (decoded m s r)
+      → m.peeked s ((r.pc + 1) % 65536) ≡ None → IsErr (instruction_at m s r)
   decoded-short opcode e low none = by (row_of opcode) refl (row_of-needs opcode low)
     where
-      by : (x : Option Row) → row_of opcode ≡ x → IfSome x (λ row. needs_low row ≡ true) → IsErr (decoded m s r)
+      by : (x : Option Row) → row_of opcode ≡ x → IfSome x (λ row. needs_low row ≡ true) → IsErr (instruction_at m s r)
       by (Some row) found needs =
           decoded-operand_err row (rw (e, found) refl) (operand-err row needs none)
       by None found needs = decoded-unknown opcode e (sym found)

@@ -8,25 +8,25 @@ use Rattle.mos_cpu.specs.declared.arithmetic.Alu.{Alu}
 use Rattle.mos_cpu.specs.declared.status.Flag.TheVariants.{Carry, Zero, Decimal, Overflow, Negative}
 
 -- The low digit of a byte, and its high digit as a multiple of 16.
-abbrev pub low : ℕ → ℕ
-low n = n % 16
+abbrev pub low_digit : ℕ → ℕ
+low_digit n = n % 16
 
-abbrev pub high : ℕ → ℕ
-high n = n / 16 * 16
+abbrev pub high_digit : ℕ → ℕ
+high_digit n = n / 16 * 16
 
 -- The sum of the low digits and C. From 10 on it is 6 more modulo 16, and carries 16.
 abbrev pub low_sum : ℕ → ℕ → ℕ → ℕ
 low_sum a m p =
-    let l = low a + low m + carry_of p in
+    let l = low_digit a + low_digit m + carry_of p in
     if nat_le 10 l then (l + 6) % 16 + 16 else l
 
 -- The sum of both digits and C, before the high digit is corrected.
 abbrev pub decimal_sum_of : ℕ → ℕ → ℕ → ℕ
-decimal_sum_of a m p = high a + high m + low_sum a m p
+decimal_sum_of a m p = high_digit a + high_digit m + low_sum a m p
 
 -- The same with both high digits read as signed.
 abbrev pub signed_sum_of : ℕ → ℕ → ℕ → ℤ
-signed_sum_of a m p = signed (high a) +ℤ signed (high m) +ℤ pos (low_sum a m p)
+signed_sum_of a m p = signed (high_digit a) +ℤ signed (high_digit m) +ℤ pos (low_sum a m p)
 
 -- The sum with its high digit corrected: from 160 on it is 96 more.
 abbrev pub corrected_of : ℕ → ℕ
@@ -55,7 +55,7 @@ low_borrowed l = if int_lt l (pos 0) then pos (modulo (l -ℤ pos 6) 16) -ℤ po
 
 -- The difference of the low digits with borrow.
 abbrev pub low_difference_of : ℕ → ℕ → ℕ → ℤ
-low_difference_of a m p = low_borrowed (less_borrow (pos (low a)) (pos (low m)) p)
+low_difference_of a m p = low_borrowed (less_borrow (pos (low_digit a)) (pos (low_digit m)) p)
 
 -- A difference of both digits. Where it is negative it is 96 less.
 abbrev pub high_borrowed : ℤ → ℤ
@@ -64,7 +64,7 @@ high_borrowed s = if int_lt s (pos 0) then s -ℤ pos 96 else s
 -- The decimal difference with borrow.
 abbrev pub decimal_difference : ℕ → ℕ → ℕ → ℕ
 decimal_difference a m p =
-    modulo (high_borrowed (pos (high a) -ℤ pos (high m) +ℤ low_difference_of a m p)) 256
+    modulo (high_borrowed (pos (high_digit a) -ℤ pos (high_digit m) +ℤ low_difference_of a m p)) 256
 
 -- The difference with borrow. All its flags are those of the binary difference.
 abbrev pub sbc_of : ℕ → ℕ → ℕ → Alu

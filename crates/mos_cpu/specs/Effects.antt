@@ -27,17 +27,17 @@ changed_of Dec m p = dec_of m p
 changed_of other m p = load_of m p
 
 -- What an access writes, after the bytes that were read.
-abbrev pub written : Operation → ℕ → List ℕ → Source → ℕ
-written operation p bytes (Byte b) = b
-written operation p bytes Loaded = slice_index bytes 0
-written operation p bytes Changed = (changed_of operation (slice_index bytes 0) p).value
+abbrev pub written_byte : Operation → ℕ → List ℕ → Source → ℕ
+written_byte operation p bytes (Byte b) = b
+written_byte operation p bytes Loaded = slice_index bytes 0
+written_byte operation p bytes Changed = (changed_of operation (slice_index bytes 0) p).value
 
 -- The value that an operation works on: of a register, of the instruction, or the first byte that
 -- was read.
-abbrev pub worked_on : Operand → ℕ → List ℕ → ℕ
-worked_on Register register bytes = register
-worked_on (Value b) register bytes = b
-worked_on (Place address crossed) register bytes = slice_index bytes 0
+abbrev pub operand_value : Operand → ℕ → List ℕ → ℕ
+operand_value Register register bytes = register
+operand_value (Value b) register bytes = b
+operand_value (Place address crossed) register bytes = slice_index bytes 0
 
 -- The number of two bytes that were read, its low one first.
 abbrev pub word_in : List ℕ → ℕ → ℕ
@@ -71,30 +71,30 @@ abbrev pub stack_up : Registers → ℕ → Registers
 stack_up r n = record r { s = after_pulls r.s n }
 
 -- A changed operand: in A, or in memory, where only the status is left to change.
-abbrev pub kept : Operand → Registers → Alu → Registers
-kept Register r o = with_a r o
-kept other r o = with_p r o.p
+abbrev pub with_result : Operand → Registers → Alu → Registers
+with_result Register r o = with_a r o
+with_result other r o = with_p r o.p
 
 -- The registers after an operation, from those with the next instruction's address.
 abbrev pub effect : Operation → Operand → Registers → List ℕ → Registers
-effect Adc operand r bytes = with_a r (adc_of r.a (worked_on operand r.a bytes) r.p)
-effect And operand r bytes = with_a r (and_of r.a (worked_on operand r.a bytes) r.p)
-effect Eor operand r bytes = with_a r (eor_of r.a (worked_on operand r.a bytes) r.p)
-effect Ora operand r bytes = with_a r (ora_of r.a (worked_on operand r.a bytes) r.p)
-effect Sbc operand r bytes = with_a r (sbc_of r.a (worked_on operand r.a bytes) r.p)
-effect Lda operand r bytes = with_a r (load_of (worked_on operand r.a bytes) r.p)
-effect Ldx operand r bytes = with_x r (load_of (worked_on operand r.a bytes) r.p)
-effect Ldy operand r bytes = with_y r (load_of (worked_on operand r.a bytes) r.p)
-effect Cmp operand r bytes = with_p r (compare_of r.a (worked_on operand r.a bytes) r.p).p
-effect Cpx operand r bytes = with_p r (compare_of r.x (worked_on operand r.a bytes) r.p).p
-effect Cpy operand r bytes = with_p r (compare_of r.y (worked_on operand r.a bytes) r.p).p
-effect Bit operand r bytes = with_p r (bit_of r.a (worked_on operand r.a bytes) r.p).p
-effect Asl operand r bytes = kept operand r (asl_of (worked_on operand r.a bytes) r.p)
-effect Lsr operand r bytes = kept operand r (lsr_of (worked_on operand r.a bytes) r.p)
-effect Rol operand r bytes = kept operand r (rol_of (worked_on operand r.a bytes) r.p)
-effect Ror operand r bytes = kept operand r (ror_of (worked_on operand r.a bytes) r.p)
-effect Inc operand r bytes = kept operand r (inc_of (worked_on operand r.a bytes) r.p)
-effect Dec operand r bytes = kept operand r (dec_of (worked_on operand r.a bytes) r.p)
+effect Adc operand r bytes = with_a r (adc_of r.a (operand_value operand r.a bytes) r.p)
+effect And operand r bytes = with_a r (and_of r.a (operand_value operand r.a bytes) r.p)
+effect Eor operand r bytes = with_a r (eor_of r.a (operand_value operand r.a bytes) r.p)
+effect Ora operand r bytes = with_a r (ora_of r.a (operand_value operand r.a bytes) r.p)
+effect Sbc operand r bytes = with_a r (sbc_of r.a (operand_value operand r.a bytes) r.p)
+effect Lda operand r bytes = with_a r (load_of (operand_value operand r.a bytes) r.p)
+effect Ldx operand r bytes = with_x r (load_of (operand_value operand r.a bytes) r.p)
+effect Ldy operand r bytes = with_y r (load_of (operand_value operand r.a bytes) r.p)
+effect Cmp operand r bytes = with_p r (compare_of r.a (operand_value operand r.a bytes) r.p).p
+effect Cpx operand r bytes = with_p r (compare_of r.x (operand_value operand r.a bytes) r.p).p
+effect Cpy operand r bytes = with_p r (compare_of r.y (operand_value operand r.a bytes) r.p).p
+effect Bit operand r bytes = with_p r (bit_of r.a (operand_value operand r.a bytes) r.p).p
+effect Asl operand r bytes = with_result operand r (asl_of (operand_value operand r.a bytes) r.p)
+effect Lsr operand r bytes = with_result operand r (lsr_of (operand_value operand r.a bytes) r.p)
+effect Rol operand r bytes = with_result operand r (rol_of (operand_value operand r.a bytes) r.p)
+effect Ror operand r bytes = with_result operand r (ror_of (operand_value operand r.a bytes) r.p)
+effect Inc operand r bytes = with_result operand r (inc_of (operand_value operand r.a bytes) r.p)
+effect Dec operand r bytes = with_result operand r (dec_of (operand_value operand r.a bytes) r.p)
 effect Jmp operand r bytes = with_pc r (target_of operand)
 effect Jsr operand r bytes = with_pc (stack_down r 2) (target_of operand)
 effect Brk operand r bytes =

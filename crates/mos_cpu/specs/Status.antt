@@ -4,21 +4,21 @@ use Rattle.mos_cpu.specs.declared.status.Flag.{Flag}
 use Rattle.mos_cpu.specs.declared.status.Flag.TheVariants.{Carry, Zero, Interrupt, Decimal, Overflow, Negative}
 
 -- The weight of a flag's bit: N V D I Z C are bits 7 6 3 2 1 0.
-abbrev pub weight : Flag → ℕ
-weight Carry = 1
-weight Zero = 2
-weight Interrupt = 4
-weight Decimal = 8
-weight Overflow = 64
-weight Negative = 128
+abbrev pub flag_weight : Flag → ℕ
+flag_weight Carry = 1
+flag_weight Zero = 2
+flag_weight Interrupt = 4
+flag_weight Decimal = 8
+flag_weight Overflow = 64
+flag_weight Negative = 128
 
 -- Whether a flag is set, or its bit in any byte.
 abbrev pub has_flag : Flag → ℕ → Bool
-has_flag flag p = p / weight flag % 2 == 1
+has_flag flag p = p / flag_weight flag % 2 == 1
 
 -- The status with a flag set or cleared. Its other bits stay.
 abbrev pub put_flag : Flag → Bool → ℕ → ℕ
-put_flag flag on p = p - weight flag * (p / weight flag % 2) + (if on then weight flag else 0)
+put_flag flag on p = p - flag_weight flag * (p / flag_weight flag % 2) + (if on then flag_weight flag else 0)
 
 -- The carry as a number.
 abbrev pub carry_of : ℕ → ℕ

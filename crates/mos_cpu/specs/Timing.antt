@@ -1,9 +1,9 @@
 -- When things happen within an instruction. What is said here follows from the table and the
 -- accesses.
 use Rattle.std.specs.Prelude.{ℕ, ◌≡◌, ◌≤◌, ◌+◌, ◌-◌, map, is_some, if◌then◌else◌, List, [], ◌∷◌, length}
-use Rattle.mos_cpu.specs.Accesses.{Use, Modifies, Pushes, Pulls, use_of, branch_test, accesses_of, cycles_of}
+use Rattle.mos_cpu.specs.Accesses.{Use, Modifies, Pushes, Pulls, use_of, branch_test, accesses_of, instruction_cycles}
 use Rattle.mos_cpu.specs.Buses.{Meaning, IsClock}
-use Rattle.mos_cpu.specs.Execution.{Progress, reached, accessed, begun}
+use Rattle.mos_cpu.specs.Execution.{Progress, bus_at, after_access, at_start}
 use Rattle.mos_cpu.specs.Registers.{Registers}
 use Rattle.mos_cpu.specs.declared.opcode_row.Row.{Row}
 use Rattle.mos_cpu.specs.declared.operation.Operation.{Operation}
@@ -39,14 +39,14 @@ abbrev pub access_clocks : {S : Type 0} → Meaning S → (S → ℕ) → Operat
     → List Access → List ℕ
 access_clocks m clock operation p progress [] = []
 access_clocks m clock operation p progress (access ∷ accesses) =
-    clock (reached m progress access.cycle) ∷
-    access_clocks m clock operation p (accessed m operation p progress access) accesses
+    clock (bus_at m progress access.cycle) ∷
+    access_clocks m clock operation p (after_access m operation p progress access) accesses
 
 -- Each access of an instruction is made when exactly the cycles up to its own have passed, by any
 -- clock.
 abbrev pub KeepsTime : {S : Type 0} → Meaning S → Registers → S → Instruction → Type 0
 KeepsTime {S} m r s i =
-    let accesses = accesses_of i r (cycles_of i r.p) in
+    let accesses = accesses_of i r (instruction_cycles i r.p) in
     (advance : ℕ → ℕ → ℕ) (clock : S → ℕ) → IsClock m advance clock
-    → access_clocks m clock i.row.operation r.p (begun s) accesses
+    → access_clocks m clock i.row.operation r.p (at_start s) accesses
     ≡ map (λ access. advance (clock s) access.cycle) accesses

@@ -1,7 +1,7 @@
 //! Where the operand of an instruction is.
 
 ghost use Rattle.std.specs.Prelude.{◌≡◌, ◌+◌, ◌*◌, ◌/◌, ◌%◌, false, IfSome, IfNone, IsErr, Ok};
-ghost use Rattle.mos_cpu.specs.Operands.{byte_at, word_at, operand_word, pointer_at, indexed_by, branch_target, next_in_page_of, named_by};
+ghost use Rattle.mos_cpu.specs.Operands.{instruction_byte, instruction_word, operand_word, pointer_at, indexed_place, branch_target, next_in_page_of, operand_by_mode};
 ghost use Rattle.mos_cpu.specs.Private.Ways.{IsLow};
 
 use crate::bus::Bus;
@@ -13,7 +13,7 @@ use crate::registers::Cpu;
 /// A byte of an instruction, a pointer or a vector, or the fault that none is there.
 #[inline(always)]
 pub fn byte<B: Bus>(bus: &B, at: u16) -> Result<u8, CpuFault>
-    ensures { result ≡ byte_at B.meaning (B.state bus.now) at }
+    ensures { result ≡ instruction_byte B.meaning (B.state bus.now) at }
 {
     bus.peek(at).ok_or(CpuFault::FetchOutside { at })
 }
@@ -21,7 +21,7 @@ pub fn byte<B: Bus>(bus: &B, at: u16) -> Result<u8, CpuFault>
 /// The number of two bytes, its low one looked at first.
 #[inline(always)]
 pub fn word<B: Bus>(bus: &B, low: u16, high: u16) -> Result<u16, CpuFault>
-    ensures { result ≡ word_at B.meaning (B.state bus.now) low high }
+    ensures { result ≡ instruction_word B.meaning (B.state bus.now) low high }
 {
     let first = byte(bus, low)?;
     let second = byte(bus, high)?;
@@ -38,8 +38,8 @@ pub fn pointer<B: Bus>(bus: &B, at: u8) -> u16
 
 /// An address with an index added, modulo 65,536.
 #[inline(always)]
-fn indexed(base: u16, index: u16) -> Operand
-    ensures { result ≡ indexed_by base index }
+fn indexed_place(base: u16, index: u16) -> Operand
+    ensures { result ≡ indexed_place base index }
 {
     let address = base.wrapping_add(index);
     Operand::Place {
@@ -50,13 +50,13 @@ fn indexed(base: u16, index: u16) -> Operand
 
 /// The target of a branch from the next instruction's address.
 #[inline(always)]
-fn branch(base: u16, offset: u8) -> Operand
+fn branch_target(base: u16, offset: u8) -> Operand
     ensures { result ≡ branch_target base offset }
 {
     if offset >= 0x80 {
-        indexed(base, 0xFF00 + offset as u16)
+        indexed_place(base, 0xFF00 + offset as u16)
     } else {
-        indexed(base, offset as u16)
+        indexed_place(base, offset as u16)
     }
 }
 
@@ -82,8 +82,8 @@ pub fn place(address: u16) -> Operand
 
 /// The operand by its addressing mode.
 #[inline(always)]
-pub fn named<B: Bus>(cpu: &Cpu, bus: &B, mode: Mode) -> Result<Operand, CpuFault>
-    ensures { result ≡ named_by B.meaning (B.state bus.now) cpu.now mode }
+pub fn operand_by_mode<B: Bus>(cpu: &Cpu, bus: &B, mode: Mode) -> Result<Operand, CpuFault>
+    ensures { result ≡ operand_by_mode B.meaning (B.state bus.now) cpu.now mode }
 {
     let first = cpu.pc.wrapping_add(1);
     let second = cpu.pc.wrapping_add(2);
@@ -94,9 +94,9 @@ pub fn named<B: Bus>(cpu: &Cpu, bus: &B, mode: Mode) -> Result<Operand, CpuFault
         Mode::ZeroPageX => Ok(place(byte(bus, first)?.wrapping_add(cpu.x) as u16)),
         Mode::ZeroPageY => Ok(place(byte(bus, first)?.wrapping_add(cpu.y) as u16)),
         Mode::Absolute => Ok(place(word(bus, first, second)?)),
-        Mode::AbsoluteX => Ok(indexed(word(bus, first, second)?, cpu.x as u16)),
-        Mode::AbsoluteY => Ok(indexed(word(bus, first, second)?, cpu.y as u16)),
-        Mode::Relative => Ok(branch(second, byte(bus, first)?)),
+        Mode::AbsoluteX => Ok(indexed_place(word(bus, first, second)?, cpu.x as u16)),
+        Mode::AbsoluteY => Ok(indexed_place(word(bus, first, second)?, cpu.y as u16)),
+        Mode::Relative => Ok(branch_target(second, byte(bus, first)?)),
         Mode::Indirect => {
             let at = word(bus, first, second)?;
             Ok(place(word(bus, at, next_in_page(at))?))
@@ -107,7 +107,7 @@ pub fn named<B: Bus>(cpu: &Cpu, bus: &B, mode: Mode) -> Result<Operand, CpuFault
         }
         Mode::IndirectY => {
             let at = byte(bus, first)?;
-            Ok(indexed(pointer(bus, at), cpu.y as u16))
+            Ok(indexed_place(pointer(bus, at), cpu.y as u16))
         }
     }
 }
@@ -134,7 +134,7 @@ pub fn word_after<B: Bus>(cpu: &Cpu, bus: &B, low: u8) -> Option<u16>
 /// A place with an index added.
 #[inline(always)]
 pub fn offset_by(base: u16, index: u16, next: u16) -> Target
-    ensures place { Operand.Place result.address result.crossed ≡ indexed_by base index }
+    ensures place { Operand.Place result.address result.crossed ≡ indexed_place base index }
     ensures next { result.next ≡ next }
 {
     let address = base.wrapping_add(index);

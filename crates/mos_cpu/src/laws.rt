@@ -5,7 +5,7 @@ ghost use Rattle.std.specs.List.{IsDistinct};
 ghost use Rattle.mos_cpu.specs.Buses.{Meaning, Respects};
 ghost use Rattle.mos_cpu.specs.Execution.{step_of, map_step};
 ghost use Rattle.mos_cpu.specs.Opcodes.{Entry, entries};
-ghost use Rattle.mos_cpu.specs.Operands.{decoded};
+ghost use Rattle.mos_cpu.specs.Operands.{instruction_at};
 ghost use Rattle.mos_cpu.specs.Registers.{Registers};
 ghost use Rattle.mos_cpu.specs.Timing.{KeepsTime};
 
@@ -26,7 +26,7 @@ pub const fn law_of_maps<S, U>()
 /// A law: each access of an instruction is made when exactly the cycles up to its own have passed,
 /// by any clock of the bus.
 pub const fn law_of_access_times<S>()
-    ensures { (m : Meaning S) (r : Registers) (s : S) → IfOk (decoded m s r) (KeepsTime m r s) }
+    ensures { (m : Meaning S) (r : Registers) (s : S) → IfOk (instruction_at m s r) (KeepsTime m r s) }
 {}
 
 /// A law: the table has 151 opcodes, none of them twice.

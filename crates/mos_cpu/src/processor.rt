@@ -3,7 +3,7 @@
 ghost use Rattle.std.specs.Prelude.{◌≡◌, ℕ, ◌≤◌, ◌+◌, ◌%◌, true, None, IfSome, IfNone, IfOk, OnErr, Err, IsErr};
 ghost use Rattle.mos_cpu.specs.Buses.{IsClock};
 ghost use Rattle.mos_cpu.specs.Execution.{step_of};
-ghost use Rattle.mos_cpu.specs.Operands.{decoded};
+ghost use Rattle.mos_cpu.specs.Operands.{instruction_at};
 ghost use Rattle.mos_cpu.specs.Private.Ways.{IsLow, IsWay, has_low};
 
 use crate::branches::{Bcc, Bcs, Beq, Bmi, Bne, Bpl, Bvc, Bvs, branch};
@@ -46,7 +46,7 @@ fn low_byte<B: Bus>(cpu: &Cpu, bus: &B, opcode: u8) -> Option<u8>
 /// The instruction at the program counter, by its opcode. None, with nothing done, where it has a
 /// fault.
 #[inline(always)]
-fn run<B: Bus>(cpu: &mut Cpu, bus: &mut B) -> Option<u8>
+fn run_opcode<B: Bus>(cpu: &mut Cpu, bus: &mut B) -> Option<u8>
     ensures { IsWay B.meaning cpu.old (B.state bus.old) result cpu.new (B.state bus.new) }
 {
     let opcode = bus.peek(cpu.pc)?;
@@ -211,8 +211,8 @@ fn run<B: Bus>(cpu: &mut Cpu, bus: &mut B) -> Option<u8>
 #[cold]
 #[inline(never)]
 fn fault<B: Bus>(cpu: &Cpu, bus: &B) -> CpuFault
-    requires { IsErr (decoded B.meaning (B.state bus.now) cpu.now) }
-    ensures { decoded B.meaning (B.state bus.now) cpu.now ≡ Err result }
+    requires { IsErr (instruction_at B.meaning (B.state bus.now) cpu.now) }
+    ensures { instruction_at B.meaning (B.state bus.now) cpu.now ≡ Err result }
 {
     match decode(cpu, bus) {
         Ok(_) => unreachable!(),
@@ -222,11 +222,11 @@ fn fault<B: Bus>(cpu: &Cpu, bus: &B) -> CpuFault
 
 /// The instruction at the program counter, or its fault.
 #[inline(always)]
-fn execute<B: Bus>(cpu: &mut Cpu, bus: &mut B) -> Result<u8, CpuFault>
+fn run_instruction<B: Bus>(cpu: &mut Cpu, bus: &mut B) -> Result<u8, CpuFault>
     ensures { step_of B.meaning cpu.old (B.state bus.old)
         ≡ record { answer = result; registers = cpu.new; bus = B.state bus.new } }
 {
-    match run(cpu, bus) {
+    match run_opcode(cpu, bus) {
         Some(cycles) => Ok(cycles),
         None => Err(fault(cpu, bus)),
     }
@@ -252,5 +252,5 @@ pub fn step<B: Bus>(cpu: &mut Cpu, bus: &mut B) -> Result<u8, CpuFault>
         let start = clock (B.state bus.old) in
         IfOk result (λ cycles. clock (B.state bus.new) ≡ advance start cycles) }
 {
-    execute(cpu, bus)
+    run_instruction(cpu, bus)
 }

@@ -2,7 +2,7 @@
 
 ghost use Rattle.std.specs.Prelude.{◌≡◌, ◌+◌, ◌/◌, ◌%◌};
 ghost use Rattle.mos_cpu.specs.Registers.{IsStatus};
-ghost use Rattle.mos_cpu.specs.Status.{weight, has_flag, put_flag, with_nz, pushed_of, pulled_of};
+ghost use Rattle.mos_cpu.specs.Status.{flag_weight, has_flag, put_flag, with_nz, pushed_of, pulled_of};
 
 /// A flag of the status register.
 #[derive(Clone, Copy)]
@@ -18,7 +18,7 @@ pub enum Flag {
 /// The bit of a flag.
 #[inline(always)]
 const fn mask(flag: Flag) -> u8
-    ensures { result ≡ weight flag }
+    ensures { result ≡ flag_weight flag }
 {
     match flag {
         Flag::Carry => 0x01,

@@ -1,7 +1,7 @@
 //! Operations that store a register, each a type of its own.
 
 ghost use Rattle.std.specs.Prelude.{◌≡◌, ◌+◌, false, refl, if◌then◌else◌};
-ghost use Rattle.mos_cpu.specs.Accesses.{held, RegisterA, RegisterX, RegisterY};
+ghost use Rattle.mos_cpu.specs.Accesses.{stored_byte, RegisterA, RegisterX, RegisterY};
 ghost use Rattle.mos_cpu.specs.declared.operation.Operation.{Operation};
 ghost use Rattle.mos_cpu.specs.Private.Ways.{IsStorer, IsRow, IsLow, IsWay};
 
@@ -13,15 +13,15 @@ use crate::registers::Cpu;
 
 /// An operation that stores a register.
 pub trait Storer {
-    ghost use Rattle.mos_cpu.specs.Accesses.{Held};
+    ghost use Rattle.mos_cpu.specs.Accesses.{StoredByte};
 
     ghost operation: { Operation };
 
-    ghost what: { Held };
+    ghost what: { StoredByte };
 
     /// The byte that it stores.
     fn value(cpu: &Cpu) -> u8
-        ensures { result ≡ held what cpu.now };
+        ensures { result ≡ stored_byte what cpu.now };
 
     ghost stores: { IsStorer operation what };
 }

@@ -20,12 +20,12 @@ use Rattle.movie_file.specs.Record.{movie_record, movie_state_at}
 use Rattle.movie_file.specs.Movie.{IsStateWith, AreCheckpoints}
 use Rattle.movie_file.specs.declared.checkpoint.Checkpoint.{Checkpoint}
 use Rattle.movie_file.specs.Spelling.{checkpoint_bytes}
-use Rattle.movie_file.specs.Reading.{◌>>=◌, frame_at, head_state_at, checkpoint_at, checkpoints_at}
-use Rattle.movie_file.proofs.Cells.{IsBytes, IsBytes-take, IsBytes-drop, and_true}
+use Rattle.movie_file.specs.Reading.{◌>>=◌, frame_at, head_state_at, claimed_checkpoint, checkpoints_at}
+use Rattle.movie_file.proofs.ByteLemmas.{IsBytes, IsBytes-take, IsBytes-drop, and_true}
 use Rattle.movie_file.proofs.MovieRecords.{movie_state_takes, movie_state_again}
 use Rattle.movie_file.proofs.MovieRecords.{length-movie_record}
 use Rattle.movie_file.proofs.ReadLemmas.{bind_ok, guard_then, some_ok, ok_is, Takes, Takes-then}
-use Rattle.movie_file.proofs.ReadLemmas.{front_takes, wide32}
+use Rattle.movie_file.proofs.ReadLemmas.{prefix_takes, wide32}
 
 -- the state at the head of the bytes
 pub head_state_takes : (h : Sizes) (bytes : List ℕ) (f : StateFields) → record_length h.version ≤ length bytes → IsBytes bytes → head_state_at h bytes ≡ Some f
@@ -33,7 +33,7 @@ pub head_state_takes : (h : Sizes) (bytes : List ℕ) (f : StateFields) → reco
 head_state_takes h bytes f long fits e =
     let n = record_length h.version in
     let s = movie_state_takes h.version h.cart (take n bytes) f (IsBytes-take n bytes fits) (omega (arith, length-take n bytes)) e in
-    (s.0, subst (λ (t : List ℕ). Takes bytes t (drop n bytes)) s.1 (front_takes n bytes fits))
+    (s.0, subst (λ (t : List ℕ). Takes bytes t (drop n bytes)) s.1 (prefix_takes n bytes fits))
 
 pub head_state_again : (h : Sizes) (f : StateFields) (rest : List ℕ) → IsTrue (takes_cart h.version h.cart) → IsStateWith h.cart f → head_state_at h (movie_record h.version f ++ rest) ≡ Some f
 head_state_again h f rest takes state =
@@ -49,8 +49,8 @@ record CheckpointRead (h : Sizes) (last : ℕ) (bytes : List ℕ) (c : Checkpoin
   within : c.frame ≤ h.frames
   state : IsStateWith h.cart c.state
 
-checkpoint_takes : (h : Sizes) (j last : ℕ) (bytes : List ℕ) (c : Checkpoint) → checkpoint_length h.version ≤ length bytes → IsBytes bytes → checkpoint_at h j last bytes ≡ Ok c → CheckpointRead h last bytes c
-unfolding checkpoint_at
+checkpoint_takes : (h : Sizes) (j last : ℕ) (bytes : List ℕ) (c : Checkpoint) → checkpoint_length h.version ≤ length bytes → IsBytes bytes → claimed_checkpoint h j last bytes ≡ Ok c → CheckpointRead h last bytes c
+unfolding claimed_checkpoint
 checkpoint_takes h j last bytes c long fits e =
     let f = frame_at bytes in
     let fits4 = IsBytes-drop 4 bytes fits in
@@ -58,14 +58,14 @@ checkpoint_takes h j last bytes c long fits e =
     let b = bind_ok (ok_or (head_state_at h (drop 4 bytes)) (BadState j)) (λ s. Ok (record { frame = f; state = s })) c g.1 in
     let s = head_state_takes h (drop 4 bytes) b.0 (omega (arith, length-drop 4 bytes)) fits4 (some_ok (head_state_at h (drop 4 bytes)) (BadState j) b.0 b.1) in
     let both = and_true (ltb last f) (leb f h.frames) g.0 in
-    let front : to_be_bytes w32 f ≡ take 4 bytes = wide32.back (take 4 bytes) (omega (arith, length-take 4 bytes)) (IsBytes-take 4 bytes fits) in
-    let t0 : Takes bytes (to_be_bytes w32 f) (drop 4 bytes) = subst (λ (t : List ℕ). Takes bytes t (drop 4 bytes)) (sym front) (front_takes 4 bytes fits) in
+    let prefix : to_be_bytes w32 f ≡ take 4 bytes = wide32.back (take 4 bytes) (omega (arith, length-take 4 bytes)) (IsBytes-take 4 bytes fits) in
+    let t0 : Takes bytes (to_be_bytes w32 f) (drop 4 bytes) = subst (λ (t : List ℕ). Takes bytes t (drop 4 bytes)) (sym prefix) (prefix_takes 4 bytes fits) in
     let made : Checkpoint = record { frame = f; state = b.0 } in
     let taken : Takes bytes (checkpoint_bytes h.version made) (drop (checkpoint_length h.version) bytes) = subst (λ (r : List ℕ). Takes bytes (checkpoint_bytes h.version made) r) (drop_twice h bytes) (Takes-then bytes (to_be_bytes w32 f) (drop 4 bytes) (movie_record h.version b.0) (drop (record_length h.version) (drop 4 bytes)) t0 s.1) in
     subst (CheckpointRead h last bytes) (ok_is made c b.2) (record { takes = taken; after = ltb-true _ _ both.0; within = leb-true _ _ both.1; state = s.0 })
 
-checkpoint_again : (h : Sizes) (j last : ℕ) (c : Checkpoint) (rest : List ℕ) → IsTrue (takes_cart h.version h.cart) → last < c.frame → c.frame ≤ h.frames → h.frames < 2 ^ 32 → IsStateWith h.cart c.state → checkpoint_at h j last (checkpoint_bytes h.version c ++ rest) ≡ Ok c
-unfolding checkpoint_at
+checkpoint_again : (h : Sizes) (j last : ℕ) (c : Checkpoint) (rest : List ℕ) → IsTrue (takes_cart h.version h.cart) → last < c.frame → c.frame ≤ h.frames → h.frames < 2 ^ 32 → IsStateWith h.cart c.state → claimed_checkpoint h j last (checkpoint_bytes h.version c ++ rest) ≡ Ok c
+unfolding claimed_checkpoint
 checkpoint_again h j last c rest takes after within small state =
     let P = λ (f : ℕ) (o : Option StateFields). cond {A = Result Checkpoint MovieError} (ltb last f && leb f h.frames) (ok_or o (BadState j) >>= λ s. Ok (record { frame = f; state = s })) (Err (BadOrder j)) in
     let b = checkpoint_bytes h.version c ++ rest in
@@ -85,7 +85,7 @@ unfolding checkpoints_at
 checkpoints_take h zero j last bytes x long fits e = subst (CheckpointsRead h 0 last bytes) (ok_is ([], bytes) x e) (record { takes = record { parts = refl; rest_fits = fits }; count = refl; each = tt })
 checkpoints_take h (suc m) j last bytes x long fits e =
     let w = checkpoint_length h.version in
-    let a = bind_ok (checkpoint_at h j last bytes) (λ first. checkpoints_at h m (suc j) first.frame (drop w bytes) >>= λ others. Ok (first ∷ others.0, others.1)) x e in
+    let a = bind_ok (claimed_checkpoint h j last bytes) (λ first. checkpoints_at h m (suc j) first.frame (drop w bytes) >>= λ others. Ok (first ∷ others.0, others.1)) x e in
     let b = bind_ok (checkpoints_at h m (suc j) a.0.frame (drop w bytes)) (λ others. Ok (a.0 ∷ others.0, others.1)) x a.2 in
     let room = room_for w m (length bytes) long in
     let first = checkpoint_takes h j last bytes a.0 room.0 fits a.1 in

@@ -14,7 +14,7 @@ use Rattle.movie_file.specs.declared.error.MovieError.TheVariants.{BadCartSize, 
 use Rattle.movie_file.specs.declared.reading.sizes.Sizes.{Sizes}
 use Rattle.movie_file.specs.Reading.{◌>>=◌, number_at, magic_at, version_at, cart_length_at}
 use Rattle.movie_file.specs.Reading.{counts_at, enough_of, sizes_at}
-use Rattle.movie_file.proofs.Cells.{IsBytes, and_true}
+use Rattle.movie_file.proofs.ByteLemmas.{IsBytes, and_true}
 use Rattle.movie_file.proofs.MovieRecords.{most_frames-most}
 use Rattle.movie_file.proofs.ReadLemmas.{bind_ok, guard_short, guard_fine, done, Takes, Takes-then}
 use Rattle.movie_file.proofs.ReadLemmas.{wide16, wide32, number_takes, number_again}

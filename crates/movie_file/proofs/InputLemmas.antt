@@ -10,9 +10,9 @@ use Rattle.movie_file.specs.Format.{input_length}
 use Rattle.movie_file.specs.declared.error.MovieError.{MovieError}
 use Rattle.movie_file.specs.declared.error.MovieError.TheVariants.{BadInput}
 use Rattle.movie_file.specs.Reading.{◌>>=◌, controls_at, input_at, inputs_at}
-use Rattle.movie_file.proofs.Cells.{IsBytes, cells_is}
+use Rattle.movie_file.proofs.ByteLemmas.{IsBytes, cells_is}
 use Rattle.movie_file.proofs.ReadLemmas.{bind_ok, guard_fine, done, ok_is, Takes, Takes-then}
-use Rattle.movie_file.proofs.ReadLemmas.{front_takes}
+use Rattle.movie_file.proofs.ReadLemmas.{prefix_takes}
 
 abbrev pub AreInputs : List Controls → Type 0
 AreInputs xs = AllByRecursion (λ i. IsTrue (is_input i)) xs
@@ -21,7 +21,7 @@ input_takes : (k : ℕ) (bytes : List ℕ) (i : Controls) → input_length ≤ l
 unfolding input_at
 input_takes k bytes i long fits e =
     let g = guard_fine (is_input (controls_at bytes)) (BadInput k) (controls_at bytes) i e in
-    let taken : Takes bytes (input_bytes (controls_at bytes)) (drop input_length bytes) = subst (λ (t : List ℕ). Takes bytes t (drop input_length bytes)) (sym (cells_is 3 0 bytes long)) (front_takes 3 bytes fits) in
+    let taken : Takes bytes (input_bytes (controls_at bytes)) (drop input_length bytes) = subst (λ (t : List ℕ). Takes bytes t (drop input_length bytes)) (sym (cells_is 3 0 bytes long)) (prefix_takes 3 bytes fits) in
     subst (λ (x : Controls). Takes bytes (input_bytes x) (drop input_length bytes) × IsTrue (is_input x)) g.1 (taken, g.0)
 
 pub record InputsRead (n : ℕ) (bytes : List ℕ) (x : List Controls × List ℕ) : Type 0 where

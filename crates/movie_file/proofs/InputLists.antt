@@ -12,8 +12,8 @@ use Rattle.movie_file.specs.MovieError.{Gives}
 use Rattle.movie_file.specs.Reading.{◌>>=◌, inputs_at}
 use Rattle.movie_file.specs.declared.error.MovieError.{MovieError}
 use Rattle.movie_file.specs.declared.error.MovieError.TheVariants.{Short, NoMemory}
-use Rattle.movie_file.proofs.Cells.{IsBytes}
-use Rattle.movie_file.proofs.Loops.{fails_is}
+use Rattle.movie_file.proofs.ByteLemmas.{IsBytes}
+use Rattle.movie_file.proofs.ItemLemmas.{fails_is}
 use Rattle.movie_file.proofs.ReadLemmas.{bind_ok, guard_then}
 use Rattle.movie_file.proofs.InputLemmas.{inputs_take, inputs_again, length-inputs}
 

@@ -9,10 +9,10 @@ use Rattle.std.proofs.lemmas.Nat.{le-div, div_below}
 use Rattle.std.proofs.Math.Nat.{div-mul-le_self, add-mul, mul_comm}
 use Rattle.vcs_machine.specs.Inputs.{Controls}
 use Rattle.riot_map.specs.Cart.{is_cart_length, has_banks}
-use Rattle.vcs_machine.specs.Outcomes.{Outcome, Played, Failed, left_by, frame_of}
+use Rattle.vcs_machine.specs.Outcomes.{FrameOutcome, Played, Failed, left_by, frame_of}
 use Rattle.vcs_machine.proofs.BankLaws.{frame_of-bank}
 use Rattle.vcs_machine.specs.Pictures.{Rows}
-use Rattle.vcs_machine.specs.States.{power_on}
+use Rattle.vcs_machine.specs.States.{state_at_power_on}
 use Rattle.vcs_machine.specs.declared.fault.FaultKind.{FaultKind}
 use Rattle.vcs_machine.specs.declared.fields.StateFields.{StateFields}
 use Rattle.movie_file.specs.declared.checkpoint.Checkpoint.{Checkpoint}
@@ -78,18 +78,18 @@ each_more P (b ∷ cs) d each here (suc j) c e = each_more (λ (i : ℕ). P (suc
 -- ---- one frame more
 
 module _ (cart : List ℕ) (inputs : List Controls) (k : ℕ) (state : StateFields) (input : Controls)
-    (is : run (bare cart inputs) (power_on cart) 0 k ≡ Some state) (at : slice_get inputs k ≡ Some input) where
-  frame_is : (outcome : Outcome) → frame_of cart state input ≡ outcome → frame_after (bare cart inputs) (0 + k) state ≡ Some outcome
+    (is : run (bare cart inputs) (state_at_power_on cart) 0 k ≡ Some state) (at : slice_get inputs k ≡ Some input) where
+  frame_is : (outcome : FrameOutcome) → frame_of cart state input ≡ outcome → frame_after (bare cart inputs) (0 + k) state ≡ Some outcome
   frame_is outcome e = let none : 0 + k ≡ k = omega arith in rw (none, at, e) refl
 
-  pub run_next : (new : StateFields) (rows : Rows) → frame_of cart state input ≡ Played new rows → run (bare cart inputs) (power_on cart) 0 (k + 1) ≡ Some new
+  pub run_next : (new : StateFields) (rows : Rows) → frame_of cart state input ≡ Played new rows → run (bare cart inputs) (state_at_power_on cart) 0 (k + 1) ≡ Some new
   run_next new rows ends = rw (add-one, is, frame_is (Played new rows) ends) refl
 
-  sound_next : (new : StateFields) (rows : Rows) → frame_of cart state input ≡ Played new rows → AllSound (bare cart inputs) (power_on cart) 0 k → AllSound (bare cart inputs) (power_on cart) 0 (k + 1)
+  sound_next : (new : StateFields) (rows : Rows) → frame_of cart state input ≡ Played new rows → AllSound (bare cart inputs) (state_at_power_on cart) 0 k → AllSound (bare cart inputs) (state_at_power_on cart) 0 (k + 1)
   sound_next new rows ends sound =
-      below_more (λ (i : ℕ). IsSound (bare cart inputs) (power_on cart) 0 i) k sound (new, run_next new rows ends, λ j c e here. not_found c e)
+      below_more (λ (i : ℕ). IsSound (bare cart inputs) (state_at_power_on cart) 0 i) k sound (new, run_next new rows ends, λ j c e here. not_found c e)
 
-  pub faults_here : (kind : FaultKind) (left : StateFields) → frame_of cart state input ≡ Failed kind left → FaultsAt (bare cart inputs) (power_on cart) 0 k kind
+  pub faults_here : (kind : FaultKind) (left : StateFields) → frame_of cart state input ≡ Failed kind left → FaultsAt (bare cart inputs) (state_at_power_on cart) 0 k kind
   faults_here kind left fails = (state, left, is, frame_is (Failed kind left) fails)
 
   pub Records-next : (every : ℕ) (cs ds : List Checkpoint) (new : StateFields) (rows : Rows) → 1 ≤ every → Records cart inputs every k cs → frame_of cart state input ≡ Played new rows
@@ -105,7 +105,7 @@ module _ (cart : List ℕ) (inputs : List Controls) (k : ℕ) (state : StateFiel
             sound = sound_next new rows ends far.sound;
             count = omega (arith, length-append cs (d ∷ []), far.count, m.0);
             places = each_more (λ (j : ℕ) (c : Checkpoint). c.frame ≡ every * (j + 1)) cs d far.places place;
-            states = each_more (λ (j : ℕ) (c : Checkpoint). run (bare cart inputs) (power_on cart) 0 c.frame ≡ Some c.state) cs d far.states (run_next new rows ends);
+            states = each_more (λ (j : ℕ) (c : Checkpoint). run (bare cart inputs) (state_at_power_on cart) 0 c.frame ≡ Some c.state) cs d far.states (run_next new rows ends);
             lawful = each_more (λ (j : ℕ) (c : Checkpoint). IsState c.state) cs d far.lawful lawful;
           }
       by false e = rw (append-nil cs) (record {
@@ -128,10 +128,10 @@ Records-none cart inputs every = record {
 -- ---- the movie
 
 abbrev pub with_checkpoints : List ℕ → List Controls → List Checkpoint → MovieData
-with_checkpoints cart inputs cs = record { version = version_made (length cart) (length inputs); cart = cart; start = power_on cart; inputs = inputs; checkpoints = cs }
+with_checkpoints cart inputs cs = record { version = version_made (length cart) (length inputs); cart = cart; start = state_at_power_on cart; inputs = inputs; checkpoints = cs }
 
 -- a run knows nothing of checkpoints
-pub run_same : (cart : List ℕ) (inputs : List Controls) (cs : List Checkpoint) (k : ℕ) → run (bare cart inputs) (power_on cart) 0 k ≡ run (with_checkpoints cart inputs cs) (power_on cart) 0 k
+pub run_same : (cart : List ℕ) (inputs : List Controls) (cs : List Checkpoint) (k : ℕ) → run (bare cart inputs) (state_at_power_on cart) 0 k ≡ run (with_checkpoints cart inputs cs) (state_at_power_on cart) 0 k
 run_same cart inputs cs zero = refl
 run_same cart inputs cs (suc k) =
     ap (λ (before : Option StateFields). option_and_then (λ state. state_after (frame_after (bare cart inputs) (0 + k) state)) before) (run_same cart inputs cs k)
@@ -148,7 +148,7 @@ no_state : {P : Type 0} (t : StateFields) → None ≡ found_state t → P
 no_state t e = absurd cc
 
 -- a frame on a cartridge without banks keeps the bank
-outcome_bank : (outcome : Outcome) (s t : StateFields) → (left_by outcome).bank ≡ s.bank → state_after (Some outcome) ≡ Some t → t.bank ≡ s.bank
+outcome_bank : (outcome : FrameOutcome) (s t : StateFields) → (left_by outcome).bank ≡ s.bank → state_after (Some outcome) ≡ Some t → t.bank ≡ s.bank
 outcome_bank (Played left rows) s t kept e = rw (← same_state left t e) kept
 outcome_bank (Failed kind left) s t kept e = no_state t e
 
@@ -167,21 +167,21 @@ run-bank m s from zero t single e = rw (same_state s t e) refl
 run-bank m s from (suc k) t single e = step_bank m s from k t (run m s from k) single (λ u ran. run-bank m s from k u single ran) e
 
 -- the bank of a state is 0 where the cartridge has none
-pub bank_at_start : (cart : List ℕ) → IsTrue (fits_bank (length cart) (power_on cart))
+pub bank_at_start : (cart : List ℕ) → IsTrue (fits_bank (length cart) (state_at_power_on cart))
 bank_at_start cart = by (has_banks (length cart))
   where
     by : (banks : Bool) → IsTrue (banks || eqb (cond {A = ℕ} banks 1 0) 0)
     by true = refl
     by false = refl
 
-bank_fits : (cart : List ℕ) (inputs : List Controls) (k : ℕ) (t : StateFields) → run (bare cart inputs) (power_on cart) 0 k ≡ Some t → IsTrue (fits_bank (length cart) t)
+bank_fits : (cart : List ℕ) (inputs : List Controls) (k : ℕ) (t : StateFields) → run (bare cart inputs) (state_at_power_on cart) 0 k ≡ Some t → IsTrue (fits_bank (length cart) t)
 bank_fits cart inputs k t ran = by (has_banks (length cart)) refl
   where
     by : (banks : Bool) → has_banks (length cart) ≡ banks → IsTrue (banks || eqb t.bank 0)
     by true e = refl
     by false e =
-        let none : (power_on cart).bank ≡ 0 = rw e refl in
-        let same : t.bank ≡ 0 = run-bank (bare cart inputs) (power_on cart) 0 k t e ran ∙ none in rw same refl
+        let none : (state_at_power_on cart).bank ≡ 0 = rw e refl in
+        let same : t.bank ≡ 0 = run-bank (bare cart inputs) (state_at_power_on cart) 0 k t e ran ∙ none in rw same refl
 
 -- checkpoints at multiples rise
 rising : (cart every n b : ℕ) (cs : List Checkpoint) → 1 ≤ every → ((j : ℕ) (c : Checkpoint) → slice_get cs j ≡ Some c → c.frame ≡ every * (b + j + 1))
@@ -217,7 +217,7 @@ module _ (cart : List ℕ) (inputs : List Controls) (every : ℕ) (cs : List Che
             let at : c.frame ≡ i + 1 = omega arith in
             let claimed = far.states j c e in
             let ran = sound.1 in
-            let claimed-here = subst (λ (f : ℕ). run (bare cart inputs) (power_on cart) 0 f ≡ Some c.state) at claimed in cc,
+            let claimed-here = subst (λ (f : ℕ). run (bare cart inputs) (state_at_power_on cart) 0 f ≡ Some c.state) at claimed in cc,
       )
 
   pub AreCheckpoints-run : AreCheckpoints (length cart) 0 (length inputs) cs
@@ -234,7 +234,7 @@ from_start cart inputs cs version start = record { version = version; cart = car
 
 -- the movie of these parts is the made one
 pub made_of_parts : (cart : List ℕ) (inputs seen : List Controls) (every : ℕ) (cs : List Checkpoint) (version : ℕ) (start : StateFields) (m : MovieData)
-    → IsTrue (counts_fit (length inputs) every) → seen ≡ inputs → Records cart seen every (length seen) cs → version ≡ version_made (length cart) (length inputs) → start ≡ power_on cart
+    → IsTrue (counts_fit (length inputs) every) → seen ≡ inputs → Records cart seen every (length seen) cs → version ≡ version_made (length cart) (length inputs) → start ≡ state_at_power_on cart
     → m ≡ from_start cart inputs cs version start
     → IsMadeOf cart inputs every m × IsGenuine m
 made_of_parts cart inputs seen every cs version start m fit seen-is made version-is start-is m-is =

@@ -19,18 +19,18 @@ use Rattle.movie_file.specs.declared.checkpoint.Checkpoint.{Checkpoint}
 use Rattle.movie_file.specs.Spelling.{header_of, checkpoint_bytes, spelling, Spells}
 use Rattle.movie_file.specs.Reading.{◌>>=◌, sizes_at, inputs_at, head_state_at, checkpoints_at}
 use Rattle.movie_file.specs.Reading.{body_at, movie_at}
-use Rattle.movie_file.proofs.Cells.{IsBytes}
+use Rattle.movie_file.proofs.ByteLemmas.{IsBytes}
 use Rattle.movie_file.proofs.MovieRecords.{length-movie_record, most_frames-most}
 use Rattle.movie_file.proofs.ReadLemmas.{bind_ok, guard_fine, some_ok, ok_is, Takes-then}
-use Rattle.movie_file.proofs.ReadLemmas.{front_takes}
+use Rattle.movie_file.proofs.ReadLemmas.{prefix_takes}
 use Rattle.movie_file.proofs.HeaderLemmas.{Sized, sizes_are, sizes_take, sizes_again}
 use Rattle.movie_file.proofs.InputLemmas.{AreInputs, inputs_take, inputs_again, length-inputs}
 use Rattle.movie_file.proofs.CheckpointReads.{head_state_takes, head_state_again, checkpoints_take}
 use Rattle.movie_file.proofs.CheckpointReads.{checkpoints_again, length-checkpoints}
 
 -- all of the bytes were taken
-no_rest : (bytes front rest : List ℕ) → bytes ≡ front ++ rest → rest ≡ [] → bytes ≡ front
-no_rest bytes front rest e nothing = e ∙ ap (λ (r : List ℕ). front ++ r) nothing ∙ append-nil front
+no_rest : (bytes prefix rest : List ℕ) → bytes ≡ prefix ++ rest → rest ≡ [] → bytes ≡ prefix
+no_rest bytes prefix rest e nothing = e ∙ ap (λ (r : List ℕ). prefix ++ r) nothing ∙ append-nil prefix
 
 record BodyRead (h : Sizes) (bytes : List ℕ) (m : MovieData) : Type 0 where
   parts : bytes ≡ m.cart ++ movie_record h.version m.start ++ flat_map input_bytes m.inputs ++ flat_map (checkpoint_bytes h.version) m.checkpoints
@@ -55,7 +55,7 @@ body_takes h bytes m long fits e =
     let c = bind_ok (checkpoints_at h h.checkpoints 1 0 i.0.1) (λ c. last s.0 i.0 c) m i.2 in
     let made : MovieData = record { version = h.version; cart = take h.cart bytes; start = s.0; inputs = i.0.0; checkpoints = c.0.0 } in
     let g = guard_fine (eqb (length c.0.1) 0) Trailing made m c.2 in
-    let t0 = front_takes h.cart bytes fits in
+    let t0 = prefix_takes h.cart bytes fits in
     let long1 : n + input_length * h.frames + w ≤ length b1 = omega (arith, length-drop h.cart bytes) in
     let long2 : input_length * h.frames + w ≤ length b2 = omega (arith, length-drop n b1) in
     let st = head_state_takes h b1 s.0 (omega arith) t0.rest_fits (some_ok (head_state_at h b1) (BadState 0) s.0 s.1) in
@@ -66,9 +66,9 @@ body_takes h bytes m long fits e =
     let a1 = Takes-then bytes (take h.cart bytes) b1 start b2 t0 st.1 in
     let a2 = Takes-then bytes (take h.cart bytes ++ start) b2 (flat_map input_bytes i.0.0) i.0.1 a1 ti.takes in
     let a3 = Takes-then bytes (take h.cart bytes ++ start ++ flat_map input_bytes i.0.0) i.0.1 (flat_map (checkpoint_bytes h.version) c.0.0) c.0.1 a2 tc.takes in
-    let front = take h.cart bytes ++ start ++ flat_map input_bytes i.0.0 ++ flat_map (checkpoint_bytes h.version) c.0.0 in
+    let prefix = take h.cart bytes ++ start ++ flat_map input_bytes i.0.0 ++ flat_map (checkpoint_bytes h.version) c.0.0 in
     subst (BodyRead h bytes) {x = made} g.1 (record {
-      parts = no_rest bytes front c.0.1 a3.parts nothing;
+      parts = no_rest bytes prefix c.0.1 a3.parts nothing;
       version = refl;
       cart = omega (arith, length-take h.cart bytes);
       start = st.0;

@@ -8,9 +8,9 @@ use Rattle.riot_map.specs.Cart.{has_banks}
 use Rattle.vcs_machine.specs.declared.fields.StateFields.{StateFields}
 use Rattle.movie_file.specs.Format.{takes_cart, most_frames, record_length, whole_record}
 use Rattle.movie_file.specs.Movie.{IsState, IsStateWith}
-use Rattle.movie_file.specs.Record.{record_of, state_at, movie_record, fits_bank, with_fitting_bank, movie_state_at}
+use Rattle.movie_file.specs.Record.{record_of, recorded_state, movie_record, fits_bank, with_fitting_bank, movie_state_at}
 use Rattle.movie_file.specs.RecordParts.{cpu_bytes, riot_bytes, tia_bytes}
-use Rattle.movie_file.proofs.Cells.{IsBytes, chosen_some}
+use Rattle.movie_file.proofs.ByteLemmas.{IsBytes, chosen_some}
 use Rattle.movie_file.proofs.RecordParts.{length-riot_bytes}
 use Rattle.movie_file.proofs.RecordLaws.{state_takes, state_again, length-record_of}
 
@@ -36,20 +36,20 @@ bank_of_old version cart bank old takes fits = grind (arith, nat_tests)
 
 -- ---- the bank is the last byte
 
-abbrev front_bytes : StateFields → List ℕ
-front_bytes f = cpu_bytes f.cpu ++ riot_bytes f.riot ++ tia_bytes f.tia
+abbrev prefix_bytes : StateFields → List ℕ
+prefix_bytes f = cpu_bytes f.cpu ++ riot_bytes f.riot ++ tia_bytes f.tia
 
-record_parts : (f : StateFields) → record_of f ≡ front_bytes f ++ f.bank ∷ []
+record_parts : (f : StateFields) → record_of f ≡ prefix_bytes f ++ f.bank ∷ []
 unfolding record_of
 record_parts f = refl
 
-front_length : (f : StateFields) → IsState f → length (front_bytes f) ≡ 187
-front_length f h =
+prefix_length : (f : StateFields) → IsState f → length (prefix_bytes f) ≡ 187
+prefix_length f h =
     let riot = length-riot_bytes f.riot h.ram in
     omega (arith, length-append (riot_bytes f.riot) (tia_bytes f.tia))
 
-take_front : (f : StateFields) → IsState f → take 187 (record_of f) ≡ front_bytes f
-take_front f h = ap (take 187) (record_parts f) ∙ take_at (front_bytes f) (f.bank ∷ []) 187 (front_length f h)
+take_prefix : (f : StateFields) → IsState f → take 187 (record_of f) ≡ prefix_bytes f
+take_prefix f h = ap (take 187) (record_parts f) ∙ take_at (prefix_bytes f) (f.bank ∷ []) 187 (prefix_length f h)
 
 pub length-movie_record : (version : ℕ) (f : StateFields) → IsState f → length (movie_record version f) ≡ record_length version
 length-movie_record version f h = omega (arith, length-take (record_length version) (record_of f), length-record_of f h, record_length-most version)
@@ -62,13 +62,13 @@ whole_again version cart f takes h = by (eqb version 1) refl
     by : (old : Bool) → eqb version 1 ≡ old → cond {A = List ℕ} old (take (cond {A = ℕ} old 187 188) (record_of f) ++ 0 ∷ []) (take (cond {A = ℕ} old 187 188) (record_of f)) ≡ record_of f
     by true e =
         let none : f.bank ≡ 0 = bank_of_old version cart f.bank e takes h.bank in
-        ap (λ (w : List ℕ). w ++ 0 ∷ []) (take_front f h.state) ∙ ap (λ (bank : ℕ). front_bytes f ++ bank ∷ []) (sym none) ∙ sym (record_parts f)
+        ap (λ (w : List ℕ). w ++ 0 ∷ []) (take_prefix f h.state) ∙ ap (λ (bank : ℕ). prefix_bytes f ++ bank ∷ []) (sym none) ∙ sym (record_parts f)
     by false e = take_all 188 (record_of f) (omega (arith, length-record_of f h.state))
 
 pub movie_state_again : (version cart : ℕ) (f : StateFields) → IsTrue (takes_cart version cart) → IsStateWith cart f → movie_state_at version cart (movie_record version f) ≡ Some f
 unfolding movie_state_at
 movie_state_again version cart f takes h =
-    ap (λ (b : List ℕ). with_fitting_bank cart (state_at b)) (whole_again version cart f takes h)
+    ap (λ (b : List ℕ). with_fitting_bank cart (recorded_state b)) (whole_again version cart f takes h)
     ∙ ap (with_fitting_bank cart) (state_again f h.state)
     ∙ ap (λ (fits : Bool). cond fits (Some f) None) h.bank
 
@@ -107,6 +107,6 @@ pub movie_state_takes : (version cart : ℕ) (bytes : List ℕ) (f : StateFields
     → IsStateWith cart f × (bytes ≡ movie_record version f)
 unfolding movie_state_at
 movie_state_takes version cart bytes f fits len e =
-    let found = fitting cart (state_at (whole_record version bytes)) f e in
+    let found = fitting cart (recorded_state (whole_record version bytes)) f e in
     let taken = state_takes (whole_record version bytes) f (IsBytes-whole version bytes fits) found.0 in
     (record { state = taken.0; bank = found.1 }, sym (whole_back version bytes len) ∙ ap (take (record_length version)) taken.1)

@@ -4,7 +4,7 @@ use Rattle.std.specs.Prelude.{slice_get}
 use Rattle.std.proofs.lemmas.Bool.{cases_lt}
 use Rattle.std.proofs.lemmas.Option.{slice_get_past}
 use Rattle.vcs_machine.specs.Inputs.{Controls}
-use Rattle.vcs_machine.specs.States.{power_on}
+use Rattle.vcs_machine.specs.States.{state_at_power_on}
 use Rattle.vcs_machine.specs.declared.fault.FaultKind.{FaultKind}
 use Rattle.vcs_machine.specs.declared.fields.StateFields.{StateFields}
 use Rattle.movie_file.specs.declared.checkpoint.Checkpoint.{Checkpoint}
@@ -13,7 +13,7 @@ use Rattle.movie_file.specs.Making.{bare, version_made, IsFirstFault, IsMadeOf}
 use Rattle.movie_file.specs.Movie.{MovieData}
 use Rattle.movie_file.specs.Run.{run, frame_after}
 use Rattle.movie_file.proofs.MakingRuns.{with_checkpoints, run_same}
-use Rattle.movie_file.proofs.Runs.{run-fault, sound_no_fault, same_kind}
+use Rattle.movie_file.proofs.RunLemmas.{run-fault, sound_no_fault, same_kind}
 
 -- lists of one length whose elements are the same at each place
 same_lists : (cs ds : List Checkpoint) → length cs ≡ length ds → ((j : ℕ) (c d : Checkpoint) → slice_get cs j ≡ Some c → slice_get ds j ≡ Some d → c ≡ d) → cs ≡ ds
@@ -36,7 +36,7 @@ same_claim c d frames states =
     ap (λ (f : ℕ). claim f c.state) frames ∙ ap (claim d.frame) same
 
 -- a movie has each frame that faults
-fault_within : (cart : List ℕ) (inputs : List Controls) (k : ℕ) (kind : FaultKind) → FaultsAt (bare cart inputs) (power_on cart) 0 k kind → k < length inputs
+fault_within : (cart : List ℕ) (inputs : List Controls) (k : ℕ) (kind : FaultKind) → FaultsAt (bare cart inputs) (state_at_power_on cart) 0 k kind → k < length inputs
 fault_within cart inputs k kind (state, left, ran, faults) = by (cases_lt k (length inputs))
   where
     by : (k < length inputs) ⊎ (length inputs ≤ k) → k < length inputs
@@ -54,19 +54,19 @@ module _ (cart : List ℕ) (inputs : List Controls) (every : ℕ) (m : MovieData
   made_parts =
       let version = version_made (length cart) (length inputs) in
       ap (λ (v : ℕ). movie_of v m.cart m.start m.inputs m.checkpoints) made.version ∙ ap (λ (c : List ℕ). movie_of version c m.start m.inputs m.checkpoints) made.cart_is
-      ∙ ap (λ (s : StateFields). movie_of version cart s m.inputs m.checkpoints) made.start ∙ ap (λ (i : List Controls). movie_of version cart (power_on cart) i m.checkpoints) made.inputs_are
+      ∙ ap (λ (s : StateFields). movie_of version cart s m.inputs m.checkpoints) made.start ∙ ap (λ (i : List Controls). movie_of version cart (state_at_power_on cart) i m.checkpoints) made.inputs_are
 
   -- its run is that of the movie that claims nothing
-  made_run : (k : ℕ) → run m m.start 0 k ≡ run (bare cart inputs) (power_on cart) 0 k
-  made_run k = subst (λ (n : MovieData). run n n.start 0 k ≡ run (bare cart inputs) (power_on cart) 0 k) (sym made_parts) (sym (run_same cart inputs m.checkpoints k))
+  made_run : (k : ℕ) → run m m.start 0 k ≡ run (bare cart inputs) (state_at_power_on cart) 0 k
+  made_run k = subst (λ (n : MovieData). run n n.start 0 k ≡ run (bare cart inputs) (state_at_power_on cart) 0 k) (sym made_parts) (sym (run_same cart inputs m.checkpoints k))
 
-  made_state : (j : ℕ) (c : Checkpoint) → slice_get m.checkpoints j ≡ Some c → run (bare cart inputs) (power_on cart) 0 (every * (j + 1)) ≡ Some c.state
-  made_state j c at = ap (λ (k : ℕ). run (bare cart inputs) (power_on cart) 0 k) (sym (made.places j c at)) ∙ sym (made_run c.frame) ∙ made.states j c at
+  made_state : (j : ℕ) (c : Checkpoint) → slice_get m.checkpoints j ≡ Some c → run (bare cart inputs) (state_at_power_on cart) 0 (every * (j + 1)) ≡ Some c.state
+  made_state j c at = ap (λ (k : ℕ). run (bare cart inputs) (state_at_power_on cart) 0 k) (sym (made.places j c at)) ∙ sym (made_run c.frame) ∙ made.states j c at
 
   pub no_made_fault : IsGenuine m → (frame : ℕ) (kind : FaultKind) → IsFirstFault cart inputs frame kind → ⊥
   no_made_fault genuine frame kind (k, is, before, fault) =
       let sound = genuine k (subst (λ (is : List Controls). k < length is) (sym made.inputs_are) (fault_within cart inputs k kind fault)) in
-      let gone = run-fault (bare cart inputs) (power_on cart) 0 k kind fault in
+      let gone = run-fault (bare cart inputs) (state_at_power_on cart) 0 k kind fault in
       let same = made_run (k + 1) in
       let ran = sound.1 in
       absurd cc
@@ -84,8 +84,8 @@ pub one_first_fault : (cart : List ℕ) (inputs : List Controls) (frame other : 
 one_first_fault cart inputs frame other kind other_kind (k, is, before, fault) (k', is', before', fault') = by (cases_lt k k') (cases_lt k' k)
   where
     by : (k < k') ⊎ (k' ≤ k) → (k' < k) ⊎ (k ≤ k') → (frame ≡ other) × (kind ≡ other_kind)
-    by (inl low) more = absurd (sound_no_fault (bare cart inputs) (power_on cart) 0 k kind (before' k low) fault)
-    by (inr le) (inl low) = absurd (sound_no_fault (bare cart inputs) (power_on cart) 0 k' other_kind (before k' low) fault')
+    by (inl low) more = absurd (sound_no_fault (bare cart inputs) (state_at_power_on cart) 0 k kind (before' k low) fault)
+    by (inr le) (inl low) = absurd (sound_no_fault (bare cart inputs) (state_at_power_on cart) 0 k' other_kind (before k' low) fault')
     by (inr le) (inr ge) =
         let same : k' ≡ k = omega arith in
-        (omega arith, same_kind (bare cart inputs) (power_on cart) 0 k kind other_kind fault (subst (λ (x : ℕ). FaultsAt (bare cart inputs) (power_on cart) 0 x other_kind) same fault'))
+        (omega arith, same_kind (bare cart inputs) (state_at_power_on cart) 0 k kind other_kind fault (subst (λ (x : ℕ). FaultsAt (bare cart inputs) (state_at_power_on cart) 0 x other_kind) same fault'))

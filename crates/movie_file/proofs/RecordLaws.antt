@@ -12,10 +12,10 @@ use Rattle.vcs_machine.proofs.StateLemmas.{clock_of, clock-thirds}
 use Rattle.vcs_machine.specs.declared.fields.StateFields.{StateFields}
 use Rattle.vcs_machine.specs.States.{is_state}
 use Rattle.movie_file.specs.Format.{state_length}
-use Rattle.movie_file.specs.Record.{record_of, state_at, fields_at, cpu_part, riot_part, tia_part}
+use Rattle.movie_file.specs.Record.{record_of, recorded_state, fields_at, cpu_part, riot_part, tia_part}
 use Rattle.movie_file.specs.RecordParts.{cpu_bytes, cpu_at, riot_bytes, riot_at, tia_bytes, tia_at}
 use Rattle.movie_file.specs.Movie.{IsState}
-use Rattle.movie_file.proofs.Cells.{IsBytes, IsBytes-take, IsBytes-drop, two_below, and_true, chosen_some}
+use Rattle.movie_file.proofs.ByteLemmas.{IsBytes, IsBytes-take, IsBytes-drop, two_below, and_true, chosen_some}
 use Rattle.movie_file.proofs.RecordParts.{cpu_back, riot_back, tia_back, cpu_again, riot_again, tia_again, length-riot_bytes}
 
 -- ---- a record that is read is written again
@@ -64,9 +64,9 @@ module _ (b : List ℕ) (fits : IsBytes b) (len : length b ≡ state_length) whe
         ram = omega (arith, length-take 128 (riot_part b), riot_length);
       }
 
-pub state_takes : (b : List ℕ) (f : StateFields) → IsBytes b → state_at b ≡ Some f
+pub state_takes : (b : List ℕ) (f : StateFields) → IsBytes b → recorded_state b ≡ Some f
     → IsState f × (b ≡ record_of f)
-unfolding state_at
+unfolding recorded_state
 state_takes b f fits e =
     let long = nat_eq (length b) state_length in
     let is = chosen_some (long && is_state (fields_at b)) (fields_at b) f e in
@@ -75,7 +75,7 @@ state_takes b f fits e =
     subst (λ (x : StateFields). IsState x × (b ≡ record_of x)) is.1
     (lawful_at b fits len both.1, sym (record_back b fits len))
 
-pub state_found : (b : List ℕ) (o : Option StateFields) → IsBytes b → o ≡ state_at b
+pub state_found : (b : List ℕ) (o : Option StateFields) → IsBytes b → o ≡ recorded_state b
     → IfSome o (λ f. IsState f × (b ≡ record_of f))
 state_found b (Some f) fits e = state_takes b f fits (sym e)
 state_found b None fits e = tt
@@ -123,8 +123,8 @@ module _ (f : StateFields) (h : IsState f) where
       (tia ∙ tia_again f.tia h.collisions (clock-thirds f h.lawful))
       (sym (get_or-drop 145 (record_of f) 42 0) ∙ last)
 
-  pub state_again : state_at (record_of f) ≡ Some f
-  unfolding state_at
+  pub state_again : recorded_state (record_of f) ≡ Some f
+  unfolding recorded_state
   state_again =
       let long = nat_eq (length (record_of f)) state_length in
       ap (λ (g : StateFields). cond (long && is_state g) (Some g) None) fields_again
@@ -137,15 +137,15 @@ pub state_of_parts : (b : List ℕ) (cpu : Registers) (riot : RiotFields) (tia :
     (o : Option StateFields) → length b ≡ state_length
     → cpu ≡ cpu_at (cpu_part b) → riot ≡ riot_at (riot_part b) → tia ≡ tia_at (tia_part b)
     → let f = built cpu riot tia (get_or b 187 0) in
-    o ≡ cond (is_state f) (Some f) None → o ≡ state_at b
-unfolding state_at
+    o ≡ cond (is_state f) (Some f) None → o ≡ recorded_state b
+unfolding recorded_state
 state_of_parts b cpu riot tia o len first second third e =
     let same : built cpu riot tia (get_or b 187 0) ≡ fields_at b =
     same_state _ _ _ _ _ _ _ _ first second third refl in
     rw len (e ∙ ap (λ (f : StateFields). cond (is_state f) (Some f) None) same)
 
-unlawful : (b : List ℕ) → is_state (fields_at b) ≡ false → state_at b ≡ None
-unfolding state_at
+unlawful : (b : List ℕ) → is_state (fields_at b) ≡ false → recorded_state b ≡ None
+unfolding recorded_state
 unlawful b e = rw e (by (nat_eq (length b) state_length))
   where
     by : (long : Bool) → cond (long && false) (Some (fields_at b)) None ≡ None
@@ -157,14 +157,14 @@ unfolding is_state
 no_status f none = rw none
 
 -- no processor has the byte of its status
-pub no_cpu : (b : List ℕ) → is_status (get_or (cpu_part b) 4 0) ≡ false → state_at b ≡ None
+pub no_cpu : (b : List ℕ) → is_status (get_or (cpu_part b) 4 0) ≡ false → recorded_state b ≡ None
 no_cpu b e = unlawful b (no_status (fields_at b) e)
 
 -- the beam is beyond its scanline
-pub no_tia : (b : List ℕ) → nat_lt (get_or (tia_part b) 40 0) 76 ≡ false → state_at b ≡ None
+pub no_tia : (b : List ℕ) → nat_lt (get_or (tia_part b) 40 0) 76 ≡ false → recorded_state b ≡ None
 no_tia b e = by (is_state (fields_at b)) refl
   where
-    by : (lawful : Bool) → is_state (fields_at b) ≡ lawful → state_at b ≡ None
+    by : (lawful : Bool) → is_state (fields_at b) ≡ lawful → recorded_state b ≡ None
     by false is = unlawful b is
     by true is =
         let late : 76 ≤ get_or (tia_part b) 40 0 = ltb-false _ _ e in
@@ -174,21 +174,21 @@ no_tia b e = by (is_state (fields_at b)) refl
 -- ---- parts one after another
 
 -- what is put after a beginning
-pub put_after : (a k : ℕ) (front part rest : List ℕ) → length front ≡ a
-    → put_mid a k (front ++ rest) part ≡ front ++ part ++ drop k rest
-put_after a k front part rest len =
-    ap (λ (w : List ℕ). w ++ (part ++ drop k (drop a (front ++ rest)))) (take_at front rest a len)
-    ∙ ap (λ (w : List ℕ). front ++ (part ++ drop k w)) (drop_at front rest a len)
-    ∙ sym (append_assoc front part (drop k rest))
+pub put_after : (a k : ℕ) (prefix part rest : List ℕ) → length prefix ≡ a
+    → put_mid a k (prefix ++ rest) part ≡ prefix ++ part ++ drop k rest
+put_after a k prefix part rest len =
+    ap (λ (w : List ℕ). w ++ (part ++ drop k (drop a (prefix ++ rest)))) (take_at prefix rest a len)
+    ∙ ap (λ (w : List ℕ). prefix ++ (part ++ drop k w)) (drop_at prefix rest a len)
+    ∙ sym (append_assoc prefix part (drop k rest))
 
 -- three parts and a byte
 pub put_all : (c r t rest : List ℕ) (old bank : ℕ)
     → length c ≡ 7 → length r ≡ 138 → length t ≡ 42 → drop 42 (drop 138 rest) ≡ old ∷ []
     → set (put_mid 145 42 (put_mid 7 138 (c ++ rest) r) t) 187 bank ≡ c ++ r ++ t ++ bank ∷ []
 put_all c r t rest old bank cpu riot tia left =
-    let front : length (c ++ r) ≡ 145 = omega (arith, length-append c r) in
+    let prefix : length (c ++ r) ≡ 145 = omega (arith, length-append c r) in
     let whole : length (c ++ r ++ t) ≡ 187 = omega (arith, length-append (c ++ r) t) in
     ap (λ (w : List ℕ). set (put_mid 145 42 w t) 187 bank) (put_after 7 138 c r rest cpu)
-    ∙ ap (λ (w : List ℕ). set w 187 bank) (put_after 145 42 (c ++ r) t (drop 138 rest) front)
+    ∙ ap (λ (w : List ℕ). set w 187 bank) (put_after 145 42 (c ++ r) t (drop 138 rest) prefix)
     ∙ ap (λ (w : List ℕ). set (c ++ r ++ t ++ w) 187 bank) left
     ∙ set_at (c ++ r ++ t) old [] bank 187 whole

@@ -6,7 +6,7 @@ use Rattle.mos_cpu.specs.Registers.{Registers}
 use Rattle.riot_map.specs.declared.fields.RiotFields.{RiotFields}
 use Rattle.tia_core.specs.declared.fields.TiaFields.{TiaFields}
 use Rattle.movie_file.specs.RecordParts.{cpu_bytes, cpu_at, port_bytes, riot_bytes, riot_with, riot_at, tia_bytes, tia_at}
-use Rattle.movie_file.proofs.Cells.{IsBytes, IsBytes-drop, cells, cells_whole, two_back}
+use Rattle.movie_file.proofs.ByteLemmas.{IsBytes, IsBytes-drop, cells, cells_whole, two_back}
 
 -- ---- written as they were read
 

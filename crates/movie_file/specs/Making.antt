@@ -2,7 +2,7 @@
 use Rattle.std.specs.Prelude.{◌≡◌, ℕ, ◌+◌, ◌*◌, ◌/◌, ◌<◌, List, [], length, Bool, ◌&&◌, ◌||◌, nat_le, nat_lt, IsTrue, if◌then◌else◌, Some, slice_get}
 use Rattle.riot_map.specs.Cart.{has_banks}
 use Rattle.vcs_machine.specs.Inputs.{Controls}
-use Rattle.vcs_machine.specs.States.{power_on}
+use Rattle.vcs_machine.specs.States.{state_at_power_on}
 use Rattle.vcs_machine.specs.declared.fault.FaultKind.{FaultKind}
 use Rattle.movie_file.specs.declared.checkpoint.Checkpoint.{Checkpoint}
 use Rattle.movie_file.specs.declared.error.MakeError.{MakeError}
@@ -26,7 +26,7 @@ counts_fit frames every =
 pub record IsMadeOf (cart : List ℕ) (inputs : List Controls) (every : ℕ) (m : MovieData) : Type 0 where
   pub version : m.version ≡ version_made (length cart) (length inputs)
   pub cart_is : m.cart ≡ cart
-  pub start : m.start ≡ power_on cart
+  pub start : m.start ≡ state_at_power_on cart
   pub inputs_are : m.inputs ≡ inputs
   pub count : length m.checkpoints ≡ length inputs / every
   pub places : (j : ℕ) (c : Checkpoint) → slice_get m.checkpoints j ≡ Some c → c.frame ≡ every * (j + 1)
@@ -38,7 +38,7 @@ bare cart inputs =
     record {
       version = version_made (length cart) (length inputs);
       cart = cart;
-      start = power_on cart;
+      start = state_at_power_on cart;
       inputs = inputs;
       checkpoints = [];
     }
@@ -46,8 +46,8 @@ bare cart inputs =
 -- this frame of the run from power-on, counted from 1, faults, and each frame before it ends
 abbrev pub IsFirstFault : List ℕ → List Controls → ℕ → FaultKind → Type 0
 IsFirstFault cart inputs frame kind =
-    (k : ℕ) × (frame ≡ k + 1) × AllSound (bare cart inputs) (power_on cart) 0 k
-    × FaultsAt (bare cart inputs) (power_on cart) 0 k kind
+    (k : ℕ) × (frame ≡ k + 1) × AllSound (bare cart inputs) (state_at_power_on cart) 0 k
+    × FaultsAt (bare cart inputs) (state_at_power_on cart) 0 k kind
 
 -- Why no movie is made. The counts are looked at first, and memory is taken before the run, where there is a checkpoint.
 abbrev pub Explains : List ℕ → List Controls → ℕ → MakeError → Type 0

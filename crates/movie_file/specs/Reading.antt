@@ -1,5 +1,5 @@
 -- Reading a movie, with the first refusal that is met, in the order of the format: the fields of the
--- header front to back, the length of the file, the start state, the inputs, the checkpoints, the
+-- header prefix to back, the length of the file, the start state, the inputs, the checkpoints, the
 -- end. This project's own.
 use Rattle.std.specs.Prelude.{ℕ, zero, suc, ◌&&◌, List, [], ◌∷◌, length, take, drop, slice_index}
 use Rattle.std.specs.Prelude.{Option, Result, Ok, Err, nat_lt, nat_le, ◌==◌, if◌then◌else◌}
@@ -90,8 +90,8 @@ head_state_at h bytes = movie_state_at h.version h.cart (take (record_length h.v
 
 -- the checkpoint of number j: its frame is greater than the last one and one of the movie's, and
 -- its state is one
-unfoldable pub checkpoint_at : Sizes → ℕ → ℕ → List ℕ → Result Checkpoint MovieError
-checkpoint_at h j last bytes =
+unfoldable pub claimed_checkpoint : Sizes → ℕ → ℕ → List ℕ → Result Checkpoint MovieError
+claimed_checkpoint h j last bytes =
     if nat_lt last (frame_at bytes) && nat_le (frame_at bytes) h.frames
     then (ok_or (head_state_at h (drop 4 bytes)) (BadState j) >>= λ s. Ok (record { frame = frame_at bytes; state = s }))
     else Err (BadOrder j)
@@ -100,7 +100,7 @@ checkpoint_at h j last bytes =
 unfoldable pub checkpoints_at : Sizes → ℕ → ℕ → ℕ → List ℕ → Result (List Checkpoint × List ℕ) MovieError
 checkpoints_at h zero j last bytes = Ok ([], bytes)
 checkpoints_at h (suc m) j last bytes = do
-  first ← checkpoint_at h j last bytes
+  first ← claimed_checkpoint h j last bytes
   others ← checkpoints_at h m (suc j) first.frame (drop (checkpoint_length h.version) bytes)
   Ok (first ∷ others.0, others.1)
 

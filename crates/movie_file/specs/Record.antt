@@ -29,8 +29,8 @@ fields_at bytes = record {
 }
 
 -- the state whose record the bytes are, where they are one
-unfoldable pub state_at : List ℕ → Option StateFields
-state_at bytes = if (length bytes == state_length) && is_state (fields_at bytes) then Some (fields_at bytes) else None
+unfoldable pub recorded_state : List ℕ → Option StateFields
+recorded_state bytes = if (length bytes == state_length) && is_state (fields_at bytes) then Some (fields_at bytes) else None
 
 -- the record of a state in a movie of this version
 abbrev pub movie_record : ℕ → StateFields → List ℕ
@@ -46,4 +46,4 @@ with_fitting_bank cart None = None
 
 -- the state whose record in a movie the bytes are: of this version, with a cartridge of so many bytes
 unfoldable pub movie_state_at : ℕ → ℕ → List ℕ → Option StateFields
-movie_state_at version cart bytes = with_fitting_bank cart (state_at (whole_record version bytes))
+movie_state_at version cart bytes = with_fitting_bank cart (recorded_state (whole_record version bytes))

@@ -1,23 +1,23 @@
 -- The run of a movie: one frame after another, from one state. This project's own.
 use Rattle.std.specs.Prelude.{ℕ, zero, suc, ◌+◌, List, [], ◌∷◌, Option, Some, None, slice_get, option_and_then}
 use Rattle.std.specs.Option.{option_map}
-use Rattle.vcs_machine.specs.Outcomes.{Outcome, Played, Failed, frame_of}
+use Rattle.vcs_machine.specs.Outcomes.{FrameOutcome, Played, Failed, frame_of}
 use Rattle.vcs_machine.specs.Pictures.{Rows}
 use Rattle.vcs_machine.specs.declared.fields.StateFields.{StateFields}
 use Rattle.movie_file.specs.Movie.{MovieData}
 
 -- what frame k + 1 of a movie does to a state, where the movie has that frame
-abbrev pub frame_after : MovieData → ℕ → StateFields → Option Outcome
+abbrev pub frame_after : MovieData → ℕ → StateFields → Option FrameOutcome
 frame_after m k state = option_map (λ input. frame_of m.cart state input) (slice_get m.inputs k)
 
 -- the state after a frame that ended
-abbrev pub state_after : Option Outcome → Option StateFields
+abbrev pub state_after : Option FrameOutcome → Option StateFields
 state_after (Some (Played state picture)) = Some state
 state_after (Some (Failed kind state)) = None
 state_after None = None
 
 -- its picture
-abbrev pub pictures_of : Option Outcome → List Rows
+abbrev pub pictures_of : Option FrameOutcome → List Rows
 pictures_of (Some (Played state picture)) = picture ∷ []
 pictures_of (Some (Failed kind state)) = []
 pictures_of None = []

@@ -83,7 +83,3 @@ pub enum MakeError {
     /// A growth for the checkpoints was refused.
     NoMemory,
 }
-
-/// A growth was refused.
-#[derive(Clone, Copy, Debug, PartialEq, Eq)]
-pub struct NoMemory;

@@ -6,7 +6,7 @@ ghost use Rattle.movie_file.specs.Judgement.{IsSound, FaultsAt, IsFalseAt, IsGen
 ghost use Rattle.movie_file.specs.Making.{IsFirstFault, IsMadeOf};
 ghost use Rattle.movie_file.specs.Movie.{MovieData, IsMovie, IsState, IsStateWith};
 ghost use Rattle.movie_file.specs.Reading.{movie_at};
-ghost use Rattle.movie_file.specs.Record.{record_of, state_at};
+ghost use Rattle.movie_file.specs.Record.{record_of, recorded_state};
 ghost use Rattle.movie_file.specs.Run.{run};
 ghost use Rattle.movie_file.specs.Spelling.{Spells};
 ghost use Rattle.movie_file.specs.declared.checkpoint.Checkpoint.{Checkpoint};
@@ -56,9 +56,9 @@ pub const fn law_of_making()
 /// A law: the record of a state is read as that state, and bytes that are read as a state are its
 /// record.
 pub const fn law_of_records()
-    ensures found { (f : StateFields) → IsState f → state_at (record_of f) ≡ Some f }
+    ensures found { (f : StateFields) → IsState f → recorded_state (record_of f) ≡ Some f }
     ensures written { (bytes : List ℕ) (f : StateFields) → ((i : ℕ) → get_or bytes i 0 < 256)
-        → state_at bytes ≡ Some f → IsState f × (bytes ≡ record_of f) }
+        → recorded_state bytes ≡ Some f → IsState f × (bytes ≡ record_of f) }
 {}
 
 /// A law: checkpoints stand after frames of their movie, each after the one before it, and claim

@@ -19,7 +19,7 @@ mod writing;
 
 pub use checkpoint::Checkpoint;
 pub use converting::{ConvertError, convert};
-pub use error::{MakeError, MovieError, NoMemory};
+pub use error::{MakeError, MovieError};
 pub use laws::{
     law_of_checkpoints, law_of_conversion, law_of_inputs, law_of_judgements, law_of_making,
     law_of_one_movie, law_of_one_spelling, law_of_reading, law_of_records, law_of_runs,

@@ -58,7 +58,12 @@ fn look_at_inputs(inputs: &[Input])
 }
 
 /// One frame, whose picture is not kept.
-fn play(alloc: Global, cart: &Cart, state: &mut State, input: Input) -> Result<(), FaultKind>
+fn frame_without_picture(
+    alloc: Global,
+    cart: &Cart,
+    state: &mut State,
+    input: Input,
+) -> Result<(), FaultKind>
     ensures ok { OnOk result
         ((rows : Rows) × (frame_of cart.now state.old input ≡ Played state.new rows)) }
     ensures err { IfErr result (λ kind. frame_of cart.now state.old input ≡ Failed kind state.new) }
@@ -105,7 +110,7 @@ fn checkpoints_of_run(
     let mut state = State::power_on(cart);
     for i in 0..inputs.len() {
         let frame = i as u32 + 1;
-        match play(alloc, cart, &mut state, inputs[i]) {
+        match frame_without_picture(alloc, cart, &mut state, inputs[i]) {
             Ok(()) => claim(&mut checkpoints, every, frame, &state),
             Err(kind) => return Err(MakeError::Fault { frame, kind }),
         }

@@ -3,7 +3,7 @@ ghost use Rattle.std.specs.Prelude.{◌≡◌, length, IfSome, Some};
 ghost use Rattle.vcs_machine.specs.declared.fields.StateFields.{StateFields};
 ghost use Rattle.movie_file.specs.Movie.{IsState};
 ghost use Rattle.movie_file.specs.Format.{record_length, whole_record};
-ghost use Rattle.movie_file.specs.Record.{record_of, state_at, movie_state_at};
+ghost use Rattle.movie_file.specs.Record.{record_of, recorded_state, movie_state_at};
 
 mod cpu;
 mod riot;
@@ -18,9 +18,9 @@ use tia::{tia_bytes, tia_in};
 use vcs_machine::{State, StateFields};
 
 /// The state whose record the bytes are.
-#[tactic(auto, unfolding(crate::specs::Record::state_at))]
+#[tactic(auto, unfolding(crate::specs::Record::recorded_state))]
 fn state_in(bytes: &[u8]) -> Option<State>
-    ensures { result ≡ state_at bytes.now }
+    ensures { result ≡ recorded_state bytes.now }
 {
     if bytes.len() != STATE_LENGTH {
         return None;
@@ -35,7 +35,7 @@ fn state_in(bytes: &[u8]) -> Option<State>
 
 /// The state whose record the bytes are; none where they aren't 188 bytes or break a condition.
 pub fn read_state(bytes: &[u8]) -> Option<State>
-    ensures exact { result ≡ state_at bytes.now }
+    ensures exact { result ≡ recorded_state bytes.now }
     ensures found { IfSome result (λ f. IsState f × (bytes.now ≡ record_of f)) }
     ensures only { (f : StateFields) → IsState f → bytes.now ≡ record_of f → result ≡ Some f }
 {
@@ -45,7 +45,7 @@ pub fn read_state(bytes: &[u8]) -> Option<State>
 /// The state whose whole record the bytes are, but for a bank that version 1 leaves out.
 fn whole_state_in(version: u16, bytes: &[u8]) -> Option<State>
     requires { length bytes.now ≡ record_length version }
-    ensures { result ≡ state_at (whole_record version bytes.now) }
+    ensures { result ≡ recorded_state (whole_record version bytes.now) }
 {
     if version != 1 {
         return read_state(bytes);

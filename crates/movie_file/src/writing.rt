@@ -8,7 +8,6 @@ ghost use Rattle.movie_file.specs.Spelling.{header_of, checkpoint_bytes, spellin
 ghost use Rattle.movie_file.specs.Record.{movie_record};
 
 use crate::checkpoint::Checkpoint;
-use crate::error::NoMemory;
 use crate::format::{HEADER_LENGTH, MAGIC, record_length};
 use crate::movie::Movie;
 use crate::record::write_state;
@@ -45,7 +44,7 @@ fn header(movie: &Movie) -> [u8; HEADER_LENGTH]
 /// Appends inputs.
 fn put_inputs(out: &mut Vec<u8>, inputs: &[Input]) -> Result<(), AllocError>
     ensures ok { OnOk result (out.new.items ≡ out.old.items ++ flat_map input_bytes inputs.now) }
-    ensures front { StartsWith out.new.items out.old.items }
+    ensures prefix { StartsWith out.new.items out.old.items }
 {
     for input in inputs {
         out.extend_from_slice(&input.bytes())?;
@@ -56,7 +55,7 @@ fn put_inputs(out: &mut Vec<u8>, inputs: &[Input]) -> Result<(), AllocError>
 /// Appends a state, in a movie of a version.
 fn put_state(out: &mut Vec<u8>, version: u16, state: &State) -> Result<(), AllocError>
     ensures ok { OnOk result (out.new.items ≡ out.old.items ++ movie_record version state.now) }
-    ensures front { StartsWith out.new.items out.old.items }
+    ensures prefix { StartsWith out.new.items out.old.items }
 {
     out.extend_from_slice(&write_state(state)[..record_length(version)])
 }
@@ -69,7 +68,7 @@ fn put_checkpoint(
 ) -> Result<(), AllocError>
     ensures ok { OnOk result
         (out.new.items ≡ out.old.items ++ checkpoint_bytes version checkpoint.now) }
-    ensures front { StartsWith out.new.items out.old.items }
+    ensures prefix { StartsWith out.new.items out.old.items }
 {
     out.extend_from_slice(&checkpoint.frame.to_be_bytes())?;
     put_state(out, version, &checkpoint.state)?;
@@ -77,7 +76,7 @@ fn put_checkpoint(
 }
 
 /// Appends checkpoints, in a movie of a version.
-#[tactic(auto, using(crate::proofs::Fronts::front_then))]
+#[tactic(auto, using(crate::proofs::PrefixLemmas::prefix_then))]
 fn put_checkpoints(
     out: &mut Vec<u8>,
     version: u16,
@@ -85,7 +84,7 @@ fn put_checkpoints(
 ) -> Result<(), AllocError>
     ensures ok { OnOk result
         (out.new.items ≡ out.old.items ++ flat_map (checkpoint_bytes version) checkpoints.now) }
-    ensures front { StartsWith out.new.items out.old.items }
+    ensures prefix { StartsWith out.new.items out.old.items }
 {
     for checkpoint in checkpoints {
         put_checkpoint(out, version, checkpoint)?;
@@ -94,10 +93,10 @@ fn put_checkpoints(
 }
 
 /// Appends a movie. After a refusal a prefix of it may stand there.
-#[tactic(auto, using(crate::proofs::Fronts::front_then))]
+#[tactic(auto, using(crate::proofs::PrefixLemmas::prefix_then))]
 fn put_movie(out: &mut Vec<u8>, movie: &Movie) -> Result<(), AllocError>
     ensures ok { OnOk result (out.new.items ≡ out.old.items ++ spelling movie.now) }
-    ensures front { StartsWith out.new.items out.old.items }
+    ensures prefix { StartsWith out.new.items out.old.items }
 {
     let version = movie.version();
     out.extend_from_slice(&header(movie))?;
@@ -110,7 +109,7 @@ fn put_movie(out: &mut Vec<u8>, movie: &Movie) -> Result<(), AllocError>
 
 /// Appends the one spelling of a movie. Where memory is refused the vector has the bytes that it
 /// had.
-pub fn write_movie(movie: &Movie, out: &mut Vec<u8>) -> Result<(), NoMemory>
+pub fn write_movie(movie: &Movie, out: &mut Vec<u8>) -> Result<(), AllocError>
     ensures ok { OnOk result (out.new.items ≡ out.old.items ++ spelling movie.now) }
     ensures err { OnErr result (out.new.items ≡ out.old.items) }
     ensures lawful { IsMovie movie.now }
@@ -121,7 +120,7 @@ pub fn write_movie(movie: &Movie, out: &mut Vec<u8>) -> Result<(), NoMemory>
         Ok(()) => Ok(()),
         Err(_) => {
             out.truncate(length);
-            Err(NoMemory)
+            Err(AllocError)
         }
     }
 }

@@ -4,9 +4,9 @@ use Rattle.std.specs.Prelude.{map}
 use Rattle.std.specs.List.{flat_map, range_with_len}
 use Rattle.std.proofs.Math.Seq.{drop-cons, drop-length}
 use Rattle.std.proofs.lemmas.List.FromFn.{length-range_with_len}
-use Rattle.movie_report.specs.Differences.{Pair, pairs_of, line_if_different, differences_text}
-use Rattle.movie_report.specs.Numbers.{NumberData, numbers, memory_number, memory_numbers, other_numbers, processor_numbers}
-use Rattle.movie_report.specs.Private.Places.{number_at, nothing}
+use Rattle.movie_report.specs.Differences.{Pair, number_pairs, line_if_different, differences_text}
+use Rattle.movie_report.specs.Numbers.{NumberData, state_numbers, memory_number, memory_numbers, other_numbers, processor_numbers}
+use Rattle.movie_report.specs.Private.Places.{state_number_at, no_place}
 use Rattle.movie_report.specs.declared.differences.Comparison.{Comparison}
 use Rattle.movie_report.proofs.NumberLemmas.{length-numbers}
 
@@ -24,8 +24,8 @@ unfolding bytes_in
 bytes_in-memory [] = refl
 bytes_in-memory (address ∷ more) = let rest = bytes_in-memory more in omega arith
 
-bytes_in-numbers : bytes_in numbers ≡ 188
-unfolding bytes_in numbers memory_numbers
+bytes_in-numbers : bytes_in state_numbers ≡ 188
+unfolding bytes_in state_numbers memory_numbers
 bytes_in-numbers =
     bytes_in-append processor_numbers (memory_numbers ++ other_numbers)
     ∙ ap (λ (n : ℕ). 7 + n) (bytes_in-append memory_numbers other_numbers
@@ -33,12 +33,12 @@ bytes_in-numbers =
 
 -- The lines of the numbers from a place on, whose bytes begin here.
 abbrev rest_text : Comparison → List ℕ → List ℕ → ℕ → ℕ → List ℕ
-rest_text comparison a b place at = flat_map (line_if_different comparison) (pairs_of (drop place numbers) (drop at a) (drop at b))
+rest_text comparison a b place at = flat_map (line_if_different comparison) (number_pairs (drop place state_numbers) (drop at a) (drop at b))
 
 -- The lines of the numbers before a place have been written, and the next number begins here.
 pub record IsUpTo (comparison : Comparison) (a b : List ℕ) (place at : ℕ) (text : List ℕ) : Type 0 where
   pub text_is : text ++ rest_text comparison a b place at ≡ differences_text comparison a b
-  pub bytes : at + bytes_in (drop place numbers) ≡ 188
+  pub bytes : at + bytes_in (drop place state_numbers) ≡ 188
 
 pub IsUpTo-start : (comparison : Comparison) (a b : List ℕ) → IsUpTo comparison a b 0 0 []
 unfolding differences_text
@@ -48,33 +48,33 @@ IsUpTo-start comparison a b = record { text_is = refl; bytes = omega (arith, byt
 pub IsUpTo-end : (comparison : Comparison) (a b : List ℕ) (place at : ℕ) (text : List ℕ) → 185 ≤ place → place ≤ 185 → IsUpTo comparison a b place at text
     → text ≡ differences_text comparison a b
 IsUpTo-end comparison a b place at text high low is =
-    let last : place ≡ length numbers = omega (arith, length-numbers) in
-    let none : drop place numbers ≡ [] = rw last (drop-length numbers) in
+    let last : place ≡ length state_numbers = omega (arith, length-numbers) in
+    let none : drop place state_numbers ≡ [] = rw last (drop-length state_numbers) in
     sym (append-nil text) ∙ rw none at is.text_is
 
 module _ (comparison : Comparison) (a b : List ℕ) (place at : ℕ) (low : place < 185) where
-  drop-numbers : drop place numbers ≡ number_at place ∷ drop (place + 1) numbers
-  unfolding number_at
-  drop-numbers = let within : place < length numbers = omega (arith, length-numbers) in rw add-one (drop-cons numbers place nothing within)
+  drop-numbers : drop place state_numbers ≡ state_number_at place ∷ drop (place + 1) state_numbers
+  unfolding state_number_at
+  drop-numbers = let within : place < length state_numbers = omega (arith, length-numbers) in rw add-one (drop-cons state_numbers place no_place within)
 
-  bytes_next : bytes_in (drop place numbers) ≡ (number_at place).length + bytes_in (drop (place + 1) numbers)
+  bytes_next : bytes_in (drop place state_numbers) ≡ (state_number_at place).length + bytes_in (drop (place + 1) state_numbers)
   unfolding bytes_in
   bytes_next = rw drop-numbers refl
 
-  pub end_within : (text : List ℕ) → IsUpTo comparison a b place at text → at + (number_at place).length ≤ 188
+  pub end_within : (text : List ℕ) → IsUpTo comparison a b place at text → at + (state_number_at place).length ≤ 188
   end_within text is = let bytes = is.bytes in omega (arith, bytes_next)
 
   -- The number at the place, in both records.
   pair : Pair
-  pair = record { name = (number_at place).name; first = take (number_at place).length (drop at a); second = take (number_at place).length (drop at b) }
+  pair = record { name = (state_number_at place).name; first = take (state_number_at place).length (drop at a); second = take (state_number_at place).length (drop at b) }
 
-  rest-next : rest_text comparison a b place at ≡ line_if_different comparison pair ++ rest_text comparison a b (place + 1) (at + (number_at place).length)
+  rest-next : rest_text comparison a b place at ≡ line_if_different comparison pair ++ rest_text comparison a b (place + 1) (at + (state_number_at place).length)
   unfolding pair
-  rest-next = rw (drop-numbers, drop-drop (number_at place).length at a, drop-drop (number_at place).length at b) refl
+  rest-next = rw (drop-numbers, drop-drop (state_number_at place).length at a, drop-drop (state_number_at place).length at b) refl
 
-  pub IsUpTo-next : (text line new : List ℕ) (one other : List ℕ) (length : ℕ) → IsUpTo comparison a b place at text → length ≡ (number_at place).length
+  pub IsUpTo-next : (text line new : List ℕ) (one other : List ℕ) (length : ℕ) → IsUpTo comparison a b place at text → length ≡ (state_number_at place).length
       → one ≡ take length (drop at a) → other ≡ take length (drop at b)
-      → line ≡ line_if_different comparison (record { name = (number_at place).name; first = one; second = other }) → new ≡ text ++ line
+      → line ≡ line_if_different comparison (record { name = (state_number_at place).name; first = one; second = other }) → new ≡ text ++ line
       → IsUpTo comparison a b (place + 1) (at + length) new
   unfolding pair
   IsUpTo-next text line new one other length is long first second line_is new_is = record {

@@ -3,7 +3,7 @@ use Rattle.std.specs.Prelude.{ℕ, List, [], ◌∷◌, ◌++◌, codes, take, d
 use Rattle.std.specs.List.{flat_map}
 use Rattle.std.specs.Str.{bytes_eq}
 use Rattle.hex.specs.Hex.{encode_upper}
-use Rattle.movie_report.specs.Numbers.{NumberData, numbers}
+use Rattle.movie_report.specs.Numbers.{NumberData, state_numbers}
 use Rattle.movie_report.specs.declared.differences.Comparison.{Comparison}
 use Rattle.movie_report.specs.declared.differences.Comparison.TheVariants.{Start, Claim}
 
@@ -14,10 +14,10 @@ pub record Pair : Type 0 where
   pub second : List ℕ
 
 -- Two records cut into their numbers.
-abbrev pub pairs_of : List NumberData → List ℕ → List ℕ → List Pair
-pairs_of [] a b = []
-pairs_of (n ∷ ns) a b =
-    record { name = n.name; first = take n.length a; second = take n.length b } ∷ pairs_of ns (drop n.length a) (drop n.length b)
+abbrev pub number_pairs : List NumberData → List ℕ → List ℕ → List Pair
+number_pairs [] a b = []
+number_pairs (n ∷ ns) a b =
+    record { name = n.name; first = take n.length a; second = take n.length b } ∷ number_pairs ns (drop n.length a) (drop n.length b)
 
 -- The line of a number that differs.
 abbrev pub difference_line : Comparison → Pair → List ℕ
@@ -32,4 +32,4 @@ line_if_different comparison pair = if bytes_eq pair.first pair.second then [] e
 
 -- The lines of two records, in the record's order.
 unfoldable pub differences_text : Comparison → List ℕ → List ℕ → List ℕ
-differences_text comparison a b = flat_map (line_if_different comparison) (pairs_of numbers a b)
+differences_text comparison a b = flat_map (line_if_different comparison) (number_pairs state_numbers a b)

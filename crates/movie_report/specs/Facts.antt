@@ -8,7 +8,7 @@ use Rattle.sha1.specs.Sha1.{sha1}
 use Rattle.sha2.specs.Sha256.{sha256}
 use Rattle.mos_cpu.specs.Registers.{Registers}
 use Rattle.vcs_machine.specs.Faults.{hex2, hex4}
-use Rattle.vcs_machine.specs.States.{power_on, line_cycle_of}
+use Rattle.vcs_machine.specs.States.{state_at_power_on, line_cycle_of}
 use Rattle.vcs_machine.specs.declared.fields.StateFields.{StateFields}
 use Rattle.movie_file.specs.Movie.{MovieData}
 use Rattle.movie_file.specs.Record.{record_of}
@@ -64,4 +64,4 @@ verdict_text m (Fault frame kind) = left_text (left_at m frame)
 
 abbrev pub report_text : MovieData → Verdict → List ℕ
 report_text m verdict =
-    cartridge_text m.cart ++ (start_text (record_of m.start) (record_of (power_on m.cart)) ++ (checkpoints_text m ++ verdict_text m verdict))
+    cartridge_text m.cart ++ (start_text (record_of m.start) (record_of (state_at_power_on m.cart)) ++ (checkpoints_text m ++ verdict_text m verdict))

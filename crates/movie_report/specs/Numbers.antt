@@ -41,5 +41,5 @@ other_numbers =
     ∷ one (codes "position of the ball") ∷ two (codes "collisions") ∷ one (codes "button latches")
     ∷ one (codes "line cycle") ∷ one (codes "comb") ∷ one (codes "bank") ∷ []
 
-unfoldable pub numbers : List NumberData
-numbers = processor_numbers ++ memory_numbers ++ other_numbers
+unfoldable pub state_numbers : List NumberData
+state_numbers = processor_numbers ++ memory_numbers ++ other_numbers

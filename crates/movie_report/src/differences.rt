@@ -1,7 +1,7 @@
 //! The numbers in which two state records differ.
 ghost use Rattle.std.specs.Prelude.{◌≡◌, ◌<◌, IfOk, string_bytes};
 ghost use Rattle.movie_report.specs.Differences.{difference_line, differences_text, line_if_different};
-ghost use Rattle.movie_report.specs.Private.Places.{number_at};
+ghost use Rattle.movie_report.specs.Private.Places.{state_number_at};
 
 use crate::numbers::{COUNT, Number};
 use hex::encode_upper;
@@ -29,7 +29,7 @@ impl Comparison {
         second: &[u8],
     ) -> Result<String, AllocError>
         ensures { IfOk result (λ line. string_bytes line
-            ≡ difference_line self (record { name = (number_at number.place).name; first = first.now; second = second.now })) }
+            ≡ difference_line self (record { name = (state_number_at number.place).name; first = first.now; second = second.now })) }
     {
         let first = encode_upper(alloc, first)?;
         let second = encode_upper(alloc, second)?;
@@ -49,7 +49,7 @@ impl Comparison {
         second: &[u8],
     ) -> Result<String, AllocError>
         ensures { IfOk result (λ line. string_bytes line
-            ≡ line_if_different self (record { name = (number_at number.place).name; first = first.now; second = second.now })) }
+            ≡ line_if_different self (record { name = (state_number_at number.place).name; first = first.now; second = second.now })) }
     {
         if first == second {
             return Ok(String::new(alloc));

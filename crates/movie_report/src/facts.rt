@@ -1,6 +1,6 @@
 //! The facts of a movie and its verdict.
 ghost use Rattle.std.specs.Prelude.{◌≡◌, ◌-◌, IfOk, string_bytes, slice_get};
-ghost use Rattle.vcs_machine.specs.States.{power_on};
+ghost use Rattle.vcs_machine.specs.States.{state_at_power_on};
 ghost use Rattle.movie_file.specs.Record.{record_of};
 ghost use Rattle.movie_file.specs.Run.{run};
 ghost use Rattle.replay_segments.specs.RunStates.{left_at};
@@ -37,7 +37,7 @@ fn cartridge_facts(alloc: Global, cart: &Cart) -> Result<String, AllocError>
 /// The lines of whether the start state is that of power-on.
 fn start_facts(alloc: Global, movie: &Movie) -> Result<String, AllocError>
     ensures { IfOk result (λ text. string_bytes text
-        ≡ start_text (record_of movie.now.start) (record_of (power_on movie.now.cart))) }
+        ≡ start_text (record_of movie.now.start) (record_of (state_at_power_on movie.now.cart))) }
 {
     let start = write_state(movie.start());
     let power_on = write_state(&State::power_on(movie.cart()));

@@ -1,6 +1,6 @@
 //! The numbers of a state record.
 ghost use Rattle.std.specs.Prelude.{◌≡◌, ◌<◌, slice_index_or};
-ghost use Rattle.movie_report.specs.Private.Places.{number_at, nothing};
+ghost use Rattle.movie_report.specs.Private.Places.{state_number_at, no_place};
 ghost use Rattle.movie_report.specs.Numbers.{processor_numbers, other_numbers};
 
 use crate::hexadecimal::Byte;
@@ -79,8 +79,8 @@ pub(crate) const COUNT: usize = OTHERS_AT + OTHERS.len();
 /// The name and the length of a number of the processor.
 fn processor_number(place: usize) -> (&'static str, usize)
     requires { place < 6 }
-    ensures name { result.0.now ≡ (slice_index_or processor_numbers place nothing).name }
-    ensures length { result.1 ≡ (slice_index_or processor_numbers place nothing).length }
+    ensures name { result.0.now ≡ (slice_index_or processor_numbers place no_place).name }
+    ensures length { result.1 ≡ (slice_index_or processor_numbers place no_place).length }
 {
     PROCESSOR[place]
 }
@@ -88,8 +88,8 @@ fn processor_number(place: usize) -> (&'static str, usize)
 /// The name and the length of a number after the memory, counted from the first of them.
 fn other_number(place: usize) -> (&'static str, usize)
     requires { place < 51 }
-    ensures name { result.0.now ≡ (slice_index_or other_numbers place nothing).name }
-    ensures length { result.1 ≡ (slice_index_or other_numbers place nothing).length }
+    ensures name { result.0.now ≡ (slice_index_or other_numbers place no_place).name }
+    ensures length { result.1 ≡ (slice_index_or other_numbers place no_place).length }
 {
     OTHERS[place]
 }
@@ -113,7 +113,7 @@ impl Number {
     /// How many bytes of a record it has.
     #[tactic(auto, using(crate::proofs::NumberLemmas::number_places))]
     pub(crate) fn len(self) -> usize
-        ensures { result ≡ (number_at self.place).length }
+        ensures { result ≡ (state_number_at self.place).length }
     {
         if self.place < MEMORY_AT {
             let (_, length) = processor_number(self.place);
@@ -130,7 +130,7 @@ impl Number {
 impl fmt::Display for Number {
     ghost use Rattle.std.specs.Prelude.{Some};
 
-    ghost output = { λ n. Some (number_at n.place).name };
+    ghost output = { λ n. Some (state_number_at n.place).name };
 
     #[tactic(auto, using(crate::proofs::NumberLemmas::number_places))]
     fn fmt<W: fmt::Write>(&self, f: &mut fmt::Formatter<W>) -> fmt::Result {

@@ -5,7 +5,7 @@ use Rattle.std.proofs.Math.Seq.{take-add}
 use Rattle.std.proofs.lemmas.List.Concat.{flat_map-append, flat_map-cons}
 use Rattle.std.specs.List.{flat_map}
 use Rattle.std.specs.Io.KnownBytes.{Appends, Keeps}
-use Rattle.picture_file.specs.Fronts.{AppendsFront}
+use Rattle.picture_file.specs.Prefixes.{AppendsPrefix}
 
 pub appends_nothing : (a : Option (List ℕ)) → Appends a a []
 appends_nothing None = tt
@@ -32,19 +32,19 @@ pub keeps_same : (a : Option (List ℕ)) → Keeps a a
 keeps_same None = tt
 keeps_same (Some xs) = refl
 
--- ---- fronts
+-- ---- prefixs
 
-pub front_all : (a b : Option (List ℕ)) (p : List ℕ) → Appends a b p → AppendsFront a b p
-front_all a b p h = record { front = p; rest = []; whole = sym (append-nil p); written = h }
+pub prefix_all : (a b : Option (List ℕ)) (p : List ℕ) → Appends a b p → AppendsPrefix a b p
+prefix_all a b p h = record { prefix = p; rest = []; whole = sym (append-nil p); written = h }
 
-pub front_kept : (a b c : Option (List ℕ)) (i : ℕ) (p : List ℕ) → Appends a b (take i p) → Keeps b c → AppendsFront a c p
-front_kept a b c i p h k = record { front = take i p; rest = drop i p; whole = sym (take-append-drop i p); written = appends_kept a b c (take i p) h k }
+pub prefix_kept : (a b c : Option (List ℕ)) (i : ℕ) (p : List ℕ) → Appends a b (take i p) → Keeps b c → AppendsPrefix a c p
+prefix_kept a b c i p h k = record { prefix = take i p; rest = drop i p; whole = sym (take-append-drop i p); written = appends_kept a b c (take i p) h k }
 
-pub front_longer : (a b : Option (List ℕ)) (p q : List ℕ) → AppendsFront a b p → AppendsFront a b (p ++ q)
-front_longer a b p q h = record { front = h.front; rest = h.rest ++ q; whole = ap (λ (w : List ℕ). w ++ q) h.whole ∙ append_assoc h.front h.rest q; written = h.written }
+pub prefix_longer : (a b : Option (List ℕ)) (p q : List ℕ) → AppendsPrefix a b p → AppendsPrefix a b (p ++ q)
+prefix_longer a b p q h = record { prefix = h.prefix; rest = h.rest ++ q; whole = ap (λ (w : List ℕ). w ++ q) h.whole ∙ append_assoc h.prefix h.rest q; written = h.written }
 
-pub front_after : (a b c : Option (List ℕ)) (p q : List ℕ) → Appends a b p → AppendsFront b c q → AppendsFront a c (p ++ q)
-front_after a b c p q h k = record { front = p ++ k.front; rest = k.rest; whole = ap (λ (w : List ℕ). p ++ w) k.whole ∙ sym (append_assoc p k.front k.rest); written = appends_then a b c p k.front h k.written }
+pub prefix_after : (a b c : Option (List ℕ)) (p q : List ℕ) → Appends a b p → AppendsPrefix b c q → AppendsPrefix a c (p ++ q)
+prefix_after a b c p q h k = record { prefix = p ++ k.prefix; rest = k.rest; whole = ap (λ (w : List ℕ). p ++ w) k.whole ∙ sym (append_assoc p k.prefix k.rest); written = appends_then a b c p k.prefix h k.written }
 
 -- the pieces of a list, up to one and from the next
 pieces_at : {X : Type 0} (f : X → List ℕ) (xs : List X) (i : ℕ) (d : X) → i < length xs → flat_map f xs ≡ flat_map f (take i xs) ++ (f (get_or xs i d) ++ flat_map f (drop (suc i) xs))
@@ -53,15 +53,15 @@ pieces_at f xs i d lt =
     ∙ ap (λ (w : List _). flat_map f (take i xs) ++ flat_map f w) (drop-cons xs i d lt) ∙ ap (λ (w : List ℕ). flat_map f (take i xs) ++ w) (flat_map-cons f (get_or xs i d) (drop (suc i) xs))
 
 -- a prefix of one piece, after a head and the pieces before it
-pub front_behind : {X : Type 0} (f : X → List ℕ) (h : List ℕ) (xs : List X) (i : ℕ) (d : X) (a b c : Option (List ℕ)) → i < length xs → Appends a b (h ++ flat_map f (take i xs)) → AppendsFront b c (f (get_or xs i d)) → AppendsFront a c (h ++ flat_map f xs)
-front_behind f h xs i d a b c lt before k =
+pub prefix_behind : {X : Type 0} (f : X → List ℕ) (h : List ℕ) (xs : List X) (i : ℕ) (d : X) (a b c : Option (List ℕ)) → i < length xs → Appends a b (h ++ flat_map f (take i xs)) → AppendsPrefix b c (f (get_or xs i d)) → AppendsPrefix a c (h ++ flat_map f xs)
+prefix_behind f h xs i d a b c lt before k =
     let piece = f (get_or xs i d) in
     let rest = flat_map f (drop (suc i) xs) in
     let whole : h ++ flat_map f xs ≡ (h ++ flat_map f (take i xs)) ++ (piece ++ rest) = ap (λ (w : List ℕ). h ++ w) (pieces_at f xs i d lt) ∙ sym (append_assoc h (flat_map f (take i xs)) (piece ++ rest)) in
-    subst (AppendsFront a c) (sym whole) (front_after a b c (h ++ flat_map f (take i xs)) (piece ++ rest) before (front_longer b c piece rest k))
+    subst (AppendsPrefix a c) (sym whole) (prefix_after a b c (h ++ flat_map f (take i xs)) (piece ++ rest) before (prefix_longer b c piece rest k))
 
-pub front_in : {X : Type 0} (f : X → List ℕ) (xs : List X) (i : ℕ) (d : X) (a b c : Option (List ℕ)) → i < length xs → Appends a b (flat_map f (take i xs)) → AppendsFront b c (f (get_or xs i d)) → AppendsFront a c (flat_map f xs)
-front_in f xs i d a b c lt before k = front_behind f [] xs i d a b c lt before k
+pub prefix_in : {X : Type 0} (f : X → List ℕ) (xs : List X) (i : ℕ) (d : X) (a b c : Option (List ℕ)) → i < length xs → Appends a b (flat_map f (take i xs)) → AppendsPrefix b c (f (get_or xs i d)) → AppendsPrefix a c (flat_map f xs)
+prefix_in f xs i d a b c lt before k = prefix_behind f [] xs i d a b c lt before k
 
 pub appends_behind : {X : Type 0} (f : X → List ℕ) (h : List ℕ) (xs : List X) (i : ℕ) (d : X) (a b c : Option (List ℕ)) → i < length xs → Appends a b (h ++ flat_map f (take i xs)) → Appends b c (f (get_or xs i d)) → Appends a c (h ++ flat_map f (take (i + 1) xs))
 appends_behind f h xs i d a b c lt before k =

@@ -1,7 +1,7 @@
 //! Writing all of some bytes.
 ghost use Rattle.std.specs.Prelude.{OnOk, OnErr};
 ghost use Rattle.std.specs.Io.KnownBytes.{Appends};
-ghost use Rattle.picture_file.specs.Fronts.{AppendsFront};
+ghost use Rattle.picture_file.specs.Prefixes.{AppendsPrefix};
 
 use std::io::Write;
 
@@ -12,7 +12,7 @@ pub struct WriteFault;
 /// Writes all of some bytes, or with a fault a prefix of them.
 pub fn write_bytes<W: Write>(bytes: &[u8], writer: &mut W) -> Result<(), WriteFault>
     ensures ok { OnOk result (Appends (W.contents writer.old) (W.contents writer.new) bytes.now) }
-    ensures err { OnErr result (AppendsFront (W.contents writer.old) (W.contents writer.new) bytes.now) }
+    ensures err { OnErr result (AppendsPrefix (W.contents writer.old) (W.contents writer.new) bytes.now) }
 {
     let mut at = 0;
     while at < bytes.len() {

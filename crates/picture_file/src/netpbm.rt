@@ -3,7 +3,7 @@ ghost use Rattle.std.specs.Prelude.{◌≡◌, ◌≤◌, ◌<◌, OnOk, OnErr, 
 ghost use Rattle.std.specs.Fmt.{decimal};
 ghost use Rattle.std.specs.Io.KnownBytes.{Appends};
 ghost use Rattle.picture_file.specs.PictureBytes.{header_bytes, picture_bytes, pictures_bytes, row_bytes};
-ghost use Rattle.picture_file.specs.Fronts.{AppendsFront};
+ghost use Rattle.picture_file.specs.Prefixes.{AppendsPrefix};
 
 use crate::bytes::{WriteFault, write_bytes};
 use crate::palette::rgb;
@@ -37,7 +37,7 @@ fn digits(n: u16) -> ([u8; 3], usize)
 fn write_number<W: Write>(n: u16, writer: &mut W) -> Result<(), WriteFault>
     requires { n < 1000 }
     ensures ok { OnOk result (Appends (W.contents writer.old) (W.contents writer.new) (decimal n)) }
-    ensures err { OnErr result (AppendsFront (W.contents writer.old) (W.contents writer.new) (decimal n)) }
+    ensures err { OnErr result (AppendsPrefix (W.contents writer.old) (W.contents writer.new) (decimal n)) }
 {
     let (bytes, from) = digits(n);
     let (_, text) = bytes.split_at(from);
@@ -47,7 +47,7 @@ fn write_number<W: Write>(n: u16, writer: &mut W) -> Result<(), WriteFault>
 fn write_header<W: Write>(rows: u16, writer: &mut W) -> Result<(), WriteFault>
     requires { rows < 1000 }
     ensures ok { OnOk result (Appends (W.contents writer.old) (W.contents writer.new) (header_bytes rows)) }
-    ensures err { OnErr result (AppendsFront (W.contents writer.old) (W.contents writer.new) (header_bytes rows)) }
+    ensures err { OnErr result (AppendsPrefix (W.contents writer.old) (W.contents writer.new) (header_bytes rows)) }
 {
     write_bytes(b"P6\n160 ", writer)?;
     write_number(rows, writer)?;
@@ -80,7 +80,7 @@ fn bytes_of_row(row: &[u8]) -> ArrayVec<u8, ROW_BYTES>
 fn write_row<W: Write>(row: &[u8], writer: &mut W) -> Result<(), WriteFault>
     requires { length row.now ≤ 160 }
     ensures ok { OnOk result (Appends (W.contents writer.old) (W.contents writer.new) (row_bytes row.now)) }
-    ensures err { OnErr result (AppendsFront (W.contents writer.old) (W.contents writer.new) (row_bytes row.now)) }
+    ensures err { OnErr result (AppendsPrefix (W.contents writer.old) (W.contents writer.new) (row_bytes row.now)) }
 {
     write_bytes(bytes_of_row(row).as_slice(), writer)
 }
@@ -88,7 +88,7 @@ fn write_row<W: Write>(row: &[u8], writer: &mut W) -> Result<(), WriteFault>
 /// Writes a picture as a portable pixmap (P6) of 160 columns, or with a fault a prefix of it. It takes no memory.
 pub fn ppm<W: Write>(picture: &Picture, writer: &mut W) -> Result<(), WriteFault>
     ensures ok { OnOk result (Appends (W.contents writer.old) (W.contents writer.new) (picture_bytes picture.now)) }
-    ensures err { OnErr result (AppendsFront (W.contents writer.old) (W.contents writer.new) (picture_bytes picture.now)) }
+    ensures err { OnErr result (AppendsPrefix (W.contents writer.old) (W.contents writer.new) (picture_bytes picture.now)) }
 {
     write_header(picture.rows(), writer)?;
     for y in 0..picture.rows() {
@@ -100,7 +100,7 @@ pub fn ppm<W: Write>(picture: &Picture, writer: &mut W) -> Result<(), WriteFault
 /// Writes pictures one after another, or with a fault a prefix of them.
 pub fn write_pictures<W: Write>(pictures: &Pictures, writer: &mut W) -> Result<(), WriteFault>
     ensures ok { OnOk result (Appends (W.contents writer.old) (W.contents writer.new) (pictures_bytes pictures.now)) }
-    ensures err { OnErr result (AppendsFront (W.contents writer.old) (W.contents writer.new) (pictures_bytes pictures.now)) }
+    ensures err { OnErr result (AppendsPrefix (W.contents writer.old) (W.contents writer.new) (pictures_bytes pictures.now)) }
 {
     for i in 0..pictures.len() {
         ppm(pictures.at(i), writer)?;

@@ -5,7 +5,7 @@ use Rattle.std.proofs.lemmas.Option.{slice_get_within}
 use Rattle.vcs_machine.specs.declared.fields.StateFields.{StateFields}
 use Rattle.movie_file.specs.Movie.{MovieData, IsMovie}
 use Rattle.movie_file.specs.declared.checkpoint.Checkpoint.{Checkpoint}
-use Rattle.movie_file.proofs.Orders.{checkpoint_in_range, checkpoints_rise}
+use Rattle.movie_file.proofs.CheckpointLemmas.{checkpoint_in_range, checkpoints_rise}
 use Rattle.replay_segments.specs.Private.Steps.{IsNext, IsClaim}
 
 -- None stands before the first frame.

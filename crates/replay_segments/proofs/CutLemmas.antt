@@ -6,7 +6,7 @@ use Rattle.std.proofs.lemmas.Option.{slice_get_within, slice_get_read, get_or_fr
 use Rattle.std.proofs.lemmas.Nat.{div-add-mod'}
 use Rattle.std.specs.List.{Contains}
 use Rattle.replay_segments.specs.Cuts.{AreCuts, IsEvery}
-use Rattle.replay_segments.proofs.Places.{slice_get-below, same_at}
+use Rattle.replay_segments.proofs.ListLemmas.{slice_get-below, same_at}
 
 pub AreCuts-more : (most more : ℕ) (cuts : List ℕ) → most ≤ more → AreCuts most cuts → AreCuts more cuts
 AreCuts-more most more cuts le are = record {

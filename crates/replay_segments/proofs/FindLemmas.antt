@@ -10,7 +10,7 @@ use Rattle.replay_segments.specs.declared.verdict.Verdict.TheVariants.{Genuine, 
 use Rattle.replay_segments.specs.Private.Finding.{MayPass, IsAnswer}
 use Rattle.replay_segments.specs.Gathering.{HasNumber, HasPassed}
 use Rattle.replay_segments.specs.Pieces.{PieceData, IsPassed}
-use Rattle.replay_segments.proofs.Places.{each-below}
+use Rattle.replay_segments.proofs.ListLemmas.{each-below}
 
 -- What is no None is found.
 pub found : (P : ℕ → Type 0) (o : Option ℕ) → is_some o ≡ true → IfSome o P → (i : ℕ) × P i

@@ -9,7 +9,7 @@ use Rattle.replay_segments.specs.declared.outcome.Outcome.TheVariants.{Judged, N
 use Rattle.replay_segments.specs.declared.verdict.Verdict.{Verdict}
 use Rattle.replay_segments.specs.declared.verdict.Verdict.TheVariants.{Genuine, FalseCheckpoint, Fault}
 use Rattle.replay_segments.specs.Private.Finding.{ArePassedBelow, IsFirstUnpassed, IsAnswer}
-use Rattle.replay_segments.specs.Gathering.{NamesAll, HasPassed, PassedBelow, IsMissing, AllRefused, IsFirstMissing, IsFirstRefused, total}
+use Rattle.replay_segments.specs.Gathering.{NamesAll, HasPassed, PassedBelow, IsMissing, AllRefused, IsFirstMissing, IsFirstRefused, picture_count}
 use Rattle.replay_segments.specs.Pieces.{PieceData, Job, IsPassed, segments_of}
 use Rattle.replay_segments.specs.Verdicts.{IsVerdict}
 use Rattle.replay_segments.proofs.Composition.{IsPrefix, IsPrefix-start, IsPrefix-next, IsVerdict-bad}
@@ -93,7 +93,7 @@ module _ (pieces : List PieceData) (n number : ℕ) (first : IsFirstUnpassed pie
   refused-answer (Err NoMemory) answer k refused = refl
 
   pub memory-answer : (r : Result Verdict GatherError) → IsAnswer pieces number r → r ≡ Err NoMemory
-      → ((k : ℕ) × IsFirstRefused pieces n k) ⊎ (PassedBelow pieces n × (0 < total pieces))
+      → ((k : ℕ) × IsFirstRefused pieces n k) ⊎ (PassedBelow pieces n × (0 < picture_count pieces))
   memory-answer (Ok v) answer e = absurd cc
   memory-answer (Err (Missing j)) answer e = absurd cc
   memory-answer (Err NoMemory) (has, refused) e = inl (number, (first.within, has, refused, passed))

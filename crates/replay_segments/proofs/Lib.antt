@@ -5,8 +5,8 @@ pub mod CutLemmas
 pub mod FindLemmas
 pub mod GatherLemmas
 pub mod KeepLemmas
+pub mod ListLemmas
 pub mod OneVerdict
-pub mod Places
 pub mod RunLemmas
 pub mod RunStateLemmas
 pub mod SegmentLemmas

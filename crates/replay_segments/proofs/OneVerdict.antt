@@ -5,7 +5,7 @@ use Rattle.vcs_machine.specs.Pictures.{Rows}
 use Rattle.vcs_machine.specs.declared.fields.StateFields.{StateFields}
 use Rattle.movie_file.specs.Movie.{MovieData, IsMovie}
 use Rattle.movie_file.specs.Judgement.{FaultsAt, IsFalseAt}
-use Rattle.movie_file.proofs.Runs.{sound_no_fault, false_no_fault, sound_no_false, same_number, same_kind}
+use Rattle.movie_file.proofs.RunLemmas.{sound_no_fault, false_no_fault, sound_no_false, same_number, same_kind}
 use Rattle.replay_plan.specs.declared.keep.Keep.{Keep}
 use Rattle.replay_segments.specs.declared.verdict.Verdict.{Verdict}
 use Rattle.replay_segments.specs.declared.verdict.Verdict.TheVariants.{Genuine, FalseCheckpoint, Fault}

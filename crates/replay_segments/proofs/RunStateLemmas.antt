@@ -10,10 +10,10 @@ use Rattle.movie_file.specs.Movie.{MovieData, IsMovie}
 use Rattle.movie_file.specs.Judgement.{AllSound}
 use Rattle.movie_file.specs.Run.{frame_after, run, state_after}
 use Rattle.movie_file.specs.declared.checkpoint.Checkpoint.{Checkpoint}
-use Rattle.movie_file.proofs.Orders.{checkpoint_in_range, checkpoints_rise}
-use Rattle.movie_file.proofs.Runs.{run-shift, run-fault}
+use Rattle.movie_file.proofs.CheckpointLemmas.{checkpoint_in_range, checkpoints_rise}
+use Rattle.movie_file.proofs.RunLemmas.{run-shift, run-fault}
 use Rattle.replay_segments.specs.Private.Resuming.{IsResumable}
-use Rattle.replay_segments.specs.Private.Steps.{IsStep}
+use Rattle.replay_segments.specs.Private.Steps.{IsFrameStep}
 use Rattle.replay_segments.specs.Verdicts.{HasVerdict}
 use Rattle.replay_segments.specs.declared.verdict.Verdict.TheVariants.{FalseCheckpoint, Fault}
 
@@ -35,7 +35,7 @@ IsSome-run-below m s a k len le is =
 
 -- No frame of it fails.
 pub no_error : (m : MovieData) (s : StateFields) (a k : ℕ) (old new : StateFields) (error : FrameError) → run m s a k ≡ Some old
-    → IsSome (run m s a (k + 1)) → IsStep m (a + k) old false new (Err error) → ⊥
+    → IsSome (run m s a (k + 1)) → IsFrameStep m (a + k) old false new (Err error) → ⊥
 no_error m s a k old new (FaultOf kind) is ends (left, fails) =
     let none = run-fault m s a k kind (old, left, is, fails) in
     let no : IsSome {T = StateFields} None = rw none at ends in cc

@@ -6,7 +6,7 @@ use Rattle.std.proofs.lemmas.Option.{slice_get_past, slice_get_within}
 use Rattle.vcs_machine.specs.declared.fields.StateFields.{StateFields}
 use Rattle.movie_file.specs.Movie.{MovieData, IsMovie}
 use Rattle.movie_file.specs.declared.checkpoint.Checkpoint.{Checkpoint}
-use Rattle.movie_file.proofs.Orders.{checkpoint_in_range, checkpoints_rise}
+use Rattle.movie_file.proofs.CheckpointLemmas.{checkpoint_in_range, checkpoints_rise}
 use Rattle.replay_plan.specs.declared.keep.Keep.{Keep}
 use Rattle.replay_segments.specs.declared.verdict.Verdict.{Verdict}
 use Rattle.replay_segments.specs.Cuts.{Fits}
@@ -15,7 +15,7 @@ use Rattle.replay_segments.specs.Pieces.{Job, HasKept}
 use Rattle.replay_segments.specs.Segments.{end_of, from_of, start_of, IsSegment}
 use Rattle.replay_segments.specs.Private.Steps.{IsNext}
 use Rattle.replay_segments.specs.Verdicts.{IsJudged}
-use Rattle.replay_segments.proofs.Places.{slice_get-below, same_at}
+use Rattle.replay_segments.proofs.ListLemmas.{slice_get-below, same_at}
 
 -- The i-th cut is at this checkpoint, of number n.
 pub record AtCut (m : MovieData) (cuts : List ℕ) (i n : ℕ) (c : Checkpoint) : Type 0 where

@@ -12,7 +12,7 @@ use Rattle.replay_segments.specs.Private.Finding.{IsPassedAt, IsTaken}
 use Rattle.replay_segments.specs.Gathering.{NamesAll, HasPassed}
 use Rattle.replay_segments.specs.Pieces.{PieceData, IsPiece, IsOutcome, Job, IsJob, segments_of, frames_in}
 use Rattle.replay_segments.specs.Segments.{IsSegment}
-use Rattle.replay_segments.proofs.Places.{same_at, All-at, slice_get-set_other}
+use Rattle.replay_segments.proofs.ListLemmas.{same_at, All-at, slice_get-set_other}
 
 -- What a judged piece says of the job that all pieces name.
 pub of_job : (job : Job) (pieces : List PieceData) (i : ℕ) (p : PieceData) (number : ℕ) (v : Verdict) → NamesAll job pieces → slice_get pieces i ≡ Some p

@@ -39,5 +39,5 @@ abbrev pub IsFirstRefused : List PieceData → ℕ → ℕ → Type 0
 IsFirstRefused pieces n k = (k < n) × HasNumber pieces k × AllRefused pieces k × PassedBelow pieces k
 
 -- How many pictures the pieces have.
-abbrev pub total : List PieceData → ℕ
-total pieces = sum_by (λ (p : PieceData). frames_in p.outcome) pieces
+abbrev pub picture_count : List PieceData → ℕ
+picture_count pieces = sum_by (λ (p : PieceData). frames_in p.outcome) pieces

@@ -1,10 +1,10 @@
 -- What a frame of the one unbroken run of a movie leaves. This project's own.
 use Rattle.std.specs.Prelude.{ℕ, ◌+◌, ◌-◌, ◌/◌, [], Option, slice_get, option_and_then}
 use Rattle.std.specs.Option.{option_map}
-use Rattle.vcs_machine.specs.Consoles.{console_rules, logged}
+use Rattle.vcs_machine.specs.Consoles.{console_rules, with_pixel_logged}
 use Rattle.vcs_machine.specs.Frame.{machine_at, stop_of}
 use Rattle.vcs_machine.specs.Inputs.{Controls}
-use Rattle.vcs_machine.specs.Outcomes.{machine_of, state_at}
+use Rattle.vcs_machine.specs.Outcomes.{machine_of, state_left}
 use Rattle.vcs_machine.specs.States.{line_cycle_of}
 use Rattle.vcs_machine.specs.declared.fields.StateFields.{StateFields}
 use Rattle.movie_file.specs.Movie.{MovieData}
@@ -15,8 +15,8 @@ use Rattle.replay_segments.specs.declared.run_states.LeftState.{LeftState}
 -- the one in which it began. A scanline has 76 cycles.
 abbrev pub left_by_frame : MovieData → StateFields → Controls → LeftState
 left_by_frame m state input =
-    let here = machine_at (stop_of (console_rules logged) (machine_of m.cart state input [])) in
-    record { state = state_at here; scanline = (line_cycle_of state + here.cycles) / 76 }
+    let here = machine_at (stop_of (console_rules with_pixel_logged) (machine_of m.cart state input [])) in
+    record { state = state_left here; scanline = (line_cycle_of state + here.cycles) / 76 }
 
 -- What the frame of this number, from 1, of the run leaves, where the run comes to it.
 abbrev pub left_at : MovieData → ℕ → Option LeftState

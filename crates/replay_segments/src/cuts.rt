@@ -3,8 +3,8 @@ ghost use Rattle.std.specs.Prelude.{◌≡◌, ◌+◌, ◌≤◌, ◌↔◌, le
 ghost use Rattle.std.specs.NonZero.{non_zero_u16_get};
 ghost use Rattle.movie_file.specs.Format.{most_checkpoints};
 
-use movie_file::{Movie, NoMemory};
-use std::alloc::Global;
+use movie_file::Movie;
+use std::alloc::{AllocError, Global};
 use std::marker::Model;
 use std::num::NonZeroU16;
 
@@ -53,8 +53,8 @@ impl Cuts {
 
     /// The cuts at checkpoints k, 2k, .. up to the movie's last one.
     ///
-    /// NoMemory comes only where the growth of the list of their numbers was refused.
-    pub fn every(alloc: Global, movie: &Movie, k: NonZeroU16) -> Result<Cuts, NoMemory>
+    /// AllocError comes only where the growth of the list of their numbers was refused.
+    pub fn every(alloc: Global, movie: &Movie, k: NonZeroU16) -> Result<Cuts, AllocError>
         ensures every { IfOk result (λ cuts. IsEvery (non_zero_u16_get k) (length movie.now.checkpoints) cuts) }
         ensures fit { IfOk result (λ cuts. Fits cuts movie.now) }
         ensures memory { OnErr result (non_zero_u16_get k ≤ length movie.now.checkpoints) }
@@ -62,7 +62,7 @@ impl Cuts {
         let k = k.get();
         let count = movie.checkpoints() / k;
         let Ok(mut numbers) = Vec::with_capacity(alloc, usize::from(count)) else {
-            return Err(NoMemory);
+            return Err(AllocError);
         };
         for i in 0..count {
             numbers.push_reserved((i + 1) * k);

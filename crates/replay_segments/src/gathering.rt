@@ -1,15 +1,14 @@
 //! The verdict of pieces.
 ghost use Rattle.std.specs.Prelude.{◌≡◌, ◌<◌, ◌⊎◌, ◌↔◌, ℕ, Err, IfOk};
-ghost use Rattle.replay_segments.specs.Gathering.{NamesAll, PassedBelow, IsFirstMissing, IsFirstRefused, total};
+ghost use Rattle.replay_segments.specs.Gathering.{NamesAll, PassedBelow, IsFirstMissing, IsFirstRefused, picture_count};
 ghost use Rattle.replay_segments.specs.Pieces.{Job, segments_of};
 ghost use Rattle.replay_segments.specs.Verdicts.{IsVerdict};
 
 use crate::finding::{answer_of, first_unpassed};
-use crate::joining::joined;
+use crate::joining::all_pictures;
 use crate::piece::Piece;
 use crate::verdict::Verdict;
-use movie_file::NoMemory;
-use std::alloc::Global;
+use std::alloc::{AllocError, Global};
 
 /// Why pieces give no verdict.
 #[derive(Clone, Copy, Debug, PartialEq, Eq)]
@@ -36,14 +35,14 @@ pub fn gather(alloc: Global, pieces: Vec<Piece>, n: u32) -> Result<Verdict, Gath
         → result ≡ Err GatherError.NoMemory }
     ensures memory { result ≡ Err GatherError.NoMemory
         → ((k : ℕ) × IsFirstRefused pieces.items n k)
-        ⊎ (PassedBelow pieces.items n × (0 < total pieces.items)) }
+        ⊎ (PassedBelow pieces.items n × (0 < picture_count pieces.items)) }
 {
     let arrived = pieces.as_slice();
     if let Some(number) = first_unpassed(arrived, n) {
         return answer_of(arrived, number);
     }
-    match joined(alloc, pieces, n) {
+    match all_pictures(alloc, pieces, n) {
         Ok(frames) => Ok(Verdict::Genuine { frames }),
-        Err(NoMemory) => Err(GatherError::NoMemory),
+        Err(AllocError) => Err(GatherError::NoMemory),
     }
 }

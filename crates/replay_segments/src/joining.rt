@@ -1,6 +1,6 @@
 //! The pictures of pieces, joined in the order of their segments.
 ghost use Rattle.std.specs.Prelude.{◌≡◌, ◌<◌, IfOk, OnErr, IfSome, IfNone};
-ghost use Rattle.replay_segments.specs.Gathering.{NamesAll, HasPassed, PassedBelow, total};
+ghost use Rattle.replay_segments.specs.Gathering.{NamesAll, HasPassed, PassedBelow, picture_count};
 ghost use Rattle.replay_segments.specs.Pieces.{Job, segments_of};
 ghost use Rattle.replay_segments.specs.Private.Finding.{IsTaken};
 ghost use Rattle.replay_segments.specs.Verdicts.{IsVerdict};
@@ -8,8 +8,7 @@ ghost use Rattle.replay_segments.specs.declared.verdict.Verdict.{Verdict};
 
 use crate::finding::find_passed;
 use crate::piece::Piece;
-use movie_file::NoMemory;
-use std::alloc::Global;
+use std::alloc::{AllocError, Global};
 use vcs_machine::Pictures;
 
 /// Takes the pictures of a piece of this number that passed.
@@ -26,8 +25,8 @@ fn take_passed(pieces: &mut Vec<Piece>, number: u32) -> Pictures
 
 /// How many pictures the pieces have, or None for more than can be counted.
 fn pictures_in(pieces: &[Piece]) -> Option<usize>
-    ensures some { IfSome result (λ n. n ≡ total pieces.now) }
-    ensures none { IfNone result (0 < total pieces.now) }
+    ensures some { IfSome result (λ n. n ≡ picture_count pieces.now) }
+    ensures none { IfNone result (0 < picture_count pieces.now) }
 {
     let mut n = 0usize;
     for piece in pieces {
@@ -37,17 +36,21 @@ fn pictures_in(pieces: &[Piece]) -> Option<usize>
 }
 
 /// The pictures of all segments, each of which passed. The only growth is for all of them.
-pub(crate) fn joined(alloc: Global, mut pieces: Vec<Piece>, n: u32) -> Result<Pictures, NoMemory>
+pub(crate) fn all_pictures(
+    alloc: Global,
+    mut pieces: Vec<Piece>,
+    n: u32,
+) -> Result<Pictures, AllocError>
     requires { PassedBelow pieces.items n }
     ensures frames { IfOk result (λ frames. (job : Job) → NamesAll job pieces.items
         → n ≡ segments_of job → IsVerdict job.movie job.keep (Verdict.Genuine frames)) }
-    ensures refused { OnErr result (0 < total pieces.items) }
+    ensures refused { OnErr result (0 < picture_count pieces.items) }
 {
     let Some(room) = pictures_in(pieces.as_slice()) else {
-        return Err(NoMemory);
+        return Err(AllocError);
     };
     let Ok(mut all) = Vec::with_capacity(alloc, room) else {
-        return Err(NoMemory);
+        return Err(AllocError);
     };
     for number in 0..n {
         let mut part = take_passed(&mut pieces, number).into_vec();

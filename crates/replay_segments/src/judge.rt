@@ -1,17 +1,17 @@
 //! Replays frames from a state, and judges them.
 ghost use Rattle.std.specs.Prelude.{◌≡◌, ℕ, ◌+◌, ◌<◌, ◌≤◌, length, IfOk, OnOk, OnErr, true, vec_len, vec_capacity, if◌then◌else◌};
 ghost use Rattle.replay_plan.specs.Keeping.{is_kept, kept_count};
-ghost use Rattle.replay_segments.specs.Private.Steps.{IsStep, IsNext, IsClaim, IsAdvance};
+ghost use Rattle.replay_segments.specs.Private.Steps.{IsFrameStep, IsNext, IsClaim, IsAdvance};
 ghost use Rattle.replay_segments.specs.Verdicts.{IsJudged, IsVerdict};
 
 use crate::verdict::Verdict;
-use movie_file::{Movie, NoMemory};
+use movie_file::Movie;
 use replay_plan::Keep;
-use std::alloc::Global;
+use std::alloc::{AllocError, Global};
 use vcs_machine::{FrameError, Picture, Pictures, State, frame};
 
 /// Frame `before` + 1 of the movie.
-pub(crate) fn step(
+pub(crate) fn movie_frame(
     alloc: Global,
     movie: &Movie,
     before: u32,
@@ -19,7 +19,7 @@ pub(crate) fn step(
     keep: bool,
 ) -> Result<Option<Picture>, FrameError>
     requires { before < length movie.now.inputs }
-    ensures { IsStep movie.now before state.old keep state.new result }
+    ensures { IsFrameStep movie.now before state.old keep state.new result }
 {
     let frames = movie.frames();
     prove!(frames < 262_144);
@@ -44,7 +44,7 @@ fn advance(
     let frames = movie.frames();
     prove!(frames < 262_144);
     let kept = keep.has(before + 1);
-    if let Some(picture) = step(alloc, movie, before, state, kept)? {
+    if let Some(picture) = movie_frame(alloc, movie, before, state, kept)? {
         pictures.push_reserved(picture);
     }
     Ok(())
@@ -73,7 +73,7 @@ fn next_checkpoint(movie: &Movie, next: u16, frame: u32, state: &State) -> Optio
 /// Judges `len` frames from a state that stands after frame `from`. `first` is the index of the first checkpoint after that.
 ///
 /// The list of the kept pictures is grown once, before the first frame.
-pub(crate) fn judge(
+pub(crate) fn judge_frames(
     alloc: Global,
     movie: &Movie,
     keep: Keep,
@@ -81,7 +81,7 @@ pub(crate) fn judge(
     from: u32,
     len: u32,
     first: u16,
-) -> Result<Verdict, NoMemory>
+) -> Result<Verdict, AllocError>
     requires range { from + len ≤ length movie.now.inputs }
     requires next { IsNext movie.now first (from + 1) }
     ensures judged { IfOk result (λ verdict. IsJudged movie.now keep start.now from len verdict) }
@@ -91,7 +91,7 @@ pub(crate) fn judge(
     let frames = movie.frames();
     prove!(frames < 262_144);
     let Ok(mut pictures) = Vec::with_capacity(alloc, room) else {
-        return Err(NoMemory);
+        return Err(AllocError);
     };
     let mut state = start.copy();
     let mut next = first;
@@ -100,7 +100,7 @@ pub(crate) fn judge(
         match advance(alloc, movie, keep, from + k, &mut state, &mut pictures) {
             Ok(()) => {}
             Err(FrameError::Fault(kind)) => return Ok(Verdict::Fault { frame, kind }),
-            Err(FrameError::NoMemory) => return Err(NoMemory),
+            Err(FrameError::NoMemory) => return Err(AllocError),
         }
         let Some(after) = next_checkpoint(movie, next, frame, &state) else {
             return Ok(Verdict::FalseCheckpoint {
@@ -117,11 +117,12 @@ pub(crate) fn judge(
 
 /// The verdict of a movie, by one unbroken replay on the calling thread.
 ///
-/// NoMemory comes only where a growth was refused, for a kept picture or for their list; where no frame is kept none is taken.
+/// AllocError comes only where a growth was refused, for a kept picture or for their list; where no
+/// frame is kept none is taken.
 #[tactic(auto, using(crate::proofs::CheckpointLemmas::at_start))]
-pub fn verify_one(alloc: Global, movie: &Movie, keep: Keep) -> Result<Verdict, NoMemory>
+pub fn verify_one(alloc: Global, movie: &Movie, keep: Keep) -> Result<Verdict, AllocError>
     ensures verdict { IfOk result (λ verdict. IsVerdict movie.now keep verdict) }
     ensures refused { OnErr result (0 < kept_count keep 0 (length movie.now.inputs)) }
 {
-    judge(alloc, movie, keep, movie.start(), 0, movie.frames(), 0)
+    judge_frames(alloc, movie, keep, movie.start(), 0, movie.frames(), 0)
 }

@@ -7,7 +7,7 @@ ghost use Rattle.replay_segments.specs.RunStates.{left_at};
 ghost use Rattle.replay_segments.specs.Verdicts.{HasVerdict};
 ghost use Rattle.replay_segments.specs.declared.verdict.Verdict.TheVariants.{FalseCheckpoint, Fault};
 
-use crate::judge::step;
+use crate::judge::movie_frame;
 use movie_file::Movie;
 use std::alloc::Global;
 use vcs_machine::{FaultKind, State, halt};
@@ -34,7 +34,7 @@ fn state_after(alloc: Global, movie: &Movie, start: &State, from: u32, len: u32)
     prove!(frames < 262_144);
     let mut state = start.copy();
     for k in 0..len {
-        let Ok(_) = step(alloc, movie, from + k, &mut state, false) else {
+        let Ok(_) = movie_frame(alloc, movie, from + k, &mut state, false) else {
             unreachable!()
         };
     }

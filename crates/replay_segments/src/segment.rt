@@ -5,13 +5,13 @@ ghost use Rattle.replay_segments.specs.Pieces.{job_of, IsJob, IsOutcome, HasKept
 ghost use Rattle.replay_segments.specs.Segments.{end_of, IsSegment};
 
 use crate::cuts::Cuts;
-use crate::judge::judge;
+use crate::judge::judge_frames;
 use crate::outcome::Outcome;
 use crate::piece::Piece;
 use crate::verdict::Verdict;
-use movie_file::{Movie, NoMemory};
+use movie_file::Movie;
 use replay_plan::Keep;
-use std::alloc::Global;
+use std::alloc::{AllocError, Global};
 use std::snapshot::Snapshot;
 
 /// The last frame of a segment.
@@ -36,7 +36,7 @@ fn from_cut(
     keep: Keep,
     i: u32,
     end: u32,
-) -> Result<Verdict, NoMemory>
+) -> Result<Verdict, AllocError>
     requires fit { Fits cuts.now movie.now }
     requires number { i < length cuts.now }
     requires end { end ≡ end_of movie.now cuts.now (i + 1) }
@@ -50,7 +50,7 @@ fn from_cut(
     };
     let checkpoint = movie.checkpoint(cut);
     let from = checkpoint.frame;
-    judge(alloc, movie, keep, &checkpoint.state, from, end - from, cut)
+    judge_frames(alloc, movie, keep, &checkpoint.state, from, end - from, cut)
 }
 
 /// The outcome of a segment.
@@ -67,13 +67,13 @@ fn outcome_of(alloc: Global, movie: &Movie, cuts: &Cuts, keep: Keep, number: u32
     let _ = cuts.segments();
     let end = end(movie, cuts, number);
     let judged = if number == 0 {
-        judge(alloc, movie, keep, movie.start(), 0, end, 0)
+        judge_frames(alloc, movie, keep, movie.start(), 0, end, 0)
     } else {
         from_cut(alloc, movie, cuts, keep, number - 1, end)
     };
     match judged {
         Ok(verdict) => Outcome::Judged(verdict),
-        Err(NoMemory) => Outcome::NoMemory,
+        Err(AllocError) => Outcome::NoMemory,
     }
 }
 

@@ -1,5 +1,5 @@
-pub mod Counts
-pub mod PortBits
-pub mod Lawful
-pub mod Kept
-pub mod Mirrors
+pub mod CartLemmas
+pub mod PortLemmas
+pub mod RiotFieldLemmas
+pub mod RiotLemmas
+pub mod TimerLemmas

@@ -12,8 +12,8 @@ has_banks n = n == 8192
 
 -- The byte at an address while a bank is selected, 0 or 1: a bank has 4096 bytes. Without banks the cartridge fills its
 -- part of the address space again and again.
-abbrev pub byte_at : List ℕ → ℕ → ℕ → ℕ
-byte_at cart bank address =
+abbrev pub cart_byte : List ℕ → ℕ → ℕ → ℕ
+cart_byte cart bank address =
     if has_banks (length cart) then slice_index cart (4096 * bank + address % 4096)
     else slice_index cart (address % length cart)
 

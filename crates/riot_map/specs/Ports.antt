@@ -1,7 +1,7 @@
 -- What a read of a port gives, each bit by itself. From the Stella Programmer's Guide (SWCHA,
 -- SWACNT, SWCHB, SWBCNT); that an output of 1 on port A doesn't hide its pin is this project's own.
 use Rattle.std.specs.Prelude.{ℕ, ◌<◌, Bool, false, not, ◌&&◌, if◌then◌else◌}
-use Rattle.riot_map.specs.Bits.{has_bit, byte_of}
+use Rattle.riot_map.specs.Bits.{has_bit, byte_of_bits}
 use Rattle.riot_map.specs.declared.port.Port.{Port}
 
 -- port A: the pin, but 0 where the direction is 1 and the latch is 0
@@ -13,10 +13,10 @@ abbrev pub port_b_bit : Port → ℕ → Bool
 port_b_bit p k = if has_bit p.direction k then has_bit p.output k else has_bit p.pins k
 
 unfoldable pub port_a_byte : Port → ℕ
-port_a_byte p = byte_of (port_a_bit p)
+port_a_byte p = byte_of_bits (port_a_bit p)
 
 unfoldable pub port_b_byte : Port → ℕ
-port_b_byte p = byte_of (port_b_bit p)
+port_b_byte p = byte_of_bits (port_b_bit p)
 
 -- the registers of a port are bytes
 pub record IsPort (p : Port) : Type 0 where

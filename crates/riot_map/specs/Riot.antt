@@ -2,7 +2,7 @@
 use Rattle.std.specs.Prelude.{ℕ, List, length, replicate, slice_set, All, pos, ◌≡◌, ◌<◌, ◌%◌, Bool, false, ◌==◌, if◌then◌else◌}
 use Rattle.std.specs.Fn.{iterate}
 use Rattle.riot_map.specs.Bits.{has_bit}
-use Rattle.riot_map.specs.Timer.{Countdown, IsTimer, ticked, shown, part_left, started, is_running, with_clear_flag, interval_of, interval_code}
+use Rattle.riot_map.specs.Timer.{Countdown, IsTimer, after_cycle, intim, part_left, timer_of_write, is_running, with_clear_flag, interval_of, interval_code}
 use Rattle.riot_map.specs.Ports.{IsPort, port_a_byte, port_b_byte}
 use Rattle.riot_map.specs.RiotFields.{timer_of}
 use Rattle.riot_map.specs.declared.fields.RiotFields.{RiotFields}
@@ -39,7 +39,7 @@ fields_of r = record {
   direction_a = r.port_a.direction;
   output_b = r.port_b.output;
   direction_b = r.port_b.direction;
-  timer = shown r.timer;
+  timer = intim r.timer;
   part = part_left r.timer;
   interval = interval_code r.timer.interval;
   past_zero = (if is_running r.timer then 0 else 1);
@@ -47,8 +47,8 @@ fields_of r = record {
 }
 
 -- power-on, this project's own: all 0, and the timer one cycle before zero at its longest interval
-unfoldable pub power_on : RiotState
-power_on = record {
+unfoldable pub riot_at_power_on : RiotState
+riot_at_power_on = record {
   ram = replicate 128 0;
   port_a = record { output = 0; direction = 0; pins = 255 };
   port_b = record { output = 0; direction = 0; pins = 255 };
@@ -57,7 +57,7 @@ power_on = record {
 
 -- n cycles
 unfoldable pub after_cycles : ℕ → RiotState → RiotState
-after_cycles n r = record r { timer = iterate ticked n r.timer }
+after_cycles n r = record r { timer = iterate after_cycle n r.timer }
 
 -- the pins of both ports are set
 abbrev pub with_pins : ℕ → ℕ → RiotState → RiotState
@@ -79,11 +79,11 @@ port_read r register =
 
 -- INTIM where A0 is 0, else the flag in bit 7. That the other bits are 0 is this project's own.
 abbrev pub timer_read : Countdown → ℕ → ℕ
-timer_read t io = if has_bit io 0 then (if t.flag then 128 else 0) else shown t
+timer_read t io = if has_bit io 0 then (if t.flag then 128 else 0) else intim t
 
 -- the byte that a read gives
-unfoldable pub read_of : RiotState → ℕ → ℕ
-read_of r io = if is_timer io then timer_read r.timer io else port_read r (io % 4)
+unfoldable pub riot_read : RiotState → ℕ → ℕ
+riot_read r io = if is_timer io then timer_read r.timer io else port_read r (io % 4)
 
 -- a read of INTIM clears the flag
 unfoldable pub after_timer_read : RiotState → ℕ → RiotState
@@ -104,7 +104,7 @@ after_port_write r register value =
 -- where A4 is 1 the timer starts with the interval of A1 and A0 (TIM1T, TIM8T, TIM64T, T1024T).
 -- That nothing happens where A4 is 0 is this project's own.
 abbrev pub after_timer_write : RiotState → ℕ → ℕ → RiotState
-after_timer_write r io value = if has_bit io 4 then record r { timer = started (interval_of (io % 4)) value } else r
+after_timer_write r io value = if has_bit io 4 then record r { timer = timer_of_write (interval_of (io % 4)) value } else r
 
 unfoldable pub after_write : RiotState → ℕ → ℕ → RiotState
 after_write r io value = if is_timer io then after_timer_write r io value else after_port_write r (io % 4) value

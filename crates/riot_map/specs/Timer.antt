@@ -16,24 +16,24 @@ abbrev pub next_count : ℤ → ℤ
 next_count r = if int_eq r (negsuc 254) then pos 0 else r -ℤ pos 1
 
 -- one cycle; the flag is set in the step from 1 to 0
-unfoldable pub ticked : Countdown → Countdown
-ticked t = record { count = next_count t.count; interval = t.interval; flag = int_eq t.count (pos 1) || t.flag }
+unfoldable pub after_cycle : Countdown → Countdown
+after_cycle t = record { count = next_count t.count; interval = t.interval; flag = int_eq t.count (pos 1) || t.flag }
 
 -- zero is still ahead: r is at least 1
 abbrev pub is_running : Countdown → Bool
 is_running t = int_le (pos 1) t.count
 
 -- INTIM: (r - 1) div the interval where r is at least 1, else 255 + r
-unfoldable pub shown : Countdown → ℕ
-shown t = if is_running t then nat_abs (t.count -ℤ pos 1) / t.interval else nat_abs (pos 255 +ℤ t.count)
+unfoldable pub intim : Countdown → ℕ
+intim t = if is_running t then nat_abs (t.count -ℤ pos 1) / t.interval else nat_abs (pos 255 +ℤ t.count)
 
 -- the cycles until INTIM changes
 unfoldable pub part_left : Countdown → ℕ
 part_left t = if is_running t then nat_abs (t.count -ℤ pos 1) % t.interval + 1 else 1
 
 -- a write of n starts at n intervals and 1, with a clear flag
-unfoldable pub started : ℕ → ℕ → Countdown
-started interval n = record { count = pos (n * interval + 1); interval = interval; flag = false }
+unfoldable pub timer_of_write : ℕ → ℕ → Countdown
+timer_of_write interval n = record { count = pos (n * interval + 1); interval = interval; flag = false }
 
 -- a read of INTIM clears the flag
 abbrev pub with_clear_flag : Countdown → Countdown

@@ -3,7 +3,7 @@ ghost use Rattle.std.specs.Prelude.{◌≡◌, ◌<◌, ◌↔◌, length, nat_e
 ghost use Rattle.std.specs.Cmp.Rules.{comparing};
 ghost use Rattle.std.specs.Cmp.Lexicographic.{pointwise};
 ghost use Rattle.std.proofs.Common.{rules};
-ghost use Rattle.riot_map.specs.Cart.{is_cart_length, has_banks, byte_at, bank_after, bank_at_power_on};
+ghost use Rattle.riot_map.specs.Cart.{is_cart_length, has_banks, cart_byte, bank_after, bank_at_power_on};
 
 use std::marker::Model;
 
@@ -88,10 +88,10 @@ impl Cart {
 
     /// The byte that a read of an address gives while this bank is selected. A cartridge without
     /// banks stands there again and again, whatever the bank.
-    #[tactic(auto, using(crate::proofs::Mirrors::mask_is_mirror))]
+    #[tactic(auto, using(crate::proofs::CartLemmas::mask_is_mirror))]
     pub fn at(&self, bank: u8, addr: u16) -> u8
         requires { bank < 2 }
-        ensures { result ≡ byte_at self.now bank addr }
+        ensures { result ≡ cart_byte self.now bank addr }
     {
         let place = BANK_LENGTH * bank as usize + addr as usize % BANK_LENGTH;
         // The length is a power of two, so this is the remainder by it.

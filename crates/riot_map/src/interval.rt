@@ -1,6 +1,6 @@
 //! The timer's intervals.
 ghost use Rattle.std.specs.Prelude.{◌≡◌, ◌<◌};
-ghost use Rattle.riot_map.specs.Private.Interval.{cycles_of, code_of};
+ghost use Rattle.riot_map.specs.Private.Interval.{interval_cycles, code_of_interval};
 ghost use Rattle.riot_map.specs.Timer.{interval_of};
 
 /// For how many cycles the timer holds each value, named as the registers that start it.
@@ -16,7 +16,7 @@ impl Interval {
     /// The interval of a code, 0 to 3.
     pub fn of_code(code: u8) -> Interval
         requires { code < 4 }
-        ensures { cycles_of result ≡ interval_of code }
+        ensures { interval_cycles result ≡ interval_of code }
     {
         match code {
             0 => Interval::Tim1t,
@@ -28,7 +28,7 @@ impl Interval {
 
     /// Its code.
     pub fn code(self) -> u8
-        ensures { result ≡ code_of self }
+        ensures { result ≡ code_of_interval self }
     {
         match self {
             Interval::Tim1t => 0,
@@ -40,7 +40,7 @@ impl Interval {
 
     /// Its length in cycles.
     pub fn cycles(self) -> u16
-        ensures { result ≡ cycles_of self }
+        ensures { result ≡ interval_cycles self }
     {
         match self {
             Interval::Tim1t => 1,

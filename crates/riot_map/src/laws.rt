@@ -1,6 +1,6 @@
 //! Laws about the definitions.
 ghost use Rattle.std.specs.Prelude.{◌≡◌, ℕ, ◌<◌, true};
-ghost use Rattle.riot_map.specs.Riot.{RiotState, IsRiot, riot_of, fields_of, with_pins, after_cycles, after_read, after_write, with_ram, power_on};
+ghost use Rattle.riot_map.specs.Riot.{RiotState, IsRiot, riot_of, fields_of, with_pins, after_cycles, after_read, after_write, with_ram, riot_at_power_on};
 ghost use Rattle.riot_map.specs.RiotFields.{is_riot, AreInRange};
 ghost use Rattle.riot_map.specs.declared.fields.RiotFields.{RiotFields};
 
@@ -18,7 +18,7 @@ pub fn law_of_riots()
 
 /// Power-on and lawful numbers make a RIOT, and what the calls do to a RIOT leaves one.
 pub fn law_of_lawful_riots()
-    ensures power_on { IsRiot power_on }
+    ensures power_on { IsRiot riot_at_power_on }
     ensures fields { (f : RiotFields) → AreInRange f → is_riot f ≡ true → IsRiot (riot_of f) }
     ensures cycles { (r : RiotState) (n : ℕ) → IsRiot r → IsRiot (after_cycles n r) }
     ensures read { (r : RiotState) (io : ℕ) → IsRiot r → IsRiot (after_read r io) }

@@ -1,6 +1,6 @@
 //! The RIOT.
 ghost use Rattle.std.specs.Prelude.{◌≡◌, ◌<◌, ◌%◌, if◌then◌else◌, IsTrue, slice_index};
-ghost use Rattle.riot_map.specs.Riot.{RiotState, riot_of, fields_of, power_on, after_cycles, read_of, after_read, after_write, after_port_write, after_timer_write, port_read, timer_read, after_timer_read, with_pins, with_ram};
+ghost use Rattle.riot_map.specs.Riot.{RiotState, riot_of, fields_of, riot_at_power_on, after_cycles, riot_read, after_read, after_write, after_port_write, after_timer_write, port_read, timer_read, after_timer_read, with_pins, with_ram};
 ghost use Rattle.riot_map.specs.RiotFields.{is_riot, timer_of};
 
 use crate::bits::has_bit;
@@ -29,9 +29,9 @@ impl Model for Riot {
 
 impl Riot {
     /// A RIOT as the power comes on, with all pins at 1.
-    #[tactic(auto, unfolding(crate::specs::Riot::power_on, crate::specs::Timer::started))]
+    #[tactic(auto, unfolding(crate::specs::Riot::riot_at_power_on, crate::specs::Timer::timer_of_write))]
     pub fn power_on() -> Riot
-        ensures { result ≡ power_on }
+        ensures { result ≡ riot_at_power_on }
     {
         let port = Port {
             output: 0,
@@ -99,9 +99,9 @@ impl Riot {
 
     /// Reads a register of the ports or the timer. The low five bits of `io` are the address
     /// lines A0 to A4; the others don't count.
-    #[tactic(auto, unfolding(crate::specs::Riot::read_of, crate::specs::Riot::after_read))]
+    #[tactic(auto, unfolding(crate::specs::Riot::riot_read, crate::specs::Riot::after_read))]
     pub fn read(&mut self, io: u8) -> u8
-        ensures value { result ≡ read_of self.old io }
+        ensures value { result ≡ riot_read self.old io }
         ensures after { self.new ≡ after_read self.old io }
     {
         if has_bit(u16::from(io), 2) {

@@ -1,9 +1,9 @@
 //! The timer.
 ghost use Rattle.std.specs.Prelude.{◌≡◌, ◌<◌, ◌≤◌, ◌==◌, ◌*◌, ◌+◌, if◌then◌else◌, IsTrue, not, pos, true, false};
 ghost use Rattle.std.specs.Fn.{iterate};
-ghost use Rattle.riot_map.specs.Timer.{Countdown, ticked, shown, part_left, started, is_running, interval_of, interval_code, count_of, with_clear_flag};
+ghost use Rattle.riot_map.specs.Timer.{Countdown, after_cycle, intim, part_left, timer_of_write, is_running, interval_of, interval_code, count_of, with_clear_flag};
 ghost use Rattle.riot_map.specs.RiotFields.{timer_of, is_riot};
-ghost use Rattle.riot_map.specs.Private.Interval.{cycles_of};
+ghost use Rattle.riot_map.specs.Private.Interval.{interval_cycles};
 
 use crate::fields::RiotFields;
 use crate::interval::Interval;
@@ -23,21 +23,21 @@ pub struct Timer {
 
 impl Model for Timer {
     ghost use Rattle.riot_map.specs.Timer.{Countdown, count_of};
-    ghost use Rattle.riot_map.specs.Private.Interval.{cycles_of};
+    ghost use Rattle.riot_map.specs.Private.Interval.{interval_cycles};
     ghost use Rattle.riot_map.specs.Private.Parts.{ArePartsLawful};
 
     ghost Value = { Countdown };
 
-    ghost view = { λ t. record { count = count_of t.value t.part (cycles_of t.interval) t.past_zero; interval = cycles_of t.interval; flag = t.flag } };
+    ghost view = { λ t. record { count = count_of t.value t.part (interval_cycles t.interval) t.past_zero; interval = interval_cycles t.interval; flag = t.flag } };
 
-    ghost invariant = { λ t. ArePartsLawful t.value t.part (cycles_of t.interval) t.past_zero };
+    ghost invariant = { λ t. ArePartsLawful t.value t.part (interval_cycles t.interval) t.past_zero };
 }
 
 impl Timer {
     /// A timer to which a value has just been written.
-    #[tactic(auto, unfolding(crate::specs::Timer::started))]
+    #[tactic(auto, unfolding(crate::specs::Timer::timer_of_write))]
     pub fn start(interval: Interval, value: u8) -> Timer
-        ensures { result ≡ started (cycles_of interval) value }
+        ensures { result ≡ timer_of_write (interval_cycles interval) value }
     {
         Timer {
             value,
@@ -51,9 +51,9 @@ impl Timer {
     /// The timer of these parts.
     fn of_parts(value: u8, part: u16, interval: Interval, past_zero: bool, flag: bool) -> Timer
         requires some { 1 ≤ part }
-        requires most { part ≤ cycles_of interval }
+        requires most { part ≤ interval_cycles interval }
         requires past { past_zero ≡ true → part ≡ 1 }
-        ensures { result ≡ record { count = count_of value part (cycles_of interval) past_zero; interval = cycles_of interval; flag = flag } }
+        ensures { result ≡ record { count = count_of value part (interval_cycles interval) past_zero; interval = interval_cycles interval; flag = flag } }
     {
         Timer {
             value,
@@ -65,7 +65,7 @@ impl Timer {
     }
 
     /// The timer of some numbers; none where they aren't lawful.
-    #[tactic(auto, using(crate::proofs::Lawful::lawful_interval, crate::proofs::Lawful::lawful_some, crate::proofs::Lawful::lawful_most, crate::proofs::Lawful::lawful_past), unfolding(crate::specs::RiotFields::timer_of),)]
+    #[tactic(auto, using(crate::proofs::RiotFieldLemmas::lawful_interval, crate::proofs::RiotFieldLemmas::lawful_some, crate::proofs::RiotFieldLemmas::lawful_most, crate::proofs::RiotFieldLemmas::lawful_past), unfolding(crate::specs::RiotFields::timer_of),)]
     pub fn from_fields(fields: &RiotFields) -> Option<Timer>
         ensures { result ≡ (if is_riot fields.now then Some (timer_of fields.now) else None) }
     {
@@ -84,7 +84,7 @@ impl Timer {
 
     /// What a read of INTIM gives.
     pub fn value(&self) -> u8
-        ensures value { result ≡ shown self.now }
+        ensures value { result ≡ intim self.now }
         ensures count { count_of result (part_left self.now) self.now.interval (not (is_running self.now)) ≡ self.now.count }
     {
         self.value
@@ -132,7 +132,7 @@ impl Timer {
 
     /// Lets `n` cycles pass.
     pub fn cycles(&mut self, n: u8)
-        ensures { self.new ≡ iterate ticked n self.old }
+        ensures { self.new ≡ iterate after_cycle n self.old }
     {
         if self.past_zero {
             self.value = self.value.wrapping_sub(n);

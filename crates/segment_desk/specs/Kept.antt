@@ -29,7 +29,7 @@ abbrev pub reported_times : ℕ → DeskState → ℕ
 reported_times k s = sum_by (λ (v : Part). times k v.reported) s.parts
 
 -- What holds of each state of a desk of n numbers and w tickets.
-pub record IsKept (n w : ℕ) (s : DeskState) : Type 0 where
+pub record IsDesk (n w : ℕ) (s : DeskState) : Type 0 where
   -- each ticket has n and w beside its part of the history
   pub sized : (j : ℕ) (v : Part) → IsTicket s.parts j v → (v.segments ≡ n) × (v.workers ≡ w)
   -- the numbers below the count and below n are each on one drawn list, once, and no other number is on any

@@ -1,13 +1,12 @@
 //! The desk, as two atomic words.
 ghost use Rattle.std.specs.Prelude.{◌≡◌, ℕ, ◌+◌, ◌-◌, ◌<◌, ◌≤◌, false, Some, IfOk, IfSome, MatchOption, replicate};
 
-use crate::error::NoMemory;
 use crate::part::Part;
 use crate::rule::{Rule, Size};
 use crate::steps::{CutOne, Draw, HandIn, Look, Report, Settle};
 use crate::ticket::Ticket;
 use atomic_table::Table;
-use std::alloc::Global;
+use std::alloc::{AllocError, Global};
 use std::marker::Model;
 
 /// It gives out the numbers of segments, each once, and keeps the least that was reported bad.
@@ -42,9 +41,9 @@ impl Desk {
 
     /// A desk, and a ticket for each worker.
     ///
-    /// There are three growths, of the list and of the table's two blocks. `NoMemory` comes only
+    /// There are three growths, of the list and of the table's two blocks. `AllocError` comes only
     /// where one was refused.
-    pub fn new(alloc: Global, segments: u32, workers: u8) -> Result<(Desk, Vec<Ticket>), NoMemory>
+    pub fn new(alloc: Global, segments: u32, workers: u8) -> Result<(Desk, Vec<Ticket>), AllocError>
         requires segments { 0 < segments }
         requires workers { 0 < workers }
         ensures { IfOk result (λ r. (r.0.segments ≡ segments) × (r.0.workers ≡ workers)

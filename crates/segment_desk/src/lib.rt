@@ -3,7 +3,6 @@
 #![tactic(auto)]
 
 mod desk;
-mod error;
 mod law;
 mod part;
 mod rule;
@@ -11,7 +10,6 @@ mod steps;
 mod ticket;
 
 pub use desk::Desk;
-pub use error::NoMemory;
 pub use law::holds_between_steps;
 pub use part::Part;
 pub use ticket::Ticket;

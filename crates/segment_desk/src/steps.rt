@@ -1,5 +1,5 @@
 //! The steps on the desk's table, one for each kind of event, and one more load.
-ghost use Rattle.segment_desk.specs.Private.Plays.{kept_of, split_of, Drew, Looked, Reported, Settled};
+ghost use Rattle.segment_desk.specs.Private.Plays.{staying_part, split_of, Drew, Looked, Reported, Settled};
 ghost use Rattle.segment_desk.specs.Desk.{with_handed_in, spent_part};
 
 use crate::part::Part;
@@ -37,7 +37,7 @@ impl Play<(), Part> for Settle {
 pub(crate) struct CutOne;
 
 impl Split<Part> for CutOne {
-    ghost left = { kept_of };
+    ghost left = { staying_part };
 
     ghost right = { split_of };
 }

@@ -1,6 +1,6 @@
 //! Why a call is not right.
 
-use movie_file::{MakeError, MovieError, NoMemory};
+use movie_file::{MakeError, MovieError};
 use replay_plan::BadKeep;
 use replay_segments::{BadCuts, GatherError};
 use std::alloc::{AllocError, AllocFailed};
@@ -57,12 +57,6 @@ impl From<MakeError> for Failure {
             MakeError::NoMemory => OUT_OF_MEMORY,
             _ => Failure::Wrong,
         }
-    }
-}
-
-impl From<NoMemory> for Failure {
-    fn from(_refused: NoMemory) -> Failure {
-        OUT_OF_MEMORY
     }
 }
 

@@ -1,9 +1,9 @@
 //! Movies: one of two frames byte by byte, longer ones that are made.
 
 use crate::failure::{Failure, OUT_OF_MEMORY, right};
-use movie_file::{Movie, NoMemory, make_movie, read_movie, write_movie};
+use movie_file::{Movie, make_movie, read_movie, write_movie};
 use riot_map::Cart;
-use std::alloc::Global;
+use std::alloc::{AllocError, Global};
 use vcs_machine::Input;
 
 /// LDA #02, STA 80, STA VSYNC, LDA #00, STA VSYNC, JMP F000: a frame of 13 cycles, then frames of 16.
@@ -109,8 +109,8 @@ pub(crate) fn is_written(alloc: Global) -> Result<(), Failure> {
     let mut out = Vec::new(alloc);
     match write_movie(&movie, &mut out) {
         Ok(()) => right(out.as_slice() == two_frames().as_slice()),
-        Err(NoMemory) if out.is_empty() => Err(OUT_OF_MEMORY),
-        Err(NoMemory) => Err(Failure::Wrong),
+        Err(AllocError) if out.is_empty() => Err(OUT_OF_MEMORY),
+        Err(AllocError) => Err(Failure::Wrong),
     }
 }
 

@@ -7,16 +7,16 @@ use crate::segments::is_genuine;
 use movie_file::Movie;
 use replay_plan::{Keep, Workers};
 use replay_segments::{Cuts, gather};
-use std::alloc::Global;
+use std::alloc::{AllocError, Global};
 use std::num::NonZeroU16;
 use std::sync::Wait;
 use std::thread::Threads;
-use verify_pool::{Desk, Gate, Hand, NoGate, NoMemory, crew, verify};
+use verify_pool::{Desk, Gate, Hand, NoGate, crew, verify};
 
 pub(crate) fn has_desk(alloc: Global) -> Result<(), Failure> {
     let (desk, mut tickets) = match Desk::new(alloc, 2, 3) {
         Ok(made) => made,
-        Err(NoMemory) => return Err(OUT_OF_MEMORY),
+        Err(AllocError) => return Err(OUT_OF_MEMORY),
     };
     let all = tickets.len() == 3;
     match tickets.pop() {
@@ -31,7 +31,7 @@ pub(crate) fn is_worked_on<R: Threads + Wait + Sync>(rt: &R, alloc: Global) -> R
     let cuts = Cuts::every(alloc, &movie, NonZeroU16::MIN)?;
     let (desk, mut tickets) = match Desk::new(alloc, cuts.segments(), 1) {
         Ok(made) => made,
-        Err(NoMemory) => return Err(OUT_OF_MEMORY),
+        Err(AllocError) => return Err(OUT_OF_MEMORY),
     };
     let Some(ticket) = tickets.pop() else {
         return Err(Failure::Wrong);

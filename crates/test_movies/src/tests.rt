@@ -178,8 +178,8 @@ fn readers_name_the_parts(rt: HostRuntime) -> Result<(), Fail> {
 fn lengths_are_judged(rt: HostRuntime) -> Result<(), Fail> {
     let mut bytes = file(rt.alloc())?;
     for length in [0usize, 3, 13, 2300, 2445] {
-        let front = bytes.get(..length).ok_or("a shorter file")?;
-        assert_eq!(rt; refusal(rt.alloc(), front), Some(MovieError::Short));
+        let prefix = bytes.get(..length).ok_or("a shorter file")?;
+        assert_eq!(rt; refusal(rt.alloc(), prefix), Some(MovieError::Short));
     }
     bytes.push(0)?;
     assert_eq!(rt; refusal(rt.alloc(), &bytes), Some(MovieError::Trailing));
@@ -274,8 +274,8 @@ fn record_is_read_and_written(rt: HostRuntime) -> Result<(), Fail> {
     let record = with_bank(&state_after_frame_1(), 1);
     let state = read_state(&record).ok_or("a state")?;
     assert!(rt; write_state(&state) == record);
-    let front = record.get(..187).ok_or("a shorter record")?;
-    assert!(rt; read_state(front).is_none());
+    let prefix = record.get(..187).ok_or("a shorter record")?;
+    assert!(rt; read_state(prefix).is_none());
     assert_eq!(rt; state.fields().cpu.pc, 0xF00A);
     assert_eq!(rt; state.fields().riot.timer, 0xF3);
     assert_eq!(rt; state.fields().bank, 1);

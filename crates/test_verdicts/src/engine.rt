@@ -178,7 +178,7 @@ fn failed_read_writes_nothing(rt: HostRuntime) -> Result<(), Fail> {
 }
 
 #[test]
-fn failed_write_leaves_a_front_of_the_line(rt: HostRuntime) -> Result<(), Fail> {
+fn failed_write_leaves_a_prefix_of_the_line(rt: HostRuntime) -> Result<(), Fail> {
     let bytes = two_frames(rt.alloc())?;
     let wanted = b"genuine: 2 frames, 1 checkpoints\n".as_slice();
     for left in 0..33usize {

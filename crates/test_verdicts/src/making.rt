@@ -236,7 +236,7 @@ fn written(
 }
 
 #[test]
-fn failed_write_leaves_a_front_of_the_movie(rt: HostRuntime) -> Result<(), Fail> {
+fn failed_write_leaves_a_prefix_of_the_movie(rt: HostRuntime) -> Result<(), Fail> {
     let wanted = two_frames_with_a_last_checkpoint(rt.alloc())?;
     for movie_writes in [0usize, 1, 2445] {
         let (status, movie, line) = written(rt.alloc(), movie_writes as u64, 30);
@@ -248,7 +248,7 @@ fn failed_write_leaves_a_front_of_the_movie(rt: HostRuntime) -> Result<(), Fail>
 }
 
 #[test]
-fn failed_write_leaves_the_movie_and_a_front_of_its_line(rt: HostRuntime) -> Result<(), Fail> {
+fn failed_write_leaves_the_movie_and_a_prefix_of_its_line(rt: HostRuntime) -> Result<(), Fail> {
     let wanted = two_frames_with_a_last_checkpoint(rt.alloc())?;
     let wanted_line = b"made: 2 frames, 1 checkpoints\n".as_slice();
     for line_writes in [0usize, 29] {
@@ -262,7 +262,7 @@ fn failed_write_leaves_the_movie_and_a_front_of_its_line(rt: HostRuntime) -> Res
 }
 
 #[test]
-fn failed_write_leaves_a_front_of_the_information(rt: HostRuntime) -> Result<(), Fail> {
+fn failed_write_leaves_a_prefix_of_the_information(rt: HostRuntime) -> Result<(), Fail> {
     let movie = two_frames_with_a_last_checkpoint(rt.alloc())?;
     let mut line = FailingWriter {
         taken: Vec::new(rt.alloc()),

@@ -137,10 +137,10 @@ fn converted_movie_has_its_verdict(rt: HostRuntime) -> Result<(), Fail> {
 fn refused_conversions_write_no_movie(rt: HostRuntime) -> Result<(), Fail> {
     let old = two_frames(rt.alloc())?;
     let (_, new, _) = converted(rt.alloc(), &old);
-    let front = old.get(..2300).ok_or("2,300 bytes")?;
+    let prefix = old.get(..2300).ok_or("2,300 bytes")?;
     for (bytes, wanted) in [
         (new.as_slice(), b"refused: AlreadyTwo\n".as_slice()),
-        (front, b"refused: Short\n".as_slice()),
+        (prefix, b"refused: Short\n".as_slice()),
     ] {
         let (status, movie, line) = converted(rt.alloc(), bytes);
         assert_eq!(rt; status, Ok(Status::Refused));

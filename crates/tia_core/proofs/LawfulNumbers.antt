@@ -2,9 +2,9 @@
 use Rattle.std.proofs.Common.{◌≡◌, ℕ, ◌<◌, Bool, false, ◌&&◌, ◌||◌, ◌==◌, IsTrue, arith}
 use Rattle.std.specs.Prelude.{nat_lt}
 use Rattle.std.proofs.lemmas.Bool.Decides.{nat_tests, Decides-eqb, Decides-ltb}
-use Rattle.tia_core.specs.Bits.{bit}
-use Rattle.tia_core.specs.Private.Lawful.{IsLawful}
-use Rattle.tia_core.specs.Registers.{kept_of, IsKept, is_kept}
+use Rattle.tia_core.specs.Bits.{has_bit}
+use Rattle.tia_core.specs.Private.Lawful.{IsLawfulTia}
+use Rattle.tia_core.specs.Registers.{register_bits, FitsRegister, fits_register}
 use Rattle.tia_core.specs.TiaState.{is_tia, has_lawful_colours, has_lawful_objects, has_lawful_motion, has_lawful_positions, has_lawful_beam}
 use Rattle.tia_core.specs.declared.fields.TiaFields.{TiaFields}
 use Rattle.tia_core.specs.declared.register.Register.{Register}
@@ -13,8 +13,8 @@ use Rattle.tia_core.specs.declared.register.Register.TheVariants.{Vsync, Vblank,
 both : (a b : Bool) → IsTrue (a && b) → IsTrue a × IsTrue b
 both a b h = grind arith
 
-kept : (r : Register) (n : ℕ) → IsTrue (is_kept r n) → IsKept r n
-kept r n h = (Decides-eqb (kept_of r n) n).0 h
+kept : (r : Register) (n : ℕ) → IsTrue (fits_register r n) → FitsRegister r n
+kept r n h = (Decides-eqb (register_bits r n) n).0 h
 
 below : (a b : ℕ) → IsTrue (nat_lt a b) → a < b
 below a b h = (Decides-ltb a b).0 h
@@ -24,10 +24,10 @@ eight : (a b c d e f g h : Bool) → IsTrue (a && b && c && d && e && f && g && 
     → IsTrue a × IsTrue b × IsTrue c × IsTrue d × IsTrue e × IsTrue f × IsTrue g × IsTrue h
 eight a b c d e f g h all = grind arith
 
-unlatched : (vblank latches : ℕ) → IsTrue (bit vblank 6 || (latches == 0)) → bit vblank 6 ≡ false → latches ≡ 0
+unlatched : (vblank latches : ℕ) → IsTrue (has_bit vblank 6 || (latches == 0)) → has_bit vblank 6 ≡ false → latches ≡ 0
 unlatched vblank latches h none = grind (arith, nat_tests)
 
-pub lawful_of : (t : TiaFields) → IsTrue (is_tia t) → IsLawful t
+pub lawful_of : (t : TiaFields) → IsTrue (is_tia t) → IsLawfulTia t
 unfolding is_tia
 lawful_of t h =
     let g3 = both _ _ h in
@@ -89,8 +89,8 @@ lawful_of t h =
 and : (a b : Bool) → IsTrue a → IsTrue b → IsTrue (a && b)
 and a b h k = grind arith
 
-keeps_it : (r : Register) (n : ℕ) → IsKept r n → IsTrue (is_kept r n)
-keeps_it r n h = (Decides-eqb (kept_of r n) n).1 h
+keeps_it : (r : Register) (n : ℕ) → FitsRegister r n → IsTrue (fits_register r n)
+keeps_it r n h = (Decides-eqb (register_bits r n) n).1 h
 
 is_below : (a b : ℕ) → a < b → IsTrue (nat_lt a b)
 is_below a b h = (Decides-ltb a b).1 h
@@ -99,10 +99,10 @@ all_eight : (a b c d e f g h : Bool) → IsTrue a → IsTrue b → IsTrue c → 
     → IsTrue (a && b && c && d && e && f && g && h)
 all_eight a b c d e f g h ta tb tc td te tf tg th = grind arith
 
-may_latch : (vblank latches : ℕ) → (bit vblank 6 ≡ false → latches ≡ 0) → IsTrue (bit vblank 6 || (latches == 0))
+may_latch : (vblank latches : ℕ) → (has_bit vblank 6 ≡ false → latches ≡ 0) → IsTrue (has_bit vblank 6 || (latches == 0))
 may_latch vblank latches h = grind (arith, nat_tests)
 
-pub passes : (t : TiaFields) → IsLawful t → IsTrue (is_tia t)
+pub passes : (t : TiaFields) → IsLawfulTia t → IsTrue (is_tia t)
 unfolding is_tia
 passes t l =
     let colours : IsTrue (has_lawful_colours t) =

@@ -7,12 +7,12 @@ use Rattle.std.proofs.lemmas.List.{map-append}
 use Rattle.std.proofs.lemmas.List.Elements.{All-append, All-weaker, All-cons, All-nil, filter-append}
 use Rattle.std.proofs.lemmas.List.FromFn.{length-range_with_len, get_or-range_with_len}
 use Rattle.std.proofs.lemmas.List.Kept.{IsStrictlyIncreasing-filter}
-use Rattle.tia_core.specs.Beam.{beam_of, place_of, is_visible}
-use Rattle.tia_core.specs.Clock.{Pixel, pixels, pixels_of, clocked}
+use Rattle.tia_core.specs.Beam.{beam_of, beam_of_pixel, is_visible}
+use Rattle.tia_core.specs.Clock.{Pixel, pixels, pixels_of, after_clock}
 use Rattle.tia_core.specs.Colour.{colour_at}
 use Rattle.tia_core.specs.Objects.{objects_at}
 use Rattle.tia_core.specs.TiaState.{TiaState}
-use Rattle.tia_core.proofs.Clocks.{clocked-clock, iterate-clocked-beam}
+use Rattle.tia_core.proofs.ClockLemmas.{clocked-clock, iterate-clocked-beam}
 
 pub pixels_of-blank : (s : TiaState) → s.fields.clock < 68 → pixels_of s ≡ []
 pixels_of-blank s h = let yes : nat_lt s.fields.clock 68 ≡ true = grind (arith, nat_tests) in rw yes refl
@@ -42,10 +42,10 @@ pub pixels-in_line : (n : ℕ) (s : TiaState) → s.fields.clock < 228 → All (
 pixels-in_line zero s h = All-nil (λ (p : Pixel). p.x < 160)
 pixels-in_line (suc n) s h =
     let e = clocked-clock s h in
-    All-append (λ (p : Pixel). p.x < 160) (pixels_of s) (pixels n (clocked s)) (pixels_of-in_line s h) (pixels-in_line n (clocked s) (omega arith))
+    All-append (λ (p : Pixel). p.x < 160) (pixels_of s) (pixels n (after_clock s)) (pixels_of-in_line s h) (pixels-in_line n (after_clock s) (omega arith))
 
 -- ---- the places of the pixels are those of the visible clocks
-places_of : (s : TiaState) → s.fields.clock < 228 → map place_of (pixels_of s) ≡ filter is_visible (beam_of s ∷ [])
+places_of : (s : TiaState) → s.fields.clock < 228 → map beam_of_pixel (pixels_of s) ≡ filter is_visible (beam_of s ∷ [])
 places_of s h = elim (blank_or_visible s) [
   | inl lt ↦ (let no : nat_le 68 ((228 * s.line + s.fields.clock) % 228) ≡ false = grind (arith, nat_tests) in rw (pixels_of-blank s lt, no) refl)
   | inr le ↦ (let yes : nat_le 68 ((228 * s.line + s.fields.clock) % 228) ≡ true = grind (arith, nat_tests) in
@@ -54,14 +54,14 @@ places_of s h = elim (blank_or_visible s) [
 ]
 
 pub pixels-places : (n : ℕ) (s : TiaState) → s.fields.clock < 228 → beam_of s + n < 228 * 65536
-    → map place_of (pixels n s) ≡ filter is_visible (range_with_len (beam_of s) n)
+    → map beam_of_pixel (pixels n s) ≡ filter is_visible (range_with_len (beam_of s) n)
 pixels-places zero s h k = refl
 pixels-places (suc n) s h k =
     let e = clocked-clock s h in
-    let f : beam_of (clocked s) ≡ beam_of s + 1 = iterate-clocked-beam 1 s h (omega arith) in
-    map-append place_of (pixels_of s) (pixels n (clocked s))
-    ∙ ap (λ (places : List ℕ). places ++ map place_of (pixels n (clocked s))) (places_of s h)
-    ∙ ap (λ (places : List ℕ). filter is_visible (beam_of s ∷ []) ++ places) (pixels-places n (clocked s) (omega arith) (omega arith))
+    let f : beam_of (after_clock s) ≡ beam_of s + 1 = iterate-clocked-beam 1 s h (omega arith) in
+    map-append beam_of_pixel (pixels_of s) (pixels n (after_clock s))
+    ∙ ap (λ (places : List ℕ). places ++ map beam_of_pixel (pixels n (after_clock s))) (places_of s h)
+    ∙ ap (λ (places : List ℕ). filter is_visible (beam_of s ∷ []) ++ places) (pixels-places n (after_clock s) (omega arith) (omega arith))
     ∙ ap (λ (place : ℕ). filter is_visible (beam_of s ∷ []) ++ filter is_visible (range_with_len place n)) f
     ∙ sym (filter-append is_visible (beam_of s ∷ []) (range_with_len (beam_of s + 1) n))
 
@@ -71,12 +71,12 @@ range-rises a n k h =
     let e = length-range_with_len a n in
     rw (get_or-range_with_len a n k 0 (omega arith), get_or-range_with_len a n (k + 1) 0 (omega arith)) (omega arith)
 
-pub pixels-rise : (n : ℕ) (s : TiaState) → s.fields.clock < 228 → beam_of s + n < 228 * 65536 → IsStrictlyIncreasing (map place_of (pixels n s))
+pub pixels-rise : (n : ℕ) (s : TiaState) → s.fields.clock < 228 → beam_of s + n < 228 * 65536 → IsStrictlyIncreasing (map beam_of_pixel (pixels n s))
 pixels-rise n s h k = rw (pixels-places n s h k) (IsStrictlyIncreasing-filter is_visible (range_with_len (beam_of s) n) (range-rises (beam_of s) n))
 
 -- from the beam's place on, and before the place that it reaches
 abbrev InTime : ℕ → ℕ → Pixel → Type 0
-InTime start n p = (start ≤ place_of p) × (place_of p < start + n)
+InTime start n p = (start ≤ beam_of_pixel p) × (beam_of_pixel p < start + n)
 
 pixels_of-in_time : (n : ℕ) (s : TiaState) → All (InTime (beam_of s) (suc n)) (pixels_of s)
 pixels_of-in_time n s = elim (blank_or_visible s) [
@@ -88,11 +88,11 @@ later : (start next n : ℕ) → next ≡ start + 1 → (p : Pixel) → InTime n
 later start next n e p h = (omega arith, omega arith)
 
 pub pixels-in_time : (n : ℕ) (s : TiaState) → s.fields.clock < 228 → beam_of s + n < 228 * 65536
-    → All (λ p. (beam_of s ≤ place_of p) × (place_of p < beam_of s + n)) (pixels n s)
+    → All (λ p. (beam_of s ≤ beam_of_pixel p) × (beam_of_pixel p < beam_of s + n)) (pixels n s)
 pixels-in_time zero s h k = All-nil (InTime (beam_of s) zero)
 pixels-in_time (suc n) s h k =
     let e = clocked-clock s h in
-    let f : beam_of (clocked s) ≡ beam_of s + 1 = iterate-clocked-beam 1 s h (omega arith) in
-    All-append (InTime (beam_of s) (suc n)) (pixels_of s) (pixels n (clocked s)) (pixels_of-in_time n s)
-    (All-weaker (InTime (beam_of (clocked s)) n) (InTime (beam_of s) (suc n)) (later (beam_of s) (beam_of (clocked s)) n f) (pixels n (clocked s))
-    (pixels-in_time n (clocked s) (omega arith) (omega arith)))
+    let f : beam_of (after_clock s) ≡ beam_of s + 1 = iterate-clocked-beam 1 s h (omega arith) in
+    All-append (InTime (beam_of s) (suc n)) (pixels_of s) (pixels n (after_clock s)) (pixels_of-in_time n s)
+    (All-weaker (InTime (beam_of (after_clock s)) n) (InTime (beam_of s) (suc n)) (later (beam_of s) (beam_of (after_clock s)) n f) (pixels n (after_clock s))
+    (pixels-in_time n (after_clock s) (omega arith) (omega arith)))

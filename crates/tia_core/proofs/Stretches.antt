@@ -2,7 +2,7 @@
 use Rattle.std.proofs.Common.{◌≡◌, ℕ, zero, suc, ◌+◌, ◌-◌, ◌%◌, ◌<◌, ◌≤◌, ◌==◌, ◌⊎◌, inl, inr, nat_lt, true, false, if◌then◌else◌, List, [], ◌∷◌, ◌++◌, bit_or, refl, sym, ap, ◌∙◌, arith}
 use Rattle.std.specs.Fn.{iterate}
 use Rattle.std.proofs.lemmas.Bool.Decides.{nat_tests}
-use Rattle.tia_core.specs.Clock.{Pixel, clocked, pixels, pixels_of, painted}
+use Rattle.tia_core.specs.Clock.{Pixel, after_clock, pixels, pixels_of, sink_after_pixels}
 use Rattle.tia_core.specs.Collision.{number_from, pairs_of}
 use Rattle.tia_core.specs.Colour.{colour_at}
 use Rattle.tia_core.specs.Objects.{objects_at}
@@ -10,7 +10,7 @@ use Rattle.tia_core.specs.Private.Stretches.{stretch_pairs, stretch_pixels}
 use Rattle.tia_core.specs.TiaState.{TiaState}
 use Rattle.tia_core.specs.declared.fields.TiaFields.{TiaFields}
 use Rattle.tia_core.specs.declared.objects.Objects.{Objects}
-use Rattle.tia_core.proofs.Pairs.{or_from, or_from-stretch}
+use Rattle.tia_core.proofs.PairLemmas.{or_from, or_from-stretch}
 
 -- ---- the beam
 -- a TIA after k clocks within a line, with these collision bits
@@ -24,7 +24,7 @@ swept s k c =
 abbrev inside_line : TiaState → TiaState
 inside_line s = record s { fields = record s.fields { collisions = bit_or s.fields.collisions (pairs_of (objects_at s.fields (s.fields.clock - 68))); clock = s.fields.clock + 1 } }
 
-clocked-inside : (s : TiaState) → 68 ≤ s.fields.clock → s.fields.clock < 227 → clocked s ≡ inside_line s
+clocked-inside : (s : TiaState) → 68 ≤ s.fields.clock → s.fields.clock < 227 → after_clock s ≡ inside_line s
 clocked-inside s h k = rw (nat_lt_no, eq_no) refl where
   nat_lt_no : nat_lt s.fields.clock 68 ≡ false
   nat_lt_no = grind (arith, nat_tests)
@@ -54,7 +54,7 @@ stretch_pixels-placed t c h line x zero = refl
 stretch_pixels-placed t c h line x (suc k) =
     rw (objects_at-placed t c h x, colour_at-placed t c h (objects_at t x) x, stretch_pixels-placed t c h line (x + 1) k)
 
-clocked-last : (s : TiaState) → s.fields.clock ≡ 227 → clocked s ≡ record s { fields = record s.fields { collisions = bit_or s.fields.collisions (pairs_of (objects_at s.fields (s.fields.clock - 68))); clock = 0; comb = 0 }; line = (s.line + 1) % 65536 }
+clocked-last : (s : TiaState) → s.fields.clock ≡ 227 → after_clock s ≡ record s { fields = record s.fields { collisions = bit_or s.fields.collisions (pairs_of (objects_at s.fields (s.fields.clock - 68))); clock = 0; comb = 0 }; line = (s.line + 1) % 65536 }
 clocked-last s h = rw (no, yes) refl where
   no : nat_lt s.fields.clock 68 ≡ false
   no = grind (arith, nat_tests)
@@ -76,7 +76,7 @@ swept-none s h = let e : s.fields.clock + 0 ≡ s.fields.clock = omega arith in 
   no = grind (arith, nat_tests)
 
 abbrev Sweeps : ℕ → TiaState → Type 0
-Sweeps k s = iterate clocked k s ≡ swept s k (or_from s.fields (s.fields.clock - 68) k s.fields.collisions)
+Sweeps k s = iterate after_clock k s ≡ swept s k (or_from s.fields (s.fields.clock - 68) k s.fields.collisions)
 
 sweep-last : (k : ℕ) (s : TiaState) → s.fields.clock ≡ 227 → s.fields.clock + suc k ≤ 228 → Sweeps (suc k) s
 unfolding or_from
@@ -89,7 +89,7 @@ sweep-more : (k : ℕ) (s : TiaState) → 68 ≤ s.fields.clock → s.fields.clo
 unfolding or_from with_place
 sweep-more k s lo lt ih =
     let next : s.fields.clock + 1 - 68 ≡ s.fields.clock - 68 + 1 = omega arith in
-    ap (iterate clocked k) (clocked-inside s lo lt)
+    ap (iterate after_clock k) (clocked-inside s lo lt)
     ∙ ih
     ∙ ap (swept (inside_line s) k) (rw next (or_from-placed s.fields (bit_or s.fields.collisions (pairs_of (objects_at s.fields (s.fields.clock - 68)))) (s.fields.clock + 1) (s.fields.clock - 68 + 1) k (bit_or s.fields.collisions (pairs_of (objects_at s.fields (s.fields.clock - 68))))))
     ∙ swept-inside s k _ lt
@@ -114,13 +114,13 @@ pixels-more : (k : ℕ) (s : TiaState) → 68 ≤ s.fields.clock → s.fields.cl
 unfolding with_place
 pixels-more k s lo lt ih =
     let next : s.fields.clock + 1 - 68 ≡ s.fields.clock - 68 + 1 = omega arith in
-    let rest : pixels k (clocked s) ≡ stretch_pixels s.fields s.line (s.fields.clock - 68 + 1) k =
+    let rest : pixels k (after_clock s) ≡ stretch_pixels s.fields s.line (s.fields.clock - 68 + 1) k =
     ap (pixels k) (clocked-inside s lo lt) ∙ ih ∙ rw next (stretch_pixels-placed s.fields (bit_or s.fields.collisions (pairs_of (objects_at s.fields (s.fields.clock - 68)))) (s.fields.clock + 1) s.line (s.fields.clock - 68 + 1) k) in
-    ap (λ (ps : List Pixel). ps ++ pixels k (clocked s)) (pixels_of-visible s lo) ∙ ap (λ (ps : List Pixel). record { line = s.line; x = s.fields.clock - 68; colour = colour_at s.fields (objects_at s.fields (s.fields.clock - 68)) (s.fields.clock - 68) } ∷ ps) rest
+    ap (λ (ps : List Pixel). ps ++ pixels k (after_clock s)) (pixels_of-visible s lo) ∙ ap (λ (ps : List Pixel). record { line = s.line; x = s.fields.clock - 68; colour = colour_at s.fields (objects_at s.fields (s.fields.clock - 68)) (s.fields.clock - 68) } ∷ ps) rest
 
 -- k clocks within a line
 pub sweep-stretch : (k : ℕ) (s : TiaState) → 68 ≤ s.fields.clock → s.fields.clock < 228 → s.fields.clock + k ≤ 228
-    → iterate clocked k s ≡ swept s k (bit_or s.fields.collisions (number_from 0 (stretch_pairs s.fields (s.fields.clock - 68) k)))
+    → iterate after_clock k s ≡ swept s k (bit_or s.fields.collisions (number_from 0 (stretch_pairs s.fields (s.fields.clock - 68) k)))
 sweep-stretch k s lo hi fits = sweep k s lo hi fits ∙ ap (swept s k) (or_from-stretch s.fields (s.fields.clock - 68) k s.fields.collisions)
 
 pub pixels-stretch : (k : ℕ) (s : TiaState) → 68 ≤ s.fields.clock → s.fields.clock < 228 → s.fields.clock + k ≤ 228
@@ -132,7 +132,7 @@ pixels-stretch (suc k) s lo hi fits = elim (at_end s hi) [
 ]
 
 -- clocks of the blank change the beam's place alone
-clocked-blank : (s : TiaState) → s.fields.clock < 68 → clocked s ≡ record s { fields = record s.fields { clock = s.fields.clock + 1 } }
+clocked-blank : (s : TiaState) → s.fields.clock < 68 → after_clock s ≡ record s { fields = record s.fields { clock = s.fields.clock + 1 } }
 clocked-blank s h = rw (yes, no) refl where
   yes : nat_lt s.fields.clock 68 ≡ true
   yes = grind (arith, nat_tests)
@@ -145,18 +145,18 @@ pixels_of-blank s h = rw yes refl where
   yes : nat_lt s.fields.clock 68 ≡ true
   yes = grind (arith, nat_tests)
 
-pub blank-stretch : (k : ℕ) (s : TiaState) → s.fields.clock + k ≤ 68 → iterate clocked k s ≡ record s { fields = record s.fields { clock = s.fields.clock + k } }
+pub blank-stretch : (k : ℕ) (s : TiaState) → s.fields.clock + k ≤ 68 → iterate after_clock k s ≡ record s { fields = record s.fields { clock = s.fields.clock + k } }
 blank-stretch zero s h = let e : s.fields.clock + 0 ≡ s.fields.clock = omega arith in rw e
 blank-stretch (suc k) s h =
     let e : s.fields.clock + 1 + k ≡ s.fields.clock + suc k = omega arith in
     let lt : s.fields.clock < 68 = omega arith in
-    ap (iterate clocked k) (clocked-blank s lt) ∙ blank-stretch k (record s { fields = record s.fields { clock = s.fields.clock + 1 } }) (omega arith) ∙ rw e
+    ap (iterate after_clock k) (clocked-blank s lt) ∙ blank-stretch k (record s { fields = record s.fields { clock = s.fields.clock + 1 } }) (omega arith) ∙ rw e
 
 pub blank-pixels : (k : ℕ) (s : TiaState) → s.fields.clock + k ≤ 68 → pixels k s ≡ []
 blank-pixels zero s h = refl
 blank-pixels (suc k) s h =
     let lt : s.fields.clock < 68 = omega arith in
-    ap (λ (ps : List Pixel). ps ++ pixels k (clocked s)) (pixels_of-blank s lt) ∙ ap (pixels k) (clocked-blank s lt) ∙ blank-pixels k (record s { fields = record s.fields { clock = s.fields.clock + 1 } }) (omega arith)
+    ap (λ (ps : List Pixel). ps ++ pixels k (after_clock s)) (pixels_of-blank s lt) ∙ ap (pixels k) (clocked-blank s lt) ∙ blank-pixels k (record s { fields = record s.fields { clock = s.fields.clock + 1 } }) (omega arith)
 
 -- the end of a stretch, as the code finds it: `c` are the latches with the pairs of the stretch
 module _ (s : TiaState) (k c : ℕ) (lo : 68 ≤ s.fields.clock) (hi : s.fields.clock < 228) (fits : s.fields.clock + k ≤ 228)
@@ -167,18 +167,18 @@ module _ (s : TiaState) (k c : ℕ) (lo : 68 ≤ s.fields.clock) (hi : s.fields.
   latched_is : c ≡ bit_or s.fields.collisions (number_from 0 (stretch_pairs s.fields (s.fields.clock - 68) k))
   latched_is = latches ∙ ap (λ (n : ℕ). bit_or s.fields.collisions (number_from 0 (stretch_pairs s.fields (s.fields.clock - 68) n))) count_is
 
-  pub stretch-wraps : s.fields.clock - 68 + k ≡ 160 → record s { fields = record s.fields { collisions = c; clock = 0; comb = 0 }; line = (s.line + 1) % 65536 } ≡ iterate clocked k s
+  pub stretch-wraps : s.fields.clock - 68 + k ≡ 160 → record s { fields = record s.fields { collisions = c; clock = 0; comb = 0 }; line = (s.line + 1) % 65536 } ≡ iterate after_clock k s
   stretch-wraps h =
       let yes : (s.fields.clock + k == 228) ≡ true = grind (arith, nat_tests) in
       sym (sweep-stretch k s lo hi fits ∙ ap (swept s k) (sym latched_is) ∙ rw yes)
 
-  pub stretch-stays : (s.fields.clock - 68 + k ≡ 160 → ⊥) → record s { fields = record s.fields { collisions = c; clock = s.fields.clock + k } } ≡ iterate clocked k s
+  pub stretch-stays : (s.fields.clock - 68 + k ≡ 160 → ⊥) → record s { fields = record s.fields { collisions = c; clock = s.fields.clock + k } } ≡ iterate after_clock k s
   stretch-stays h =
       let no : (s.fields.clock + k == 228) ≡ false = grind (arith, nat_tests) in
       sym (sweep-stretch k s lo hi fits ∙ ap (swept s k) (sym latched_is) ∙ rw no)
 
 pub stretch-sink : {S : Type 0} (drawn : S → ℕ → ℕ → ℕ → S) (sink : S) (s : TiaState) (k : ℕ) → 68 ≤ s.fields.clock → s.fields.clock < 228 → s.fields.clock + k ≤ 228
-    → painted drawn sink (stretch_pixels s.fields s.line (s.fields.clock - 68) (s.fields.clock - 68 + k - (s.fields.clock - 68))) ≡ painted drawn sink (pixels k s)
+    → sink_after_pixels drawn sink (stretch_pixels s.fields s.line (s.fields.clock - 68) (s.fields.clock - 68 + k - (s.fields.clock - 68))) ≡ sink_after_pixels drawn sink (pixels k s)
 stretch-sink drawn sink s k lo hi fits =
     let e : s.fields.clock - 68 + k - (s.fields.clock - 68) ≡ k = omega arith in
     rw (e, pixels-stretch k s lo hi fits)
@@ -192,6 +192,6 @@ pub stretch_pixels-step : (t : TiaFields) (line x to : ℕ) → x < to
 stretch_pixels-step t line x to h = rw (one_less to x h) refl
 
 -- a sink that keeps nothing of a pixel keeps nothing of many
-pub painted-nothing : {S : Type 0} (drawn : S → ℕ → ℕ → ℕ → S) (sink : S) (ps : List Pixel) → ((line x colour : ℕ) → drawn sink line x colour ≡ sink) → painted drawn sink ps ≡ sink
+pub painted-nothing : {S : Type 0} (drawn : S → ℕ → ℕ → ℕ → S) (sink : S) (ps : List Pixel) → ((line x colour : ℕ) → drawn sink line x colour ≡ sink) → sink_after_pixels drawn sink ps ≡ sink
 painted-nothing drawn sink [] h = refl
 painted-nothing drawn sink (p ∷ ps) h = rw (h p.line p.x p.colour) (painted-nothing drawn sink ps h)

@@ -2,9 +2,9 @@
 use Rattle.std.proofs.Common.{◌≡◌, ℕ, zero, suc, ◌+◌, ◌-◌, ◌*◌, ◌/◌, ◌%◌, ◌^◌, ◌==◌, ◌<◌, ◌≤◌, ◌⊎◌, inl, inr, ◌&&◌, if◌then◌else◌, nat_lt, Bool, true, false, List, [], ◌∷◌, slice_index_or, refl, sym, ap, ◌∙◌, arith}
 use Rattle.std.proofs.lemmas.Bool.Decides.{nat_tests}
 use Rattle.std.proofs.lemmas.Nat.Bits.{bit_at_cat_low, bit_at_cat_high, bit_at_ones, bit_at_ones_above}
-use Rattle.tia_core.specs.Bits.{bit}
+use Rattle.tia_core.specs.Bits.{has_bit}
 use Rattle.tia_core.specs.Coverage.{is_shown_at}
-use Rattle.tia_core.proofs.Words.{bit-low, bit-high}
+use Rattle.tia_core.proofs.WordLemmas.{bit-low, bit-high}
 
 -- ---- what a table says of each number is tried at each number
 same : Bool → Bool → Bool
@@ -37,12 +37,12 @@ holds-below test (suc n) k h lt = split (test n) refl (last_or_before k n lt) (�
 
 -- a table of `width` bits, whose bit k of n is bit `place k` of n
 fits_at : List ℕ → ℕ → (ℕ → ℕ) → ℕ → Bool
-fits_at table width place n = holds_below (λ k. same (bit (slice_index_or table n 0) k) (bit n (place k))) width
+fits_at table width place n = holds_below (λ k. same (has_bit (slice_index_or table n 0) k) (has_bit n (place k))) width
 
 fits : (table : List ℕ) (width : ℕ) (place : ℕ → ℕ) (most : ℕ) → holds_below (fits_at table width place) most ≡ true
-    → (n k : ℕ) → n < most → k < width → bit (slice_index_or table n 0) k ≡ bit n (place k)
+    → (n k : ℕ) → n < most → k < width → has_bit (slice_index_or table n 0) k ≡ has_bit n (place k)
 unfolding fits_at
-fits table width place most h n k p q = same-is _ _ (holds-below (λ k. same (bit (slice_index_or table n 0) k) (bit n (place k))) width k (holds-below (fits_at table width place) most n h p) q)
+fits table width place most h n k p q = same-is _ _ (holds-below (λ k. same (has_bit (slice_index_or table n 0) k) (has_bit n (place k))) width k (holds-below (fits_at table width place) most n h p) q)
 
 below : (table : List ℕ) (most : ℕ) → holds_below (λ n. nat_lt (slice_index_or table n 0) most) 16 ≡ true → (n : ℕ) → n < 16 → slice_index_or table n 0 < most
 below table most h n p = let e = holds-below (λ n. nat_lt (slice_index_or table n 0) most) 16 n h p in grind (arith, nat_tests)
@@ -59,19 +59,19 @@ reversed_bytes = 0x00 ∷ 0x80 ∷ 0x40 ∷ 0xC0 ∷ 0x20 ∷ 0xA0 ∷ 0x60 ∷ 
 abbrev pub quadrupled_table : List ℕ
 quadrupled_table = 0x00000000 ∷ 0x0000000F ∷ 0x000000F0 ∷ 0x000000FF ∷ 0x00000F00 ∷ 0x00000F0F ∷ 0x00000FF0 ∷ 0x00000FFF ∷ 0x0000F000 ∷ 0x0000F00F ∷ 0x0000F0F0 ∷ 0x0000F0FF ∷ 0x0000FF00 ∷ 0x0000FF0F ∷ 0x0000FFF0 ∷ 0x0000FFFF ∷ 0x000F0000 ∷ 0x000F000F ∷ 0x000F00F0 ∷ 0x000F00FF ∷ 0x000F0F00 ∷ 0x000F0F0F ∷ 0x000F0FF0 ∷ 0x000F0FFF ∷ 0x000FF000 ∷ 0x000FF00F ∷ 0x000FF0F0 ∷ 0x000FF0FF ∷ 0x000FFF00 ∷ 0x000FFF0F ∷ 0x000FFFF0 ∷ 0x000FFFFF ∷ 0x00F00000 ∷ 0x00F0000F ∷ 0x00F000F0 ∷ 0x00F000FF ∷ 0x00F00F00 ∷ 0x00F00F0F ∷ 0x00F00FF0 ∷ 0x00F00FFF ∷ 0x00F0F000 ∷ 0x00F0F00F ∷ 0x00F0F0F0 ∷ 0x00F0F0FF ∷ 0x00F0FF00 ∷ 0x00F0FF0F ∷ 0x00F0FFF0 ∷ 0x00F0FFFF ∷ 0x00FF0000 ∷ 0x00FF000F ∷ 0x00FF00F0 ∷ 0x00FF00FF ∷ 0x00FF0F00 ∷ 0x00FF0F0F ∷ 0x00FF0FF0 ∷ 0x00FF0FFF ∷ 0x00FFF000 ∷ 0x00FFF00F ∷ 0x00FFF0F0 ∷ 0x00FFF0FF ∷ 0x00FFFF00 ∷ 0x00FFFF0F ∷ 0x00FFFFF0 ∷ 0x00FFFFFF ∷ 0x0F000000 ∷ 0x0F00000F ∷ 0x0F0000F0 ∷ 0x0F0000FF ∷ 0x0F000F00 ∷ 0x0F000F0F ∷ 0x0F000FF0 ∷ 0x0F000FFF ∷ 0x0F00F000 ∷ 0x0F00F00F ∷ 0x0F00F0F0 ∷ 0x0F00F0FF ∷ 0x0F00FF00 ∷ 0x0F00FF0F ∷ 0x0F00FFF0 ∷ 0x0F00FFFF ∷ 0x0F0F0000 ∷ 0x0F0F000F ∷ 0x0F0F00F0 ∷ 0x0F0F00FF ∷ 0x0F0F0F00 ∷ 0x0F0F0F0F ∷ 0x0F0F0FF0 ∷ 0x0F0F0FFF ∷ 0x0F0FF000 ∷ 0x0F0FF00F ∷ 0x0F0FF0F0 ∷ 0x0F0FF0FF ∷ 0x0F0FFF00 ∷ 0x0F0FFF0F ∷ 0x0F0FFFF0 ∷ 0x0F0FFFFF ∷ 0x0FF00000 ∷ 0x0FF0000F ∷ 0x0FF000F0 ∷ 0x0FF000FF ∷ 0x0FF00F00 ∷ 0x0FF00F0F ∷ 0x0FF00FF0 ∷ 0x0FF00FFF ∷ 0x0FF0F000 ∷ 0x0FF0F00F ∷ 0x0FF0F0F0 ∷ 0x0FF0F0FF ∷ 0x0FF0FF00 ∷ 0x0FF0FF0F ∷ 0x0FF0FFF0 ∷ 0x0FF0FFFF ∷ 0x0FFF0000 ∷ 0x0FFF000F ∷ 0x0FFF00F0 ∷ 0x0FFF00FF ∷ 0x0FFF0F00 ∷ 0x0FFF0F0F ∷ 0x0FFF0FF0 ∷ 0x0FFF0FFF ∷ 0x0FFFF000 ∷ 0x0FFFF00F ∷ 0x0FFFF0F0 ∷ 0x0FFFF0FF ∷ 0x0FFFFF00 ∷ 0x0FFFFF0F ∷ 0x0FFFFFF0 ∷ 0x0FFFFFFF ∷ 0xF0000000 ∷ 0xF000000F ∷ 0xF00000F0 ∷ 0xF00000FF ∷ 0xF0000F00 ∷ 0xF0000F0F ∷ 0xF0000FF0 ∷ 0xF0000FFF ∷ 0xF000F000 ∷ 0xF000F00F ∷ 0xF000F0F0 ∷ 0xF000F0FF ∷ 0xF000FF00 ∷ 0xF000FF0F ∷ 0xF000FFF0 ∷ 0xF000FFFF ∷ 0xF00F0000 ∷ 0xF00F000F ∷ 0xF00F00F0 ∷ 0xF00F00FF ∷ 0xF00F0F00 ∷ 0xF00F0F0F ∷ 0xF00F0FF0 ∷ 0xF00F0FFF ∷ 0xF00FF000 ∷ 0xF00FF00F ∷ 0xF00FF0F0 ∷ 0xF00FF0FF ∷ 0xF00FFF00 ∷ 0xF00FFF0F ∷ 0xF00FFFF0 ∷ 0xF00FFFFF ∷ 0xF0F00000 ∷ 0xF0F0000F ∷ 0xF0F000F0 ∷ 0xF0F000FF ∷ 0xF0F00F00 ∷ 0xF0F00F0F ∷ 0xF0F00FF0 ∷ 0xF0F00FFF ∷ 0xF0F0F000 ∷ 0xF0F0F00F ∷ 0xF0F0F0F0 ∷ 0xF0F0F0FF ∷ 0xF0F0FF00 ∷ 0xF0F0FF0F ∷ 0xF0F0FFF0 ∷ 0xF0F0FFFF ∷ 0xF0FF0000 ∷ 0xF0FF000F ∷ 0xF0FF00F0 ∷ 0xF0FF00FF ∷ 0xF0FF0F00 ∷ 0xF0FF0F0F ∷ 0xF0FF0FF0 ∷ 0xF0FF0FFF ∷ 0xF0FFF000 ∷ 0xF0FFF00F ∷ 0xF0FFF0F0 ∷ 0xF0FFF0FF ∷ 0xF0FFFF00 ∷ 0xF0FFFF0F ∷ 0xF0FFFFF0 ∷ 0xF0FFFFFF ∷ 0xFF000000 ∷ 0xFF00000F ∷ 0xFF0000F0 ∷ 0xFF0000FF ∷ 0xFF000F00 ∷ 0xFF000F0F ∷ 0xFF000FF0 ∷ 0xFF000FFF ∷ 0xFF00F000 ∷ 0xFF00F00F ∷ 0xFF00F0F0 ∷ 0xFF00F0FF ∷ 0xFF00FF00 ∷ 0xFF00FF0F ∷ 0xFF00FFF0 ∷ 0xFF00FFFF ∷ 0xFF0F0000 ∷ 0xFF0F000F ∷ 0xFF0F00F0 ∷ 0xFF0F00FF ∷ 0xFF0F0F00 ∷ 0xFF0F0F0F ∷ 0xFF0F0FF0 ∷ 0xFF0F0FFF ∷ 0xFF0FF000 ∷ 0xFF0FF00F ∷ 0xFF0FF0F0 ∷ 0xFF0FF0FF ∷ 0xFF0FFF00 ∷ 0xFF0FFF0F ∷ 0xFF0FFFF0 ∷ 0xFF0FFFFF ∷ 0xFFF00000 ∷ 0xFFF0000F ∷ 0xFFF000F0 ∷ 0xFFF000FF ∷ 0xFFF00F00 ∷ 0xFFF00F0F ∷ 0xFFF00FF0 ∷ 0xFFF00FFF ∷ 0xFFF0F000 ∷ 0xFFF0F00F ∷ 0xFFF0F0F0 ∷ 0xFFF0F0FF ∷ 0xFFF0FF00 ∷ 0xFFF0FF0F ∷ 0xFFF0FFF0 ∷ 0xFFF0FFFF ∷ 0xFFFF0000 ∷ 0xFFFF000F ∷ 0xFFFF00F0 ∷ 0xFFFF00FF ∷ 0xFFFF0F00 ∷ 0xFFFF0F0F ∷ 0xFFFF0FF0 ∷ 0xFFFF0FFF ∷ 0xFFFFF000 ∷ 0xFFFFF00F ∷ 0xFFFFF0F0 ∷ 0xFFFFF0FF ∷ 0xFFFFFF00 ∷ 0xFFFFFF0F ∷ 0xFFFFFFF0 ∷ 0xFFFFFFFF ∷ []
 
-pub reversed-fits : (n k : ℕ) → n < 16 → k < 4 → bit (slice_index_or reversed_table n 0) k ≡ bit n (3 - k)
+pub reversed-fits : (n k : ℕ) → n < 16 → k < 4 → has_bit (slice_index_or reversed_table n 0) k ≡ has_bit n (3 - k)
 unfolding holds_below fits_at same
 reversed-fits = fits reversed_table 4 (λ k. 3 - k) 16 refl
 
-pub doubled-fits : (n k : ℕ) → n < 16 → k < 8 → bit (slice_index_or doubled_table n 0) k ≡ bit n (k / 2)
+pub doubled-fits : (n k : ℕ) → n < 16 → k < 8 → has_bit (slice_index_or doubled_table n 0) k ≡ has_bit n (k / 2)
 unfolding holds_below fits_at same
 doubled-fits = fits doubled_table 8 (λ k. k / 2) 16 refl
 
-pub quadrupled-fits : (n k : ℕ) → n < 256 → k < 32 → bit (slice_index_or quadrupled_table n 0) k ≡ bit n (k / 4)
+pub quadrupled-fits : (n k : ℕ) → n < 256 → k < 32 → has_bit (slice_index_or quadrupled_table n 0) k ≡ has_bit n (k / 4)
 unfolding holds_below fits_at same
 quadrupled-fits = fits quadrupled_table 32 (λ k. k / 4) 256 refl
 
-pub reversed-bytes-fit : (n k : ℕ) → n < 256 → k < 8 → bit (slice_index_or reversed_bytes n 0) k ≡ bit n (7 - k)
+pub reversed-bytes-fit : (n k : ℕ) → n < 256 → k < 8 → has_bit (slice_index_or reversed_bytes n 0) k ≡ has_bit n (7 - k)
 unfolding holds_below fits_at same
 reversed-bytes-fit = fits reversed_bytes 8 (λ k. 7 - k) 256 refl
 
@@ -84,22 +84,22 @@ unfolding holds_below
 doubled-below = below doubled_table 256 refl
 
 -- ---- two numbers side by side
-pub cat-low : (a k b i : ℕ) → i < k → bit (a * 2 ^ k + b) i ≡ bit b i
+pub cat-low : (a k b i : ℕ) → i < k → has_bit (a * 2 ^ k + b) i ≡ has_bit b i
 cat-low a k b i h = ap (λ (n : ℕ). n == 1) (bit_at_cat_low a k b i h)
 
-pub cat-high : (a k b i : ℕ) → b < 2 ^ k → k ≤ i → bit (a * 2 ^ k + b) i ≡ bit a (i - k)
+pub cat-high : (a k b i : ℕ) → b < 2 ^ k → k ≤ i → has_bit (a * 2 ^ k + b) i ≡ has_bit a (i - k)
 cat-high a k b i h le = ap (λ (n : ℕ). n == 1) (bit_at_cat_high a k b i h le)
 
 -- bits of a byte's halves
-pub half-low : (byte k : ℕ) → k < 4 → bit (byte % 16) k ≡ bit byte k
+pub half-low : (byte k : ℕ) → k < 4 → has_bit (byte % 16) k ≡ has_bit byte k
 half-low byte k h = bit-low byte 4 k h
 
-pub half-high : (byte k : ℕ) → bit (byte / 16) k ≡ bit byte (4 + k)
+pub half-high : (byte k : ℕ) → has_bit (byte / 16) k ≡ has_bit byte (4 + k)
 half-high byte k = bit-high byte 4 k
 
 -- a byte by two numbers, which stand for its halves
-pub halves : (high low width byte place k : ℕ) → low < 2 ^ width → (k < width → bit low k ≡ bit byte place) → (width ≤ k → bit high (k - width) ≡ bit byte place)
-    → bit (high * 2 ^ width + low) k ≡ bit byte place
+pub halves : (high low width byte place k : ℕ) → low < 2 ^ width → (k < width → has_bit low k ≡ has_bit byte place) → (width ≤ k → has_bit high (k - width) ≡ has_bit byte place)
+    → has_bit (high * 2 ^ width + low) k ≡ has_bit byte place
 halves high low width byte place k h p q = elim (order k width) [
   | inl lt ↦ cat-low high width low k lt ∙ p lt
   | inr le ↦ cat-high high width low k h le ∙ q le
@@ -107,7 +107,7 @@ halves high low width byte place k h p q = elim (order k width) [
   order : (k w : ℕ) → (k < w) ⊎ (w ≤ k)
   order k w = grind arith
 
-pub ones-is : (size d : ℕ) → bit (2 ^ size - 1) d ≡ nat_lt d size
+pub ones-is : (size d : ℕ) → has_bit (2 ^ size - 1) d ≡ nat_lt d size
 ones-is size d = elim (order d size) [
   | inl lt ↦ ap (λ (n : ℕ). n == 1) (bit_at_ones size d lt) ∙ (let e : nat_lt d size ≡ true = grind (arith, nat_tests) in sym e)
   | inr le ↦ ap (λ (n : ℕ). n == 1) (bit_at_ones_above size d le) ∙ (let e : nat_lt d size ≡ false = grind (arith, nat_tests) in sym e)
@@ -117,11 +117,11 @@ ones-is size d = elim (order d size) [
 
 -- a row of a player's dots, each `scale` pixels wide, is what a copy shows
 pub row_shows : (width : ℕ) (reflected : Bool) (graphic dots row d : ℕ)
-    → ((k : ℕ) → k < 8 → bit dots k ≡ bit graphic (if reflected then k else 7 - k))
-    → (d < width → d / (width / 8) < 8) → (d < width → bit row d ≡ bit dots (d / (width / 8))) → (width ≤ d → bit row d ≡ false)
-    → bit row d ≡ is_shown_at width reflected graphic d
+    → ((k : ℕ) → k < 8 → has_bit dots k ≡ has_bit graphic (if reflected then k else 7 - k))
+    → (d < width → d / (width / 8) < 8) → (d < width → has_bit row d ≡ has_bit dots (d / (width / 8))) → (width ≤ d → has_bit row d ≡ false)
+    → has_bit row d ≡ is_shown_at width reflected graphic d
 row_shows width reflected graphic dots row d h p q r = elim (order d width) [
-  | inl lt ↦ (let e : nat_lt d width ≡ true = grind (arith, nat_tests) in rw e (q lt ∙ h (d / (width / 8)) (p lt) ∙ ap (bit graphic) (inside reflected)))
+  | inl lt ↦ (let e : nat_lt d width ≡ true = grind (arith, nat_tests) in rw e (q lt ∙ h (d / (width / 8)) (p lt) ∙ ap (has_bit graphic) (inside reflected)))
   | inr le ↦ (let e : nat_lt d width ≡ false = grind (arith, nat_tests) in rw e (r le))
 ] where
   order : (k w : ℕ) → (k < w) ⊎ (w ≤ k)

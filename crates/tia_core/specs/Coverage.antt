@@ -2,7 +2,7 @@
 -- Stella Programmer's Guide: NUSIZ0 and NUSIZ1, REFP0 and REFP1. This project's own: copies wrap at 160.
 use Rattle.std.specs.Prelude.{ℕ, ◌-◌, ◌/◌, ◌==◌, ◌&&◌, nat_lt, Bool, if◌then◌else◌, List, [], ◌∷◌, pos, ◌-ℤ◌}
 use Rattle.std.specs.List.{list_any}
-use Rattle.tia_core.specs.Bits.{bit}
+use Rattle.tia_core.specs.Bits.{has_bit}
 use Rattle.tia_core.specs.Position.{modulo_160}
 
 -- how far pixel x lies to the right of a copy of an object, going round from 159 to 0
@@ -26,7 +26,7 @@ width_of mode = if mode == 5 then 16 else if mode == 7 then 32 else 8
 -- whether a copy of a player, of this width, shows a pixel at distance d
 abbrev pub is_shown_at : ℕ → Bool → ℕ → ℕ → Bool
 is_shown_at width reflected graphic d =
-    nat_lt d width && bit graphic (if reflected then d / (width / 8) else 7 - d / (width / 8))
+    nat_lt d width && has_bit graphic (if reflected then d / (width / 8) else 7 - d / (width / 8))
 
 abbrev pub player_covers : ℕ → Bool → ℕ → ℕ → ℕ → Bool
 player_covers mode reflected graphic position x =

@@ -1,15 +1,15 @@
 -- The set of the six objects that cover a pixel.
 -- Stella Programmer's Guide: VDELP0, VDELP1, VDELBL, ENAM0 to ENABL, RESMP0 and RESMP1, sizes by NUSIZ and CTRLPF.
 use Rattle.std.specs.Prelude.{Bool, ℕ, ◌/◌, ◌%◌, ◌^◌, ◌==◌, ◌&&◌, not, if◌then◌else◌}
-use Rattle.tia_core.specs.Bits.{bit}
+use Rattle.tia_core.specs.Bits.{has_bit}
 use Rattle.tia_core.specs.Coverage.{player_covers, missile_covers, ball_covers}
 use Rattle.tia_core.specs.Playfield.{playfield_bit, playfield_index}
 use Rattle.tia_core.specs.declared.fields.TiaFields.{TiaFields}
 use Rattle.tia_core.specs.declared.objects.Objects.{Objects}
 
 -- what is shown of graphics, or of the ball's enable: the old value where bit 0 of its delay register is set
-abbrev pub shown_of : ℕ → ℕ → ℕ → ℕ
-shown_of delay old new = if bit delay 0 then old else new
+abbrev pub value_by_delay : ℕ → ℕ → ℕ → ℕ
+value_by_delay delay old new = if has_bit delay 0 then old else new
 
 -- the size 1, 2, 4 or 8 of a missile or ball, by bits 5 and 4 of NUSIZ or CTRLPF
 abbrev pub size_of : ℕ → ℕ
@@ -17,21 +17,21 @@ size_of register = 2 ^ (register / 16 % 4)
 
 -- a missile is shown where it is enabled and not locked to its player
 abbrev pub missile_at : ℕ → ℕ → ℕ → ℕ → ℕ → Bool
-missile_at enam resmp nusiz position x = bit enam 1 && not (bit resmp 1) && missile_covers (nusiz % 8) (size_of nusiz) position x
+missile_at enam resmp nusiz position x = has_bit enam 1 && not (has_bit resmp 1) && missile_covers (nusiz % 8) (size_of nusiz) position x
 
 -- a ball is shown where it is enabled
 abbrev pub ball_at : ℕ → ℕ → ℕ → ℕ → Bool
-ball_at enabl ctrlpf position x = bit enabl 1 && ball_covers (size_of ctrlpf) position x
+ball_at enabl ctrlpf position x = has_bit enabl 1 && ball_covers (size_of ctrlpf) position x
 
 -- the objects that cover pixel x
 unfoldable pub objects_at : TiaFields → ℕ → Objects
 objects_at t x = record {
-  player0 = player_covers (t.nusiz0 % 8) (bit t.refp0 3) (shown_of t.vdelp0 t.grp0_old t.grp0_new) t.position_p0 x;
-  player1 = player_covers (t.nusiz1 % 8) (bit t.refp1 3) (shown_of t.vdelp1 t.grp1_old t.grp1_new) t.position_p1 x;
+  player0 = player_covers (t.nusiz0 % 8) (has_bit t.refp0 3) (value_by_delay t.vdelp0 t.grp0_old t.grp0_new) t.position_p0 x;
+  player1 = player_covers (t.nusiz1 % 8) (has_bit t.refp1 3) (value_by_delay t.vdelp1 t.grp1_old t.grp1_new) t.position_p1 x;
   missile0 = missile_at t.enam0 t.resmp0 t.nusiz0 t.position_m0 x;
   missile1 = missile_at t.enam1 t.resmp1 t.nusiz1 t.position_m1 x;
-  ball = ball_at (shown_of t.vdelbl t.enabl_old t.enabl_new) t.ctrlpf t.position_bl x;
-  playfield = playfield_bit t.pf0 t.pf1 t.pf2 (playfield_index (bit t.ctrlpf 0) x);
+  ball = ball_at (value_by_delay t.vdelbl t.enabl_old t.enabl_new) t.ctrlpf t.position_bl x;
+  playfield = playfield_bit t.pf0 t.pf1 t.pf2 (playfield_index (has_bit t.ctrlpf 0) x);
 }
 
 -- whether the object with this number is in a set: 0 to 5 are player 0, player 1, missile 0, missile 1, the ball and the playfield

@@ -3,7 +3,7 @@
 -- of the strobes, all motion at once, and where a missile is released.
 use Rattle.std.specs.Prelude.{ℕ, ◌+◌, ◌-◌, ◌/◌, ◌%◌, ◌==◌, ◌&&◌, not, nat_lt, if◌then◌else◌, ℤ, pos, ◌+ℤ◌, ◌-ℤ◌, unsigned_abs}
 use Rattle.std.specs.Int.{int_rem_euclid}
-use Rattle.tia_core.specs.Bits.{bit}
+use Rattle.tia_core.specs.Bits.{has_bit}
 
 -- a number modulo 160, also one below 0
 unfoldable pub modulo_160 : ℤ → ℕ
@@ -27,4 +27,4 @@ release_of mode = if mode == 5 then 8 else if mode == 7 then 16 else 4
 -- where a missile is after a write of RESMP: released from its player where the bit falls
 abbrev pub released_position : ℕ → ℕ → ℕ → ℕ → ℕ → ℕ
 released_position old new nusiz player missile =
-    if bit old 1 && not (bit new 1) then (player + release_of (nusiz % 8)) % 160 else missile
+    if has_bit old 1 && not (has_bit new 1) then (player + release_of (nusiz % 8)) % 160 else missile

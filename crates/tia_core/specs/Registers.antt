@@ -51,13 +51,13 @@ mask_of Resmp1 = 0x02
 mask_of _ = 0
 
 -- the bits of a written value that a register keeps
-abbrev pub kept_of : Register → ℕ → ℕ
-kept_of register value = bit_and value (mask_of register)
+abbrev pub register_bits : Register → ℕ → ℕ
+register_bits register value = bit_and value (mask_of register)
 
 -- a number that has no other bits than those that a register keeps
-abbrev pub IsKept : Register → ℕ → Type 0
-IsKept register number = kept_of register number ≡ number
+abbrev pub FitsRegister : Register → ℕ → Type 0
+FitsRegister register number = register_bits register number ≡ number
 
 -- the same as a test
-abbrev pub is_kept : Register → ℕ → Bool
-is_kept register number = kept_of register number == number
+abbrev pub fits_register : Register → ℕ → Bool
+fits_register register number = register_bits register number == number

@@ -1,8 +1,8 @@
 -- A TIA as contracts see it, and what is true of its numbers. This project's own: the ranges, all 0 at power-on, and how a frame begins.
 use Rattle.std.specs.Prelude.{ℕ, nat_lt, Bool, false, ◌==◌, ◌&&◌, ◌||◌}
-use Rattle.tia_core.specs.Bits.{bit}
-use Rattle.tia_core.specs.Latch.{latches_begun}
-use Rattle.tia_core.specs.Registers.{is_kept}
+use Rattle.tia_core.specs.Bits.{has_bit}
+use Rattle.tia_core.specs.Latch.{latches_at_start}
+use Rattle.tia_core.specs.Registers.{fits_register}
 use Rattle.tia_core.specs.declared.fields.TiaFields.{TiaFields}
 use Rattle.tia_core.specs.declared.register.Register.TheVariants.{Vsync, Vblank, Nusiz0, Nusiz1, Colup0, Colup1, Colupf, Colubk, Ctrlpf, Refp0, Refp1, Pf0, Enam0, Enam1, Enabl, Hmp0, Hmp1, Hmm0, Hmm1, Hmbl, Vdelp0, Vdelp1, Vdelbl, Resmp0, Resmp1}
 
@@ -16,31 +16,31 @@ pub record TiaState : Type 0 where
 -- the registers that time and colour the picture have no other bits than those that they keep
 abbrev pub has_lawful_colours : TiaFields → Bool
 has_lawful_colours t =
-    is_kept Vsync t.vsync && is_kept Vblank t.vblank && is_kept Nusiz0 t.nusiz0 && is_kept Nusiz1 t.nusiz1
-    && is_kept Colup0 t.colup0 && is_kept Colup1 t.colup1 && is_kept Colupf t.colupf && is_kept Colubk t.colubk
+    fits_register Vsync t.vsync && fits_register Vblank t.vblank && fits_register Nusiz0 t.nusiz0 && fits_register Nusiz1 t.nusiz1
+    && fits_register Colup0 t.colup0 && fits_register Colup1 t.colup1 && fits_register Colupf t.colupf && fits_register Colubk t.colubk
 
 -- nor those that draw the objects; PF1, PF2, GRP0 and GRP1 keep all bits
 abbrev pub has_lawful_objects : TiaFields → Bool
 has_lawful_objects t =
-    is_kept Ctrlpf t.ctrlpf && is_kept Refp0 t.refp0 && is_kept Refp1 t.refp1 && is_kept Pf0 t.pf0
-    && is_kept Enam0 t.enam0 && is_kept Enam1 t.enam1 && is_kept Enabl t.enabl_new && is_kept Enabl t.enabl_old
+    fits_register Ctrlpf t.ctrlpf && fits_register Refp0 t.refp0 && fits_register Refp1 t.refp1 && fits_register Pf0 t.pf0
+    && fits_register Enam0 t.enam0 && fits_register Enam1 t.enam1 && fits_register Enabl t.enabl_new && fits_register Enabl t.enabl_old
 
 -- nor those that move the objects and delay them
 abbrev pub has_lawful_motion : TiaFields → Bool
 has_lawful_motion t =
-    is_kept Hmp0 t.hmp0 && is_kept Hmp1 t.hmp1 && is_kept Hmm0 t.hmm0 && is_kept Hmm1 t.hmm1 && is_kept Hmbl t.hmbl
-    && is_kept Vdelp0 t.vdelp0 && is_kept Vdelp1 t.vdelp1 && is_kept Vdelbl t.vdelbl
+    fits_register Hmp0 t.hmp0 && fits_register Hmp1 t.hmp1 && fits_register Hmm0 t.hmm0 && fits_register Hmm1 t.hmm1 && fits_register Hmbl t.hmbl
+    && fits_register Vdelp0 t.vdelp0 && fits_register Vdelp1 t.vdelp1 && fits_register Vdelbl t.vdelbl
 
 -- nor those that lock the missiles, and each object begins at one of the 160 pixels
 abbrev pub has_lawful_positions : TiaFields → Bool
 has_lawful_positions t =
-    is_kept Resmp0 t.resmp0 && is_kept Resmp1 t.resmp1 && nat_lt t.position_p0 160 && nat_lt t.position_p1 160
+    fits_register Resmp0 t.resmp0 && fits_register Resmp1 t.resmp1 && nat_lt t.position_p0 160 && nat_lt t.position_p1 160
     && nat_lt t.position_m0 160 && nat_lt t.position_m1 160 && nat_lt t.position_bl 160
 
 -- fifteen collision bits and two latches, of which none is set where VBLANK has bit 6 clear; 228 clocks of a line; a comb or none
 abbrev pub has_lawful_beam : TiaFields → Bool
 has_lawful_beam t =
-    nat_lt t.collisions 32768 && nat_lt t.latches 4 && (bit t.vblank 6 || (t.latches == 0))
+    nat_lt t.collisions 32768 && nat_lt t.latches 4 && (has_bit t.vblank 6 || (t.latches == 0))
     && nat_lt t.clock 228 && nat_lt t.comb 2
 
 -- what is true of the numbers of every TIA
@@ -48,12 +48,12 @@ unfoldable pub is_tia : TiaFields → Bool
 is_tia t = has_lawful_colours t && has_lawful_objects t && has_lawful_motion t && has_lawful_positions t && has_lawful_beam t
 
 -- a TIA with these numbers at line 0, with no button pressed
-abbrev pub state_of : TiaFields → TiaState
-state_of t = record { fields = t; line = 0; fire0 = false; fire1 = false }
+abbrev pub tia_of : TiaFields → TiaState
+tia_of t = record { fields = t; line = 0; fire0 = false; fire1 = false }
 
 -- a TIA that was just switched on
-abbrev pub power_on : TiaFields
-power_on = record {
+abbrev pub tia_at_power_on : TiaFields
+tia_at_power_on = record {
   vsync = 0;
   vblank = 0;
   nusiz0 = 0;
@@ -98,12 +98,12 @@ power_on = record {
 }
 
 -- the buttons as a frame's input has them
-abbrev pub fire_set : TiaState → Bool → Bool → TiaState
-fire_set s fire0 fire1 = record s { fire0 = fire0; fire1 = fire1 }
+abbrev pub with_fire : TiaState → Bool → Bool → TiaState
+with_fire s fire0 fire1 = record s { fire0 = fire0; fire1 = fire1 }
 
 -- the start of a frame: line 0, and a pressed button sets its latch where VBLANK has bit 6
-abbrev pub frame_begun : TiaState → TiaState
-frame_begun s = record s {
-  fields = record s.fields { latches = latches_begun s.fields.latches s.fire0 s.fire1 s.fields.vblank };
+abbrev pub at_frame_start : TiaState → TiaState
+at_frame_start s = record s {
+  fields = record s.fields { latches = latches_at_start s.fields.latches s.fire0 s.fire1 s.fields.vblank };
   line = 0;
 }

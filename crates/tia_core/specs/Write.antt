@@ -1,10 +1,10 @@
 -- What a write does, register by register.
 -- Stella Programmer's Guide: the sections on each register.
 use Rattle.std.specs.Prelude.{ℕ, ◌&&◌, not, nat_lt, Bool, if◌then◌else◌}
-use Rattle.tia_core.specs.Bits.{bit}
-use Rattle.tia_core.specs.Latch.{latches_written}
+use Rattle.tia_core.specs.Bits.{has_bit}
+use Rattle.tia_core.specs.Latch.{latches_after_vblank}
 use Rattle.tia_core.specs.Position.{strobed_position, moved_position, released_position}
-use Rattle.tia_core.specs.Registers.{register_of, kept_of}
+use Rattle.tia_core.specs.Registers.{register_of, register_bits}
 use Rattle.tia_core.specs.TiaState.{TiaState}
 use Rattle.tia_core.specs.declared.fields.TiaFields.{TiaFields}
 use Rattle.tia_core.specs.declared.register.Register.{Register}
@@ -14,45 +14,45 @@ use Rattle.tia_core.specs.declared.effect.Effect.TheVariants.{Nothing, Sync, Fra
 
 -- the numbers of a TIA after a write of this register, with the two buttons pressed or not
 abbrev pub fields_after : TiaFields → Bool → Bool → Register → ℕ → TiaFields
-fields_after t fire0 fire1 Vsync v = record t { vsync = kept_of Vsync v }
-fields_after t fire0 fire1 Vblank v = record t { vblank = kept_of Vblank v; latches = latches_written t.latches fire0 fire1 (kept_of Vblank v) }
-fields_after t fire0 fire1 Nusiz0 v = record t { nusiz0 = kept_of Nusiz0 v }
-fields_after t fire0 fire1 Nusiz1 v = record t { nusiz1 = kept_of Nusiz1 v }
-fields_after t fire0 fire1 Colup0 v = record t { colup0 = kept_of Colup0 v }
-fields_after t fire0 fire1 Colup1 v = record t { colup1 = kept_of Colup1 v }
-fields_after t fire0 fire1 Colupf v = record t { colupf = kept_of Colupf v }
-fields_after t fire0 fire1 Colubk v = record t { colubk = kept_of Colubk v }
-fields_after t fire0 fire1 Ctrlpf v = record t { ctrlpf = kept_of Ctrlpf v }
-fields_after t fire0 fire1 Refp0 v = record t { refp0 = kept_of Refp0 v }
-fields_after t fire0 fire1 Refp1 v = record t { refp1 = kept_of Refp1 v }
-fields_after t fire0 fire1 Pf0 v = record t { pf0 = kept_of Pf0 v }
-fields_after t fire0 fire1 Pf1 v = record t { pf1 = kept_of Pf1 v }
-fields_after t fire0 fire1 Pf2 v = record t { pf2 = kept_of Pf2 v }
+fields_after t fire0 fire1 Vsync v = record t { vsync = register_bits Vsync v }
+fields_after t fire0 fire1 Vblank v = record t { vblank = register_bits Vblank v; latches = latches_after_vblank t.latches fire0 fire1 (register_bits Vblank v) }
+fields_after t fire0 fire1 Nusiz0 v = record t { nusiz0 = register_bits Nusiz0 v }
+fields_after t fire0 fire1 Nusiz1 v = record t { nusiz1 = register_bits Nusiz1 v }
+fields_after t fire0 fire1 Colup0 v = record t { colup0 = register_bits Colup0 v }
+fields_after t fire0 fire1 Colup1 v = record t { colup1 = register_bits Colup1 v }
+fields_after t fire0 fire1 Colupf v = record t { colupf = register_bits Colupf v }
+fields_after t fire0 fire1 Colubk v = record t { colubk = register_bits Colubk v }
+fields_after t fire0 fire1 Ctrlpf v = record t { ctrlpf = register_bits Ctrlpf v }
+fields_after t fire0 fire1 Refp0 v = record t { refp0 = register_bits Refp0 v }
+fields_after t fire0 fire1 Refp1 v = record t { refp1 = register_bits Refp1 v }
+fields_after t fire0 fire1 Pf0 v = record t { pf0 = register_bits Pf0 v }
+fields_after t fire0 fire1 Pf1 v = record t { pf1 = register_bits Pf1 v }
+fields_after t fire0 fire1 Pf2 v = record t { pf2 = register_bits Pf2 v }
 fields_after t fire0 fire1 Resp0 v = record t { position_p0 = strobed_position 3 5 t.clock }
 fields_after t fire0 fire1 Resp1 v = record t { position_p1 = strobed_position 3 5 t.clock }
 fields_after t fire0 fire1 Resm0 v = record t { position_m0 = strobed_position 2 4 t.clock }
 fields_after t fire0 fire1 Resm1 v = record t { position_m1 = strobed_position 2 4 t.clock }
 fields_after t fire0 fire1 Resbl v = record t { position_bl = strobed_position 2 4 t.clock }
 -- a write of one graphic makes the other old, and that of player 1 the ball's enable too
-fields_after t fire0 fire1 Grp0 v = record t { grp0_new = kept_of Grp0 v; grp1_old = t.grp1_new }
-fields_after t fire0 fire1 Grp1 v = record t { grp1_new = kept_of Grp1 v; grp0_old = t.grp0_new; enabl_old = t.enabl_new }
-fields_after t fire0 fire1 Enam0 v = record t { enam0 = kept_of Enam0 v }
-fields_after t fire0 fire1 Enam1 v = record t { enam1 = kept_of Enam1 v }
-fields_after t fire0 fire1 Enabl v = record t { enabl_new = kept_of Enabl v }
-fields_after t fire0 fire1 Hmp0 v = record t { hmp0 = kept_of Hmp0 v }
-fields_after t fire0 fire1 Hmp1 v = record t { hmp1 = kept_of Hmp1 v }
-fields_after t fire0 fire1 Hmm0 v = record t { hmm0 = kept_of Hmm0 v }
-fields_after t fire0 fire1 Hmm1 v = record t { hmm1 = kept_of Hmm1 v }
-fields_after t fire0 fire1 Hmbl v = record t { hmbl = kept_of Hmbl v }
-fields_after t fire0 fire1 Vdelp0 v = record t { vdelp0 = kept_of Vdelp0 v }
-fields_after t fire0 fire1 Vdelp1 v = record t { vdelp1 = kept_of Vdelp1 v }
-fields_after t fire0 fire1 Vdelbl v = record t { vdelbl = kept_of Vdelbl v }
+fields_after t fire0 fire1 Grp0 v = record t { grp0_new = register_bits Grp0 v; grp1_old = t.grp1_new }
+fields_after t fire0 fire1 Grp1 v = record t { grp1_new = register_bits Grp1 v; grp0_old = t.grp0_new; enabl_old = t.enabl_new }
+fields_after t fire0 fire1 Enam0 v = record t { enam0 = register_bits Enam0 v }
+fields_after t fire0 fire1 Enam1 v = record t { enam1 = register_bits Enam1 v }
+fields_after t fire0 fire1 Enabl v = record t { enabl_new = register_bits Enabl v }
+fields_after t fire0 fire1 Hmp0 v = record t { hmp0 = register_bits Hmp0 v }
+fields_after t fire0 fire1 Hmp1 v = record t { hmp1 = register_bits Hmp1 v }
+fields_after t fire0 fire1 Hmm0 v = record t { hmm0 = register_bits Hmm0 v }
+fields_after t fire0 fire1 Hmm1 v = record t { hmm1 = register_bits Hmm1 v }
+fields_after t fire0 fire1 Hmbl v = record t { hmbl = register_bits Hmbl v }
+fields_after t fire0 fire1 Vdelp0 v = record t { vdelp0 = register_bits Vdelp0 v }
+fields_after t fire0 fire1 Vdelp1 v = record t { vdelp1 = register_bits Vdelp1 v }
+fields_after t fire0 fire1 Vdelbl v = record t { vdelbl = register_bits Vdelbl v }
 fields_after t fire0 fire1 Resmp0 v = record t {
-  resmp0 = kept_of Resmp0 v;
+  resmp0 = register_bits Resmp0 v;
   position_m0 = released_position t.resmp0 v t.nusiz0 t.position_p0 t.position_m0;
 }
 fields_after t fire0 fire1 Resmp1 v = record t {
-  resmp1 = kept_of Resmp1 v;
+  resmp1 = register_bits Resmp1 v;
   position_m1 = released_position t.resmp1 v t.nusiz1 t.position_p1 t.position_m1;
 }
 fields_after t fire0 fire1 Hmove v = record t {
@@ -69,13 +69,13 @@ fields_after t fire0 fire1 Wsync v = t
 fields_after t fire0 fire1 Ignored v = t
 
 -- the TIA after a write of the register with this number
-unfoldable pub written : TiaState → ℕ → ℕ → TiaState
-written s number v = record s { fields = fields_after s.fields s.fire0 s.fire1 (register_of number) v }
+unfoldable pub tia_after_write : TiaState → ℕ → ℕ → TiaState
+tia_after_write s number v = record s { fields = fields_after s.fields s.fire0 s.fire1 (register_of number) v }
 
 -- what a write asks of its caller: to wait after WSYNC, to end the frame where VSYNC's bit 1 falls
 abbrev pub effect_after : TiaFields → Register → ℕ → Effect
 effect_after t Wsync v = Sync
-effect_after t Vsync v = if bit t.vsync 1 && not (bit v 1) then FrameEnd else Nothing
+effect_after t Vsync v = if has_bit t.vsync 1 && not (has_bit v 1) then FrameEnd else Nothing
 effect_after t _ v = Nothing
 
 abbrev pub effect_of : TiaState → ℕ → ℕ → Effect

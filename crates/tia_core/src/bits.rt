@@ -1,12 +1,12 @@
 //! Single bits.
 ghost use Rattle.std.specs.Prelude.{◌≡◌, ◌<◌};
-ghost use Rattle.tia_core.specs.Bits.{bit};
+ghost use Rattle.tia_core.specs.Bits.{has_bit};
 
 /// Whether bit `index` of `value` is set.
 #[inline]
-pub fn bit(value: u8, index: u8) -> bool
+pub fn has_bit(value: u8, index: u8) -> bool
     requires { index < 8 }
-    ensures { result ≡ bit value index }
+    ensures { result ≡ has_bit value index }
 {
     (value >> index) % 2 == 1
 }

@@ -1,18 +1,18 @@
 //! The colour of a pixel.
 ghost use Rattle.std.specs.Prelude.{◌≡◌, ◌||◌};
-ghost use Rattle.tia_core.specs.Bits.{bit};
+ghost use Rattle.tia_core.specs.Bits.{has_bit};
 ghost use Rattle.tia_core.specs.Colour.{colour_at, is_blanked, playfield_colour};
 
-use crate::bits::bit;
+use crate::bits::has_bit;
 use crate::fields::TiaFields;
 use crate::objects::Objects;
 
 /// Whether each pixel is black whatever covers it.
 #[inline]
 pub fn is_dark(t: &TiaFields) -> bool
-    ensures { result ≡ (bit t.now.vblank 1 || bit t.now.vsync 1) }
+    ensures { result ≡ (has_bit t.now.vblank 1 || has_bit t.now.vsync 1) }
 {
-    bit(t.vblank, 1) || bit(t.vsync, 1)
+    has_bit(t.vblank, 1) || has_bit(t.vsync, 1)
 }
 
 /// Whether pixel `x` is black whatever covers it.
@@ -20,7 +20,7 @@ pub fn is_dark(t: &TiaFields) -> bool
 fn is_blanked(t: &TiaFields, x: u8) -> bool
     ensures { result ≡ is_blanked t.now x }
 {
-    bit(t.vblank, 1) || bit(t.vsync, 1) || (bit(t.comb, 0) && x < 8)
+    has_bit(t.vblank, 1) || has_bit(t.vsync, 1) || (has_bit(t.comb, 0) && x < 8)
 }
 
 /// The playfield's colour at pixel `x`.
@@ -28,7 +28,7 @@ fn is_blanked(t: &TiaFields, x: u8) -> bool
 fn playfield_colour(t: &TiaFields, x: u8) -> u8
     ensures { result ≡ playfield_colour t.now x }
 {
-    if bit(t.ctrlpf, 1) && !bit(t.ctrlpf, 2) {
+    if has_bit(t.ctrlpf, 1) && !has_bit(t.ctrlpf, 2) {
         if x < 80 { t.colup0 } else { t.colup1 }
     } else {
         t.colupf
@@ -46,7 +46,7 @@ pub fn colour_at(t: &TiaFields, o: Objects, x: u8) -> u8
     }
     let first = o.player0 || o.missile0;
     let second = o.player1 || o.missile1;
-    if bit(t.ctrlpf, 2) {
+    if has_bit(t.ctrlpf, 2) {
         if o.ball {
             t.colupf
         } else if o.playfield {

@@ -1,42 +1,42 @@
 //! The latches of the two buttons.
 ghost use Rattle.std.specs.Prelude.{◌≡◌, ◌<◌, false};
-ghost use Rattle.tia_core.specs.Bits.{bit};
-ghost use Rattle.tia_core.specs.Latch.{latched_buttons, latches_written, latches_begun};
+ghost use Rattle.tia_core.specs.Bits.{has_bit};
+ghost use Rattle.tia_core.specs.Latch.{latches_with_buttons, latches_after_vblank, latches_at_start};
 
-use crate::bits::bit;
+use crate::bits::has_bit;
 
 /// The latches once each pressed button has set its own.
-fn latched_buttons(latches: u8, fire0: bool, fire1: bool) -> u8
-    ensures value { result ≡ latched_buttons latches fire0 fire1 }
+fn latches_with_buttons(latches: u8, fire0: bool, fire1: bool) -> u8
+    ensures value { result ≡ latches_with_buttons latches fire0 fire1 }
     ensures range { result < 4 }
 {
-    let first = bit(latches, 0) || fire0;
-    let second = bit(latches, 1) || fire1;
+    let first = has_bit(latches, 0) || fire0;
+    let second = has_bit(latches, 1) || fire1;
     (if first { 1 } else { 0 }) + (if second { 2 } else { 0 })
 }
 
 /// The latches after VBLANK was written.
-pub fn latches_written(latches: u8, fire0: bool, fire1: bool, vblank: u8) -> u8
-    ensures value { result ≡ latches_written latches fire0 fire1 vblank }
+pub fn latches_after_vblank(latches: u8, fire0: bool, fire1: bool, vblank: u8) -> u8
+    ensures value { result ≡ latches_after_vblank latches fire0 fire1 vblank }
     ensures range { result < 4 }
-    ensures unlatched { bit vblank 6 ≡ false → result ≡ 0 }
+    ensures unlatched { has_bit vblank 6 ≡ false → result ≡ 0 }
 {
-    if bit(vblank, 6) {
-        latched_buttons(latches, fire0, fire1)
+    if has_bit(vblank, 6) {
+        latches_with_buttons(latches, fire0, fire1)
     } else {
         0
     }
 }
 
 /// The latches after a frame's start.
-pub fn latches_begun(latches: u8, fire0: bool, fire1: bool, vblank: u8) -> u8
+pub fn latches_at_start(latches: u8, fire0: bool, fire1: bool, vblank: u8) -> u8
     requires range { latches < 4 }
-    ensures value { result ≡ latches_begun latches fire0 fire1 vblank }
+    ensures value { result ≡ latches_at_start latches fire0 fire1 vblank }
     ensures range { result < 4 }
-    ensures same { bit vblank 6 ≡ false → result ≡ latches }
+    ensures same { has_bit vblank 6 ≡ false → result ≡ latches }
 {
-    if bit(vblank, 6) {
-        latched_buttons(latches, fire0, fire1)
+    if has_bit(vblank, 6) {
+        latches_with_buttons(latches, fire0, fire1)
     } else {
         latches
     }

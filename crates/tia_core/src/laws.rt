@@ -3,14 +3,14 @@ ghost use Rattle.std.specs.Prelude.{◌≡◌, ◌↔◌, ◌<◌, ◌+◌, ◌*
 ghost use Rattle.std.specs.Fn.{iterate};
 ghost use Rattle.std.specs.List.{range_with_len};
 ghost use Rattle.std.specs.List.Sorted.{IsStrictlyIncreasing};
-ghost use Rattle.tia_core.specs.Beam.{beam_of, place_of, is_visible};
-ghost use Rattle.tia_core.specs.Bits.{bit};
-ghost use Rattle.tia_core.specs.Clock.{clocked, pixels};
+ghost use Rattle.tia_core.specs.Beam.{beam_of, beam_of_pixel, is_visible};
+ghost use Rattle.tia_core.specs.Bits.{has_bit};
+ghost use Rattle.tia_core.specs.Clock.{after_clock, pixels};
 ghost use Rattle.tia_core.specs.Collision.{pairs_of, collision_bytes};
 ghost use Rattle.tia_core.specs.Coverage.{player_covers, missile_covers, ball_covers};
-ghost use Rattle.tia_core.specs.Read.{byte_at};
-ghost use Rattle.tia_core.specs.TiaState.{TiaState, is_tia, frame_begun};
-ghost use Rattle.tia_core.specs.Write.{fields_after, effect_after, written};
+ghost use Rattle.tia_core.specs.Read.{register_byte};
+ghost use Rattle.tia_core.specs.TiaState.{TiaState, is_tia, at_frame_start};
+ghost use Rattle.tia_core.specs.Write.{fields_after, effect_after, tia_after_write};
 
 use crate::effect::Effect;
 use crate::fields::TiaFields;
@@ -19,36 +19,36 @@ use crate::register::Register;
 
 /// Clocks in two parts are clocks one after another, and so are their pixels.
 pub fn law_of_clocks()
-    ensures state { (m n : ℕ) (s : TiaState) → iterate clocked (m + n) s ≡ iterate clocked n (iterate clocked m s) }
-    ensures pixels { (m n : ℕ) (s : TiaState) → pixels (m + n) s ≡ pixels m s ++ pixels n (iterate clocked m s) }
+    ensures state { (m n : ℕ) (s : TiaState) → iterate after_clock (m + n) s ≡ iterate after_clock n (iterate after_clock m s) }
+    ensures pixels { (m n : ℕ) (s : TiaState) → pixels (m + n) s ≡ pixels m s ++ pixels n (iterate after_clock m s) }
 {}
 
 /// The beam goes on by a clock each time, from line to line, and lines are counted modulo 65,536.
 pub fn law_of_the_beam()
-    ensures clock { (n : ℕ) (s : TiaState) → IsTrue (is_tia s.fields) → (iterate clocked n s).fields.clock ≡ (s.fields.clock + n) % 228 }
+    ensures clock { (n : ℕ) (s : TiaState) → IsTrue (is_tia s.fields) → (iterate after_clock n s).fields.clock ≡ (s.fields.clock + n) % 228 }
     ensures line { (n : ℕ) (s : TiaState) → IsTrue (is_tia s.fields) → s.line < 2 ^ 16
-        → (iterate clocked n s).line ≡ (s.line + (s.fields.clock + n) / 228) % 2 ^ 16 }
+        → (iterate after_clock n s).line ≡ (s.line + (s.fields.clock + n) / 228) % 2 ^ 16 }
 {}
 
 /// Until lines are counted round, clocks put one pixel for each visible clock, in order, and so no pixel twice.
 pub fn law_of_pixels()
     ensures places { (n : ℕ) (s : TiaState) → IsTrue (is_tia s.fields) → beam_of s + n < 228 * 2 ^ 16
-        → map place_of (pixels n s) ≡ filter is_visible (range_with_len (beam_of s) n) }
-    ensures rise { (n : ℕ) (s : TiaState) → IsTrue (is_tia s.fields) → beam_of s + n < 228 * 2 ^ 16 → IsStrictlyIncreasing (map place_of (pixels n s)) }
+        → map beam_of_pixel (pixels n s) ≡ filter is_visible (range_with_len (beam_of s) n) }
+    ensures rise { (n : ℕ) (s : TiaState) → IsTrue (is_tia s.fields) → beam_of s + n < 228 * 2 ^ 16 → IsStrictlyIncreasing (map beam_of_pixel (pixels n s)) }
     ensures in_line { (n : ℕ) (s : TiaState) → IsTrue (is_tia s.fields) → All (λ p. p.x < 160) (pixels n s) }
 {}
 
 /// Clocks, writes and frame starts make lawful numbers of lawful ones.
 pub fn law_of_lawful_numbers()
-    ensures clocks { (n : ℕ) (s : TiaState) → IsTrue (is_tia s.fields) → IsTrue (is_tia (iterate clocked n s).fields) }
-    ensures writes { (s : TiaState) (number v : ℕ) → IsTrue (is_tia s.fields) → IsTrue (is_tia (written s number v).fields) }
-    ensures frame_starts { (s : TiaState) → IsTrue (is_tia s.fields) → IsTrue (is_tia (frame_begun s).fields) }
+    ensures clocks { (n : ℕ) (s : TiaState) → IsTrue (is_tia s.fields) → IsTrue (is_tia (iterate after_clock n s).fields) }
+    ensures writes { (s : TiaState) (number v : ℕ) → IsTrue (is_tia s.fields) → IsTrue (is_tia (tia_after_write s number v).fields) }
+    ensures frame_starts { (s : TiaState) → IsTrue (is_tia s.fields) → IsTrue (is_tia (at_frame_start s).fields) }
 {}
 
 /// Clocks change nothing but the collisions, the clock, the comb and the line.
 pub fn law_of_unchanged_registers()
     ensures { (n : ℕ) (s : TiaState) → IsTrue (is_tia s.fields)
-        → let after = iterate clocked n s in
+        → let after = iterate after_clock n s in
         after ≡ record s {
           fields = record s.fields { collisions = after.fields.collisions; clock = after.fields.clock; comb = after.fields.comb };
           line = after.line;
@@ -57,19 +57,19 @@ pub fn law_of_unchanged_registers()
 
 /// A collision bit that is set stays set over clocks.
 pub fn law_of_collisions()
-    ensures { (n : ℕ) (s : TiaState) (k : ℕ) → bit s.fields.collisions k ≡ true → bit (iterate clocked n s).fields.collisions k ≡ true }
+    ensures { (n : ℕ) (s : TiaState) (k : ℕ) → has_bit s.fields.collisions k ≡ true → has_bit (iterate after_clock n s).fields.collisions k ≡ true }
 {}
 
 /// A write ends the frame exactly where bit 1 of VSYNC falls.
 pub fn law_of_frame_ends()
     ensures { (t : TiaFields) (fire0 fire1 : Bool) (r : Register) (v : ℕ)
-        → (effect_after t r v ≡ Effect.FrameEnd) ↔ ((bit t.vsync 1 ≡ true) × (bit (fields_after t fire0 fire1 r v).vsync 1 ≡ false)) }
+        → (effect_after t r v ≡ Effect.FrameEnd) ↔ ((has_bit t.vsync 1 ≡ true) × (has_bit (fields_after t fire0 fire1 r v).vsync 1 ≡ false)) }
 {}
 
 /// After a pixel that these objects cover, with the collisions cleared before, the registers 0 to 7 give the pairs that met.
 pub fn law_of_collision_registers()
     ensures { (t : TiaFields) (fire0 fire1 : Bool) (o : Objects)
-        → map (byte_at (record t { collisions = pairs_of o }) fire0 fire1) (0 ∷ 1 ∷ 2 ∷ 3 ∷ 4 ∷ 5 ∷ 6 ∷ 7 ∷ []) ≡ collision_bytes o }
+        → map (register_byte (record t { collisions = pairs_of o }) fire0 fire1) (0 ∷ 1 ∷ 2 ∷ 3 ∷ 4 ∷ 5 ∷ 6 ∷ 7 ∷ []) ≡ collision_bytes o }
 {}
 
 /// Coverage goes round the line: an object that is moved by k pixels covers the pixels k further, counted modulo 160.

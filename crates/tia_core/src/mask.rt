@@ -1,6 +1,6 @@
 //! The pixels of a line that an object covers.
 ghost use Rattle.std.specs.Prelude.{◌≡◌, ◌<◌, ◌≤◌, ◌||◌, ◌&&◌, ◌-◌, ◌+◌, ◌%◌, ℕ, nat_le, nat_lt, bit_and, ◌^◌, true, false};
-ghost use Rattle.tia_core.specs.Bits.{bit};
+ghost use Rattle.tia_core.specs.Bits.{has_bit};
 ghost use Rattle.tia_core.specs.Coverage.{distance_of};
 ghost use Rattle.tia_core.specs.Private.Stretches.{has_two};
 ghost use Rattle.tia_core.specs.Mask.{any_from, covers};
@@ -36,7 +36,7 @@ impl Mask {
     #[inline]
     pub(crate) fn place(&mut self, row: u32, at: u8)
         requires { at < 160 }
-        ensures { (x : ℕ) → x < 160 → covers self.new x ≡ (covers self.old x || bit row (distance_of x at 0)) }
+        ensures { (x : ℕ) → x < 160 → covers self.new x ≡ (covers self.old x || has_bit row (distance_of x at 0)) }
     {
         let word = (at / 32) as usize;
         let shifted = (row as u64) << (at % 32);
@@ -76,7 +76,7 @@ impl Mask {
     #[inline]
     pub(crate) fn changes(&self, x: u8) -> u32
         requires { x < 160 }
-        ensures { (k : ℕ) → x % 32 + k < 32 → bit result k ≡ false → covers self.now (x + k) ≡ covers self.now x }
+        ensures { (k : ℕ) → x % 32 + k < 32 → has_bit result k ≡ false → covers self.now (x + k) ≡ covers self.now x }
     {
         changes(self.words[(x / 32) as usize], x % 32)
     }
@@ -148,7 +148,7 @@ impl Mask {
 #[inline]
 fn changes(word: u32, first: u8) -> u32
     requires { first < 32 }
-    ensures { (k : ℕ) → k < 32 → bit result k ≡ false → bit word (first + k) ≡ bit word first }
+    ensures { (k : ℕ) → k < 32 → has_bit result k ≡ false → has_bit word (first + k) ≡ has_bit word first }
 {
     let rest = word >> first;
     if rest & 1 == 1 {
@@ -163,7 +163,7 @@ fn changes(word: u32, first: u8) -> u32
 pub(crate) fn first_change(changes: u32) -> u8
     ensures positive { 0 < result }
     ensures range { result ≤ 33 }
-    ensures clear { (k : ℕ) → 0 < k → k < result → bit changes k ≡ false }
+    ensures clear { (k : ℕ) → 0 < k → k < result → has_bit changes k ≡ false }
 {
     (changes >> 1).trailing_zeros() as u8 + 1
 }
@@ -171,7 +171,7 @@ pub(crate) fn first_change(changes: u32) -> u8
 /// The bits that are set in two of six words.
 #[inline]
 fn set_twice(a: u32, b: u32, c: u32, d: u32, e: u32, f: u32) -> u32
-    ensures { (k : ℕ) → bit result k ≡ has_two (bit a k) (bit b k) (bit c k) (bit d k) (bit e k) (bit f k) }
+    ensures { (k : ℕ) → has_bit result k ≡ has_two (has_bit a k) (has_bit b k) (has_bit c k) (has_bit d k) (has_bit e k) (has_bit f k) }
 {
     (a & b) | ((a | b) & c) | ((a | b | c) & d) | ((a | b | c | d) & e) | ((a | b | c | d | e) & f)
 }
@@ -213,7 +213,7 @@ fn left_of(x: u8, first: u8) -> u8
 #[inline]
 fn ones(from: u8, to: u8, first: u8) -> u32
     requires { from ≤ to }
-    ensures { (k : ℕ) → k < 32 → bit result k ≡ (nat_le from (first + k) && nat_lt (first + k) to) }
+    ensures { (k : ℕ) → k < 32 → has_bit result k ≡ (nat_le from (first + k) && nat_lt (first + k) to) }
 {
     ((1u64 << left_of(to, first)) - (1u64 << left_of(from, first))) as u32
 }

@@ -1,19 +1,19 @@
 //! The masks of the six objects, and the pairs that meet in them.
 ghost use Rattle.std.specs.Prelude.{◌≡◌, ◌<◌, ◌≤◌, ◌-◌, ◌+◌, ◌*◌, ◌/◌, ◌^◌, ℕ, false, bit_or};
-ghost use Rattle.tia_core.specs.Clock.{painted};
+ghost use Rattle.tia_core.specs.Clock.{sink_after_pixels};
 ghost use Rattle.tia_core.specs.Collision.{number_from, pairs_of};
 ghost use Rattle.tia_core.specs.Mask.{covers};
 ghost use Rattle.tia_core.specs.Objects.{ball_at, has_object, missile_at, objects_at};
-ghost use Rattle.tia_core.specs.Private.Stretches.{bl, marked, m0, m1, nothing, objects_in, p0, p1, pf, stretch_pairs, stretch_pixels, IsBound, IsMaskOf, MasksFit};
-ghost use Rattle.tia_core.specs.Private.Lawful.{IsLawful};
+ghost use Rattle.tia_core.specs.Private.Stretches.{bl, with_stale, m0, m1, no_objects, objects_in, p0, p1, pf, stretch_pairs, stretch_pixels, IsBound, IsMaskOf, MasksFit};
+ghost use Rattle.tia_core.specs.Private.Lawful.{IsLawfulTia};
 
-use crate::bits::bit;
+use crate::bits::has_bit;
 use crate::collision::{number_of, with_pairs};
 use crate::colour::{colour_at, is_dark};
 use crate::fields::TiaFields;
 use crate::mask::{Mask, first_change};
 use crate::numbers::least;
-use crate::objects::{Objects, is_shown, shown, size};
+use crate::objects::{Objects, is_shown, size, value_by_delay};
 use crate::paint::Paint;
 use crate::shape::{ball_mask, missile_mask, player_mask, playfield_mask};
 use crate::write::NOTHING;
@@ -60,9 +60,9 @@ impl Masks {
     /// Marks the objects that have changed.
     #[inline]
     pub fn mark(&mut self, changed: Objects)
-        ensures { self.new ≡ marked self.old changed }
+        ensures { self.new ≡ with_stale self.old changed }
     {
-        self.stale = self.stale.joined(changed);
+        self.stale = self.stale.union(changed);
         if changed.is_any() {
             self.bound = 0x7FFF;
         }
@@ -70,10 +70,10 @@ impl Masks {
 
     /// Makes anew each mask that is to be.
     pub fn renew(&mut self, t: &TiaFields)
-        requires lawful { IsLawful t.now }
+        requires lawful { IsLawfulTia t.now }
         requires fit { MasksFit t.now self.old }
         ensures fit { MasksFit t.now self.new }
-        ensures fresh { self.new.stale ≡ nothing }
+        ensures fresh { self.new.stale ≡ no_objects }
     {
         renew_player0(&mut self.player0, self.stale.player0, t);
         renew_player1(&mut self.player1, self.stale.player1, t);
@@ -87,7 +87,7 @@ impl Masks {
     /// The collision bits with those of the pairs that meet in pixels `from..to`.
     #[inline(always)]
     pub fn latched(&mut self, t: &TiaFields, from: u8, to: u8) -> u16
-        requires lawful { IsLawful t.now }
+        requires lawful { IsLawfulTia t.now }
         requires fit { MasksFit t.now self.old }
         requires order { from ≤ to }
         requires range { to ≤ 160 }
@@ -105,7 +105,7 @@ impl Masks {
     /// The collision bits with those of the pairs that meet in pixels `from..to`, by the masks.
     #[inline(never)]
     fn latched_anew(&mut self, t: &TiaFields, from: u8, to: u8) -> u16
-        requires lawful { IsLawful t.now }
+        requires lawful { IsLawfulTia t.now }
         requires fit { MasksFit t.now self.old }
         requires order { from ≤ to }
         requires range { to ≤ 160 }
@@ -157,7 +157,7 @@ impl Masks {
     /// The collision bits of the pairs that meet in pixels `from..to`.
     fn pairs(&self, t: &TiaFields, from: u8, to: u8) -> u16
         requires fit { MasksFit t.now self.now }
-        requires fresh { self.now.stale ≡ nothing }
+        requires fresh { self.now.stale ≡ no_objects }
         requires order { from ≤ to }
         requires range { to ≤ 160 }
         ensures value { result ≡ number_from 0 (stretch_pairs t.now from (to - from)) }
@@ -202,12 +202,12 @@ impl Masks {
 
     /// Puts pixels `from..to` of a line.
     pub fn paint<S: Paint>(&mut self, t: &TiaFields, line: u16, from: u8, to: u8, sink: &mut S)
-        requires lawful { IsLawful t.now }
+        requires lawful { IsLawfulTia t.now }
         requires fit { MasksFit t.now self.old }
         requires order { from ≤ to }
         requires range { to ≤ 160 }
         ensures fit { MasksFit t.now self.new }
-        ensures sink { sink.new ≡ painted S.drawn sink.old (stretch_pixels t.now line from (to - from)) }
+        ensures sink { sink.new ≡ sink_after_pixels S.drawn sink.old (stretch_pixels t.now line from (to - from)) }
     {
         if sink.keeps() {
             if is_dark(t) {
@@ -222,10 +222,10 @@ impl Masks {
     /// Puts pixels `from..to` of a line, once no mask is to be made anew.
     fn paint_fresh<S: Paint>(&self, t: &TiaFields, line: u16, from: u8, to: u8, sink: &mut S)
         requires fit { MasksFit t.now self.now }
-        requires fresh { self.now.stale ≡ nothing }
+        requires fresh { self.now.stale ≡ no_objects }
         requires order { from ≤ to }
         requires range { to ≤ 160 }
-        ensures { sink.new ≡ painted S.drawn sink.old (stretch_pixels t.now line from (to - from)) }
+        ensures { sink.new ≡ sink_after_pixels S.drawn sink.old (stretch_pixels t.now line from (to - from)) }
     {
         let mut x = from;
         while x < to {
@@ -276,7 +276,7 @@ fn edge_after(x: u8) -> u8
 
 /// The mask of an object: 0 to 5 are player 0, player 1, missile 0, missile 1, the ball and the playfield.
 pub fn mask_of(t: &TiaFields, object: u8) -> Mask
-    requires lawful { IsLawful t.now }
+    requires lawful { IsLawfulTia t.now }
     requires range { object < 6 }
     ensures { (x : ℕ) → x < 160 → covers result x ≡ has_object object (objects_at t.now x) }
 {
@@ -304,13 +304,13 @@ fn most_pairs(t: &TiaFields) -> u16
 #[inline]
 #[tactic(auto, unfolding(crate::specs::Objects::objects_at))]
 fn renew_player0(mask: &mut Mask, stale: bool, t: &TiaFields)
-    requires lawful { IsLawful t.now }
+    requires lawful { IsLawfulTia t.now }
     requires fit { stale ≡ false → IsMaskOf t.now p0 mask.old }
     ensures { IsMaskOf t.now p0 mask.new }
 {
     if stale {
-        let graphic = shown(t.vdelp0, t.grp0_old, t.grp0_new);
-        *mask = player_mask(t.nusiz0 % 8, bit(t.refp0, 3), graphic, t.position_p0);
+        let graphic = value_by_delay(t.vdelp0, t.grp0_old, t.grp0_new);
+        *mask = player_mask(t.nusiz0 % 8, has_bit(t.refp0, 3), graphic, t.position_p0);
     }
 }
 
@@ -318,13 +318,13 @@ fn renew_player0(mask: &mut Mask, stale: bool, t: &TiaFields)
 #[inline]
 #[tactic(auto, unfolding(crate::specs::Objects::objects_at))]
 fn renew_player1(mask: &mut Mask, stale: bool, t: &TiaFields)
-    requires lawful { IsLawful t.now }
+    requires lawful { IsLawfulTia t.now }
     requires fit { stale ≡ false → IsMaskOf t.now p1 mask.old }
     ensures { IsMaskOf t.now p1 mask.new }
 {
     if stale {
-        let graphic = shown(t.vdelp1, t.grp1_old, t.grp1_new);
-        *mask = player_mask(t.nusiz1 % 8, bit(t.refp1, 3), graphic, t.position_p1);
+        let graphic = value_by_delay(t.vdelp1, t.grp1_old, t.grp1_new);
+        *mask = player_mask(t.nusiz1 % 8, has_bit(t.refp1, 3), graphic, t.position_p1);
     }
 }
 
@@ -332,7 +332,7 @@ fn renew_player1(mask: &mut Mask, stale: bool, t: &TiaFields)
 #[inline]
 #[tactic(auto, unfolding(crate::specs::Objects::objects_at))]
 fn renew_missile0(mask: &mut Mask, stale: bool, t: &TiaFields)
-    requires lawful { IsLawful t.now }
+    requires lawful { IsLawfulTia t.now }
     requires fit { stale ≡ false → IsMaskOf t.now m0 mask.old }
     ensures { IsMaskOf t.now m0 mask.new }
 {
@@ -345,7 +345,7 @@ fn renew_missile0(mask: &mut Mask, stale: bool, t: &TiaFields)
 #[inline]
 #[tactic(auto, unfolding(crate::specs::Objects::objects_at))]
 fn renew_missile1(mask: &mut Mask, stale: bool, t: &TiaFields)
-    requires lawful { IsLawful t.now }
+    requires lawful { IsLawfulTia t.now }
     requires fit { stale ≡ false → IsMaskOf t.now m1 mask.old }
     ensures { IsMaskOf t.now m1 mask.new }
 {
@@ -358,13 +358,13 @@ fn renew_missile1(mask: &mut Mask, stale: bool, t: &TiaFields)
 #[inline]
 #[tactic(auto, unfolding(crate::specs::Objects::objects_at))]
 fn renew_ball(mask: &mut Mask, stale: bool, t: &TiaFields)
-    requires lawful { IsLawful t.now }
+    requires lawful { IsLawfulTia t.now }
     requires fit { stale ≡ false → IsMaskOf t.now bl mask.old }
     ensures { IsMaskOf t.now bl mask.new }
 {
     if stale {
         *mask = ball(
-            shown(t.vdelbl, t.enabl_old, t.enabl_new),
+            value_by_delay(t.vdelbl, t.enabl_old, t.enabl_new),
             t.ctrlpf,
             t.position_bl,
         );
@@ -379,7 +379,7 @@ fn renew_playfield(mask: &mut Mask, stale: bool, t: &TiaFields)
     ensures { IsMaskOf t.now pf mask.new }
 {
     if stale {
-        *mask = playfield_mask(t.pf0, t.pf1, t.pf2, bit(t.ctrlpf, 0));
+        *mask = playfield_mask(t.pf0, t.pf1, t.pf2, has_bit(t.ctrlpf, 0));
     }
 }
 
@@ -402,7 +402,7 @@ fn ball(enabl: u8, ctrlpf: u8, position: u8) -> Mask
     requires { position < 160 }
     ensures { (x : ℕ) → x < 160 → covers result x ≡ ball_at enabl ctrlpf position x }
 {
-    if bit(enabl, 1) {
+    if has_bit(enabl, 1) {
         ball_mask(size(ctrlpf), position)
     } else {
         Mask::empty()

@@ -1,11 +1,11 @@
 //! The objects that cover a pixel.
 ghost use Rattle.std.specs.Prelude.{◌≡◌, ◌<◌, ◌≤◌, ◌^◌, ◌&&◌, not, ℕ};
-ghost use Rattle.tia_core.specs.Bits.{bit};
+ghost use Rattle.tia_core.specs.Bits.{has_bit};
 ghost use Rattle.tia_core.specs.Collision.{pairs_of};
-ghost use Rattle.tia_core.specs.Objects.{objects_at, shown_of, size_of};
-ghost use Rattle.tia_core.specs.Private.Stretches.{is_any, joined, set_number};
+ghost use Rattle.tia_core.specs.Objects.{objects_at, value_by_delay, size_of};
+ghost use Rattle.tia_core.specs.Private.Stretches.{is_any, union_of, set_number};
 
-use crate::bits::bit;
+use crate::bits::has_bit;
 use crate::fields::TiaFields;
 
 /// The collision bits of each set of objects, by its number.
@@ -33,22 +33,22 @@ impl Objects {
     /// The objects that may be visible: a player or a playfield with a bit set, a missile or a ball that is enabled.
     #[inline]
     pub fn visible(t: &TiaFields) -> Self
-        ensures { (x : ℕ) → joined result (objects_at t.now x) ≡ result }
+        ensures { (x : ℕ) → union_of result (objects_at t.now x) ≡ result }
     {
         Objects {
-            player0: shown(t.vdelp0, t.grp0_old, t.grp0_new) != 0,
-            player1: shown(t.vdelp1, t.grp1_old, t.grp1_new) != 0,
+            player0: value_by_delay(t.vdelp0, t.grp0_old, t.grp0_new) != 0,
+            player1: value_by_delay(t.vdelp1, t.grp1_old, t.grp1_new) != 0,
             missile0: is_shown(t.enam0, t.resmp0),
             missile1: is_shown(t.enam1, t.resmp1),
-            ball: bit(shown(t.vdelbl, t.enabl_old, t.enabl_new), 1),
+            ball: has_bit(value_by_delay(t.vdelbl, t.enabl_old, t.enabl_new), 1),
             playfield: t.pf0 | t.pf1 | t.pf2 != 0,
         }
     }
 
     /// The objects of both sets.
     #[inline]
-    pub fn joined(self, other: Objects) -> Self
-        ensures { result ≡ joined self other }
+    pub fn union(self, other: Objects) -> Self
+        ensures { result ≡ union_of self other }
     {
         Objects {
             player0: self.player0 | other.player0,
@@ -94,18 +94,18 @@ impl Objects {
 
 /// What is shown of a register that may be delayed: its old value where bit 0 of `delay` is set.
 #[inline]
-pub fn shown(delay: u8, old: u8, new: u8) -> u8
-    ensures { result ≡ shown_of delay old new }
+pub fn value_by_delay(delay: u8, old: u8, new: u8) -> u8
+    ensures { result ≡ value_by_delay delay old new }
 {
-    if bit(delay, 0) { old } else { new }
+    if has_bit(delay, 0) { old } else { new }
 }
 
 /// Whether a missile is shown: it is enabled and not locked to its player.
 #[inline]
 pub fn is_shown(enam: u8, resmp: u8) -> bool
-    ensures { result ≡ (bit enam 1 && not (bit resmp 1)) }
+    ensures { result ≡ (has_bit enam 1 && not (has_bit resmp 1)) }
 {
-    bit(enam, 1) & !bit(resmp, 1)
+    has_bit(enam, 1) & !has_bit(resmp, 1)
 }
 
 /// The size of a missile or ball, by bits 5 and 4 of a register.

@@ -2,7 +2,7 @@
 ghost use Rattle.std.specs.Prelude.{◌≡◌, ◌<◌, ◌≤◌, pos, ◌+ℤ◌, ◌-ℤ◌};
 ghost use Rattle.tia_core.specs.Position.{modulo_160, strobed_position, moved_position, release_of, released_position};
 
-use crate::bits::bit;
+use crate::bits::has_bit;
 
 /// Where a strobe at colour clock `clock` of a line puts an object: at `blank` in the blank, else `delay` pixels past the beam.
 pub fn strobed_position(blank: u8, delay: u8, clock: u8) -> u8
@@ -67,7 +67,7 @@ pub fn released_position(old: u8, new: u8, nusiz: u8, player: u8, missile: u8) -
     ensures value { result ≡ released_position old new nusiz player missile }
     ensures range { result < 160 }
 {
-    if bit(old, 1) && !bit(new, 1) {
+    if has_bit(old, 1) && !has_bit(new, 1) {
         (player + release(nusiz % 8)) % 160
     } else {
         missile

@@ -1,6 +1,6 @@
 //! Rows of bits, of which the lowest is the leftmost pixel.
 ghost use Rattle.std.specs.Prelude.{◌≡◌, ◌<◌, ◌≤◌, ◌-◌, ◌/◌, ℕ, nat_lt, if◌then◌else◌};
-ghost use Rattle.tia_core.specs.Bits.{bit};
+ghost use Rattle.tia_core.specs.Bits.{has_bit};
 ghost use Rattle.tia_core.specs.Coverage.{is_shown_at, width_of};
 
 /// Four bits the other way round.
@@ -73,7 +73,7 @@ const QUADRUPLED: &[u32; 256] = &[
 #[inline]
 pub fn reversed_half(half: u8) -> u8
     requires { half < 16 }
-    ensures bits { (k : ℕ) → k < 4 → bit result k ≡ bit half (3 - k) }
+    ensures bits { (k : ℕ) → k < 4 → has_bit result k ≡ has_bit half (3 - k) }
     ensures range { result < 16 }
 {
     REVERSED[half as usize]
@@ -82,7 +82,7 @@ pub fn reversed_half(half: u8) -> u8
 /// A byte's bits the other way round.
 #[inline]
 pub fn reversed(byte: u8) -> u8
-    ensures { (k : ℕ) → k < 8 → bit result k ≡ bit byte (7 - k) }
+    ensures { (k : ℕ) → k < 8 → has_bit result k ≡ has_bit byte (7 - k) }
 {
     REVERSED_BYTES[byte as usize]
 }
@@ -90,7 +90,7 @@ pub fn reversed(byte: u8) -> u8
 /// A byte's bits, each two times.
 #[inline]
 pub fn doubled(byte: u8) -> u16
-    ensures { (k : ℕ) → k < 16 → bit result k ≡ bit byte (k / 2) }
+    ensures { (k : ℕ) → k < 16 → has_bit result k ≡ has_bit byte (k / 2) }
 {
     u16::from(DOUBLED[(byte / 16) as usize]) * 256 + u16::from(DOUBLED[(byte % 16) as usize])
 }
@@ -98,7 +98,7 @@ pub fn doubled(byte: u8) -> u16
 /// A byte's bits, each four times.
 #[inline]
 pub fn quadrupled(byte: u8) -> u32
-    ensures { (k : ℕ) → k < 32 → bit result k ≡ bit byte (k / 4) }
+    ensures { (k : ℕ) → k < 32 → has_bit result k ≡ has_bit byte (k / 4) }
 {
     QUADRUPLED[byte as usize]
 }
@@ -106,7 +106,7 @@ pub fn quadrupled(byte: u8) -> u32
 /// The eight dots of a player, the leftmost lowest.
 #[inline]
 pub fn player_dots(reflected: bool, graphic: u8) -> u8
-    ensures { (k : ℕ) → k < 8 → bit result k ≡ bit graphic (if reflected then k else 7 - k) }
+    ensures { (k : ℕ) → k < 8 → has_bit result k ≡ has_bit graphic (if reflected then k else 7 - k) }
 {
     if reflected {
         graphic
@@ -118,7 +118,7 @@ pub fn player_dots(reflected: bool, graphic: u8) -> u8
 /// A copy of a player, from its first pixel on.
 #[inline]
 pub fn player_row(mode: u8, reflected: bool, graphic: u8) -> u32
-    ensures { (d : ℕ) → bit result d ≡ is_shown_at (width_of mode) reflected graphic d }
+    ensures { (d : ℕ) → has_bit result d ≡ is_shown_at (width_of mode) reflected graphic d }
 {
     let dots = player_dots(reflected, graphic);
     match mode {
@@ -132,7 +132,7 @@ pub fn player_row(mode: u8, reflected: bool, graphic: u8) -> u32
 #[inline]
 pub fn missile_row(size: u8) -> u32
     requires { size ≤ 8 }
-    ensures { (d : ℕ) → bit result d ≡ nat_lt d size }
+    ensures { (d : ℕ) → has_bit result d ≡ nat_lt d size }
 {
     (1 << size) - 1
 }

@@ -1,7 +1,7 @@
 //! The masks of the six objects.
 ghost use Rattle.std.specs.Prelude.{◌≡◌, ◌<◌, ◌≤◌, ◌+◌, ◌-◌, ◌%◌, ℕ, if◌then◌else◌};
 ghost use Rattle.std.specs.List.{list_any};
-ghost use Rattle.tia_core.specs.Bits.{bit};
+ghost use Rattle.tia_core.specs.Bits.{has_bit};
 ghost use Rattle.tia_core.specs.Coverage.{ball_covers, copies_of, distance_of, missile_covers, player_covers};
 ghost use Rattle.tia_core.specs.Mask.{covers};
 ghost use Rattle.tia_core.specs.Playfield.{playfield_bit, playfield_index};
@@ -14,7 +14,7 @@ use crate::row::{missile_row, player_row, quadrupled, reversed, reversed_half};
 #[inline]
 fn copied(row: u32, mode: u8, position: u8) -> Mask
     requires { position < 160 }
-    ensures { (x : ℕ) → x < 160 → covers result x ≡ list_any (λ c. bit row (distance_of x position c)) (copies_of mode) }
+    ensures { (x : ℕ) → x < 160 → covers result x ≡ list_any (λ c. has_bit row (distance_of x position c)) (copies_of mode) }
 {
     let mut mask = Mask::empty();
     for copy in copies(mode) {
@@ -64,7 +64,7 @@ pub fn ball_mask(size: u8, position: u8) -> Mask
 /// The playfield's twenty bits, the leftmost lowest.
 #[inline]
 fn left_half(pf0: u8, pf1: u8, pf2: u8) -> u32
-    ensures { (i : ℕ) → i < 20 → bit result i ≡ playfield_bit pf0 pf1 pf2 i }
+    ensures { (i : ℕ) → i < 20 → has_bit result i ≡ playfield_bit pf0 pf1 pf2 i }
 {
     (u32::from(pf2) * 256 + u32::from(reversed(pf1))) * 16 + u32::from(pf0 / 16)
 }
@@ -72,7 +72,7 @@ fn left_half(pf0: u8, pf1: u8, pf2: u8) -> u32
 /// The playfield's twenty bits, the leftmost highest.
 #[inline]
 fn mirrored_half(pf0: u8, pf1: u8, pf2: u8) -> u32
-    ensures { (i : ℕ) → i < 20 → bit result i ≡ playfield_bit pf0 pf1 pf2 (19 - i) }
+    ensures { (i : ℕ) → i < 20 → has_bit result i ≡ playfield_bit pf0 pf1 pf2 (19 - i) }
 {
     (u32::from(reversed_half(pf0 / 16)) * 256 + u32::from(pf1)) * 256 + u32::from(reversed(pf2))
 }
@@ -80,7 +80,7 @@ fn mirrored_half(pf0: u8, pf1: u8, pf2: u8) -> u32
 /// The twenty bits of a line's right half, the leftmost lowest.
 #[inline]
 fn right_half(pf0: u8, pf1: u8, pf2: u8, mirrored: bool) -> u32
-    ensures { (i : ℕ) → i < 20 → bit result i ≡ playfield_bit pf0 pf1 pf2 (if mirrored then 19 - i else i) }
+    ensures { (i : ℕ) → i < 20 → has_bit result i ≡ playfield_bit pf0 pf1 pf2 (if mirrored then 19 - i else i) }
 {
     if mirrored {
         mirrored_half(pf0, pf1, pf2)

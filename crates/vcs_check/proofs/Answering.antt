@@ -6,7 +6,7 @@ use Rattle.std.specs.Io.KnownBytes.{Keeps}
 use Rattle.command_line.specs.declared.command.Command.TheVariants.{Stdin, Verify, Make}
 use Rattle.replay_plan.specs.declared.keep.Keep.{Keep}
 use Rattle.replay_plan.specs.declared.plan.Plan.{Plan}
-use Rattle.vcs_check.specs.Commands.{Answers, form_of, IsJudged, IsMade, ReadsFile, Writes}
+use Rattle.vcs_check.specs.Commands.{Answers, form_of, IsVerified, IsMade, ReadsFile, Writes}
 use Rattle.vcs_check.specs.declared.commands.Failure.{Failure}
 use Rattle.vcs_engine.specs.Streams.{ReadsAll}
 use Rattle.vcs_engine.specs.declared.making.InputForm.{InputForm}
@@ -25,13 +25,13 @@ module _ (before after : Option (List ℕ)) where
   says Says Then so (Err failure) h = tt
 
   pub standard_input_answers : (old new : Option (List ℕ)) (keep : Keep) → keep.count ≡ 0 → (answer : Result Status Failure)
-      → Writes before after (λ status line. (input : List ℕ) × ReadsAll old new input × IsJudged keep input status line) answer
+      → Writes before after (λ status line. (input : List ℕ) × ReadsAll old new input × IsVerified keep input status line) answer
       → Writes before after (Answers Stdin old new) answer
   standard_input_answers old new keep none = says _ (Answers Stdin old new) (λ status line h. (h.0, h.1, (keep, none, h.2)))
 
   pub verify_answers : (old new : Option (List ℕ)) (name : List ℕ) (file : String Global) (plan : Plan) (pictures : Option (String Global))
       → name ≡ string_bytes file → (answer : Result Status Failure)
-      → Writes before after (λ status line. (input : List ℕ) × ReadsFile name old new input × IsJudged plan.keep input status line) answer
+      → Writes before after (λ status line. (input : List ℕ) × ReadsFile name old new input × IsVerified plan.keep input status line) answer
       → Writes before after (Answers (Verify file plan pictures) old new) answer
   verify_answers old new name file plan pictures same =
       says _ (Answers (Verify file plan pictures) old new) (λ status line h. (h.0, subst (λ n. ReadsFile n old new h.0) same h.1, h.2))

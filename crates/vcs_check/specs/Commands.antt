@@ -29,8 +29,8 @@ abbrev pub IsQuiet : Option (List ℕ) → Option (List ℕ) → Result Status F
 IsQuiet old new answer = OnErr answer (answer ≢ Err (Run WriteFault) → Keeps old new)
 
 -- The line of these bytes' verdict, with these pictures kept.
-abbrev pub IsJudged : Keep → List ℕ → Status → List ℕ → Type 0
-IsJudged keep input status line = (told : Told) × Tells keep input told × (status ≡ told.status) × (line ≡ told.line)
+abbrev pub IsVerified : Keep → List ℕ → Status → List ℕ → Type 0
+IsVerified keep input status line = (told : Told) × Tells keep input told × (status ≡ told.status) × (line ≡ told.line)
 
 -- The line of a movie that was made of some bytes, or of why there is none.
 abbrev pub IsMade : InputForm → ℕ → Status → List ℕ → Type 0
@@ -59,9 +59,9 @@ ReadsFile name old new input = (name ≡ codes "-" → ReadsAll old new input) �
 -- is judged, and no picture is kept.
 abbrev pub Answers : Command → Option (List ℕ) → Option (List ℕ) → Status → List ℕ → Type 0
 Answers Stdin old new status line =
-    (input : List ℕ) × ReadsAll old new input × ((keep : Keep) × (keep.count ≡ 0) × IsJudged keep input status line)
+    (input : List ℕ) × ReadsAll old new input × ((keep : Keep) × (keep.count ≡ 0) × IsVerified keep input status line)
 Answers (Verify file plan pictures) old new status line =
-    (input : List ℕ) × ReadsFile (string_bytes file) old new input × IsJudged plan.keep input status line
+    (input : List ℕ) × ReadsFile (string_bytes file) old new input × IsVerified plan.keep input status line
 Answers (Report file workers) old new status line = (input : List ℕ) × ReadsFile (string_bytes file) old new input × Reports input status line
 Answers (Make rom inputs text every out) old new status line = Keeps old new × IsMade (form_of text) (non_zero_u32_get every) status line
 Answers (Info file) old new status line = (input : List ℕ) × ReadsFile (string_bytes file) old new input × IsInformation input status line

@@ -10,11 +10,11 @@ use Rattle.vcs_check.specs.declared.ending.Ending.TheVariants.{Help, Usage, NotU
 use Rattle.vcs_engine.specs.declared.run_error.RunError.TheVariants.{NoMemory}
 
 -- The exit status: help is no error.
-abbrev pub code_of : Ending → ℕ
-code_of (Help text) = 0
-code_of (Usage text) = 4
-code_of NotUtf8 = 4
-code_of (Failed failure) = 5
+abbrev pub exit_code : Ending → ℕ
+exit_code (Help text) = 0
+exit_code (Usage text) = 4
+exit_code NotUtf8 = 4
+exit_code (Failed failure) = 5
 
 -- The arguments could not be read: out of memory, and else one of them is not UTF-8.
 abbrev pub of_kind : ErrorKind → Ending

@@ -1,7 +1,7 @@
 //! What each command does with files.
 ghost use Rattle.std.specs.Prelude.{◌≡◌, ◌≢◌, ◌≤◌, List, ℕ, Err, OnErr, IsSome};
 ghost use Rattle.std.specs.NonZero.{non_zero_u16_get, non_zero_u32_get};
-ghost use Rattle.vcs_check.specs.Commands.{form_of, IsConverted, IsInformation, IsJudged, IsMade, IsQuiet, ReadsFile, Writes};
+ghost use Rattle.vcs_check.specs.Commands.{form_of, IsConverted, IsInformation, IsVerified, IsMade, IsQuiet, ReadsFile, Writes};
 ghost use Rattle.movie_file.specs.Reading.{movie_at};
 ghost use Rattle.vcs_engine.specs.Listings.{Lists};
 ghost use Rattle.vcs_engine.specs.Reports.{Reports};
@@ -75,7 +75,7 @@ pub(crate) fn plan_of_standard_input() -> Plan
 }
 
 /// Judges a movie without pictures.
-pub(crate) fn judge<
+pub(crate) fn verify_without_pictures<
     T: Threads + Wait + Sync + AllocGlobal,
     R: Read,
     W: Write,
@@ -83,7 +83,7 @@ pub(crate) fn judge<
 >(rt: &T, movie: &mut R, plan: &Plan, line: &mut W, gate: &G) -> Result<Status, Failure>
     ensures ok { Writes (W.contents line.old) (W.contents line.new) (λ status text.
         (input : List ℕ) × ReadsAll (R.remaining movie.old) (R.remaining movie.new) input
-        × IsJudged plan.now.keep input status text) result }
+        × IsVerified plan.now.keep input status text) result }
     ensures quiet { IsQuiet (W.contents line.old) (W.contents line.new) result }
     ensures no_thread { result ≡ Err (Failure.Run RunError.NoThread) → 2 ≤ plan.now.workers.number }
     ensures read { result ≢ Err Failure.Open }
@@ -109,16 +109,16 @@ pub(crate) fn verify<
 ) -> Result<Status, Failure>
     ensures ok { Writes (W.contents line.old) (W.contents line.new) (λ status text.
         (bytes : List ℕ) × ReadsFile file.now (I.remaining input.old) (I.remaining input.new) bytes
-        × IsJudged plan.now.keep bytes status text) result }
+        × IsVerified plan.now.keep bytes status text) result }
     ensures quiet { IsQuiet (W.contents line.old) (W.contents line.new) result }
     ensures no_thread { result ≡ Err (Failure.Run RunError.NoThread) → 2 ≤ plan.now.workers.number }
     ensures named { result ≡ Err Failure.Open → IsSome fault.new }
 {
     if file == STANDARD_INPUT {
-        return judge(rt, input, plan, line, gate);
+        return verify_without_pictures(rt, input, plan, line, gate);
     }
     let mut movie = open(rt, file, fault)?;
-    let answer = judge(rt, &mut movie, plan, line, gate);
+    let answer = verify_without_pictures(rt, &mut movie, plan, line, gate);
     movie.tell(fault);
     answer
 }
@@ -140,7 +140,7 @@ fn judge_with_pictures<
 ) -> Result<Status, Failure>
     ensures ok { Writes (W.contents line.old) (W.contents line.new) (λ status text.
         (input : List ℕ) × ReadsAll (M.remaining movie.old) (M.remaining movie.new) input
-        × IsJudged plan.now.keep input status text) result }
+        × IsVerified plan.now.keep input status text) result }
     ensures quiet { IsQuiet (W.contents line.old) (W.contents line.new) result }
     ensures no_thread { result ≡ Err (Failure.Run RunError.NoThread) → 2 ≤ plan.now.workers.number }
     ensures read { result ≢ Err Failure.Open }
@@ -170,7 +170,7 @@ pub(crate) fn verify_with_pictures<
 ) -> Result<Status, Failure>
     ensures ok { Writes (W.contents line.old) (W.contents line.new) (λ status text.
         (bytes : List ℕ) × ReadsFile file.now (I.remaining input.old) (I.remaining input.new) bytes
-        × IsJudged plan.now.keep bytes status text) result }
+        × IsVerified plan.now.keep bytes status text) result }
     ensures quiet { IsQuiet (W.contents line.old) (W.contents line.new) result }
     ensures no_thread { result ≡ Err (Failure.Run RunError.NoThread) → 2 ≤ plan.now.workers.number }
     ensures named { result ≡ Err Failure.Open → IsSome fault.new }

@@ -39,11 +39,11 @@ fn help_not_written(error: io::Error) -> (Ending, Option<FileFault<'static>>) {
 }
 
 impl Ending {
-    ghost use Rattle.vcs_check.specs.Endings.{code_of};
+    ghost use Rattle.vcs_check.specs.Endings.{exit_code};
 
     /// The program's exit status.
     fn code(&self) -> u8
-        ensures { result ≡ code_of self.now }
+        ensures { result ≡ exit_code self.now }
     {
         match self {
             Ending::Help { .. } => 0,

@@ -17,8 +17,8 @@ ghost use Rattle.vcs_engine.specs.declared.run_error.RunError.TheVariants.{NoThr
 
 use command_line::{Command, LineFault, parse_line};
 use commands::{
-    Failure, convert, form_of, info, inputs, judge, make, plan_of_standard_input, report, verify,
-    verify_with_pictures,
+    Failure, convert, form_of, info, inputs, make, plan_of_standard_input, report, verify,
+    verify_with_pictures, verify_without_pictures,
 };
 use ending::Ending;
 use faults::FileFault;
@@ -42,7 +42,7 @@ fn command_of(alloc: Global, arguments: Args) -> Result<Command, LineFault> {
 }
 
 /// Does what a command asks for. Where a file that it names fails, `fault` says why. The gate is called around replays.
-fn execute<
+fn answer_command<
     'a,
     R: Files + Threads + Wait + Sync + AllocGlobal,
     I: Read,
@@ -62,7 +62,7 @@ fn execute<
     ensures named { result ≡ Err Failure.Open → IsSome fault.new }
 {
     match command {
-        Command::Stdin => judge(rt, input, &plan_of_standard_input(), line, gate),
+        Command::Stdin => verify_without_pictures(rt, input, &plan_of_standard_input(), line, gate),
         Command::Verify {
             file,
             plan,
@@ -105,7 +105,7 @@ fn main(rt: HostRuntime) -> ExitCode {
     let mut line = Named::new(STANDARD_OUTPUT, io::writer(&rt));
     let mut fault = None;
     let progress = Progress::new(&rt, rt.stderr().is_terminal());
-    match execute(&rt, &mut input, &mut line, &command, &mut fault, &progress) {
+    match answer_command(&rt, &mut input, &mut line, &command, &mut fault, &progress) {
         Ok(status) => ExitCode::from(status.code()),
         Err(failure) => {
             input.tell(&mut fault);

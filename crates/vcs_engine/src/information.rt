@@ -2,7 +2,7 @@
 ghost use Rattle.std.specs.Prelude.{◌≡◌, ◌≢◌, List, ℕ, IfOk, OnErr, string_bytes};
 ghost use Rattle.std.specs.Io.KnownBytes.{Appends, Keeps};
 ghost use Rattle.movie_file.specs.Reading.{movie_at};
-ghost use Rattle.picture_file.specs.Fronts.{AppendsFront};
+ghost use Rattle.picture_file.specs.Prefixes.{AppendsPrefix};
 ghost use Rattle.vcs_engine.specs.Information.{information_of};
 ghost use Rattle.vcs_engine.specs.Streams.{ReadsAll, IsTooLong};
 
@@ -52,7 +52,7 @@ pub fn run_info<R: Read, W: Write>(
     ensures ok { IfOk result (λ status. (input : List ℕ) × ReadsAll (R.remaining movie.old) (R.remaining movie.new) input
         × (status ≡ (information_of (movie_at input)).status) × Appends (W.contents line.old) (W.contents line.new) (information_of (movie_at input)).line) }
     ensures write_fault { result ≡ Err RunError.WriteFault → (input : List ℕ) × ReadsAll (R.remaining movie.old) (R.remaining movie.new) input
-        × AppendsFront (W.contents line.old) (W.contents line.new) (information_of (movie_at input)).line }
+        × AppendsPrefix (W.contents line.old) (W.contents line.new) (information_of (movie_at input)).line }
 
     // What was written after the other errors.
     ensures quiet { OnErr result (result ≢ Err RunError.WriteFault → Keeps (W.contents line.old) (W.contents line.new)) }

@@ -2,7 +2,7 @@
 ghost use Rattle.std.specs.Prelude.{◌≡◌, ◌≢◌, List, ℕ, IfOk, OnErr, string_bytes};
 ghost use Rattle.std.specs.Io.KnownBytes.{Appends, Keeps};
 ghost use Rattle.movie_file.specs.Reading.{movie_at};
-ghost use Rattle.picture_file.specs.Fronts.{AppendsFront};
+ghost use Rattle.picture_file.specs.Prefixes.{AppendsPrefix};
 ghost use Rattle.vcs_engine.specs.Listings.{Lists};
 ghost use Rattle.vcs_engine.specs.Streams.{ReadsAll, IsTooLong};
 
@@ -41,7 +41,7 @@ pub fn run_inputs<R: Read, W: Write>(
         × Lists (movie_at input) status output × Appends (W.contents text.old) (W.contents text.new) output) }
     ensures write_fault { result ≡ Err RunError.WriteFault → (input : List ℕ) × (status : Status) × (output : List ℕ)
         × ReadsAll (R.remaining movie.old) (R.remaining movie.new) input × Lists (movie_at input) status output
-        × AppendsFront (W.contents text.old) (W.contents text.new) output }
+        × AppendsPrefix (W.contents text.old) (W.contents text.new) output }
 
     // What was written after the other errors.
     ensures quiet { OnErr result (result ≢ Err RunError.WriteFault → Keeps (W.contents text.old) (W.contents text.new)) }

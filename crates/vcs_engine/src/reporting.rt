@@ -1,7 +1,7 @@
 //! From the bytes of a movie to its verdict and facts.
 ghost use Rattle.std.specs.Prelude.{◌≡◌, ◌≢◌, ◌≤◌, List, ℕ, IfOk, OnErr, string_bytes};
 ghost use Rattle.std.specs.Io.KnownBytes.{Appends, Keeps};
-ghost use Rattle.picture_file.specs.Fronts.{AppendsFront};
+ghost use Rattle.picture_file.specs.Prefixes.{AppendsPrefix};
 ghost use Rattle.vcs_engine.specs.Reports.{Reports};
 ghost use Rattle.vcs_engine.specs.Streams.{ReadsAll, IsTooLong};
 
@@ -64,7 +64,7 @@ pub fn run_report<T: Threads + Wait + Sync, R: Read, W: Write, G: CountedGate + 
         × Reports input status output × Appends (W.contents text.old) (W.contents text.new) output) }
     ensures write_fault { result ≡ Err RunError.WriteFault → (input : List ℕ) × (status : Status) × (output : List ℕ)
         × ReadsAll (R.remaining movie.old) (R.remaining movie.new) input × Reports input status output
-        × AppendsFront (W.contents text.old) (W.contents text.new) output }
+        × AppendsPrefix (W.contents text.old) (W.contents text.new) output }
 
     // What was written after the other errors.
     ensures quiet { OnErr result (result ≢ Err RunError.WriteFault → Keeps (W.contents text.old) (W.contents text.new)) }

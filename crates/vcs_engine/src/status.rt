@@ -15,11 +15,11 @@ pub enum Status {
 }
 
 impl Status {
-    ghost use Rattle.vcs_engine.specs.Status.{code_of};
+    ghost use Rattle.vcs_engine.specs.Status.{status_code};
 
     /// The program's exit status, 0 to 3.
     pub fn code(self) -> u8
-        ensures { result ≡ code_of self }
+        ensures { result ≡ status_code self }
     {
         match self {
             Status::Done => 0,

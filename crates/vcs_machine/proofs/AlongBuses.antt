@@ -5,7 +5,7 @@ use Rattle.mos_cpu.specs.Registers.{Registers}
 use Rattle.mos_cpu.specs.Execution.{Step, step_of}
 use Rattle.mos_cpu.specs.declared.fault.CpuFault.{CpuFault}
 use Rattle.mos_cpu.proofs.AlongMaps.{step_of-along}
-use Rattle.vcs_machine.specs.Frame.{Rules, Machine, Turn, Failed, Went, turn, turn_by, Ended, Overlong, stop_after, stop_within, stop_of, most_turns, too_many_cycles}
+use Rattle.vcs_machine.specs.Frame.{Rules, Machine, Turn, Failed, Went, turn, turn_by, Ended, Overlong, stop_after, stop_within, stop_of, most_turns, overlong_cycles}
 use Rattle.vcs_machine.specs.Private.Along.{Follows, machine_along, stop_along}
 
 module _ {B C : Type 0} (b : Rules B) (c : Rules C) (h : B → C) (follows : Follows b c h) where
@@ -16,7 +16,7 @@ module _ {B C : Type 0} (b : Rules B) (c : Rules C) (h : B → C) (follows : Fol
   turn_by-along : (cycles : ℕ) (r : Registers) (bus : B) (answer : Result ℕ CpuFault)
       → turn_by c cycles r (h bus) answer ≡ turn_along (turn_by b cycles r bus answer)
   turn_by-along cycles r bus (Err fault) = refl
-  turn_by-along cycles r bus (Ok n) = rw (follows.rested bus, follows.wait bus)
+  turn_by-along cycles r bus (Ok n) = rw (follows.after_wait bus, follows.wait bus)
 
   turn-along : (m : Machine B) → turn c (machine_along h m) ≡ turn_along (turn b m)
   unfolding turn
@@ -41,7 +41,7 @@ module _ {B C : Type 0} (b : Rules B) (c : Rules C) (h : B → C) (follows : Fol
   unfolding stop_within
   stop_within-along zero m = refl
   stop_within-along (suc n) m =
-      by_length (nat_le too_many_cycles m.cycles) (rw (turn-along m) (stop_after-along n m (turn b m) (λ (next : Machine B). stop_within-along n next)))
+      by_length (nat_le overlong_cycles m.cycles) (rw (turn-along m) (stop_after-along n m (turn b m) (λ (next : Machine B). stop_within-along n next)))
     where
       by_length : (long : Bool)
           → stop_after c (stop_within c n) (machine_along h m) (turn c (machine_along h m)) ≡ stop_along h (stop_after b (stop_within b n) m (turn b m))

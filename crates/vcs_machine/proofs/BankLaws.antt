@@ -1,7 +1,7 @@
 -- Without banks a frame leaves the bank.
 use Rattle.std.proofs.Common.{◌≡◌, ℕ, Bool, true, false, List, [], length, refl, ◌∙◌}
 use Rattle.std.specs.Prelude.{Result, Ok, Err, if◌then◌else◌}
-use Rattle.mos_cpu.specs.Buses.{IsKept}
+use Rattle.mos_cpu.specs.Buses.{IsInvariant}
 use Rattle.mos_cpu.specs.Registers.{Registers}
 use Rattle.mos_cpu.specs.Execution.{step_of}
 use Rattle.mos_cpu.specs.declared.fault.CpuFault.{CpuFault}
@@ -11,7 +11,7 @@ use Rattle.riot_map.specs.Place.{place_of}
 use Rattle.riot_map.specs.declared.places.Place.{Place}
 use Rattle.riot_map.specs.declared.places.Place.TheVariants.{Cart, Tia, Ram, Io}
 use Rattle.tia_core.specs.Clock.{Pixel}
-use Rattle.vcs_machine.specs.Consoles.{Console, meaning_of, passed, read_at, written_at, rested, wait_of, console_rules, logged}
+use Rattle.vcs_machine.specs.Consoles.{Console, meaning_of, passed, read_at, written_at, after_wait, cycles_to_line_start, console_rules, with_pixel_logged}
 use Rattle.vcs_machine.specs.Frame.{Machine, machine_at, Stop, Ended, Overlong, Faulted, Went, turn, turn_by, stop_of}
 use Rattle.vcs_machine.specs.Inputs.{Controls}
 use Rattle.vcs_machine.specs.Outcomes.{frame_of, outcome_of, machine_of, left_by}
@@ -40,7 +40,7 @@ module _ {S : Type 0} (drawn : S → ℕ → ℕ → ℕ → S) (cart : List ℕ
   written_at-holds c (Ram index) v h = record { holds_cart = h.holds_cart; holds_bank = h.holds_bank }
   written_at-holds c (Io register) v h = record { holds_cart = h.holds_cart; holds_bank = h.holds_bank }
 
-  is_held : IsKept (meaning_of drawn) Holds
+  is_held : IsInvariant (meaning_of drawn) Holds
   unfolding meaning_of
   is_held = record {
     passed = λ c n h. record { holds_cart = h.holds_cart; holds_bank = h.holds_bank };
@@ -48,10 +48,10 @@ module _ {S : Type 0} (drawn : S → ℕ → ℕ → ℕ → S) (cart : List ℕ
     written = λ c address v h. written_at-holds c (place_of address) v h;
   }
 
-  rested-holds : (c : Console S) → Holds c → Holds (rested drawn c)
-  rested-holds c h = by_sync c.synced
+  after_wait-holds : (c : Console S) → Holds c → Holds (after_wait drawn c)
+  after_wait-holds c h = by_sync c.awaits_line
     where
-      by_sync : (synced : Bool) → Holds (if synced then record (passed drawn c (wait_of c.tia.fields.clock)) { synced = false } else c)
+      by_sync : (awaits_line : Bool) → Holds (if awaits_line then record (passed drawn c (cycles_to_line_start c.tia.fields.clock)) { awaits_line = false } else c)
       by_sync true = record { holds_cart = h.holds_cart; holds_bank = h.holds_bank }
       by_sync false = h
 
@@ -60,7 +60,7 @@ module _ {S : Type 0} (drawn : S → ℕ → ℕ → ℕ → S) (cart : List ℕ
   unfolding console_rules
   turn_by-holds cycles r c (Err fault) next h e = absurd (cc)
   turn_by-holds cycles r c (Ok n) next h e =
-      let same : rested drawn c ≡ next.bus = cc in rw (← same) (rested-holds c h)
+      let same : after_wait drawn c ≡ next.bus = cc in rw (← same) (after_wait-holds c h)
 
   turn-holds : (m next : Machine (Console S)) → Holds m.bus → turn (console_rules drawn) m ≡ Went next → Holds next.bus
   unfolding turn console_rules
@@ -79,6 +79,6 @@ outcome-bank line_cycle (Faulted fault m) = refl
 pub frame_of-bank : (cart : List ℕ) (s : StateFields) (i : Controls) → has_banks (length cart) ≡ false → (left_by (frame_of cart s i)).bank ≡ s.bank
 unfolding frame_of
 frame_of-bank cart s i single =
-    let stop = stop_of (console_rules logged) (machine_of cart s i []) in
+    let stop = stop_of (console_rules with_pixel_logged) (machine_of cart s i []) in
     outcome-bank (line_cycle_of s) stop
-    ∙ (stop-holds logged cart s.bank single (machine_of cart s i []) (record { holds_cart = refl; holds_bank = refl })).holds_bank
+    ∙ (stop-holds with_pixel_logged cart s.bank single (machine_of cart s i []) (record { holds_cart = refl; holds_bank = refl })).holds_bank

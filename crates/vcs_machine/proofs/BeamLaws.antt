@@ -3,7 +3,7 @@ use Rattle.std.proofs.Common.{◌≡◌, ◌⊎◌, inl, inr, ℕ, zero, suc, �
 use Rattle.std.specs.Prelude.{Result, Ok, Err, IfOk, if◌then◌else◌}
 use Rattle.std.specs.Fn.{iterate}
 use Rattle.std.proofs.lemmas.Bool.Decides.{nat_tests}
-use Rattle.mos_cpu.specs.Buses.{IsClock, IsKept}
+use Rattle.mos_cpu.specs.Buses.{IsClock, IsInvariant}
 use Rattle.mos_cpu.specs.Registers.{Registers}
 use Rattle.mos_cpu.specs.Execution.{step_of}
 use Rattle.mos_cpu.specs.declared.fault.CpuFault.{CpuFault}
@@ -11,30 +11,30 @@ use Rattle.mos_cpu.proofs.StepLaws.{step_of-least, step_of-most, step_of-clock, 
 use Rattle.riot_map.specs.Place.{place_of}
 use Rattle.riot_map.specs.declared.places.Place.{Place}
 use Rattle.riot_map.specs.declared.places.Place.TheVariants.{Cart, Tia, Ram, Io}
-use Rattle.tia_core.specs.Clock.{clocked}
+use Rattle.tia_core.specs.Clock.{after_clock}
 use Rattle.tia_core.specs.TiaState.{TiaState}
-use Rattle.tia_core.specs.Write.{fields_after, written}
+use Rattle.tia_core.specs.Write.{fields_after, tia_after_write}
 use Rattle.tia_core.specs.declared.fields.TiaFields.{TiaFields}
 use Rattle.tia_core.specs.declared.register.Register.{Register}
 use Rattle.tia_core.specs.declared.register.Register.TheVariants.{Vsync}
-use Rattle.tia_core.proofs.Clocks.{iterate-clocked-clock}
-use Rattle.vcs_machine.specs.Consoles.{Console, meaning_of, passed, read_at, written_at, rested, wait_of, wait_cycles, console_rules}
-use Rattle.vcs_machine.specs.Frame.{Machine, Turn, Failed, Went, machine_at, turn, turn_by, turn_after, turns, too_many_cycles, stop_of}
+use Rattle.tia_core.proofs.ClockLemmas.{iterate-clocked-clock}
+use Rattle.vcs_machine.specs.Consoles.{Console, meaning_of, passed, read_at, written_at, after_wait, cycles_to_line_start, wait_cycles, console_rules}
+use Rattle.vcs_machine.specs.Frame.{Machine, Turn, Failed, Went, machine_at, turn, turn_by, turn_after, turns, overlong_cycles, stop_of}
 use Rattle.vcs_machine.specs.Pictures.{rows_of}
 use Rattle.vcs_machine.proofs.OneStop.{stop_of-keeps}
 
 -- One clock, wherever the beam is.
-clocked-count : (s : TiaState) → (clocked s).fields.clock % 228 ≡ (s.fields.clock % 228 + 1) % 228
+clocked-count : (s : TiaState) → (after_clock s).fields.clock % 228 ≡ (s.fields.clock % 228 + 1) % 228
 clocked-count s = by_end (s.fields.clock == 227) refl
   where
-    by_end : (last : Bool) → (s.fields.clock == 227) ≡ last → (clocked s).fields.clock % 228 ≡ (s.fields.clock % 228 + 1) % 228
+    by_end : (last : Bool) → (s.fields.clock == 227) ≡ last → (after_clock s).fields.clock % 228 ≡ (s.fields.clock % 228 + 1) % 228
     by_end true e = let at : s.fields.clock ≡ 227 = grind (arith, nat_tests) in rw e (rw at refl)
     by_end false e = rw e (omega arith)
 
-iterate-clocked-count : (n : ℕ) (s : TiaState) → (iterate clocked n s).fields.clock % 228 ≡ (s.fields.clock % 228 + n) % 228
+iterate-clocked-count : (n : ℕ) (s : TiaState) → (iterate after_clock n s).fields.clock % 228 ≡ (s.fields.clock % 228 + n) % 228
 iterate-clocked-count zero s = omega arith
 iterate-clocked-count (suc n) s =
-    iterate-clocked-count n (clocked s) ∙ ap (λ (t : ℕ). (t + n) % 228) (clocked-count s) ∙ one_more (s.fields.clock % 228)
+    iterate-clocked-count n (after_clock s) ∙ ap (λ (t : ℕ). (t + n) % 228) (clocked-count s) ∙ one_more (s.fields.clock % 228)
   where
     one_more : (t : ℕ) → ((t + 1) % 228 + n) % 228 ≡ (t + suc n) % 228
     one_more t = omega arith
@@ -55,7 +55,7 @@ module _ {S : Type 0} (drawn : S → ℕ → ℕ → ℕ → S) where
   read_at-clock c (Io register) = refl
 
   written_at-clock : (c : Console S) (place : Place) (v : ℕ) → clock_of (written_at c place v) ≡ clock_of c
-  unfolding written
+  unfolding tia_after_write
   written_at-clock c (Cart address) v = refl
   written_at-clock c (Tia register) v = fields_after-clock c.tia.fields c.tia.fire0 c.tia.fire1 _ v
   written_at-clock c (Ram index) v = refl
@@ -70,7 +70,7 @@ module _ {S : Type 0} (drawn : S → ℕ → ℕ → ℕ → S) where
     written = λ c address v. ap (λ (t : ℕ). t % 228) (written_at-clock c (place_of address) v);
   }
 
-  is_in_line : IsKept (meaning_of drawn) (λ c. clock_of c < 228)
+  is_in_line : IsInvariant (meaning_of drawn) (λ c. clock_of c < 228)
   unfolding meaning_of
   is_in_line = record {
     passed = λ c n inside. rw (iterate-clocked-clock (3 * n) c.tia inside) (omega arith);
@@ -80,18 +80,18 @@ module _ {S : Type 0} (drawn : S → ℕ → ℕ → ℕ → S) where
 
   -- A wait is at most 75 cycles, and ends where a scanline begins.
   pub wait_cycles-most : (c : Console S) → wait_cycles c ≤ 75
-  wait_cycles-most c = by_sync c.synced
+  wait_cycles-most c = by_sync c.awaits_line
     where
-      by_sync : (synced : Bool) → (if synced then wait_of (clock_of c) else 0) ≤ 75
+      by_sync : (awaits_line : Bool) → (if awaits_line then cycles_to_line_start (clock_of c) else 0) ≤ 75
       by_sync true = omega arith
       by_sync false = omega arith
 
   line_begins : (t : ℕ) → t < 228 → t % 3 ≡ 0 → (t + 3 * ((76 - t / 3) % 76)) % 228 ≡ 0
   line_begins t lt aligned = omega arith
 
-  pub rested-line : (c : Console S) → c.synced ≡ true → c.tia.fields.clock < 228 → c.tia.fields.clock % 3 ≡ 0 → (rested drawn c).tia.fields.clock ≡ 0
-  rested-line c synced inside aligned =
-      rw synced (iterate-clocked-clock (3 * wait_of (clock_of c)) c.tia inside ∙ line_begins (clock_of c) inside aligned)
+  pub after_wait-line : (c : Console S) → c.awaits_line ≡ true → c.tia.fields.clock < 228 → c.tia.fields.clock % 3 ≡ 0 → (after_wait drawn c).tia.fields.clock ≡ 0
+  after_wait-line c awaits_line inside aligned =
+      rw awaits_line (iterate-clocked-clock (3 * cycles_to_line_start (clock_of c)) c.tia inside ∙ line_begins (clock_of c) inside aligned)
 
   -- What a turn does to the beam: it moves three clocks a cycle, and after a wait it stands where a scanline begins.
   pub record MovesBeam (m next : Machine (Console S)) : Type 0 where
@@ -104,15 +104,15 @@ module _ {S : Type 0} (drawn : S → ℕ → ℕ → ℕ → S) where
     pub waited : (taken ≤ 7) ⊎ (m.bus.tia.fields.clock % 3 ≡ 0 → next.bus.tia.fields.clock ≡ 0)
 
   -- After an instruction of n cycles, its wait.
-  rested-beam : (n : ℕ) (r : Registers) (m : Machine (Console S)) (c : Console S) → 2 ≤ n → n ≤ 7 → clock_of m.bus < 228 → clock_of c < 228
+  after_wait-beam : (n : ℕ) (r : Registers) (m : Machine (Console S)) (c : Console S) → 2 ≤ n → n ≤ 7 → clock_of m.bus < 228 → clock_of c < 228
       → clock_of c ≡ (clock_of m.bus + 3 * n) % 228
-      → MovesBeam m (record { registers = r; bus = rested drawn c; cycles = m.cycles + n + wait_cycles c })
-  rested-beam n r m c least most before inside moved = by_sync c.synced
+      → MovesBeam m (record { registers = r; bus = after_wait drawn c; cycles = m.cycles + n + wait_cycles c })
+  after_wait-beam n r m c least most before inside moved = by_sync c.awaits_line
     where
-      by_sync : (synced : Bool) → MovesBeam m (record {
+      by_sync : (awaits_line : Bool) → MovesBeam m (record {
         registers = r;
-        bus = if synced then record (passed drawn c (wait_of (clock_of c))) { synced = false } else c;
-        cycles = m.cycles + n + (if synced then wait_of (clock_of c) else 0);
+        bus = if awaits_line then record (passed drawn c (cycles_to_line_start (clock_of c))) { awaits_line = false } else c;
+        cycles = m.cycles + n + (if awaits_line then cycles_to_line_start (clock_of c) else 0);
       })
       by_sync false = record {
         taken = n;
@@ -124,15 +124,15 @@ module _ {S : Type 0} (drawn : S → ℕ → ℕ → ℕ → S) where
         waited = inl most;
       }
       by_sync true =
-          let after : (iterate clocked (3 * wait_of (clock_of c)) c.tia).fields.clock ≡ (clock_of c + 3 * wait_of (clock_of c)) % 228 =
-          iterate-clocked-clock (3 * wait_of (clock_of c)) c.tia inside in
+          let after : (iterate after_clock (3 * cycles_to_line_start (clock_of c)) c.tia).fields.clock ≡ (clock_of c + 3 * cycles_to_line_start (clock_of c)) % 228 =
+          iterate-clocked-clock (3 * cycles_to_line_start (clock_of c)) c.tia inside in
           record {
-            taken = n + wait_of (clock_of c);
+            taken = n + cycles_to_line_start (clock_of c);
             cycles = omega arith;
             least = omega arith;
             most = omega arith;
             inside = rw after (omega arith);
-            moved = after ∙ both (clock_of m.bus) (clock_of c) (wait_of (clock_of c)) moved;
+            moved = after ∙ both (clock_of m.bus) (clock_of c) (cycles_to_line_start (clock_of c)) moved;
             waited = inr (λ aligned. after ∙ line_begins (clock_of c) inside (still_aligned (clock_of m.bus) (clock_of c) moved aligned));
           }
         where
@@ -148,8 +148,8 @@ module _ {S : Type 0} (drawn : S → ℕ → ℕ → ℕ → S) where
   unfolding console_rules
   turn_by-beam r c (Err fault) m next least most before inside moved e = absurd (cc)
   turn_by-beam r c (Ok n) m next least most before inside moved e =
-      let same : record { registers = r; bus = rested drawn c; cycles = m.cycles + n + wait_cycles c } ≡ next = cc in
-      rw (← same) (rested-beam n r m c least most before inside (whole (clock_of m.bus) (clock_of c) before inside moved))
+      let same : record { registers = r; bus = after_wait drawn c; cycles = m.cycles + n + wait_cycles c } ≡ next = cc in
+      rw (← same) (after_wait-beam n r m c least most before inside (whole (clock_of m.bus) (clock_of c) before inside moved))
     where
       whole : (t u : ℕ) → t < 228 → u < 228 → u % 228 ≡ (t % 228 + 3 * n) % 228 → u ≡ (t + 3 * n) % 228
       whole t u lt lu e = omega arith
@@ -170,7 +170,7 @@ module _ {S : Type 0} (drawn : S → ℕ → ℕ → ℕ → S) where
   abbrev pub IsWhole : Console S → Type 0
   IsWhole c = (clock_of c < 228) × (clock_of c % 3 ≡ 0)
 
-  keeps_whole : IsKept (meaning_of drawn) IsWhole
+  keeps_whole : IsInvariant (meaning_of drawn) IsWhole
   unfolding meaning_of
   keeps_whole = record {
     passed = λ c n whole. rw (iterate-clocked-clock (3 * n) c.tia whole.0) (let aligned = whole.1 in (omega arith, omega arith));
@@ -202,7 +202,7 @@ module _ {S : Type 0} (drawn : S → ℕ → ℕ → ℕ → S) where
     pub most : m.cycles ≤ 24401
     pub room : line_cycle + m.cycles ≤ 24472
 
-  way-goes_on : (line_cycle : ℕ) → line_cycle < 76 → (m next : Machine (Console S)) → OnItsWay line_cycle m → m.cycles < too_many_cycles
+  way-goes_on : (line_cycle : ℕ) → line_cycle < 76 → (m next : Machine (Console S)) → OnItsWay line_cycle m → m.cycles < overlong_cycles
       → turn (console_rules drawn) m ≡ Went next → OnItsWay line_cycle next
   way-goes_on line_cycle small m next way short e =
       let in_line : m.bus.tia.fields.clock < 228 = below m.bus.tia.fields.clock m.cycles way.beam in

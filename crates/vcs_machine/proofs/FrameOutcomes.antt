@@ -3,11 +3,11 @@ use Rattle.std.proofs.Common.{◌≡◌, ℕ, ◌+◌, ◌*◌, ◌/◌, ◌%◌
 use Rattle.std.specs.Prelude.{IfOk, IfErr}
 use Rattle.mos_cpu.specs.Registers.{Registers}
 use Rattle.tia_core.specs.Clock.{Pixel}
-use Rattle.vcs_machine.specs.Consoles.{Console, console_rules, logged}
-use Rattle.vcs_machine.specs.Faults.{halted}
+use Rattle.vcs_machine.specs.Consoles.{Console, console_rules, with_pixel_logged}
+use Rattle.vcs_machine.specs.Faults.{stop_with}
 use Rattle.vcs_machine.specs.Frame.{Machine, Ended, Stop, machine_at, stop_of}
 use Rattle.vcs_machine.specs.Inputs.{Controls}
-use Rattle.vcs_machine.specs.Outcomes.{Played, Failed, frame_of, outcome_of, machine_of, state_at, Halts}
+use Rattle.vcs_machine.specs.Outcomes.{Played, Failed, frame_of, outcome_of, machine_of, state_left, Halts}
 use Rattle.vcs_machine.specs.Pictures.{picture_of, rows_of}
 use Rattle.vcs_machine.specs.States.{is_state, line_cycle_of}
 use Rattle.vcs_machine.specs.declared.fault.FaultKind.{FaultKind}
@@ -18,14 +18,14 @@ use Rattle.vcs_machine.proofs.BeamLaws.{OnItsWay, way-stops, rows_of-most}
 use Rattle.vcs_machine.proofs.StateLemmas.{line_cycle-lt, clock-thirds}
 
 pub played : (cart : List ℕ) (s after : StateFields) (i : Controls) (here : Machine (Console (List Pixel)))
-    → stop_of (console_rules logged) (machine_of cart s i []) ≡ Ended here → state_at here ≡ after
+    → stop_of (console_rules with_pixel_logged) (machine_of cart s i []) ≡ Ended here → state_left here ≡ after
     → frame_of cart s i ≡ Played after (picture_of (rows_of (line_cycle_of s) here.cycles) here.bus.sink)
 unfolding frame_of
 played cart s after i here stops at =
     ap (λ (stop : Stop (Console (List Pixel))). outcome_of (line_cycle_of s) stop) stops
     ∙ ap (λ (f : StateFields). Played f (picture_of (rows_of (line_cycle_of s) here.cycles) here.bus.sink)) at
 
-outcome-halted : (line_cycle : ℕ) (kind : FaultKind) (m : Machine (Console (List Pixel))) → outcome_of line_cycle (halted kind m) ≡ Failed kind (state_at m)
+outcome-halted : (line_cycle : ℕ) (kind : FaultKind) (m : Machine (Console (List Pixel))) → outcome_of line_cycle (stop_with kind m) ≡ Failed kind (state_left m)
 outcome-halted line_cycle (BadOpcode opcode at) m = refl
 outcome-halted line_cycle (FetchOutside at) m = refl
 outcome-halted line_cycle Overlong m = refl
@@ -40,29 +40,29 @@ failed cart s after i kind cycles h =
 
 module _ (cart : List ℕ) (s : StateFields) (i : Controls) (lawful : IsTrue (is_state s)) where
   abbrev here : Machine (Console (List Pixel))
-  here = machine_at (stop_of (console_rules logged) (machine_of cart s i []))
+  here = machine_at (stop_of (console_rules with_pixel_logged) (machine_of cart s i []))
 
-  way : OnItsWay logged (line_cycle_of s) here
-  way = way-stops logged (line_cycle_of s) (machine_of cart s i []) (line_cycle-lt s lawful) refl (clock-thirds s lawful)
+  way : OnItsWay with_pixel_logged (line_cycle_of s) here
+  way = way-stops with_pixel_logged (line_cycle_of s) (machine_of cart s i []) (line_cycle-lt s lawful) refl (clock-thirds s lawful)
 
   -- A frame takes at most 24,401 cycles, however it stops,
-  pub stop-cycles : (machine_at (stop_of (console_rules logged) (machine_of cart s i []))).cycles ≤ 24401
+  pub stop-cycles : (machine_at (stop_of (console_rules with_pixel_logged) (machine_of cart s i []))).cycles ≤ 24401
   stop-cycles = way.most
 
   -- its picture has at most 322 rows,
-  pub stop-rows : rows_of (line_cycle_of s) (machine_at (stop_of (console_rules logged) (machine_of cart s i []))).cycles ≤ 322
+  pub stop-rows : rows_of (line_cycle_of s) (machine_at (stop_of (console_rules with_pixel_logged) (machine_of cart s i []))).cycles ≤ 322
   stop-rows = rows_of-most (line_cycle_of s) here.cycles way.room
 
   -- and its state keeps the beam, which goes on by three clocks a cycle.
-  pub stop-beam : let here = machine_at (stop_of (console_rules logged) (machine_of cart s i [])) in
-      here.bus.tia.fields.clock ≡ 3 * line_cycle_of (state_at here)
+  pub stop-beam : let here = machine_at (stop_of (console_rules with_pixel_logged) (machine_of cart s i [])) in
+      here.bus.tia.fields.clock ≡ 3 * line_cycle_of (state_left here)
   stop-beam = whole here.bus.tia.fields.clock here.cycles way.beam
     where
       whole : (t c : ℕ) → t ≡ (3 * line_cycle_of s + 3 * c) % 228 → t ≡ 3 * (t / 3)
       whole t c e = omega arith
 
-  pub stop-line_cycle : let here = machine_at (stop_of (console_rules logged) (machine_of cart s i [])) in
-      line_cycle_of (state_at here) ≡ (line_cycle_of s + here.cycles) % 76
+  pub stop-line_cycle : let here = machine_at (stop_of (console_rules with_pixel_logged) (machine_of cart s i [])) in
+      line_cycle_of (state_left here) ≡ (line_cycle_of s + here.cycles) % 76
   stop-line_cycle = whole here.bus.tia.fields.clock here.cycles way.beam
     where
       whole : (t c : ℕ) → t ≡ (3 * line_cycle_of s + 3 * c) % 228 → t / 3 ≡ (line_cycle_of s + c) % 76
@@ -70,10 +70,10 @@ module _ (cart : List ℕ) (s : StateFields) (i : Controls) (lawful : IsTrue (is
 
 -- The same of a frame that ends.
 pub ended-rows : (cart : List ℕ) (s : StateFields) (i : Controls) (here : Machine (Console (List Pixel))) → IsTrue (is_state s)
-    → stop_of (console_rules logged) (machine_of cart s i []) ≡ Ended here → rows_of (line_cycle_of s) here.cycles ≤ 322
+    → stop_of (console_rules with_pixel_logged) (machine_of cart s i []) ≡ Ended here → rows_of (line_cycle_of s) here.cycles ≤ 322
 ended-rows cart s i here lawful stops = let most = stop-rows cart s i lawful in rw stops at most
 
-machine_at-halted : {B : Type 0} (kind : FaultKind) (m : Machine B) → machine_at (halted kind m) ≡ m
+machine_at-halted : {B : Type 0} (kind : FaultKind) (m : Machine B) → machine_at (stop_with kind m) ≡ m
 machine_at-halted (BadOpcode opcode at) m = refl
 machine_at-halted (FetchOutside at) m = refl
 machine_at-halted Overlong m = refl
@@ -90,7 +90,7 @@ module _ {S : Type 0} (drawn : S → ℕ → ℕ → ℕ → S) (cart : List ℕ
 
   pub stop-aligned : (ran : Result ℕ Halt) (registers : Registers) (bus : Console S)
       → IfOk ran (λ total. stop_of (console_rules drawn) (machine_of cart s i sink) ≡ Ended (record { registers = registers; bus = bus; cycles = total }))
-      → IfErr ran (λ halt. stop_of (console_rules drawn) (machine_of cart s i sink) ≡ halted halt.kind (record { registers = registers; bus = bus; cycles = halt.cycles }))
+      → IfErr ran (λ halt. stop_of (console_rules drawn) (machine_of cart s i sink) ≡ stop_with halt.kind (record { registers = registers; bus = bus; cycles = halt.cycles }))
       → bus.tia.fields.clock % 3 ≡ 0
   stop-aligned (Ok total) registers bus ok err = begins_cycle _ (ap machine_at ok)
   stop-aligned (Err halt) registers bus ok err = begins_cycle _ (ap machine_at err ∙ machine_at-halted halt.kind _)

@@ -1,11 +1,11 @@
 pub mod AlongBuses
 pub mod BankLaws
+pub mod BankLemmas
 pub mod BeamLaws
+pub mod DebtLemmas
 pub mod FrameOutcomes
 pub mod OneStop
-pub mod Owing
 pub mod PictureTable
-pub mod Runs
-pub mod Sinks
+pub mod RowLemmas
+pub mod SinkLemmas
 pub mod StateLemmas
-pub mod Windows

@@ -6,7 +6,7 @@ use Rattle.std.proofs.lemmas.Bool.Decides.{nat_tests}
 use Rattle.mos_cpu.specs.Registers.{Registers}
 use Rattle.mos_cpu.specs.Execution.{step_of}
 use Rattle.mos_cpu.specs.declared.fault.CpuFault.{CpuFault}
-use Rattle.vcs_machine.specs.Frame.{Rules, Machine, Turn, Failed, Went, turn, turn_by, turns, is_over, Reaches, Ends, IsTooLong, Faults, Stop, Ended, Overlong, Faulted, machine_at, StopsAs, stop_after, stop_within, stop_of, most_turns, too_many_cycles}
+use Rattle.vcs_machine.specs.Frame.{Rules, Machine, Turn, Failed, Went, turn, turn_by, turns, is_over, Reaches, Ends, IsOverlong, Faults, Stop, Ended, Overlong, Faulted, machine_at, StopsAs, stop_after, stop_within, stop_of, most_turns, overlong_cycles}
 
 module _ {B : Type 0} (rules : Rules B) where
   -- A turn takes at least two cycles.
@@ -29,10 +29,10 @@ module _ {B : Type 0} (rules : Rules B) where
     unended : 0 < n → rules.ended here.bus ≡ false
     begun : n ≡ 0 → here ≡ start
 
-  going : (here : Machine B) → rules.ended here.bus ≡ false → nat_le too_many_cycles here.cycles ≡ false → is_over rules here ≡ false
+  going : (here : Machine B) → rules.ended here.bus ≡ false → nat_le overlong_cycles here.cycles ≡ false → is_over rules here ≡ false
   going here e f = rw (e, f)
 
-  overlong : (start : Machine B) (n : ℕ) (here : Machine B) → start.cycles ≡ 0 → Underway start n here → too_many_cycles ≤ here.cycles
+  overlong : (start : Machine B) (n : ℕ) (here : Machine B) → start.cycles ≡ 0 → Underway start n here → overlong_cycles ≤ here.cycles
       → StopsAs rules start (Overlong here)
   overlong start n here fresh u long = by_count n refl
     where
@@ -42,14 +42,14 @@ module _ {B : Type 0} (rules : Rules B) where
           record { count = n; some = some; reaches = u.reaches; unended = u.unended some; long = long }
 
   stops_by : (start : Machine B) → start.cycles ≡ 0 → IsLong → (fuel n : ℕ) (here : Machine B) → Underway start n here
-      → too_many_cycles ≤ here.cycles + 2 * fuel → StopsAs rules start (stop_within rules fuel here)
+      → overlong_cycles ≤ here.cycles + 2 * fuel → StopsAs rules start (stop_within rules fuel here)
   unfolding stop_within
   stops_by start fresh long zero n here u enough = overlong start n here fresh u (omega arith)
   stops_by start fresh long (suc fuel) n here u enough =
-      by_length (nat_le too_many_cycles here.cycles) refl (stops_by start fresh long fuel)
+      by_length (nat_le overlong_cycles here.cycles) refl (stops_by start fresh long fuel)
     where
-      by_turn : (t : Turn B) → turn rules here ≡ t → nat_le too_many_cycles here.cycles ≡ false
-          → ((n : ℕ) (here : Machine B) → Underway start n here → too_many_cycles ≤ here.cycles + 2 * fuel → StopsAs rules start (stop_within rules fuel here))
+      by_turn : (t : Turn B) → turn rules here ≡ t → nat_le overlong_cycles here.cycles ≡ false
+          → ((n : ℕ) (here : Machine B) → Underway start n here → overlong_cycles ≤ here.cycles + 2 * fuel → StopsAs rules start (stop_within rules fuel here))
           → StopsAs rules start (stop_after rules (stop_within rules fuel) here t)
       by_turn (Failed fault) e short later =
           record { count = n; reaches = u.reaches; going = λ some. going here (u.unended some) short; fails = e }
@@ -58,13 +58,13 @@ module _ {B : Type 0} (rules : Rules B) where
           let more = long here next e in
           by_end (rules.ended next.bus) refl r (omega arith)
         where
-          by_end : (over : Bool) → rules.ended next.bus ≡ over → Reaches rules start (suc n) next → too_many_cycles ≤ next.cycles + 2 * fuel
+          by_end : (over : Bool) → rules.ended next.bus ≡ over → Reaches rules start (suc n) next → overlong_cycles ≤ next.cycles + 2 * fuel
               → StopsAs rules start (if over then Ended next else stop_within rules fuel next)
           by_end true over r enough = record { count = suc n; some = omega arith; reaches = r; ended = over }
           by_end false over r enough = later (suc n) next (record { reaches = r; unended = λ some. over; begun = λ none. absurd (omega arith) }) enough
 
-      by_length : (is_long : Bool) → nat_le too_many_cycles here.cycles ≡ is_long
-          → ((n : ℕ) (here : Machine B) → Underway start n here → too_many_cycles ≤ here.cycles + 2 * fuel → StopsAs rules start (stop_within rules fuel here))
+      by_length : (is_long : Bool) → nat_le overlong_cycles here.cycles ≡ is_long
+          → ((n : ℕ) (here : Machine B) → Underway start n here → overlong_cycles ≤ here.cycles + 2 * fuel → StopsAs rules start (stop_within rules fuel here))
           → StopsAs rules start (if is_long then Overlong here else stop_after rules (stop_within rules fuel) here (turn rules here))
       by_length true e later = overlong start n here fresh u (grind (arith, nat_tests))
       by_length false e later = by_turn (turn rules here) refl e later
@@ -133,7 +133,7 @@ module _ {B : Type 0} (rules : Rules B) where
   ends-over : (start here : Machine B) (e : Ends rules start here) → IsOverAt start e.count here
   ends-over start here e = record { reaches = e.reaches; some = e.some; over = rw e.ended refl }
 
-  long-over : (start here : Machine B) (e : IsTooLong rules start here) → IsOverAt start e.count here
+  long-over : (start here : Machine B) (e : IsOverlong rules start here) → IsOverAt start e.count here
   long-over start here e = record { reaches = e.reaches; some = e.some; over = let long = e.long in rw e.unended (grind (arith, nat_tests)) }
 
   pub stops-once : (start : Machine B) (a b : Stop B) → StopsAs rules start a → StopsAs rules start b → a ≡ b
@@ -152,68 +152,68 @@ module _ {B : Type 0} (rules : Rules B) where
   stops-once start (Faulted f a) (Faulted g b) p q = fault-once start a b f g p q
 
   -- One turn of the search, by what it comes to.
-  pub search-failed : (fuel : ℕ) (m : Machine B) (fault : CpuFault) → m.cycles < too_many_cycles → too_many_cycles ≤ m.cycles + 2 * fuel
+  pub search-failed : (fuel : ℕ) (m : Machine B) (fault : CpuFault) → m.cycles < overlong_cycles → overlong_cycles ≤ m.cycles + 2 * fuel
       → turn rules m ≡ Failed fault → stop_within rules fuel m ≡ Faulted fault m
   unfolding stop_within
   search-failed zero m fault short enough e = absurd (omega arith)
   search-failed (suc fuel) m fault short enough e =
-      let not : nat_le too_many_cycles m.cycles ≡ false = grind (arith, nat_tests) in rw (not, e) refl
+      let not : nat_le overlong_cycles m.cycles ≡ false = grind (arith, nat_tests) in rw (not, e) refl
 
-  pub search-ended : (fuel : ℕ) (m next : Machine B) → m.cycles < too_many_cycles → too_many_cycles ≤ m.cycles + 2 * fuel
+  pub search-ended : (fuel : ℕ) (m next : Machine B) → m.cycles < overlong_cycles → overlong_cycles ≤ m.cycles + 2 * fuel
       → turn rules m ≡ Went next → rules.ended next.bus ≡ true → stop_within rules fuel m ≡ Ended next
   unfolding stop_within
   search-ended zero m next short enough e over = absurd (omega arith)
   search-ended (suc fuel) m next short enough e over =
-      let not : nat_le too_many_cycles m.cycles ≡ false = grind (arith, nat_tests) in rw (not, e, over) refl
+      let not : nat_le overlong_cycles m.cycles ≡ false = grind (arith, nat_tests) in rw (not, e, over) refl
 
-  pub search-long : (fuel : ℕ) (m : Machine B) → too_many_cycles ≤ m.cycles → stop_within rules fuel m ≡ Overlong m
+  pub search-long : (fuel : ℕ) (m : Machine B) → overlong_cycles ≤ m.cycles → stop_within rules fuel m ≡ Overlong m
   unfolding stop_within
   search-long zero m long = refl
   search-long (suc fuel) m long =
-      let yes : nat_le too_many_cycles m.cycles ≡ true = grind (arith, nat_tests) in rw yes refl
+      let yes : nat_le overlong_cycles m.cycles ≡ true = grind (arith, nat_tests) in rw yes refl
 
   -- The search from a machine goes on to this stop.
   pub record Searches (m : Machine B) (stop : Stop B) : Type 0 where
     pub fuel : ℕ
-    pub enough : too_many_cycles ≤ m.cycles + 2 * fuel
+    pub enough : overlong_cycles ≤ m.cycles + 2 * fuel
     pub finds : stop_within rules fuel m ≡ stop
 
   pub search-begins : (m : Machine B) → m.cycles ≡ 0 → Searches m (stop_of rules m)
   unfolding stop_of
   search-begins m fresh = record { fuel = most_turns; enough = omega arith; finds = refl }
 
-  pub search-goes_on : (m next : Machine B) (stop : Stop B) → Searches m stop → m.cycles < too_many_cycles → turn rules m ≡ Went next
+  pub search-goes_on : (m next : Machine B) (stop : Stop B) → Searches m stop → m.cycles < overlong_cycles → turn rules m ≡ Went next
       → rules.ended next.bus ≡ false → m.cycles + 2 ≤ next.cycles → Searches next stop
   unfolding stop_within
   search-goes_on m next stop s short e unended more = by_fuel s.fuel s.enough s.finds
     where
-      by_fuel : (fuel : ℕ) → too_many_cycles ≤ m.cycles + 2 * fuel → stop_within rules fuel m ≡ stop → Searches next stop
+      by_fuel : (fuel : ℕ) → overlong_cycles ≤ m.cycles + 2 * fuel → stop_within rules fuel m ≡ stop → Searches next stop
       by_fuel zero enough finds = absurd (omega arith)
       by_fuel (suc fuel) enough finds =
-          let not : nat_le too_many_cycles m.cycles ≡ false = grind (arith, nat_tests) in
+          let not : nat_le overlong_cycles m.cycles ≡ false = grind (arith, nat_tests) in
           let same : stop_within rules (suc fuel) m ≡ stop_within rules fuel next = rw (not, e, unended) refl in
           record { fuel = fuel; enough = omega arith; finds = sym same ∙ finds }
 
 -- What each turn keeps that begins before a frame is too long holds where the frame stops.
 module _ {B : Type 0} (rules : Rules B) (Fact : Machine B → Type 0)
-    (keeps : (m next : Machine B) → Fact m → m.cycles < too_many_cycles → turn rules m ≡ Went next → Fact next) where
+    (keeps : (m next : Machine B) → Fact m → m.cycles < overlong_cycles → turn rules m ≡ Went next → Fact next) where
   stop_within-keeps : (fuel : ℕ) (m : Machine B) → Fact m → Fact (machine_at (stop_within rules fuel m))
   unfolding stop_within
   stop_within-keeps zero m fact = fact
   stop_within-keeps (suc fuel) m fact =
-      by_length (nat_le too_many_cycles m.cycles) refl (stop_within-keeps fuel)
+      by_length (nat_le overlong_cycles m.cycles) refl (stop_within-keeps fuel)
     where
       by_end : (over : Bool) (next : Machine B) → Fact next → ((m : Machine B) → Fact m → Fact (machine_at (stop_within rules fuel m)))
           → Fact (machine_at (if over then Ended next else stop_within rules fuel next))
       by_end true next fact' later = fact'
       by_end false next fact' later = later next fact'
 
-      by_turn : (t : Turn B) → turn rules m ≡ t → m.cycles < too_many_cycles → ((m : Machine B) → Fact m → Fact (machine_at (stop_within rules fuel m)))
+      by_turn : (t : Turn B) → turn rules m ≡ t → m.cycles < overlong_cycles → ((m : Machine B) → Fact m → Fact (machine_at (stop_within rules fuel m)))
           → Fact (machine_at (stop_after rules (stop_within rules fuel) m t))
       by_turn (Failed fault) e short later = fact
       by_turn (Went next) e short later = by_end (rules.ended next.bus) next (keeps m next fact short e) later
 
-      by_length : (long : Bool) → nat_le too_many_cycles m.cycles ≡ long → ((m : Machine B) → Fact m → Fact (machine_at (stop_within rules fuel m)))
+      by_length : (long : Bool) → nat_le overlong_cycles m.cycles ≡ long → ((m : Machine B) → Fact m → Fact (machine_at (stop_within rules fuel m)))
           → Fact (machine_at (if long then Overlong m else stop_after rules (stop_within rules fuel) m (turn rules m)))
       by_length true e later = fact
       by_length false e later = by_turn (turn rules m) refl (grind (arith, nat_tests)) later

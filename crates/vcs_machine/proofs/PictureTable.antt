@@ -5,7 +5,7 @@ use Rattle.std.specs.List.{range_with_len}
 use Rattle.std.proofs.lemmas.Bool.Decides.{nat_tests}
 use Rattle.std.proofs.lemmas.List.{get_or-set_same, get_or-set_other, length-set, get_or-replicate, length-replicate}
 use Rattle.std.proofs.lemmas.List.FromFn.{fill_by_all, take-map-range_with_len}
-use Rattle.tia_core.specs.Clock.{Pixel, painted}
+use Rattle.tia_core.specs.Clock.{Pixel, sink_after_pixels}
 use Rattle.vcs_machine.specs.Pictures.{Rows, colour_after, picture_of, with_pixel, blank}
 
 -- The colour at a place of some rows.
@@ -99,7 +99,7 @@ module _ (n : ℕ) (rows : Rows) (colour : ℕ → ℕ → ℕ) (table : IsTable
 
 -- All pixels.
 painted-table : (n : ℕ) (rows : Rows) (colour : ℕ → ℕ → ℕ) (ps : List Pixel) → IsTable n rows colour
-    → IsTable n (painted with_pixel rows ps) (λ line x. colour_after (colour line x) ps line x)
+    → IsTable n (sink_after_pixels with_pixel rows ps) (λ line x. colour_after (colour line x) ps line x)
 painted-table n rows colour [] table = table
 painted-table n rows colour (p ∷ ps) table =
     painted-table n (with_pixel rows p.line p.x p.colour) (put_colour p colour) ps (with_pixel-table n rows colour table p)
@@ -118,8 +118,8 @@ table-rows n rows colour table =
     (λ line below. fill_by_all (colour line) (get_or rows line []) 160 0 (table.widths line below) (λ x lx. table.colours line x below lx))
 
 -- The first rows of those that a frame's pixels were drawn on are its picture.
-pub take-painted : (n most : ℕ) (ps : List Pixel) → n ≤ most → take n (painted with_pixel (blank most) ps) ≡ picture_of n ps
+pub take-painted : (n most : ℕ) (ps : List Pixel) → n ≤ most → take n (sink_after_pixels with_pixel (blank most) ps) ≡ picture_of n ps
 unfolding picture_of
 take-painted n most ps h =
-    ap (take n) (table-rows most (painted with_pixel (blank most) ps) (λ line x. colour_after 0 ps line x) (painted-table most (blank most) (λ line x. 0) ps (blank-table most)))
+    ap (take n) (table-rows most (sink_after_pixels with_pixel (blank most) ps) (λ line x. colour_after 0 ps line x) (painted-table most (blank most) (λ line x. 0) ps (blank-table most)))
     ∙ take-map-range_with_len (λ line. map (λ x. colour_after 0 ps line x) (range_with_len 0 160)) 0 most n h

@@ -2,27 +2,27 @@
 use Rattle.std.specs.Prelude.{ℕ, ◌-◌, ◌*◌, ◌/◌, ◌%◌, ◌||◌, Bool, true, false, if◌then◌else◌, Option, Some, None, List, [], ◌∷◌, ◌++◌, slice_index}
 use Rattle.std.specs.Fn.{iterate}
 use Rattle.mos_cpu.specs.Buses.{Meaning}
-use Rattle.riot_map.specs.Riot.{RiotState, after_cycles, after_read, after_write, with_ram, read_of as riot_read_of}
-use Rattle.riot_map.specs.Cart.{byte_at, bank_after}
+use Rattle.riot_map.specs.Riot.{RiotState, after_cycles, after_read, after_write, with_ram, riot_read as riot_read_of}
+use Rattle.riot_map.specs.Cart.{cart_byte, bank_after}
 use Rattle.riot_map.specs.Place.{place_of}
 use Rattle.riot_map.specs.declared.places.Place.{Place}
 use Rattle.riot_map.specs.declared.places.Place.TheVariants.{Cart, Tia, Ram, Io}
 use Rattle.tia_core.specs.TiaState.{TiaState}
-use Rattle.tia_core.specs.Clock.{Pixel, clocked, pixels, painted}
-use Rattle.tia_core.specs.Write.{written, effect_of}
-use Rattle.tia_core.specs.Read.{read_of as tia_read_of}
+use Rattle.tia_core.specs.Clock.{Pixel, after_clock, pixels, sink_after_pixels}
+use Rattle.tia_core.specs.Write.{tia_after_write, effect_of}
+use Rattle.tia_core.specs.Read.{tia_read as tia_read_of}
 use Rattle.tia_core.specs.declared.effect.Effect.{Effect}
 use Rattle.tia_core.specs.declared.effect.Effect.TheVariants.{Sync, FrameEnd}
 use Rattle.vcs_machine.specs.Frame.{Rules}
 
--- A console whose pixels go to a sink. `bank` is the selected bank of the cartridge, `synced` says whether WSYNC was written in
+-- A console whose pixels go to a sink. `bank` is the selected bank of the cartridge, `awaits_line` says whether WSYNC was written in
 -- this instruction, and `ended` whether VSYNC has fallen in this frame.
 pub record Console (S : Type 0) : Type 0 where
   pub cart : List ℕ
   pub bank : ℕ
   pub riot : RiotState
   pub tia : TiaState
-  pub synced : Bool
+  pub awaits_line : Bool
   pub ended : Bool
   pub sink : S
 
@@ -37,7 +37,7 @@ is_frame_end other = false
 module _ {S : Type 0} where
   -- The byte that a read gives.
   abbrev pub value_at : Console S → Place → ℕ
-  value_at c (Cart address) = byte_at c.cart c.bank address
+  value_at c (Cart address) = cart_byte c.cart c.bank address
   value_at c (Tia register) = tia_read_of c.tia register
   value_at c (Ram index) = slice_index c.riot.ram index
   value_at c (Io register) = riot_read_of c.riot register
@@ -50,24 +50,24 @@ module _ {S : Type 0} where
 
   -- An instruction's byte: no register of the TIA or the RIOT gives one. It selects no bank.
   abbrev pub peeked_at : Console S → Place → Option ℕ
-  peeked_at c (Cart address) = Some (byte_at c.cart c.bank address)
+  peeked_at c (Cart address) = Some (cart_byte c.cart c.bank address)
   peeked_at c (Ram index) = Some (slice_index c.riot.ram index)
   peeked_at c other = None
 
   -- A write of a register of the TIA may ask for a wait, or end the frame.
-  abbrev pub tia_written : Console S → ℕ → ℕ → Console S
-  tia_written c register v =
+  abbrev pub after_tia_write : Console S → ℕ → ℕ → Console S
+  after_tia_write c register v =
       let effect = effect_of c.tia register v in
       record c {
-        tia = written c.tia register v;
-        synced = c.synced || is_sync effect;
+        tia = tia_after_write c.tia register v;
+        awaits_line = c.awaits_line || is_sync effect;
         ended = c.ended || is_frame_end effect;
       }
 
   -- A cartridge has no place to write to, but a write may select a bank.
   abbrev pub written_at : Console S → Place → ℕ → Console S
   written_at c (Cart address) v = record c { bank = bank_after c.cart c.bank address }
-  written_at c (Tia register) v = tia_written c register v
+  written_at c (Tia register) v = after_tia_write c register v
   written_at c (Ram index) v = record c { riot = with_ram index v c.riot }
   written_at c (Io register) v = record c { riot = after_write c.riot register v }
 
@@ -75,8 +75,8 @@ module _ {S : Type 0} where
   abbrev pub passed : (S → ℕ → ℕ → ℕ → S) → Console S → ℕ → Console S
   passed drawn c n = record c {
     riot = after_cycles n c.riot;
-    tia = iterate clocked (3 * n) c.tia;
-    sink = painted drawn c.sink (pixels (3 * n) c.tia);
+    tia = iterate after_clock (3 * n) c.tia;
+    sink = sink_after_pixels drawn c.sink (pixels (3 * n) c.tia);
   }
 
   -- What a console does as a bus, where `drawn` is what its sink says of one pixel.
@@ -92,19 +92,19 @@ module _ {S : Type 0} where
 
 -- The cycles until a scanline begins, none where one begins. That an instruction which wrote WSYNC waits so long, and only
 -- when it is over, is this project's own rule.
-abbrev pub wait_of : ℕ → ℕ
-wait_of clock = (76 - clock / 3) % 76
+abbrev pub cycles_to_line_start : ℕ → ℕ
+cycles_to_line_start clock = (76 - clock / 3) % 76
 
 abbrev pub wait_cycles : {S : Type 0} → Console S → ℕ
-wait_cycles c = if c.synced then wait_of c.tia.fields.clock else 0
+wait_cycles c = if c.awaits_line then cycles_to_line_start c.tia.fields.clock else 0
 
-abbrev pub rested : {S : Type 0} → (S → ℕ → ℕ → ℕ → S) → Console S → Console S
-rested drawn c = if c.synced then record (passed drawn c (wait_of c.tia.fields.clock)) { synced = false } else c
+abbrev pub after_wait : {S : Type 0} → (S → ℕ → ℕ → ℕ → S) → Console S → Console S
+after_wait drawn c = if c.awaits_line then record (passed drawn c (cycles_to_line_start c.tia.fields.clock)) { awaits_line = false } else c
 
 -- A frame's rules on a console.
 unfoldable pub console_rules : {S : Type 0} → (S → ℕ → ℕ → ℕ → S) → Rules (Console S)
-console_rules drawn = record { meaning = meaning_of drawn; rested = rested drawn; wait = wait_cycles; ended = λ c. c.ended }
+console_rules drawn = record { meaning = meaning_of drawn; after_wait = after_wait drawn; wait = wait_cycles; ended = λ c. c.ended }
 
 -- A sink that lists the pixels in the order in which they were put.
-abbrev pub logged : List Pixel → ℕ → ℕ → ℕ → List Pixel
-logged log line x colour = log ++ record { line = line; x = x; colour = colour } ∷ []
+abbrev pub with_pixel_logged : List Pixel → ℕ → ℕ → ℕ → List Pixel
+with_pixel_logged log line x colour = log ++ record { line = line; x = x; colour = colour } ∷ []

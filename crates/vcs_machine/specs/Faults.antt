@@ -13,10 +13,10 @@ kind_of (BadOpcodeOfCpu opcode at) = BadOpcode opcode at
 kind_of (FetchOutsideOfCpu at) = FetchOutside at
 
 -- The stop of this kind, at this machine.
-abbrev pub halted : {B : Type 0} → FaultKind → Machine B → Stop B
-halted (BadOpcode opcode at) m = Faulted (BadOpcodeOfCpu opcode at) m
-halted (FetchOutside at) m = Faulted (FetchOutsideOfCpu at) m
-halted Overlong m = Overlongs m
+abbrev pub stop_with : {B : Type 0} → FaultKind → Machine B → Stop B
+stop_with (BadOpcode opcode at) m = Faulted (BadOpcodeOfCpu opcode at) m
+stop_with (FetchOutside at) m = Faulted (FetchOutsideOfCpu at) m
+stop_with Overlong m = Overlongs m
 
 -- Two and four capital hexadecimal digits.
 abbrev pub hex2 : ℕ → List ℕ

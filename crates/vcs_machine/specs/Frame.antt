@@ -10,7 +10,7 @@ use Rattle.mos_cpu.specs.declared.fault.CpuFault.{CpuFault}
 -- that wait, and whether the frame's end has come.
 pub record Rules (B : Type 0) : Type 0 where
   pub meaning : Meaning B
-  pub rested : B → B
+  pub after_wait : B → B
   pub wait : B → ℕ
   pub ended : B → Bool
 
@@ -26,8 +26,8 @@ pub data Turn (B : Type 0) : Type 0 where
   Went : Machine B → Turn B
 
 -- Cycles after which a frame that has not ended is too long: 320 scanlines.
-abbrev pub too_many_cycles : ℕ
-too_many_cycles = 24320
+abbrev pub overlong_cycles : ℕ
+overlong_cycles = 24320
 
 -- The most cycles that a frame takes: its last instruction begins before it is too long, at 24,319
 -- at the latest, and takes at most 7 cycles and a wait of 75.
@@ -37,7 +37,7 @@ most_frame_cycles = 24401
 module _ {B : Type 0} (rules : Rules B) where
   abbrev pub turn_by : ℕ → Registers → B → Result ℕ CpuFault → Turn B
   turn_by cycles r bus (Err fault) = Failed fault
-  turn_by cycles r bus (Ok n) = Went (record { registers = r; bus = rules.rested bus; cycles = cycles + n + rules.wait bus })
+  turn_by cycles r bus (Ok n) = Went (record { registers = r; bus = rules.after_wait bus; cycles = cycles + n + rules.wait bus })
 
   -- One instruction with its wait.
   unfoldable pub turn : Machine B → Turn B
@@ -56,7 +56,7 @@ module _ {B : Type 0} (rules : Rules B) where
 
   -- Whether a frame stops here.
   abbrev pub is_over : Machine B → Bool
-  is_over m = rules.ended m.bus || nat_le too_many_cycles m.cycles
+  is_over m = rules.ended m.bus || nat_le overlong_cycles m.cycles
 
 -- After so many instructions from the start the machine is here, and it was not over after fewer.
 pub record Reaches {B : Type 0} (rules : Rules B) (start : Machine B) (count : ℕ) (here : Machine B) : Type 0 where
@@ -71,12 +71,12 @@ pub record Ends {B : Type 0} (rules : Rules B) (start here : Machine B) : Type 0
   pub ended : rules.ended here.bus ≡ true
 
 -- or it is too long without that,
-pub record IsTooLong {B : Type 0} (rules : Rules B) (start here : Machine B) : Type 0 where
+pub record IsOverlong {B : Type 0} (rules : Rules B) (start here : Machine B) : Type 0 where
   pub count : ℕ
   pub some : 0 < count
   pub reaches : Reaches rules start count here
   pub unended : rules.ended here.bus ≡ false
-  pub long : too_many_cycles ≤ here.cycles
+  pub long : overlong_cycles ≤ here.cycles
 
 -- or the next instruction faults, before it is over.
 pub record Faults {B : Type 0} (rules : Rules B) (start here : Machine B) (fault : CpuFault) : Type 0 where
@@ -100,7 +100,7 @@ machine_at (Faulted fault m) = m
 -- A frame from this start stops so.
 abbrev pub StopsAs : {B : Type 0} → Rules B → Machine B → Stop B → Type 0
 StopsAs rules start (Ended here) = Ends rules start here
-StopsAs rules start (Overlong here) = IsTooLong rules start here
+StopsAs rules start (Overlong here) = IsOverlong rules start here
 StopsAs rules start (Faulted fault here) = Faults rules start here fault
 
 -- The one way in which a frame stops, found by trying one instruction after another. Each takes at least two cycles, so that
@@ -116,7 +116,7 @@ module _ {B : Type 0} (rules : Rules B) where
   unfoldable pub stop_within : ℕ → Machine B → Stop B
   stop_within zero m = Overlong m
   stop_within (suc n) m =
-      if nat_le too_many_cycles m.cycles then Overlong m else stop_after (stop_within n) m (turn rules m)
+      if nat_le overlong_cycles m.cycles then Overlong m else stop_after (stop_within n) m (turn rules m)
 
   unfoldable pub stop_of : Machine B → Stop B
   stop_of m = stop_within most_turns m

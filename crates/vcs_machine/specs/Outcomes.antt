@@ -1,10 +1,10 @@
 -- What one frame does to a state. This project's own: the Stella Programmer's Guide has no frames.
 use Rattle.std.specs.Prelude.{ℕ, ◌≡◌, false, List, []}
 use Rattle.riot_map.specs.Riot.{riot_of, fields_of, with_pins}
-use Rattle.tia_core.specs.TiaState.{state_of as tia_state_of, fire_set, frame_begun}
-use Rattle.tia_core.specs.Clock.{Pixel, painted}
-use Rattle.vcs_machine.specs.Consoles.{Console, console_rules, logged}
-use Rattle.vcs_machine.specs.Faults.{kind_of, halted}
+use Rattle.tia_core.specs.TiaState.{tia_of as tia_state_of, with_fire, at_frame_start}
+use Rattle.tia_core.specs.Clock.{Pixel, sink_after_pixels}
+use Rattle.vcs_machine.specs.Consoles.{Console, console_rules, with_pixel_logged}
+use Rattle.vcs_machine.specs.Faults.{kind_of, stop_with}
 use Rattle.vcs_machine.specs.Frame.{Machine, Stop, Ended, Overlong, Faulted, stop_of}
 use Rattle.vcs_machine.specs.Inputs.{Controls, is_pressed}
 use Rattle.vcs_machine.specs.Pictures.{Rows, picture_of, rows_of}
@@ -16,12 +16,12 @@ use Rattle.vcs_machine.specs.declared.fault.FrameError.TheVariants.{Fault, NoMem
 use Rattle.vcs_machine.specs.declared.fields.StateFields.{StateFields}
 
 -- A frame ended with a state and a picture, or it failed and left a state.
-pub data Outcome : Type 0 where
-  Played : StateFields → Rows → Outcome
-  Failed : FaultKind → StateFields → Outcome
+pub data FrameOutcome : Type 0 where
+  Played : StateFields → Rows → FrameOutcome
+  Failed : FaultKind → StateFields → FrameOutcome
 
 -- The state that a frame leaves.
-abbrev pub left_by : Outcome → StateFields
+abbrev pub left_by : FrameOutcome → StateFields
 left_by (Played s rows) = s
 left_by (Failed kind s) = s
 
@@ -33,8 +33,8 @@ console_of cart s i sink =
       cart = cart;
       bank = s.bank;
       riot = with_pins i.swcha i.swchb (riot_of s.riot);
-      tia = frame_begun (fire_set (tia_state_of s.tia) (is_pressed 0 i) (is_pressed 1 i));
-      synced = false;
+      tia = at_frame_start (with_fire (tia_state_of s.tia) (is_pressed 0 i) (is_pressed 1 i));
+      awaits_line = false;
       ended = false;
       sink = sink;
     }
@@ -43,32 +43,32 @@ abbrev pub machine_of : {S : Type 0} → List ℕ → StateFields → Controls �
 machine_of cart s i sink = record { registers = s.cpu; bus = console_of cart s i sink; cycles = 0 }
 
 -- The state that a machine leaves.
-abbrev pub state_at : {S : Type 0} → Machine (Console S) → StateFields
-state_at m = record { cpu = m.registers; riot = fields_of m.bus.riot; tia = m.bus.tia.fields; bank = m.bus.bank }
+abbrev pub state_left : {S : Type 0} → Machine (Console S) → StateFields
+state_left m = record { cpu = m.registers; riot = fields_of m.bus.riot; tia = m.bus.tia.fields; bank = m.bus.bank }
 
 -- The outcome of a way to stop, for a frame that began at this cycle of its scanline.
-abbrev pub outcome_of : ℕ → Stop (Console (List Pixel)) → Outcome
-outcome_of line_cycle (Ended m) = Played (state_at m) (picture_of (rows_of line_cycle m.cycles) m.bus.sink)
-outcome_of line_cycle (Overlong m) = Failed TooLong (state_at m)
-outcome_of line_cycle (Faulted fault m) = Failed (kind_of fault) (state_at m)
+abbrev pub outcome_of : ℕ → Stop (Console (List Pixel)) → FrameOutcome
+outcome_of line_cycle (Ended m) = Played (state_left m) (picture_of (rows_of line_cycle m.cycles) m.bus.sink)
+outcome_of line_cycle (Overlong m) = Failed TooLong (state_left m)
+outcome_of line_cycle (Faulted fault m) = Failed (kind_of fault) (state_left m)
 
 -- What a frame on a cartridge does to a state, with this input.
-unfoldable pub frame_of : List ℕ → StateFields → Controls → Outcome
-frame_of cart s i = outcome_of (line_cycle_of s) (stop_of (console_rules logged) (machine_of cart s i []))
+unfoldable pub frame_of : List ℕ → StateFields → Controls → FrameOutcome
+frame_of cart s i = outcome_of (line_cycle_of s) (stop_of (console_rules with_pixel_logged) (machine_of cart s i []))
 
 -- A frame's error, and the state that it leaves.
-abbrev pub FailsAs : Outcome → FrameError → StateFields → Type 0
+abbrev pub FailsAs : FrameOutcome → FrameError → StateFields → Type 0
 FailsAs outcome (Fault kind) s = outcome ≡ Failed kind s
 FailsAs outcome NoMemory s = Unit {0}
 
 -- A frame stops for this cause, leaves this state, and has taken so many cycles.
 abbrev pub Halts : List ℕ → StateFields → Controls → FaultKind → StateFields → ℕ → Type 0
 Halts cart s i kind after cycles =
-    (here : Machine (Console (List Pixel))) × (stop_of (console_rules logged) (machine_of cart s i []) ≡ halted kind here) × (state_at here ≡ after)
+    (here : Machine (Console (List Pixel))) × (stop_of (console_rules with_pixel_logged) (machine_of cart s i []) ≡ stop_with kind here) × (state_left here ≡ after)
     × (here.cycles ≡ cycles)
 
 -- A frame that ends leaves this state after so many cycles, and its pixels have been put on a sink.
 abbrev pub PlaysOn : {S : Type 0} → (S → ℕ → ℕ → ℕ → S) → List ℕ → StateFields → Controls → S → StateFields → S → ℕ → Type 0
 PlaysOn drawn cart s i sink after sink_after cycles =
-    (here : Machine (Console (List Pixel))) × (stop_of (console_rules logged) (machine_of cart s i []) ≡ Ended here) × (state_at here ≡ after)
-    × (painted drawn sink here.bus.sink ≡ sink_after) × (here.cycles ≡ cycles)
+    (here : Machine (Console (List Pixel))) × (stop_of (console_rules with_pixel_logged) (machine_of cart s i []) ≡ Ended here) × (state_left here ≡ after)
+    × (sink_after_pixels drawn sink here.bus.sink ≡ sink_after) × (here.cycles ≡ cycles)

@@ -1,10 +1,10 @@
 -- States between frames. The record of a state is this project's own.
 use Rattle.std.specs.Prelude.{ℕ, List, ◌+◌, ◌*◌, ◌/◌, ◌%◌, Bool, ◌==◌, ◌&&◌, nat_lt}
 use Rattle.mos_cpu.specs.Registers.{is_status}
-use Rattle.riot_map.specs.Cart.{byte_at, bank_at_power_on}
-use Rattle.riot_map.specs.Riot.{fields_of, power_on as riot_at_power_on}
+use Rattle.riot_map.specs.Cart.{cart_byte, bank_at_power_on}
+use Rattle.riot_map.specs.Riot.{fields_of, riot_at_power_on}
 use Rattle.riot_map.specs.RiotFields.{is_riot}
-use Rattle.tia_core.specs.TiaState.{is_tia, power_on as tia_at_power_on}
+use Rattle.tia_core.specs.TiaState.{is_tia, tia_at_power_on}
 use Rattle.vcs_machine.specs.declared.fields.StateFields.{StateFields}
 
 -- Which numbers are those of a state: those of a processor, a RIOT and a TIA, whose beam stands where a cycle begins, and one of
@@ -18,15 +18,15 @@ line_cycle_of f = f.tia.clock / 3
 
 -- A console that was just switched on. PC comes from the reset vector, in the second bank where there are two; the rest is
 -- this project's own: S is FF, I is set, and all else of the processor is 0.
-abbrev pub power_on : List ℕ → StateFields
-power_on cart = record {
+abbrev pub state_at_power_on : List ℕ → StateFields
+state_at_power_on cart = record {
   cpu = record {
     a = 0;
     x = 0;
     y = 0;
     s = 0xFF;
     p = 0x04;
-    pc = byte_at cart (bank_at_power_on cart) 0xFFFC + 256 * byte_at cart (bank_at_power_on cart) 0xFFFD;
+    pc = cart_byte cart (bank_at_power_on cart) 0xFFFC + 256 * cart_byte cart (bank_at_power_on cart) 0xFFFD;
   };
   riot = fields_of riot_at_power_on;
   tia = tia_at_power_on;

@@ -1,8 +1,8 @@
 //! A console as its processor's bus.
 ghost use Rattle.std.specs.Prelude.{◌≡◌, ◌%◌, ◌/◌, ◌-◌, ◌*◌, ◌+◌, ◌<◌, ◌≤◌, IsTrue, false};
 ghost use Rattle.riot_map.specs.Riot.{riot_of, fields_of, with_pins, with_ram};
-ghost use Rattle.tia_core.specs.TiaState.{state_of as tia_state_of, fire_set, frame_begun};
-ghost use Rattle.vcs_machine.specs.Consoles.{meaning_of, rested, wait_cycles, wait_of};
+ghost use Rattle.tia_core.specs.TiaState.{tia_of as tia_state_of, with_fire, at_frame_start};
+ghost use Rattle.vcs_machine.specs.Consoles.{meaning_of, after_wait, wait_cycles, cycles_to_line_start};
 ghost use Rattle.vcs_machine.specs.Inputs.{is_pressed};
 
 use crate::devices::{Devices, MOST_OWED};
@@ -23,7 +23,7 @@ pub struct Console<'a, S: Paint> {
     socket: Socket<'a>,
     devices: Devices<S>,
     /// WSYNC was written in this instruction.
-    synced: bool,
+    awaits_line: bool,
     /// VSYNC has fallen in this frame.
     ended: bool,
     /// One of the two, perhaps: most instructions do neither, and ask this alone.
@@ -41,12 +41,12 @@ impl<'a, S: Paint> Model for Console<'a, S> {
       bank = c.socket.bank;
       riot = riot_seen c.devices;
       tia = tia_seen c.devices;
-      synced = c.synced;
+      awaits_line = c.awaits_line;
       ended = c.ended;
       sink = sink_seen S.drawn c.devices;
     } };
 
-    ghost invariant = { λ c. IsBehind c.devices × IsStirring c.stirred c.synced c.ended };
+    ghost invariant = { λ c. IsBehind c.devices × IsStirring c.stirred c.awaits_line c.ended };
 }
 
 impl<'a, S: Paint> Bus for Console<'a, S> {
@@ -120,8 +120,8 @@ impl<'a, S: Paint> Bus for Console<'a, S> {
 }
 
 impl<'a, S: Paint> Console<'a, S> {
-    ghost use Rattle.vcs_machine.specs.Consoles.{tia_written};
-    ghost use Rattle.vcs_machine.specs.Outcomes.{console_of, state_at};
+    ghost use Rattle.vcs_machine.specs.Consoles.{after_tia_write};
+    ghost use Rattle.vcs_machine.specs.Outcomes.{console_of, state_left};
 
     /// The console of a state as a frame begins: the pins and the buttons are those of the input.
     #[tactic(auto, unfolding(riot_map::specs::Riot::after_cycles))]
@@ -142,7 +142,7 @@ impl<'a, S: Paint> Console<'a, S> {
                 left: MOST_OWED,
                 paid: 0,
             },
-            synced: false,
+            awaits_line: false,
             ended: false,
             stirred: false,
         }
@@ -162,7 +162,7 @@ impl<'a, S: Paint> Console<'a, S> {
         let Console {
             socket,
             mut devices,
-            synced: _,
+            awaits_line: _,
             ended: _,
             stirred: _,
         } = self;
@@ -178,14 +178,14 @@ impl<'a, S: Paint> Console<'a, S> {
     }
 
     /// A write of a register of the TIA.
-    #[tactic(auto, unfolding(riot_map::specs::Riot::after_cycles, tia_core::specs::Write::written))]
+    #[tactic(auto, unfolding(riot_map::specs::Riot::after_cycles, tia_core::specs::Write::tia_after_write))]
     #[inline(always)]
     fn write_tia(&mut self, register: u8, value: u8)
-        ensures { self.new ≡ tia_written self.old register value }
+        ensures { self.new ≡ after_tia_write self.old register value }
     {
         // These leave the cycles owed, since they change nothing in the TIA.
         if register == WSYNC {
-            self.synced = true;
+            self.awaits_line = true;
             self.stirred = true;
             return;
         }
@@ -196,15 +196,15 @@ impl<'a, S: Paint> Console<'a, S> {
     }
 
     /// A write of a register of the TIA that may change something.
-    #[tactic(auto, unfolding(riot_map::specs::Riot::after_cycles, tia_core::specs::Write::written))]
+    #[tactic(auto, unfolding(riot_map::specs::Riot::after_cycles, tia_core::specs::Write::tia_after_write))]
     #[inline(never)]
     fn change_tia(&mut self, register: u8, value: u8)
-        ensures { self.new ≡ tia_written self.old register value }
+        ensures { self.new ≡ after_tia_write self.old register value }
     {
         self.devices.settle();
         match self.devices.tia.write(register, value) {
             Effect::Nothing => return,
-            Effect::Sync => self.synced = true,
+            Effect::Sync => self.awaits_line = true,
             Effect::FrameEnd => self.ended = true,
         }
         self.stirred = true;
@@ -214,7 +214,7 @@ impl<'a, S: Paint> Console<'a, S> {
     #[tactic(auto, unfolding(crate::specs::Consoles::meaning_of, riot_map::specs::Riot::after_cycles))]
     #[inline(always)]
     pub fn wait(&mut self) -> u8
-        ensures bus { self.new ≡ rested S.drawn self.old }
+        ensures bus { self.new ≡ after_wait S.drawn self.old }
         ensures cycles { result ≡ wait_cycles self.old }
         ensures most { result ≤ 75 }
     {
@@ -229,16 +229,16 @@ impl<'a, S: Paint> Console<'a, S> {
     #[tactic(auto, unfolding(crate::specs::Consoles::meaning_of, riot_map::specs::Riot::after_cycles))]
     #[inline(never)]
     fn wait_for_line(&mut self) -> u8
-        ensures bus { self.new ≡ rested S.drawn self.old }
+        ensures bus { self.new ≡ after_wait S.drawn self.old }
         ensures cycles { result ≡ wait_cycles self.old }
         ensures most { result ≤ 75 }
     {
-        if !self.synced {
+        if !self.awaits_line {
             return 0;
         }
         let cycles = (76 - self.devices.line_cycle()) % 76;
         self.pass(cycles);
-        self.synced = false;
+        self.awaits_line = false;
         self.stirred = self.ended;
         cycles
     }

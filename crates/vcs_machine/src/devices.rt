@@ -1,10 +1,10 @@
 //! The devices of a console, which may be behind its processor.
 ghost use Rattle.std.specs.Prelude.{◌≡◌, ◌≤◌, ◌<◌, ◌+◌, ◌-◌, ◌*◌, ◌/◌};
 ghost use Rattle.std.specs.Fn.{iterate};
-ghost use Rattle.tia_core.specs.Read.{read_of};
+ghost use Rattle.tia_core.specs.Read.{tia_read};
 ghost use Rattle.vcs_machine.specs.Private.Owing.{riot_seen, tia_seen, sink_seen, given_back, IsBehind};
 ghost use Rattle.riot_map.specs.Riot.{after_cycles};
-ghost use Rattle.tia_core.specs.Clock.{clocked, pixels, painted};
+ghost use Rattle.tia_core.specs.Clock.{after_clock, pixels, sink_after_pixels};
 
 use riot_map::Riot;
 use tia_core::{NoPaint, Paint, Tia};
@@ -78,8 +78,8 @@ impl<S: Paint> Devices<S> {
         requires most { cycles ≤ 76 }
         ensures behind { IsBehind self.new }
         ensures riot { riot_seen self.new ≡ after_cycles cycles (riot_seen self.old) }
-        ensures tia { tia_seen self.new ≡ iterate clocked (3 * cycles) (tia_seen self.old) }
-        ensures sink { sink_seen S.drawn self.new ≡ painted S.drawn (sink_seen S.drawn self.old) (pixels (3 * cycles) (tia_seen self.old)) }
+        ensures tia { tia_seen self.new ≡ iterate after_clock (3 * cycles) (tia_seen self.old) }
+        ensures sink { sink_seen S.drawn self.new ≡ sink_after_pixels S.drawn (sink_seen S.drawn self.old) (pixels (3 * cycles) (tia_seen self.old)) }
     {
         let is_short = self.left < cycles;
         self.left = self.left.wrapping_sub(cycles);
@@ -111,7 +111,7 @@ impl<S: Paint> Devices<S> {
     #[inline(never)]
     pub fn peek_tia(&self, register: u8) -> u8
         requires { IsBehind self.now }
-        ensures { result ≡ read_of (tia_seen self.now) register }
+        ensures { result ≡ tia_read (tia_seen self.now) register }
     {
         let fields = self.tia.fields();
         // The buttons don't depend on the beam, only the collisions do.

@@ -1,24 +1,24 @@
 //! One frame.
 ghost use Rattle.std.specs.Prelude.{◌≡◌, ◌≤◌, ◌+◌, true, false, if◌then◌else◌, Some, None, IfOk, IfErr, IfSome, IfNone};
-ghost use Rattle.tia_core.specs.Clock.{Pixel, painted};
-ghost use Rattle.vcs_machine.specs.Consoles.{console_rules, logged, Console};
-ghost use Rattle.vcs_machine.specs.Faults.{halted};
+ghost use Rattle.tia_core.specs.Clock.{Pixel, sink_after_pixels};
+ghost use Rattle.vcs_machine.specs.Consoles.{console_rules, with_pixel_logged, Console};
+ghost use Rattle.vcs_machine.specs.Faults.{stop_with};
 ghost use Rattle.vcs_machine.specs.Frame.{stop_of, Machine, Ended, most_frame_cycles};
-ghost use Rattle.vcs_machine.specs.Outcomes.{frame_of, machine_of, state_at, Played, FailsAs, PlaysOn, Halts};
+ghost use Rattle.vcs_machine.specs.Outcomes.{frame_of, machine_of, state_left, Played, FailsAs, PlaysOn, Halts};
 ghost use Rattle.vcs_machine.specs.Pictures.{Rows};
 
 use crate::console::Console;
 use crate::fault::{FrameError, Halt};
 use crate::input::Input;
 use crate::picture::{Picture, rows};
-use crate::run::run;
+use crate::run::run_frame;
 use crate::state::State;
 use riot_map::Cart;
 use std::alloc::Global;
 use tia_core::{NoPaint, Paint};
 
 /// A frame from a state, whose pixels go to a sink; it answers the sink, and its cycles.
-fn play<S: Paint + Drop>(
+fn frame_onto<S: Paint + Drop>(
     cart: &Cart,
     state: &mut State,
     input: Input,
@@ -30,7 +30,7 @@ fn play<S: Paint + Drop>(
 {
     let mut cpu = state.cpu();
     let mut console = Console::begin(cart, state, input, sink);
-    let ran = run(&mut cpu, &mut console);
+    let ran = run_frame(&mut cpu, &mut console);
     let (after, sink) = console.finish(cpu);
     *state = after;
     match ran {
@@ -59,7 +59,7 @@ pub fn frame(
     ensures refused { result ≡ Err FrameError.NoMemory → state.new ≡ state.old }
 {
     if !keep {
-        return match play(cart, state, input, NoPaint) {
+        return match frame_onto(cart, state, input, NoPaint) {
             Ok(_) => Ok(None),
             Err(halt) => Err(FrameError::Fault(halt.kind)),
         };
@@ -68,7 +68,7 @@ pub fn frame(
     let Ok(blank) = Picture::blank(alloc) else {
         return Err(FrameError::NoMemory);
     };
-    match play(cart, state, input, blank) {
+    match frame_onto(cart, state, input, blank) {
         Ok((picture, cycles)) => Ok(Some(picture.cut(rows(line_cycle, cycles)))),
         Err(halt) => Err(FrameError::Fault(halt.kind)),
     }
@@ -82,7 +82,7 @@ pub fn halt(cart: &Cart, state: &mut State, input: Input) -> Option<Halt>
     ensures halted { IfSome result (λ halt. Halts cart.now state.old input halt.kind state.new halt.cycles) }
     ensures ended { IfNone result ((rows : Rows) × (frame_of cart.now state.old input ≡ Played state.new rows)) }
 {
-    match play(cart, state, input, NoPaint) {
+    match frame_onto(cart, state, input, NoPaint) {
         Ok(_) => None,
         Err(halt) => Some(halt),
     }

@@ -3,11 +3,11 @@ ghost use Rattle.std.specs.Prelude.{◌≡◌, ◌↔◌, ℕ, ◌+◌, ◌*◌,
 ghost use Rattle.mos_cpu.specs.Execution.{step_of};
 ghost use Rattle.riot_map.specs.Cart.{has_banks};
 ghost use Rattle.tia_core.specs.Clock.{Pixel};
-ghost use Rattle.vcs_machine.specs.Consoles.{Console, console_rules, logged, meaning_of, rested, wait_cycles};
+ghost use Rattle.vcs_machine.specs.Consoles.{Console, console_rules, with_pixel_logged, meaning_of, after_wait, wait_cycles};
 ghost use Rattle.vcs_machine.specs.Frame.{Rules, Machine, Stop, Ended, machine_at, StopsAs};
 ghost use Rattle.vcs_machine.specs.Frame.{most_frame_cycles, stop_of, turn, turns, Went};
 ghost use Rattle.vcs_machine.specs.Inputs.{Controls};
-ghost use Rattle.vcs_machine.specs.Outcomes.{frame_of, left_by, machine_of, state_at};
+ghost use Rattle.vcs_machine.specs.Outcomes.{frame_of, left_by, machine_of, state_left};
 ghost use Rattle.vcs_machine.specs.Pictures.{most_rows, rows_of};
 ghost use Rattle.vcs_machine.specs.States.{is_state, line_cycle_of};
 ghost use Rattle.vcs_machine.specs.declared.fields.StateFields.{StateFields};
@@ -24,16 +24,16 @@ pub const fn law_of_one_stop<B>()
 /// A law: an instruction waits at most 75 cycles, and then the beam stands where a scanline begins.
 pub const fn law_of_waits<S>()
     ensures most { (c : Console S) → wait_cycles c ≤ 75 }
-    ensures line { (drawn : S → ℕ → ℕ → ℕ → S) (c : Console S) → c.synced ≡ true → c.tia.fields.clock < 228 → c.tia.fields.clock % 3 ≡ 0
-        → (rested drawn c).tia.fields.clock ≡ 0 }
+    ensures line { (drawn : S → ℕ → ℕ → ℕ → S) (c : Console S) → c.awaits_line ≡ true → c.tia.fields.clock < 228 → c.tia.fields.clock % 3 ≡ 0
+        → (after_wait drawn c).tia.fields.clock ≡ 0 }
 {}
 
 /// A law: what the law of waits asks for holds in each frame. After so many instructions with their waits, and one more without
 /// its wait, the beam stands at one of the 228 clocks of a scanline, and a whole number of cycles after its begin.
 pub const fn law_of_whole_cycles()
     ensures { (cart : List ℕ) (s : StateFields) (i : Controls) (count : ℕ) (m : Machine (Console (List Pixel))) → IsTrue (is_state s)
-        → turns (console_rules logged) count (machine_of cart s i []) ≡ Went m
-        → let c = (step_of (meaning_of logged) m.registers m.bus).bus in
+        → turns (console_rules with_pixel_logged) count (machine_of cart s i []) ≡ Went m
+        → let c = (step_of (meaning_of with_pixel_logged) m.registers m.bus).bus in
         (c.tia.fields.clock < 228) × (c.tia.fields.clock % 3 ≡ 0) }
 {}
 
@@ -41,15 +41,15 @@ pub const fn law_of_whole_cycles()
 /// has the beam's place: three clocks a cycle on from where it began.
 pub const fn law_of_frame_lengths()
     ensures cycles { (cart : List ℕ) (s : StateFields) (i : Controls) → IsTrue (is_state s)
-        → (machine_at (stop_of (console_rules logged) (machine_of cart s i []))).cycles ≤ most_frame_cycles }
+        → (machine_at (stop_of (console_rules with_pixel_logged) (machine_of cart s i []))).cycles ≤ most_frame_cycles }
     ensures rows { (cart : List ℕ) (s : StateFields) (i : Controls) → IsTrue (is_state s)
-        → rows_of (line_cycle_of s) (machine_at (stop_of (console_rules logged) (machine_of cart s i []))).cycles ≤ most_rows }
+        → rows_of (line_cycle_of s) (machine_at (stop_of (console_rules with_pixel_logged) (machine_of cart s i []))).cycles ≤ most_rows }
     ensures beam { (cart : List ℕ) (s : StateFields) (i : Controls) → IsTrue (is_state s)
-        → let here = machine_at (stop_of (console_rules logged) (machine_of cart s i [])) in
-        here.bus.tia.fields.clock ≡ 3 * line_cycle_of (state_at here) }
+        → let here = machine_at (stop_of (console_rules with_pixel_logged) (machine_of cart s i [])) in
+        here.bus.tia.fields.clock ≡ 3 * line_cycle_of (state_left here) }
     ensures line_cycle { (cart : List ℕ) (s : StateFields) (i : Controls) → IsTrue (is_state s)
-        → let here = machine_at (stop_of (console_rules logged) (machine_of cart s i [])) in
-        line_cycle_of (state_at here) ≡ (line_cycle_of s + here.cycles) % 76 }
+        → let here = machine_at (stop_of (console_rules with_pixel_logged) (machine_of cart s i [])) in
+        line_cycle_of (state_left here) ≡ (line_cycle_of s + here.cycles) % 76 }
 {}
 
 /// A law: on a cartridge without banks a frame leaves the bank as it was.

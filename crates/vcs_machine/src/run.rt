@@ -2,7 +2,7 @@
 ghost use Rattle.std.specs.Prelude.{◌≡◌, ◌<◌, ◌≤◌, ◌+◌, MatchResult, IfOk, OnErr, IfErr};
 ghost use Rattle.mos_cpu.specs.Registers.{Registers};
 ghost use Rattle.vcs_machine.specs.Consoles.{console_rules};
-ghost use Rattle.vcs_machine.specs.Faults.{halted};
+ghost use Rattle.vcs_machine.specs.Faults.{stop_with};
 ghost use Rattle.vcs_machine.specs.Frame.{turn, Went, Failed, stop_of, Ended, most_frame_cycles};
 
 use crate::console::Console;
@@ -33,11 +33,11 @@ fn turn<S: Paint>(cpu: &mut Cpu, console: &mut Console<S>, cycles: u32) -> Resul
 }
 
 /// Instructions, each with its wait, until the frame stops; it answers its cycles.
-pub fn run<S: Paint>(cpu: &mut Cpu, console: &mut Console<S>) -> Result<u32, Halt>
+pub fn run_frame<S: Paint>(cpu: &mut Cpu, console: &mut Console<S>) -> Result<u32, Halt>
     ensures ok { IfOk result (λ total. stop_of (console_rules S.drawn) (record { registers = cpu.old; bus = console.old; cycles = 0 })
         ≡ Ended (record { registers = cpu.new; bus = console.new; cycles = total })) }
     ensures err { IfErr result (λ halt. stop_of (console_rules S.drawn) (record { registers = cpu.old; bus = console.old; cycles = 0 })
-        ≡ halted halt.kind (record { registers = cpu.new; bus = console.new; cycles = halt.cycles })) }
+        ≡ stop_with halt.kind (record { registers = cpu.new; bus = console.new; cycles = halt.cycles })) }
     ensures most { IfOk result (λ total. total ≤ most_frame_cycles) }
 {
     let mut cycles = 0;

@@ -1,6 +1,6 @@
 //! A cartridge in a console.
 ghost use Rattle.std.specs.Prelude.{◌≡◌, ◌<◌, ℕ, ◌-◌, length, slice_index, bit_and};
-ghost use Rattle.riot_map.specs.Cart.{byte_at, bank_after};
+ghost use Rattle.riot_map.specs.Cart.{cart_byte, bank_after};
 
 use riot_map::Cart;
 
@@ -20,7 +20,7 @@ pub struct Socket<'a> {
     pub mask: u16,
     ghost small: { bank < 2 },
     ghost within: { mask < length bytes.now },
-    ghost shown: { (address : ℕ) → slice_index bytes.now (bit_and address mask) ≡ byte_at cart.now bank address },
+    ghost shown: { (address : ℕ) → slice_index bytes.now (bit_and address mask) ≡ cart_byte cart.now bank address },
 }
 
 impl<'a> Socket<'a> {
@@ -53,7 +53,7 @@ impl<'a> Socket<'a> {
     #[tactic(auto, using(std::proofs::lemmas::Nat::and_le_r))]
     #[inline(always)]
     pub fn at(&self, addr: u16) -> u8
-        ensures { result ≡ byte_at self.now.cart.now self.now.bank addr }
+        ensures { result ≡ cart_byte self.now.cart.now self.now.bank addr }
     {
         self.bytes[(addr & self.mask) as usize]
     }

@@ -1,8 +1,8 @@
 //! States between frames.
 ghost use Rattle.std.specs.Prelude.{◌≡◌, ◌<◌, ◌%◌, ◌↔◌, IsTrue, if◌then◌else◌};
 ghost use Rattle.riot_map.specs.Riot.{riot_of, fields_of};
-ghost use Rattle.tia_core.specs.TiaState.{state_of as tia_state_of};
-ghost use Rattle.vcs_machine.specs.States.{is_state, line_cycle_of, power_on};
+ghost use Rattle.tia_core.specs.TiaState.{tia_of as tia_state_of};
+ghost use Rattle.vcs_machine.specs.States.{is_state, line_cycle_of, state_at_power_on};
 
 use crate::fields::StateFields;
 use mos_cpu::Cpu;
@@ -38,7 +38,7 @@ impl Model for State {
 impl State {
     /// The state of a console that was just switched on, with this cartridge.
     pub fn power_on(cart: &Cart) -> State
-        ensures { result ≡ power_on cart.now }
+        ensures { result ≡ state_at_power_on cart.now }
     {
         let bank = cart.bank_at_power_on();
         let cpu = Cpu {

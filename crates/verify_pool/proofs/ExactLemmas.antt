@@ -12,14 +12,14 @@ use Rattle.replay_segments.specs.Pieces.{PieceData, Job, IsPassed, HasKept}
 use Rattle.segment_desk.specs.declared.part.Part.{Part}
 use Rattle.segment_desk.specs.Desk.{times, with_number, with_drawn, at_end, look_at, report_at, with_handed_in}
 use Rattle.segment_desk.specs.Private.Draws.{to_draw, left_of}
-use Rattle.verify_pool.specs.Exact.{numbers, if_bad, bad_numbers, IsExact, WantsMemoryForPictures}
+use Rattle.verify_pool.specs.Exact.{piece_numbers, if_bad, bad_numbers, IsExact, WantsMemoryForPictures}
 use Rattle.verify_pool.specs.Private.Replays.{IsReplayed}
 use Rattle.segment_desk.specs.Kept.{IsKnown}
-use Rattle.segment_desk.proofs.Parts.{tested}
-use Rattle.segment_desk.proofs.Sums.{times-append}
+use Rattle.segment_desk.proofs.PartLemmas.{tested}
+use Rattle.segment_desk.proofs.ListLemmas.{times-append}
 
-times-numbers : (k : ℕ) (ps qs : List PieceData) → times k (numbers (ps ++ qs)) ≡ times k (numbers ps) + times k (numbers qs)
-times-numbers k ps qs = ap (times k) (map-append (λ (p : PieceData). p.number) ps qs) ∙ times-append k (numbers ps) (numbers qs)
+times-numbers : (k : ℕ) (ps qs : List PieceData) → times k (piece_numbers (ps ++ qs)) ≡ times k (piece_numbers ps) + times k (piece_numbers qs)
+times-numbers k ps qs = ap (times k) (map-append (λ (p : PieceData). p.number) ps qs) ∙ times-append k (piece_numbers ps) (piece_numbers qs)
 
 times-bad : (k : ℕ) (ps qs : List PieceData) → times k (bad_numbers (ps ++ qs)) ≡ times k (bad_numbers ps) + times k (bad_numbers qs)
 times-bad k ps qs = ap (times k) (flat_map-append (λ (p : PieceData). if_bad p.number p.outcome) ps qs) ∙ times-append k (bad_numbers ps) (bad_numbers qs)

@@ -8,15 +8,15 @@ use Rattle.replay_segments.specs.Pieces.{PieceData, Job, IsPassed}
 use Rattle.verify_pool.specs.declared.hand.Hand.{Hand}
 use Rattle.verify_pool.specs.Crew.{IsWorked}
 use Rattle.segment_desk.specs.Desk.{times}
-use Rattle.verify_pool.specs.Exact.{numbers, if_bad, bad_numbers}
+use Rattle.verify_pool.specs.Exact.{piece_numbers, if_bad, bad_numbers}
 use Rattle.segment_desk.specs.Views.{DeskView}
-use Rattle.segment_desk.proofs.Sums.{times-append, times-same, times-other}
+use Rattle.segment_desk.proofs.ListLemmas.{times-append, times-same, times-other}
 
 -- The number of a first piece, and those of the others.
-times-numbers-cons : (k : ℕ) (p : PieceData) (ps : List PieceData) → times k (numbers (p ∷ ps)) ≡ times k (p.number ∷ []) + times k (numbers ps)
-times-numbers-cons k p ps = times-append k (p.number ∷ []) (numbers ps)
+times-numbers-cons : (k : ℕ) (p : PieceData) (ps : List PieceData) → times k (piece_numbers (p ∷ ps)) ≡ times k (p.number ∷ []) + times k (piece_numbers ps)
+times-numbers-cons k p ps = times-append k (p.number ∷ []) (piece_numbers ps)
 
-missing-none : (k : ℕ) (ps : List PieceData) → IsMissing ps k → times k (numbers ps) ≡ 0
+missing-none : (k : ℕ) (ps : List PieceData) → IsMissing ps k → times k (piece_numbers ps) ≡ 0
 missing-none k [] missing = refl
 missing-none k (p ∷ ps) missing = omega (arith, times-numbers-cons k p ps, times-other k p.number (missing 0 p refl), missing-none k ps (λ i q at. missing (suc i) q at))
 
@@ -32,12 +32,12 @@ passed_one k number (Judged (FalseCheckpoint n frame)) good = absurd good
 passed_one k number (Judged (Fault frame kind)) good = absurd good
 passed_one k number NoMemory good = absurd good
 
-bad-le : (k : ℕ) (ps : List PieceData) → times k (bad_numbers ps) ≤ times k (numbers ps)
+bad-le : (k : ℕ) (ps : List PieceData) → times k (bad_numbers ps) ≤ times k (piece_numbers ps)
 bad-le k [] = omega arith
 bad-le k (p ∷ ps) = omega (arith, bad-le k ps, bad_one k p.number p.outcome, times-numbers-cons k p ps, times-append k (if_bad p.number p.outcome) (bad_numbers ps))
 
 -- A number with a piece that passed has fewer bad pieces than pieces.
-passed-less : (k : ℕ) (ps : List PieceData) (i : ℕ) (p : PieceData) → slice_get ps i ≡ Some p → p.number ≡ k → IsPassed p.outcome → times k (bad_numbers ps) < times k (numbers ps)
+passed-less : (k : ℕ) (ps : List PieceData) (i : ℕ) (p : PieceData) → slice_get ps i ≡ Some p → p.number ≡ k → IsPassed p.outcome → times k (bad_numbers ps) < times k (piece_numbers ps)
 passed-less k [] i p at is good = absurd cc
 passed-less k (q ∷ ps) zero p at is good = let same : q ≡ p = cc in
     let here : times k (q.number ∷ []) ≡ 1 = ap (λ (n : ℕ). times k (n ∷ [])) (ap (λ (x : PieceData). x.number) same ∙ is) ∙ times-same k k refl in

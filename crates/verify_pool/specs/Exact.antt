@@ -9,8 +9,8 @@ use Rattle.segment_desk.specs.declared.part.Part.{Part}
 use Rattle.segment_desk.specs.Desk.{times}
 
 -- The numbers of pieces.
-abbrev pub numbers : List PieceData → List ℕ
-numbers pieces = map (λ (p : PieceData). p.number) pieces
+abbrev pub piece_numbers : List PieceData → List ℕ
+piece_numbers pieces = map (λ (p : PieceData). p.number) pieces
 
 -- A number is bad unless its segment passed: refused memory is bad too.
 abbrev pub if_bad : ℕ → Outcome → List ℕ
@@ -31,7 +31,7 @@ WantsMemoryForPictures p = p.outcome ≡ NoMemory → HasKept p.job p.number
 pub record IsExact (job : Job) (v : Part) (pieces : List PieceData) : Type 0 where
   pub names : NamesAll job pieces
   -- One piece for each number that was drawn and not passed over, and no other.
-  pub pieces_of : (k : ℕ) → times k (numbers pieces) + times k v.passed_over ≡ times k v.drawn
+  pub pieces_of : (k : ℕ) → times k (piece_numbers pieces) + times k v.passed_over ≡ times k v.drawn
   -- Such a number is reported exactly where its piece did not pass.
   pub reports_of : (k : ℕ) → times k (bad_numbers pieces) ≡ times k v.reported
   pub memory : All WantsMemoryForPictures pieces

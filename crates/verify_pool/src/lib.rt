@@ -9,6 +9,6 @@ mod workers;
 
 pub use gate::{Gate, NoGate};
 pub use hand::Hand;
-pub use segment_desk::{Desk, NoMemory, Ticket};
+pub use segment_desk::{Desk, Ticket};
 pub use verification::{VerifyError, verify};
 pub use workers::{NoThread, crew};

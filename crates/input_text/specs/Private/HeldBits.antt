@@ -5,7 +5,7 @@ use Rattle.input_text.specs.declared.held.Held.{Held}
 use Rattle.input_text.specs.declared.name.Name.{Name}
 use Rattle.input_text.specs.declared.name.Port.{Port}
 use Rattle.input_text.specs.declared.name.Port.TheVariants.{Swcha, Swchb, Buttons}
-use Rattle.input_text.specs.Names.{entry_of}
+use Rattle.input_text.specs.Names.{bit_of_name}
 
 abbrev pub bits_of : Port → Held → ℕ
 bits_of Swcha held = held.swcha
@@ -13,5 +13,5 @@ bits_of Swchb held = held.swchb
 bits_of Buttons held = held.buttons
 
 -- whether the bit of a name is among them
-abbrev pub has_bit : Held → Name → Bool
-has_bit held name = bit_at (bits_of (entry_of name).port held) (entry_of name).bit == 1
+abbrev pub holds_name : Held → Name → Bool
+holds_name held name = bit_at (bits_of (bit_of_name name).port held) (bit_of_name name).bit == 1

@@ -1,12 +1,12 @@
 -- What the ways of opcodes stand on: an opcode's row and operand, each known by itself, and how an
 -- operation uses its operand. These are helpers of proofs: no public contract names them.
 use Rattle.std.specs.Prelude.{ℕ, ◌≡◌, ◌+◌, ◌%◌, Bool, false, not, ◌==◌, ◌||◌, if◌then◌else◌, List, [], Option, Some, None, Result, Ok, IsErr, slice_index}
-use Rattle.mos_cpu.specs.Accesses.{Held, Nothing, Reads, Stores, Modifies, use_of, branch_test, is_taken}
+use Rattle.mos_cpu.specs.Accesses.{StoredByte, Nothing, Reads, Stores, Modifies, use_of, branch_test, is_taken}
 use Rattle.mos_cpu.specs.Buses.{Meaning}
 use Rattle.mos_cpu.specs.Effects.{changed_of, target_of, with_a, with_p, with_pc, effect}
 use Rattle.mos_cpu.specs.Execution.{step_of}
 use Rattle.mos_cpu.specs.Opcodes.{row_of, row_with}
-use Rattle.mos_cpu.specs.Operands.{and_then, byte_at, documented, named_by, length_of, takes_vector, decoded}
+use Rattle.mos_cpu.specs.Operands.{and_then, instruction_byte, row_or_fault, operand_by_mode, length_of, takes_vector, instruction_at}
 use Rattle.mos_cpu.specs.Registers.{Registers}
 use Rattle.mos_cpu.specs.declared.addressing.Target.{Target}
 use Rattle.mos_cpu.specs.declared.fault.CpuFault.{CpuFault}
@@ -19,7 +19,7 @@ use Rattle.mos_cpu.specs.declared.instruction.Operand.TheVariants.{Register, Val
 -- The row of the opcode at the program counter, or the fault that none is there.
 abbrev pub row_here : {S : Type 0} → Meaning S → S → Registers → Result Row CpuFault
 row_here m s r =
-    and_then (byte_at m s r.pc) (λ opcode. documented (row_of opcode) opcode r.pc)
+    and_then (instruction_byte m s r.pc) (λ opcode. row_or_fault (row_of opcode) opcode r.pc)
 
 -- The row of the opcode at the program counter is this one.
 abbrev pub IsRow : {S : Type 0} → Meaning S → S → Registers → Operation → Mode → ℕ → Bool → Type 0
@@ -38,28 +38,28 @@ has_low opcode =
 
 -- A mode names this place.
 pub record IsTarget {S : Type 0} (m : Meaning S) (s : S) (r : Registers) (mode : Mode) (t : Target) : Type 0 where
-  pub named : ◌≡◌ {A = Result Operand CpuFault} (named_by m s r mode) (Ok (Place t.address t.crossed))
+  pub named : ◌≡◌ {A = Result Operand CpuFault} (operand_by_mode m s r mode) (Ok (Place t.address t.crossed))
   pub next : t.next ≡ (r.pc + length_of mode) % 65536
 
 -- The place that a mode names, or none where a byte of the instruction isn't there.
 abbrev pub IsNamed : {S : Type 0} → Meaning S → S → Registers → Mode → Option Target → Type 0
 IsNamed m s r mode (Some target) = IsTarget m s r mode target
-IsNamed m s r mode None = IsErr (named_by m s r mode)
+IsNamed m s r mode None = IsErr (operand_by_mode m s r mode)
 
 -- A step answers these cycles, and leaves these registers and this bus.
-abbrev pub IsStep : {S : Type 0} → Meaning S → Registers → S → ℕ → Registers → S → Type 0
-IsStep m r s cycles after bus =
+abbrev pub IsStepOf : {S : Type 0} → Meaning S → Registers → S → ℕ → Registers → S → Type 0
+IsStepOf m r s cycles after bus =
     step_of m r s ≡ record { answer = Ok cycles; registers = after; bus = bus }
 
 -- A step is a fault, and nothing was done.
 pub record IsUndone {S : Type 0} (m : Meaning S) (r : Registers) (s : S) (after : Registers) (bus : S) : Type 0 where
   pub registers : after ≡ r
   pub bus_state : bus ≡ s
-  pub fault : IsErr (decoded m s r)
+  pub fault : IsErr (instruction_at m s r)
 
 -- A way answers and leaves what a step does, or has no answer where it is a fault.
 abbrev pub IsWay : {S : Type 0} → Meaning S → Registers → S → Option ℕ → Registers → S → Type 0
-IsWay m r s (Some cycles) after bus = IsStep m r s cycles after bus
+IsWay m r s (Some cycles) after bus = IsStepOf m r s cycles after bus
 IsWay m r s None after bus = IsUndone m r s after bus
 
 -- An operation that reads its operand, and does with a byte of memory what it does with one of the
@@ -72,7 +72,7 @@ pub record IsReader (o : Operation) : Type 0 where
       → effect o (Place address crossed) r bytes ≡ effect o (Value (slice_index bytes 0)) r []
 
 -- An operation that stores, and does nothing else.
-pub record IsStorer (o : Operation) (what : Held) : Type 0 where
+pub record IsStorer (o : Operation) (what : StoredByte) : Type 0 where
   pub used : use_of o ≡ Stores what
   pub straight : branch_test o ≡ None
   pub plain : takes_vector o ≡ false

@@ -2,7 +2,7 @@
 use Rattle.std.specs.Prelude.{◌≡◌, ℕ, ◌+◌, ◌*◌, ◌/◌, ◌%◌, List, [], ◌∷◌, length, Some, slice_get}
 use Rattle.std.specs.Prelude.{◌==◌, if◌then◌else◌}
 use Rattle.vcs_machine.specs.Inputs.{Controls}
-use Rattle.vcs_machine.specs.States.{power_on}
+use Rattle.vcs_machine.specs.States.{state_at_power_on}
 use Rattle.vcs_machine.specs.declared.fields.StateFields.{StateFields}
 use Rattle.movie_file.specs.declared.checkpoint.Checkpoint.{Checkpoint}
 use Rattle.movie_file.specs.declared.error.MakeError.{MakeError}
@@ -19,10 +19,10 @@ checkpoint_if every frame state = if frame % every == 0 then record { frame = fr
 -- k frames of the run from power-on have ended, and these are the checkpoints at the multiples up
 -- to k
 pub record Records (cart : List ℕ) (inputs : List Controls) (every k : ℕ) (made : List Checkpoint) : Type 0 where
-  pub sound : AllSound (bare cart inputs) (power_on cart) 0 k
+  pub sound : AllSound (bare cart inputs) (state_at_power_on cart) 0 k
   pub count : length made ≡ k / every
   pub places : (j : ℕ) (c : Checkpoint) → slice_get made j ≡ Some c → c.frame ≡ every * (j + 1)
-  pub states : (j : ℕ) (c : Checkpoint) → slice_get made j ≡ Some c → run (bare cart inputs) (power_on cart) 0 c.frame ≡ Some c.state
+  pub states : (j : ℕ) (c : Checkpoint) → slice_get made j ≡ Some c → run (bare cart inputs) (state_at_power_on cart) 0 c.frame ≡ Some c.state
   pub lawful : (j : ℕ) (c : Checkpoint) → slice_get made j ≡ Some c → IsState c.state
 
 -- the run from power-on has its first fault at this frame; nothing else stops it

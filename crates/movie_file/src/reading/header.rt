@@ -19,8 +19,8 @@ fn u16_at(bytes: &[u8]) -> Result<(u16, &[u8]), MovieError>
     if bytes.len() < 2 {
         return Err(MovieError::Short);
     }
-    let (front, rest) = bytes.split_at(2);
-    Ok((u16::from_be_bytes([front[0], front[1]]), rest))
+    let (prefix, rest) = bytes.split_at(2);
+    Ok((u16::from_be_bytes([prefix[0], prefix[1]]), rest))
 }
 
 /// A number of four bytes, and what follows it.
@@ -31,8 +31,8 @@ fn u32_at(bytes: &[u8]) -> Result<(u32, &[u8]), MovieError>
     if bytes.len() < 4 {
         return Err(MovieError::Short);
     }
-    let (front, rest) = bytes.split_at(4);
-    let number = u32::from_be_bytes([front[0], front[1], front[2], front[3]]);
+    let (prefix, rest) = bytes.split_at(4);
+    let number = u32::from_be_bytes([prefix[0], prefix[1], prefix[2], prefix[3]]);
     Ok((number, rest))
 }
 

@@ -2,7 +2,7 @@
 ghost use Rattle.std.specs.Prelude.{◌≡◌, ◌≢◌, ◌≤◌, ◌+◌, ◌*◌, [], IfErr, IfOk, length, vec_capacity};
 ghost use Rattle.movie_file.specs.Format.{input_length, record_length, checkpoint_length, most_checkpoints};
 ghost use Rattle.movie_file.specs.MovieError.{Gives};
-ghost use Rattle.movie_file.specs.Reading.{input_at, inputs_at, head_state_at, checkpoint_at, checkpoints_at};
+ghost use Rattle.movie_file.specs.Reading.{input_at, inputs_at, head_state_at, claimed_checkpoint, checkpoints_at};
 
 use super::sizes::Sizes;
 use crate::checkpoint::Checkpoint;
@@ -57,7 +57,7 @@ fn head_state_in(sizes: Sizes, bytes: &[u8]) -> Option<State>
 
 /// The checkpoint of a number, at the head of the bytes, where the one before it stands after
 /// frame `last`.
-#[tactic(auto, unfolding(crate::specs::Reading::checkpoint_at))]
+#[tactic(auto, unfolding(crate::specs::Reading::claimed_checkpoint))]
 fn checkpoint_in(
     sizes: Sizes,
     number: u16,
@@ -65,7 +65,7 @@ fn checkpoint_in(
     bytes: &[u8],
 ) -> Result<Checkpoint, MovieError>
     requires { checkpoint_length sizes.version ≤ length bytes.now }
-    ensures gives { Gives (λ x. x) result (checkpoint_at sizes number last bytes.now) }
+    ensures gives { Gives (λ x. x) result (claimed_checkpoint sizes number last bytes.now) }
     ensures never { IfErr result (λ e. e ≢ MovieError.NoMemory) }
 {
     let frame = u32::from_be_bytes([bytes[0], bytes[1], bytes[2], bytes[3]]);

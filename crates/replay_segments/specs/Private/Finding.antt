@@ -7,7 +7,7 @@ use Rattle.replay_segments.specs.declared.outcome.Outcome.{Outcome}
 use Rattle.replay_segments.specs.declared.outcome.Outcome.TheVariants.{Judged, NoMemory as NoMemoryOutcome}
 use Rattle.replay_segments.specs.declared.verdict.Verdict.{Verdict}
 use Rattle.replay_segments.specs.declared.verdict.Verdict.TheVariants.{Genuine, FalseCheckpoint, Fault}
-use Rattle.replay_segments.specs.Gathering.{NamesAll, HasNumber, HasPassed, IsMissing, AllRefused, total}
+use Rattle.replay_segments.specs.Gathering.{NamesAll, HasNumber, HasPassed, IsMissing, AllRefused, picture_count}
 use Rattle.replay_segments.specs.Pieces.{PieceData, IsPiece, Job, IsJob, IsPassed, segments_of}
 use Rattle.replay_segments.specs.Segments.{IsSegment}
 
@@ -52,4 +52,4 @@ pub record IsTaken (old : List PieceData) (number : ℕ) (frames : List Rows) (n
       → IsJob job × (number < segments_of job) × IsSegment job.movie job.cuts job.keep number (Genuine frames)
   pub names : (job : Job) → NamesAll job old → NamesAll job new
   pub others : (k : ℕ) → k ≢ number → HasPassed old k → HasPassed new k
-  pub rest : total new + length frames ≡ total old
+  pub rest : picture_count new + length frames ≡ picture_count old

@@ -14,11 +14,11 @@ use Rattle.replay_segments.specs.KeptPictures.{pictures}
 use Rattle.replay_plan.specs.declared.keep.Keep.{Keep}
 
 -- What replaying frame k + 1 answers, which leaves a state.
-abbrev pub IsStep : MovieData → ℕ → StateFields → Bool → StateFields → Result (Option Rows) FrameError → Type 0
-IsStep m k old keep new (Ok picture) =
+abbrev pub IsFrameStep : MovieData → ℕ → StateFields → Bool → StateFields → Result (Option Rows) FrameError → Type 0
+IsFrameStep m k old keep new (Ok picture) =
     (rows : Rows) × (frame_after m k old ≡ Some (Played new rows)) × (picture ≡ (if keep then Some rows else None))
-IsStep m k old keep new (Err (Fault kind)) = (left : StateFields) × (frame_after m k old ≡ Some (Failed kind left))
-IsStep m k old keep new (Err NoMemory) = keep ≡ true
+IsFrameStep m k old keep new (Err (Fault kind)) = (left : StateFields) × (frame_after m k old ≡ Some (Failed kind left))
+IsFrameStep m k old keep new (Err NoMemory) = keep ≡ true
 
 -- The same, where a kept picture goes to the end of a list.
 abbrev pub IsAdvance : MovieData → Keep → ℕ → StateFields → List Rows → StateFields → List Rows → Result (Unit {0}) FrameError → Type 0

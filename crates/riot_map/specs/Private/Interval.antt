@@ -4,14 +4,14 @@ use Rattle.riot_map.specs.declared.interval.Interval.{Interval}
 use Rattle.riot_map.specs.declared.interval.Interval.TheVariants.{Tim1t, Tim8t, Tim64t, T1024t}
 
 -- in cycles
-abbrev pub cycles_of : Interval → ℕ
-cycles_of Tim1t = 1
-cycles_of Tim8t = 8
-cycles_of Tim64t = 64
-cycles_of T1024t = 1024
+abbrev pub interval_cycles : Interval → ℕ
+interval_cycles Tim1t = 1
+interval_cycles Tim8t = 8
+interval_cycles Tim64t = 64
+interval_cycles T1024t = 1024
 
-abbrev pub code_of : Interval → ℕ
-code_of Tim1t = 0
-code_of Tim8t = 1
-code_of Tim64t = 2
-code_of T1024t = 3
+abbrev pub code_of_interval : Interval → ℕ
+code_of_interval Tim1t = 0
+code_of_interval Tim8t = 1
+code_of_interval Tim64t = 2
+code_of_interval T1024t = 3

@@ -38,8 +38,8 @@ abbrev pub Settled : Play
 Settled step before x after = HasPart after before.0
 
 -- A ticket that gave one of its shares to a fresh ticket, and that fresh ticket.
-abbrev pub kept_of : Part → Part
-kept_of v = part v.segments v.workers v.drawn v.reported v.passed_over v.last v.seen v.ended (v.share - 1)
+abbrev pub staying_part : Part → Part
+staying_part v = part v.segments v.workers v.drawn v.reported v.passed_over v.last v.seen v.ended (v.share - 1)
 
 abbrev pub split_of : Part → Part
 split_of v = fresh_part v.segments v.workers 1

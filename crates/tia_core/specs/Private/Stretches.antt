@@ -47,12 +47,12 @@ pub record MasksFit (t : TiaFields) (m : Masks) : Type 0 where
   pub bound : IsBound t m.bound
 
 -- no object
-abbrev pub nothing : Objects
-nothing = record { player0 = false; player1 = false; missile0 = false; missile1 = false; ball = false; playfield = false }
+abbrev pub no_objects : Objects
+no_objects = record { player0 = false; player1 = false; missile0 = false; missile1 = false; ball = false; playfield = false }
 
 -- the objects of both sets
-abbrev pub joined : Objects → Objects → Objects
-joined a b = record {
+abbrev pub union_of : Objects → Objects → Objects
+union_of a b = record {
   player0 = a.player0 || b.player0;
   player1 = a.player1 || b.player1;
   missile0 = a.missile0 || b.missile0;
@@ -66,8 +66,8 @@ abbrev pub is_any : Objects → Bool
 is_any o = o.player0 || o.player1 || o.missile0 || o.missile1 || o.ball || o.playfield
 
 -- the objects of `new` where they are of this set, else those of `old`
-abbrev pub merged : Objects → Objects → Objects → Objects
-merged o new old = record {
+abbrev pub with_objects : Objects → Objects → Objects → Objects
+with_objects o new old = record {
   player0 = if o.player0 then new.player0 else old.player0;
   player1 = if o.player1 then new.player1 else old.player1;
   missile0 = if o.missile0 then new.missile0 else old.missile0;
@@ -77,20 +77,20 @@ merged o new old = record {
 }
 
 -- the masks once these objects have changed
-abbrev pub marked : Masks → Objects → Masks
-marked m o = record m { stale = joined m.stale o; bound = if is_any o then 32767 else m.bound }
+abbrev pub with_stale : Masks → Objects → Masks
+with_stale m o = record m { stale = union_of m.stale o; bound = if is_any o then 32767 else m.bound }
 
 -- whether two objects meet within k pixels from x
-abbrev pub met : TiaFields → (Objects → Bool) → (Objects → Bool) → ℕ → ℕ → Bool
-met t a b x k = any_from (λ y. a (objects_at t y) && b (objects_at t y)) x k
+abbrev pub meet_within : TiaFields → (Objects → Bool) → (Objects → Bool) → ℕ → ℕ → Bool
+meet_within t a b x k = any_from (λ y. a (objects_at t y) && b (objects_at t y)) x k
 
 -- the fifteen pairs over k pixels from x
 abbrev pub stretch_pairs : TiaFields → ℕ → ℕ → List Bool
 stretch_pairs t x k =
-    met t m0 p1 x k ∷ met t m0 p0 x k ∷ met t m1 p0 x k ∷ met t m1 p1 x k
-    ∷ met t p0 pf x k ∷ met t p0 bl x k ∷ met t p1 pf x k ∷ met t p1 bl x k
-    ∷ met t m0 pf x k ∷ met t m0 bl x k ∷ met t m1 pf x k ∷ met t m1 bl x k
-    ∷ met t bl pf x k ∷ met t p0 p1 x k ∷ met t m0 m1 x k ∷ []
+    meet_within t m0 p1 x k ∷ meet_within t m0 p0 x k ∷ meet_within t m1 p0 x k ∷ meet_within t m1 p1 x k
+    ∷ meet_within t p0 pf x k ∷ meet_within t p0 bl x k ∷ meet_within t p1 pf x k ∷ meet_within t p1 bl x k
+    ∷ meet_within t m0 pf x k ∷ meet_within t m0 bl x k ∷ meet_within t m1 pf x k ∷ meet_within t m1 bl x k
+    ∷ meet_within t bl pf x k ∷ meet_within t p0 p1 x k ∷ meet_within t m0 m1 x k ∷ []
 
 -- the k pixels of a line from x on
 abbrev pub stretch_pixels : TiaFields → ℕ → ℕ → ℕ → List Pixel

@@ -1,14 +1,14 @@
 -- A frame on one bus, followed on another: a map between buses that keeps what a frame asks of them. This project's own.
 use Rattle.std.specs.Prelude.{ℕ, ◌≡◌, List}
 use Rattle.mos_cpu.specs.Buses.{Respects}
-use Rattle.tia_core.specs.Clock.{Pixel, painted}
+use Rattle.tia_core.specs.Clock.{Pixel, sink_after_pixels}
 use Rattle.vcs_machine.specs.Consoles.{Console}
 use Rattle.vcs_machine.specs.Frame.{Machine, Rules, Stop, Ended, Overlong, Faulted}
 
 -- A map between buses that keeps what a frame asks of them.
 pub record Follows {B C : Type 0} (b : Rules B) (c : Rules C) (h : B → C) : Type 0 where
   pub meaning : Respects b.meaning c.meaning h
-  pub rested : (x : B) → c.rested (h x) ≡ h (b.rested x)
+  pub after_wait : (x : B) → c.after_wait (h x) ≡ h (b.after_wait x)
   pub wait : (x : B) → c.wait (h x) ≡ b.wait x
   pub ended : (x : B) → c.ended (h x) ≡ b.ended x
 
@@ -28,7 +28,7 @@ drawn_on drawn sink c = record {
   bank = c.bank;
   riot = c.riot;
   tia = c.tia;
-  synced = c.synced;
+  awaits_line = c.awaits_line;
   ended = c.ended;
-  sink = painted drawn sink c.sink;
+  sink = sink_after_pixels drawn sink c.sink;
 }

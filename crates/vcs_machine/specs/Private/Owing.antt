@@ -2,7 +2,7 @@
 use Rattle.std.specs.Prelude.{ℕ, ◌≡◌, ◌≤◌, ◌-◌, ◌+◌, ◌*◌, ◌%◌, Bool, false}
 use Rattle.std.specs.Fn.{iterate}
 use Rattle.riot_map.specs.Riot.{RiotState, after_cycles}
-use Rattle.tia_core.specs.Clock.{clocked, pixels, painted}
+use Rattle.tia_core.specs.Clock.{after_clock, pixels, sink_after_pixels}
 use Rattle.tia_core.specs.TiaState.{TiaState}
 use Rattle.tia_core.specs.declared.fields.TiaFields.{TiaFields}
 use Rattle.vcs_machine.specs.declared.devices.Devices.{Devices}
@@ -13,10 +13,10 @@ module _ {S : Type 0} where
   riot_seen d = after_cycles (76 - d.left - d.paid) d.riot
 
   abbrev pub tia_seen : Devices S → TiaState
-  tia_seen d = iterate clocked (3 * (76 - d.left)) d.tia
+  tia_seen d = iterate after_clock (3 * (76 - d.left)) d.tia
 
   abbrev pub sink_seen : (S → ℕ → ℕ → ℕ → S) → Devices S → S
-  sink_seen drawn d = painted drawn d.sink (pixels (3 * (76 - d.left)) d.tia)
+  sink_seen drawn d = sink_after_pixels drawn d.sink (pixels (3 * (76 - d.left)) d.tia)
 
 -- What is true of the cycles that devices are owed: the RIOT has seen no others, and they are at most those of a scanline.
 pub record IsBehind {S : Type 0} (d : Devices S) : Type 0 where
@@ -28,8 +28,8 @@ abbrev pub given_back : {S : Type 0} → Devices S → ℕ → Devices S
 given_back d cycles = record d { left = (d.left + cycles) % 256 }
 
 -- What is known where no instruction stirred: none wrote WSYNC, and VSYNC has not fallen.
-pub record IsStirring (stirred synced ended : Bool) : Type 0 where
-  pub no_wait : stirred ≡ false → synced ≡ false
+pub record IsStirring (stirred awaits_line ended : Bool) : Type 0 where
+  pub no_wait : stirred ≡ false → awaits_line ≡ false
   pub no_end : stirred ≡ false → ended ≡ false
 
 -- The numbers of a TIA whose beam went on: nothing else of them changes.

@@ -1,4 +1,4 @@
-use Rattle.input_text.proofs.Counts.{Counted}
+use Rattle.input_text.proofs.CountLemmas.{Counted}
 use Rattle.input_text.proofs.reading.count_in.Given as goal
 
 abbrev pub invariant-loop-byte : goal.invariant-loop-byte

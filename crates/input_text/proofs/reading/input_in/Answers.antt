@@ -1,7 +1,7 @@
 use Rattle.std.proofs.Common.{sym, ap, refl, ◌∙◌}
 use Rattle.std.specs.Prelude.{is_some}
 use Rattle.input_text.specs.Words.{words_in}
-use Rattle.input_text.proofs.Holding.{holds_none, holds_more, holds_bad, holds_all, holds_input}
+use Rattle.input_text.proofs.HeldLemmas.{holds_none, holds_more, holds_bad, holds_all, holds_input}
 use Rattle.input_text.proofs.reading.input_in.Goals as goal
 
 pub loop-word-init : goal.loop-word-init

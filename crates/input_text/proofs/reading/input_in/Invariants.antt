@@ -1,5 +1,5 @@
 use Rattle.std.proofs.Common.{length}
-use Rattle.input_text.proofs.Holding.{HoldsSoFar}
+use Rattle.input_text.proofs.HeldLemmas.{HoldsSoFar}
 use Rattle.input_text.specs.Words.{words_in}
 use Rattle.input_text.proofs.reading.input_in.Given as goal
 

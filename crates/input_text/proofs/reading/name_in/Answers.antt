@@ -4,13 +4,13 @@ use Rattle.std.specs.Str.{bytes_eq}
 use Rattle.std.proofs.lemmas.List.Recursion.{found_at, found_nowhere}
 use Rattle.input_text.specs.declared.name.Name.{Name}
 use Rattle.input_text.specs.declared.name.Name.TheVariants.{Up0}
-use Rattle.input_text.specs.Names.{entry_of, names}
+use Rattle.input_text.specs.Names.{bit_of_name, names}
 use Rattle.input_text.proofs.reading.name_in.Goals as goal
 
 pub returns-then-eq : goal.returns-then-eq
 returns-then-eq c =
-    let is_it = λ (name : Name). bytes_eq (entry_of name).word c.args.word.now in
-    let here : bytes_eq (entry_of (get_or names c.loop-name.name-index Up0)).word c.args.word.now ≡ true =
+    let is_it = λ (name : Name). bytes_eq (bit_of_name name).word c.args.word.now in
+    let here : bytes_eq (bit_of_name (get_or names c.loop-name.name-index Up0)).word c.args.word.now ≡ true =
     ap (λ (w : List ℕ). bytes_eq w c.args.word.now) (sym c.word.ensures ∙ sym c.as_bytes.ensures.value) ∙ sym c.eq.ensures ∙ c.if-eq.true in
     sym (found_at (find is_it) is_it Some None refl (λ _ _. refl) names c.loop-name.name-index Up0 c.loop-name-test.true c.loop-name.invariant here)
 
@@ -21,5 +21,5 @@ loop-name-preserved c =
 
 pub returns : goal.returns
 returns c =
-    let is_it = λ (name : Name). bytes_eq (entry_of name).word c.args.word.now in
+    let is_it = λ (name : Name). bytes_eq (bit_of_name name).word c.args.word.now in
     sym (found_nowhere (find is_it) is_it Some None refl (λ _ _. refl) names Up0 (λ k h. c.loop-name.invariant k (omega arith)))

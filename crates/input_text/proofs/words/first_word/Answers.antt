@@ -1,7 +1,7 @@
 use Rattle.std.proofs.Common.{sym, ap, ◌∙◌}
 use Rattle.std.specs.Prelude.{position}
 use Rattle.input_text.specs.Words.{is_blank}
-use Rattle.input_text.proofs.Splits.{words_none, words_from, word_within, word_some}
+use Rattle.input_text.proofs.LineLemmas.{words_none, words_from, word_within, word_some}
 use Rattle.input_text.proofs.words.first_word.Goals as goal
 
 pub returns-in_err-start-clause-words : goal.returns-in_err-start-clause-words

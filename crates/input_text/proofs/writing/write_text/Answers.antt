@@ -1,6 +1,6 @@
 use Rattle.std.proofs.Common.{sym}
 use Rattle.input_text.proofs.PrintedLines.{printed_more}
-use Rattle.input_text.proofs.Splits.{rest_from}
+use Rattle.input_text.proofs.LineLemmas.{rest_from}
 use Rattle.input_text.proofs.writing.write_text.Goals as goal
 
 pub loop-first-preserved : goal.loop-first-preserved

@@ -1,14 +1,14 @@
 use Rattle.std.proofs.Common.{◌≡◌, ◌+◌, ◌-◌, ◌<◌, ◌≤◌, arith, bit_and}
 use Rattle.std.proofs.lemmas.Nat.{and_mask}
 use Rattle.std.proofs.lemmas.Nat.Bits.{and_high_mask}
-use Rattle.mos_cpu.specs.Decimal.{high, low_difference_of}
+use Rattle.mos_cpu.specs.Decimal.{high_digit, low_difference_of}
 use Rattle.mos_cpu.proofs.DecimalLemmas.{high_lacks, high_suffices}
 use Rattle.mos_cpu.proofs.decimal.decimal_sub.Goals as goal
 
 pub returns-then-have-taken : goal.returns-then-have-taken
 returns-then-have-taken c =
-    let h = high c.args.a in
-    let k = high c.args.m in
+    let h = high_digit c.args.a in
+    let k = high_digit c.args.m in
     let digit = c.low_difference-digit.result.0 in
     let borrowed = c.low_difference-digit.result.1 in
     let ea : bit_and c.args.a 240 ≡ h = and_high_mask 8 4 (omega arith) c.args.a (omega arith) in
@@ -20,8 +20,8 @@ returns-then-have-taken c =
 
 pub returns-else-have-taken : goal.returns-else-have-taken
 returns-else-have-taken c =
-    let h = high c.args.a in
-    let k = high c.args.m in
+    let h = high_digit c.args.a in
+    let k = high_digit c.args.m in
     let digit = c.low_difference-digit.result.0 in
     let borrowed = c.low_difference-digit.result.1 in
     let ea : bit_and c.args.a 240 ≡ h = and_high_mask 8 4 (omega arith) c.args.a (omega arith) in

@@ -1,5 +1,5 @@
 use Rattle.std.proofs.Common.{length}
-use Rattle.movie_file.proofs.Orders.{checkpoint_in_range, checkpoints_rise}
+use Rattle.movie_file.proofs.CheckpointLemmas.{checkpoint_in_range, checkpoints_rise}
 use Rattle.movie_file.proofs.laws.law_of_checkpoints.Goals as goal
 
 pub returns-clause-range : goal.returns-clause-range

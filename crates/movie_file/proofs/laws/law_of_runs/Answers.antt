@@ -1,4 +1,4 @@
-use Rattle.movie_file.proofs.Runs.{run-shift}
+use Rattle.movie_file.proofs.RunLemmas.{run-shift}
 use Rattle.movie_file.proofs.laws.law_of_runs.Goals as goal
 
 pub returns : goal.returns

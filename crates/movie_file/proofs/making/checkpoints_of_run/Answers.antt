@@ -14,7 +14,7 @@ claim-requires-clause-room c = λ h.
 pub returns-in-Err-clause-err : goal.returns-in-Err-clause-err
 returns-in-Err-clause-err c =
     let at = slice_get_read c.args.inputs.now (length c.args.inputs.now) c.loop-i.i c.index-inputs-i.result refl c.loop-i-test.true c.index-inputs-i.is in
-    let faults = faults_here c.args.cart.now c.args.inputs.now c.loop-i.i c.loop-i.state c.index-inputs-i.result c.loop-i.invariant.ran at c.in-Err.kind c.play.new.state c.in-Err.ensures.err in
+    let faults = faults_here c.args.cart.now c.args.inputs.now c.loop-i.i c.loop-i.state c.index-inputs-i.result c.loop-i.invariant.ran at c.in-Err.kind c.frame_without_picture.new.state c.in-Err.ensures.err in
     (c.loop-i.i, refl, c.loop-i.invariant.made.sound, faults)
 
 pub loop-i-preserved : goal.loop-i-preserved
@@ -23,9 +23,9 @@ loop-i-preserved c =
     let at = slice_get_read c.args.inputs.now (length c.args.inputs.now) c.loop-i.i c.index-inputs-i.result refl c.loop-i-test.true c.index-inputs-i.is in
     let ends = c.in-Ok.ensures.ok in
     record {
-      made = Records-next c.args.cart.now c.args.inputs.now c.loop-i.i c.loop-i.state c.index-inputs-i.result c.loop-i.invariant.ran at c.args.every c.loop-i.checkpoints.items c.claim.new.checkpoints.items c.play.new.state ends.0
+      made = Records-next c.args.cart.now c.args.inputs.now c.loop-i.i c.loop-i.state c.index-inputs-i.result c.loop-i.invariant.ran at c.args.every c.loop-i.checkpoints.items c.claim.new.checkpoints.items c.frame_without_picture.new.state ends.0
           fit.2 c.loop-i.invariant.made ends.1 c.claim.ensures.items c.claim.ensures.lawful;
-      ran = run_next c.args.cart.now c.args.inputs.now c.loop-i.i c.loop-i.state c.index-inputs-i.result c.loop-i.invariant.ran at c.play.new.state ends.0 ends.1;
+      ran = run_next c.args.cart.now c.args.inputs.now c.loop-i.i c.loop-i.state c.index-inputs-i.result c.loop-i.invariant.ran at c.frame_without_picture.new.state ends.0 ends.1;
       room = rw c.claim.ensures.capacity c.loop-i.invariant.room;
     }
 

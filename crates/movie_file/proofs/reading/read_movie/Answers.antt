@@ -4,7 +4,7 @@ use Rattle.movie_file.specs.Movie.{MovieData}
 use Rattle.movie_file.specs.Private.MovieParts.{data_of}
 use Rattle.movie_file.specs.Spelling.{Spells}
 use Rattle.movie_file.specs.Reading.{movie_at}
-use Rattle.movie_file.proofs.Loops.{fails_is}
+use Rattle.movie_file.proofs.ItemLemmas.{fails_is}
 use Rattle.movie_file.proofs.MovieLaws.{read_is_spelled, spelled_is_read}
 use Rattle.movie_file.proofs.reading.read_movie.Goals as goal
 

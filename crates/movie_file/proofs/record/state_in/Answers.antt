@@ -1,5 +1,5 @@
 use Rattle.std.proofs.Common.{◌∙◌, sym, arith}
-use Rattle.movie_file.proofs.Cells.{chosen_some, unchosen}
+use Rattle.movie_file.proofs.ByteLemmas.{chosen_some, unchosen}
 use Rattle.movie_file.proofs.RecordLaws.{no_cpu, no_tia, state_of_parts}
 use Rattle.movie_file.proofs.record.state_in.Goals as goal
 

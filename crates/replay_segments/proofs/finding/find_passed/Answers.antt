@@ -1,7 +1,7 @@
 use Rattle.std.proofs.Common.{◌≡◌, ◌∙◌, sym, refl, rules, IsTrue}
 use Rattle.std.proofs.lemmas.Option.{slice_get_read}
 use Rattle.replay_segments.specs.Pieces.{PieceData, IsPassed}
-use Rattle.replay_segments.proofs.Places.{each-below}
+use Rattle.replay_segments.proofs.ListLemmas.{each-below}
 use Rattle.replay_segments.proofs.finding.find_passed.Goals as goal
 use Rattle.replay_segments.proofs.finding.find_passed.Goals.{else-number-via-then-number+else-passed, else-number-via-else-number}
 

@@ -21,8 +21,8 @@ pub returns-in-Some-clause-memory : goal.returns-in-Some-clause-memory
 returns-in-Some-clause-memory c =
     rw c.as_slice-arrived.ensures.value at (memory-answer c.as_slice-arrived.result.now c.args.n c.in-Some.number c.in-Some.ensures.some c.answer_of.result c.answer_of.ensures)
 
-pub joined-requires : goal.joined-requires
-joined-requires c = rw c.as_slice-arrived.ensures.value at (PassedBelow-found c.as_slice-arrived.result.now c.args.n c.in_default.ensures.none)
+pub all_pictures-requires : goal.all_pictures-requires
+all_pictures-requires c = rw c.as_slice-arrived.ensures.value at (PassedBelow-found c.as_slice-arrived.result.now c.args.n c.in_default.ensures.none)
 
 pub returns-in-Ok-clause-missing : goal.returns-in-Ok-clause-missing
 returns-in-Ok-clause-missing c =

@@ -3,7 +3,7 @@ use Rattle.std.proofs.lemmas.Option.{slice_get_read, slice_get_within}
 use Rattle.replay_segments.specs.Private.Finding.{IsPassedAt}
 use Rattle.replay_segments.specs.Gathering.{HasPassed}
 use Rattle.replay_segments.specs.Pieces.{PieceData, IsPassed}
-use Rattle.replay_segments.proofs.Places.{same_at}
+use Rattle.replay_segments.proofs.ListLemmas.{same_at}
 use Rattle.replay_segments.proofs.TakeLemmas.{IsTaken-set}
 use Rattle.replay_segments.proofs.joining.take_passed.Goals as goal
 

@@ -1,5 +1,5 @@
 use Rattle.segment_desk.specs.Tables.{desk_of}
-use Rattle.segment_desk.proofs.Reach.{kept}
+use Rattle.segment_desk.proofs.ReachLemmas.{kept}
 use Rattle.segment_desk.proofs.law.holds_between_steps.Goals as goal
 
 pub returns : goal.returns

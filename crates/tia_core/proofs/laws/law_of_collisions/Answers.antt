@@ -1,4 +1,4 @@
-use Rattle.tia_core.proofs.Clocks.{iterate-clocked-keeps}
+use Rattle.tia_core.proofs.ClockLemmas.{iterate-clocked-keeps}
 use Rattle.tia_core.proofs.laws.law_of_collisions.Goals as goal
 
 pub returns : goal.returns

@@ -1,4 +1,4 @@
-use Rattle.tia_core.proofs.LawfulFields.{iterate-clocked-lawful, written-lawful, frame_begun-lawful}
+use Rattle.tia_core.proofs.FieldLemmas.{iterate-clocked-lawful, written-lawful, frame_begun-lawful}
 use Rattle.tia_core.proofs.LawfulNumbers.{lawful_of, passes}
 use Rattle.tia_core.proofs.laws.law_of_lawful_numbers.Goals as goal
 

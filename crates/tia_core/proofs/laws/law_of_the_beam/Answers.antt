@@ -1,4 +1,4 @@
-use Rattle.tia_core.proofs.Clocks.{iterate-clocked-clock, iterate-clocked-line}
+use Rattle.tia_core.proofs.ClockLemmas.{iterate-clocked-clock, iterate-clocked-line}
 use Rattle.tia_core.proofs.LawfulNumbers.{lawful_of}
 use Rattle.tia_core.proofs.laws.law_of_the_beam.Goals as goal
 

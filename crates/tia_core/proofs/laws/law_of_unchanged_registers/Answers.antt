@@ -1,4 +1,4 @@
-use Rattle.tia_core.proofs.Clocks.{iterate-clocked-others}
+use Rattle.tia_core.proofs.ClockLemmas.{iterate-clocked-others}
 use Rattle.tia_core.proofs.LawfulNumbers.{lawful_of}
 use Rattle.tia_core.proofs.laws.law_of_unchanged_registers.Goals as goal
 

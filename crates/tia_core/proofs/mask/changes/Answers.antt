@@ -1,4 +1,4 @@
-use Rattle.tia_core.proofs.Runs.{changes-one, changes-zero}
+use Rattle.tia_core.proofs.RunLemmas.{changes-one, changes-zero}
 use Rattle.tia_core.proofs.mask.changes.Goals as goal
 
 pub returns-then-rest-eq1 : goal.returns-then-rest-eq1

@@ -1,4 +1,4 @@
-use Rattle.tia_core.proofs.Runs.{bits-before}
+use Rattle.tia_core.proofs.RunLemmas.{bits-before}
 use Rattle.tia_core.proofs.mask.first_change.Goals as goal
 
 pub returns-clause-clear : goal.returns-clause-clear

@@ -1,4 +1,4 @@
-use Rattle.tia_core.proofs.Words.{set_twice-bit}
+use Rattle.tia_core.proofs.WordLemmas.{set_twice-bit}
 use Rattle.tia_core.proofs.mask.set_twice.Goals as goal
 
 pub returns : goal.returns

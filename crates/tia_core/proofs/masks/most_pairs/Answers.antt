@@ -1,5 +1,5 @@
 use Rattle.tia_core.specs.Objects.{objects_at}
-use Rattle.tia_core.proofs.Pairs.{pairs-within}
+use Rattle.tia_core.proofs.PairLemmas.{pairs-within}
 use Rattle.tia_core.proofs.masks.most_pairs.Goals as goal
 
 pub returns : goal.returns

@@ -1,9 +1,9 @@
 use Rattle.std.proofs.Common.{◌≡◌, ◌∙◌, ap, arith, ℕ}
 use Rattle.std.proofs.lemmas.Bool.Decides.{nat_tests}
-use Rattle.tia_core.specs.Bits.{bit}
+use Rattle.tia_core.specs.Bits.{has_bit}
 use Rattle.tia_core.specs.Coverage.{width_of}
 use Rattle.tia_core.proofs.Tables.{row_shows}
-use Rattle.tia_core.proofs.Words.{bit-above}
+use Rattle.tia_core.proofs.WordLemmas.{bit-above}
 use Rattle.tia_core.proofs.row.player_row.Goals as goal
 
 pub returns-in-5 : goal.returns-in-5
@@ -11,7 +11,7 @@ returns-in-5 c = λ d.
     let row : c.from.result ≡ c.doubled.result = c.from.ensures in
     let mode : c.args.mode ≡ 5 = c.in-5.is in
     rw mode (row_shows 16 c.args.reflected c.args.graphic c.player_dots-dots.result c.from.result d c.player_dots-dots.ensures
-    (λ lt. omega arith) (λ lt. ap (λ (n : ℕ). bit n d) row ∙ c.doubled.ensures d lt) (λ le. bit-above c.from.result 16 d (omega arith) le))
+    (λ lt. omega arith) (λ lt. ap (λ (n : ℕ). has_bit n d) row ∙ c.doubled.ensures d lt) (λ le. bit-above c.from.result 16 d (omega arith) le))
 
 pub returns-in-7 : goal.returns-in-7
 returns-in-7 c = λ d.
@@ -23,4 +23,4 @@ pub returns-in_default : goal.returns-in_default
 returns-in_default c = λ d.
     let width : width_of c.args.mode ≡ 8 = grind (arith, nat_tests) in
     rw width (row_shows 8 c.args.reflected c.args.graphic c.player_dots-dots.result c.from-in_default.result d c.player_dots-dots.ensures
-    (λ lt. omega arith) (λ lt. ap (λ (n : ℕ). bit n d) c.from-in_default.ensures ∙ ap (bit c.player_dots-dots.result) (omega arith)) (λ le. bit-above c.from-in_default.result 8 d (omega arith) le))
+    (λ lt. omega arith) (λ lt. ap (λ (n : ℕ). has_bit n d) c.from-in_default.ensures ∙ ap (has_bit c.player_dots-dots.result) (omega arith)) (λ le. bit-above c.from-in_default.result 8 d (omega arith) le))

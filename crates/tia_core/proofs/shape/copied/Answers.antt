@@ -2,24 +2,24 @@ use Rattle.std.proofs.Common.{◌≡◌, ◌||◌, ◌∙◌, sym, ap, ℕ, Bool
 use Rattle.std.specs.List.{list_any}
 use Rattle.std.proofs.lemmas.List.{take_all}
 use Rattle.std.proofs.lemmas.List.Folds.{list_any_more}
-use Rattle.tia_core.specs.Bits.{bit}
+use Rattle.tia_core.specs.Bits.{has_bit}
 use Rattle.tia_core.specs.Coverage.{distance_of}
 use Rattle.tia_core.proofs.Shapes.{distance_of-moved}
 use Rattle.tia_core.proofs.shape.copied.Goals as goal
 
 pub loop-copy-preserved : goal.loop-copy-preserved
 loop-copy-preserved c = λ x h.
-    let test : ℕ → Bool = λ k. bit c.args.row (distance_of x c.args.position k) in
+    let test : ℕ → Bool = λ k. has_bit c.args.row (distance_of x c.args.position k) in
     let items : List ℕ = c.copies-copy-items.result.now in
     let i : ℕ = c.loop-copy.copy-index in
     let place : distance_of x c.right_of.result 0 ≡ distance_of x c.args.position (slice_index_or items i 0) =
     ap (λ (p : ℕ). distance_of x p 0) c.right_of.ensures.value ∙ distance_of-moved x c.args.position (slice_index_or items i 0) h c.requires in
     c.place.ensures x h
-    ∙ ap (λ (b : Bool). b || bit c.args.row (distance_of x c.right_of.result 0)) (c.loop-copy.invariant x h)
-    ∙ ap (λ (d : ℕ). list_any test (take i items) || bit c.args.row d) place
+    ∙ ap (λ (b : Bool). b || has_bit c.args.row (distance_of x c.right_of.result 0)) (c.loop-copy.invariant x h)
+    ∙ ap (λ (d : ℕ). list_any test (take i items) || has_bit c.args.row d) place
     ∙ sym (list_any_more test items i 0 c.loop-copy-test.true)
 
 pub returns : goal.returns
 returns c = λ x h.
-    let test : ℕ → Bool = λ k. bit c.args.row (distance_of x c.args.position k) in
+    let test : ℕ → Bool = λ k. has_bit c.args.row (distance_of x c.args.position k) in
     c.loop-copy.invariant x h ∙ ap (list_any test) (take_all c.loop-copy.copy-index c.copies-copy-items.result.now c.loop-copy-test.false ∙ c.copies-copy-items.ensures)

@@ -1,7 +1,7 @@
 use Rattle.std.proofs.Common.{◌∙◌, sym}
 use Rattle.tia_core.specs.Playfield.{playfield_bit, playfield_index}
 use Rattle.tia_core.proofs.Shapes.{word-0, word-1, word-2, word-3, word-4}
-use Rattle.tia_core.proofs.Words.{covers-is, five-words}
+use Rattle.tia_core.proofs.WordLemmas.{covers-is, five-words}
 use Rattle.tia_core.proofs.shape.playfield_mask.Goals as goal
 
 pub returns : goal.returns

@@ -1,4 +1,4 @@
-use Rattle.tia_core.proofs.Moves.{moved-objects}
+use Rattle.tia_core.proofs.MotionLemmas.{moved-objects}
 use Rattle.tia_core.proofs.write.write_register.Goals as goal
 
 pub returns-in-Hmove-clause-changed : goal.returns-in-Hmove-clause-changed

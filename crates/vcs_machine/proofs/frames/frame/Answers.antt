@@ -1,5 +1,5 @@
 use Rattle.std.proofs.Common.{◌≡◌, ◌∙◌, ℕ, IsTrue, take, sym, ap, refl}
-use Rattle.tia_core.specs.Clock.{painted}
+use Rattle.tia_core.specs.Clock.{sink_after_pixels}
 use Rattle.vcs_machine.specs.Pictures.{Rows, picture_of, rows_of, with_pixel}
 use Rattle.vcs_machine.specs.States.{is_state, line_cycle_of}
 use Rattle.vcs_machine.proofs.FrameOutcomes.{played, failed, ended-rows}
@@ -17,18 +17,18 @@ returns-in-Ok-clause-ok c =
 pub returns-in-Err-clause-err : goal.returns-in-Err-clause-err
 returns-in-Err-clause-err c = failed c.args.cart.now c.args.state.now _ c.args.input c.in-Err.halt.kind c.in-Err.halt.cycles c.in-Err.ensures.err
 
-pub returns-in-Ok-play-clause-ok : goal.returns-in-Ok-play-clause-ok
-returns-in-Ok-play-clause-ok c =
-    let p = c.in-Ok-play.ensures.ok in
+pub returns-in-Ok-frame_onto-clause-ok : goal.returns-in-Ok-frame_onto-clause-ok
+returns-in-Ok-frame_onto-clause-ok c =
+    let p = c.in-Ok-frame_onto.ensures.ok in
     let line_cycle = c.line_cycle-line_cycle.ensures.value in
     let lawful : IsTrue (is_state c.args.state.now) = c.line_cycle-line_cycle.ensures.lawful in
     let rows = rows_of (line_cycle_of c.args.state.now) p.0.cycles in
     let kept : c.cut.result ≡ picture_of rows p.0.bus.sink =
     c.cut.ensures
-    ∙ ap (λ (n : ℕ). take n c.in-Ok-play.picture) (c.rows.ensures ∙ ap (λ (n : ℕ). rows_of n c.in-Ok-play.cycles) line_cycle ∙ ap (rows_of (line_cycle_of c.args.state.now)) (sym p.4))
-    ∙ ap (take rows) (sym p.3 ∙ ap (λ (blank : Rows). painted with_pixel blank p.0.bus.sink) c.in-Ok-blank.ensures)
+    ∙ ap (λ (n : ℕ). take n c.in-Ok-frame_onto.picture) (c.rows.ensures ∙ ap (λ (n : ℕ). rows_of n c.in-Ok-frame_onto.cycles) line_cycle ∙ ap (rows_of (line_cycle_of c.args.state.now)) (sym p.4))
+    ∙ ap (take rows) (sym p.3 ∙ ap (λ (blank : Rows). sink_after_pixels with_pixel blank p.0.bus.sink) c.in-Ok-blank.ensures)
     ∙ take-painted rows 322 p.0.bus.sink (ended-rows c.args.cart.now c.args.state.now c.args.input p.0 lawful p.1) in
     (picture_of rows p.0.bus.sink, played c.args.cart.now c.args.state.now _ c.args.input p.0 p.1 p.2, rw (c.if-not-keep.false, kept) refl)
 
-pub returns-in-Err-play-clause-err : goal.returns-in-Err-play-clause-err
-returns-in-Err-play-clause-err c = failed c.args.cart.now c.args.state.now _ c.args.input c.in-Err-play.halt.kind c.in-Err-play.halt.cycles c.in-Err-play.ensures.err
+pub returns-in-Err-frame_onto-clause-err : goal.returns-in-Err-frame_onto-clause-err
+returns-in-Err-frame_onto-clause-err c = failed c.args.cart.now c.args.state.now _ c.args.input c.in-Err-frame_onto.halt.kind c.in-Err-frame_onto.halt.cycles c.in-Err-frame_onto.ensures.err

@@ -1,5 +1,5 @@
 use Rattle.std.proofs.Common.{sym, ◌∙◌}
-use Rattle.vcs_machine.proofs.Runs.{filled-step}
+use Rattle.vcs_machine.proofs.RowLemmas.{filled-step}
 use Rattle.vcs_machine.proofs.picture.fill.Goals as goal
 
 pub loop-place-preserved : goal.loop-place-preserved

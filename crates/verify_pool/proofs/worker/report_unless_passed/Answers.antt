@@ -1,7 +1,7 @@
 use Rattle.std.proofs.Common.{◌<◌, ℕ, sym, subst, inr}
 use Rattle.segment_desk.specs.Desk.{times}
 use Rattle.segment_desk.specs.declared.part.Part.{Part}
-use Rattle.segment_desk.proofs.Parts.{with_number-here}
+use Rattle.segment_desk.proofs.PartLemmas.{with_number-here}
 use Rattle.verify_pool.proofs.worker.report_unless_passed.Goals as goal
 
 -- What was reported stands among the reported numbers.

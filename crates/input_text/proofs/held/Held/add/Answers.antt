@@ -1,5 +1,5 @@
 use Rattle.std.proofs.Common.{sym, refl, ◌∙◌}
-use Rattle.input_text.proofs.Bits.{or_none}
+use Rattle.input_text.proofs.BitLemmas.{or_none}
 use Rattle.input_text.specs.declared.name.Port.TheVariants.{Swcha, Swchb, Buttons}
 use Rattle.input_text.proofs.held.Held.add.Goals as goal
 

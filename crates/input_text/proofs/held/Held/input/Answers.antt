@@ -1,5 +1,5 @@
 use Rattle.std.proofs.Common.{sym, ◌∙◌}
-use Rattle.input_text.proofs.Bits.{lawful_input}
+use Rattle.input_text.proofs.BitLemmas.{lawful_input}
 use Rattle.input_text.proofs.held.Held.input.Goals as goal
 
 pub unreachable-requires : goal.unreachable-requires

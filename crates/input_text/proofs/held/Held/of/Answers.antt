@@ -1,6 +1,6 @@
 use Rattle.std.specs.Int.Bits.{xor_zero_r}
 use Rattle.std.proofs.lemmas.Bool.{and_parts, eqb-true, ltb-true}
-use Rattle.input_text.proofs.Bits.{spare_of}
+use Rattle.input_text.proofs.BitLemmas.{spare_of}
 use Rattle.input_text.proofs.held.Held.of.Goals as goal
 
 pub invariant_of-result-clause-spare : goal.invariant_of-result-clause-spare

@@ -3,7 +3,7 @@ use Rattle.std.proofs.lemmas.Result.{err_from_is_err_and}
 use Rattle.std.proofs.lemmas.List.{length-drop}
 use Rattle.movie_file.specs.Format.{checkpoint_length}
 use Rattle.movie_file.specs.Reading.{checkpoints_at}
-use Rattle.movie_file.proofs.Loops.{checkpoints_go_on, checkpoints_end, checkpoints_done}
+use Rattle.movie_file.proofs.ItemLemmas.{checkpoints_go_on, checkpoints_end, checkpoints_done}
 use Rattle.movie_file.proofs.reading.items.checkpoints_in.Goals as goal
 
 pub returns-in_err-checkpoint-clause-gives : goal.returns-in_err-checkpoint-clause-gives

@@ -3,7 +3,7 @@ use Rattle.std.proofs.lemmas.Result.{err_from_is_err_and}
 use Rattle.std.proofs.lemmas.List.{length-drop}
 use Rattle.movie_file.specs.Format.{input_length}
 use Rattle.movie_file.specs.Reading.{inputs_at}
-use Rattle.movie_file.proofs.Loops.{inputs_go_on, inputs_end, inputs_done}
+use Rattle.movie_file.proofs.ItemLemmas.{inputs_go_on, inputs_end, inputs_done}
 use Rattle.movie_file.proofs.reading.items.inputs_in.Goals as goal
 
 pub returns-in_err-input-clause-gives : goal.returns-in_err-input-clause-gives

@@ -1,5 +1,5 @@
 use Rattle.std.proofs.Common.{rules, ◌<◌}
-use Rattle.riot_map.proofs.PortBits.{port_a}
+use Rattle.riot_map.proofs.PortLemmas.{port_a}
 use Rattle.riot_map.proofs.port.Port.read_a.Goals as goal
 
 pub returns : goal.returns

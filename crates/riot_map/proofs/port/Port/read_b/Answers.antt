@@ -1,5 +1,5 @@
 use Rattle.std.proofs.Common.{rules, ◌<◌}
-use Rattle.riot_map.proofs.PortBits.{port_b}
+use Rattle.riot_map.proofs.PortLemmas.{port_b}
 use Rattle.riot_map.proofs.port.Port.read_b.Goals as goal
 
 pub returns : goal.returns

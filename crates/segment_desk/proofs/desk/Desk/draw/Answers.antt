@@ -1,8 +1,8 @@
 use Rattle.std.proofs.Common.{ap, sym, subst, ◌∙◌, ◌<◌, arith}
 use Rattle.segment_desk.specs.Desk.{times}
 use Rattle.segment_desk.specs.Views.{TicketView}
-use Rattle.segment_desk.proofs.Parts.{end_again}
-use Rattle.segment_desk.proofs.Moves.{allows_draw, drawn_fresh}
+use Rattle.segment_desk.proofs.PartLemmas.{end_again}
+use Rattle.segment_desk.proofs.StepLemmas.{allows_draw, drawn_fresh}
 use Rattle.segment_desk.proofs.desk.Desk.draw.Goals as goal
 
 pub returns-then-ticket-clause-event : goal.returns-then-ticket-clause-event

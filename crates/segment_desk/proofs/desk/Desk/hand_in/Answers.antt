@@ -1,5 +1,5 @@
 use Rattle.std.proofs.Common.{ap, sym, ◌∙◌, ◌≡◌, ◌+◌, arith}
-use Rattle.segment_desk.proofs.Moves.{joins_seat, allows_settle, apart_of}
+use Rattle.segment_desk.proofs.StepLemmas.{joins_seat, allows_settle, apart_of}
 use Rattle.segment_desk.specs.Desk.{with_handed_in}
 use Rattle.segment_desk.proofs.desk.Desk.hand_in.Goals as goal
 

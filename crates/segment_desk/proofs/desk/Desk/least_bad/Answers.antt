@@ -1,5 +1,5 @@
 use Rattle.std.proofs.Common.{ap, sym, subst, ◌∙◌, ◌≡◌, ◌<◌, arith}
-use Rattle.segment_desk.proofs.Moves.{allows_look, look_keeps, look_passes}
+use Rattle.segment_desk.proofs.StepLemmas.{allows_look, look_keeps, look_passes}
 use Rattle.segment_desk.specs.Desk.{times}
 use Rattle.segment_desk.specs.Views.{TicketView, IsBelowSeen}
 use Rattle.segment_desk.specs.declared.part.Part.{Part}

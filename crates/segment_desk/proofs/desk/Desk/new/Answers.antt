@@ -1,5 +1,5 @@
 use Rattle.std.proofs.Common.{arith}
-use Rattle.segment_desk.proofs.Moves.{opens_table}
+use Rattle.segment_desk.proofs.StepLemmas.{opens_table}
 use Rattle.segment_desk.proofs.desk.Desk.new.Goals as goal
 
 pub of_words-requires : goal.of_words-requires

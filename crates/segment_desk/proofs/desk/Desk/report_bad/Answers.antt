@@ -1,5 +1,5 @@
 use Rattle.std.proofs.Common.{ap, sym, subst, ◌∙◌, ◌≡◌, arith}
-use Rattle.segment_desk.proofs.Moves.{allows_report}
+use Rattle.segment_desk.proofs.StepLemmas.{allows_report}
 use Rattle.segment_desk.specs.Desk.{times, report_at, StandsIn}
 use Rattle.segment_desk.specs.Views.{TicketView, IsBelowSeen}
 use Rattle.segment_desk.proofs.desk.Desk.report_bad.Goals as goal

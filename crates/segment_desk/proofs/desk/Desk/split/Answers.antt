@@ -1,6 +1,6 @@
 use Rattle.std.proofs.Common.{ap, sym, ◌∙◌, ◌≡◌, arith}
 use Rattle.segment_desk.specs.Desk.{fresh_part}
-use Rattle.segment_desk.proofs.Moves.{splits_seat}
+use Rattle.segment_desk.proofs.StepLemmas.{splits_seat}
 use Rattle.segment_desk.proofs.desk.Desk.split.Goals as goal
 
 pub split_seat-seat-requires : goal.split_seat-seat-requires

@@ -1,5 +1,5 @@
 use Rattle.std.proofs.Common.{arith}
-use Rattle.tia_core.proofs.Runs.{covers-alike}
+use Rattle.tia_core.proofs.RunLemmas.{covers-alike}
 use Rattle.tia_core.proofs.mask.Mask.changes.Goals as goal
 
 pub returns : goal.returns

@@ -1,7 +1,7 @@
 use Rattle.std.proofs.Common.{◌∙◌, ◌/◌, ◌%◌, ◌==◌, slice_index_or, sym, ap, ℕ, Bool, List}
 use Rattle.std.proofs.lemmas.Nat.Bits.{shr_and_one}
 use Rattle.tia_core.specs.Mask.{covers}
-use Rattle.tia_core.proofs.Words.{covers-is}
+use Rattle.tia_core.proofs.WordLemmas.{covers-is}
 use Rattle.tia_core.proofs.mask.Mask.covers.Goals as goal
 
 pub returns : goal.returns

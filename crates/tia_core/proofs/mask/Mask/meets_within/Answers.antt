@@ -1,5 +1,5 @@
 use Rattle.std.proofs.Common.{◌≡◌, ◌<◌, ◌+◌, ◌*◌, ◌/◌, ◌⊎◌, inl, inr, ℕ, arith}
-use Rattle.tia_core.proofs.Words.{common-some, common-none}
+use Rattle.tia_core.proofs.WordLemmas.{common-some, common-none}
 use Rattle.tia_core.proofs.mask.Mask.meets_within.Goals as goal
 
 earlier_or_here : (x i : ℕ) → x < 32 * (i + 1) → (x < 32 * i) ⊎ (x / 32 ≡ i)

@@ -1,5 +1,5 @@
 use Rattle.tia_core.specs.Mask.{covers}
-use Rattle.tia_core.proofs.Pairs.{no-two}
+use Rattle.tia_core.proofs.PairLemmas.{no-two}
 use Rattle.tia_core.proofs.masks.Masks.any_two_meet.Goals as goal
 
 pub returns : goal.returns

@@ -1,5 +1,5 @@
 use Rattle.std.proofs.Common.{◌-◌, arith}
-use Rattle.tia_core.proofs.Pairs.{stretch-bounded}
+use Rattle.tia_core.proofs.PairLemmas.{stretch-bounded}
 use Rattle.tia_core.proofs.masks.Masks.latched.Goals as goal
 
 pub returns-then-t-self-clause-value : goal.returns-then-t-self-clause-value

@@ -1,7 +1,7 @@
 use Rattle.std.proofs.Common.{◌∙◌, ◌-◌, ◌<◌, sym, ap, arith}
 use Rattle.tia_core.specs.Collision.{pairs_of}
 use Rattle.tia_core.proofs.MaskFits.{objects_in-fit}
-use Rattle.tia_core.proofs.Pairs.{stretch-none}
+use Rattle.tia_core.proofs.PairLemmas.{stretch-none}
 use Rattle.tia_core.proofs.masks.Masks.latched_anew.Goals as goal
 
 pub returns-clause-value : goal.returns-clause-value

@@ -1,7 +1,7 @@
 use Rattle.std.proofs.Common.{sym, ◌∙◌, ap, arith}
 use Rattle.tia_core.specs.declared.objects.Objects.{Objects}
 use Rattle.tia_core.specs.Colour.{colour_at}
-use Rattle.tia_core.proofs.Runs.{colour-same, same_side, stretch-run-to}
+use Rattle.tia_core.proofs.RunLemmas.{colour-same, same_side, stretch-run-to}
 use Rattle.tia_core.proofs.MaskFits.{objects_in-fit}
 use Rattle.tia_core.proofs.masks.Masks.paint_fresh.Goals as goal
 

@@ -1,6 +1,6 @@
 use Rattle.std.proofs.Common.{◌≡◌, ◌<◌, ◌≤◌, ◌+◌, ◌-◌, ◌%◌, ◌⊎◌, inl, inr, ℕ, ap, sym, ◌∙◌, arith}
 use Rattle.tia_core.specs.Private.Stretches.{objects_in}
-use Rattle.tia_core.proofs.Runs.{objects-alike, or-clear}
+use Rattle.tia_core.proofs.RunLemmas.{objects-alike, or-clear}
 use Rattle.tia_core.proofs.masks.Masks.run_end.Goals as goal
 
 first_or_later : (x y : ℕ) → x ≤ y → (y ≡ x) ⊎ (x < y)

@@ -1,4 +1,4 @@
-use Rattle.tia_core.proofs.Pairs.{all-bound}
+use Rattle.tia_core.proofs.PairLemmas.{all-bound}
 use Rattle.tia_core.proofs.masks.Masks.stale.Goals as goal
 
 pub returns : goal.returns

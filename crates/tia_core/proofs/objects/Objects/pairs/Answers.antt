@@ -1,5 +1,5 @@
 use Rattle.std.proofs.Common.{◌∙◌, ap, slice_index_or, ℕ}
-use Rattle.tia_core.proofs.LawfulFields.{pairs_of-lt}
+use Rattle.tia_core.proofs.FieldLemmas.{pairs_of-lt}
 use Rattle.tia_core.proofs.PairsTable.{pairs_table, table-pairs}
 use Rattle.tia_core.proofs.objects.Objects.pairs.Goals as goal
 

@@ -1,5 +1,5 @@
 use Rattle.std.proofs.Common.{sym, ◌∙◌}
-use Rattle.tia_core.proofs.Runs.{run_drawn-step}
+use Rattle.tia_core.proofs.RunLemmas.{run_drawn-step}
 use Rattle.tia_core.proofs.paint.Paint.put_run.Goals as goal
 
 pub loop-x-preserved : goal.loop-x-preserved

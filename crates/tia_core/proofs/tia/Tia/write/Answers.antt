@@ -1,4 +1,4 @@
-use Rattle.tia_core.proofs.LawfulFields.{fields_after-lawful}
+use Rattle.tia_core.proofs.FieldLemmas.{fields_after-lawful}
 use Rattle.tia_core.proofs.MaskFits.{fit-marked}
 use Rattle.tia_core.proofs.tia.Tia.write.Goals as goal
 

@@ -1,7 +1,7 @@
 use Rattle.std.proofs.Common.{◌-◌, ◌*◌, ap, refl, sym}
 use Rattle.vcs_machine.specs.Consoles.{Console}
 use Rattle.tia_core.proofs.LawfulNumbers.{lawful_of}
-use Rattle.vcs_machine.proofs.Owing.{written-unchanged}
+use Rattle.vcs_machine.proofs.DebtLemmas.{written-unchanged}
 use Rattle.vcs_machine.proofs.console.Console.write_tia.Goals as goal
 
 pub returns-then-is_unchanged : goal.returns-then-is_unchanged

@@ -1,5 +1,5 @@
 use Rattle.std.proofs.Common.{◌-◌, sym}
-use Rattle.vcs_machine.proofs.Owing.{line-later}
+use Rattle.vcs_machine.proofs.DebtLemmas.{line-later}
 use Rattle.vcs_machine.proofs.devices.Devices.line_cycle.Goals as goal
 
 pub returns-clause-value : goal.returns-clause-value

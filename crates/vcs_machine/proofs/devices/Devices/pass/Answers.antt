@@ -1,5 +1,5 @@
 use Rattle.std.proofs.Common.{◌-◌}
-use Rattle.vcs_machine.proofs.Owing.{left-less, riot-later, tia-later, sink-later}
+use Rattle.vcs_machine.proofs.DebtLemmas.{left-less, riot-later, tia-later, sink-later}
 use Rattle.vcs_machine.proofs.devices.Devices.pass.Goals as goal
 
 pub returns-else-is_short-clause-riot : goal.returns-else-is_short-clause-riot

@@ -1,8 +1,8 @@
 use Rattle.std.proofs.Common.{◌≡◌, ◌-◌, ◌*◌, Bool, true, false, Some, None, if◌then◌else◌, ap, ◌∙◌}
-use Rattle.tia_core.specs.Read.{read_of}
+use Rattle.tia_core.specs.Read.{tia_read}
 use Rattle.tia_core.specs.TiaState.{TiaState, is_tia}
 use Rattle.tia_core.proofs.LawfulNumbers.{lawful_of}
-use Rattle.vcs_machine.proofs.Owing.{read-buttons, read-pairs}
+use Rattle.vcs_machine.proofs.DebtLemmas.{read-buttons, read-pairs}
 use Rattle.vcs_machine.proofs.devices.Devices.peek_tia.Goals as goal
 
 -- What is made where a test holds.
@@ -21,5 +21,5 @@ returns g c =
     let d = c.args.self.now in
     let same = ap (λ (t : TiaState). t.fields) (made (is_tia c.fields-fields.result) _ _ c.in-Some.ensures) ∙ c.fields-fields.ensures.value in
     c.read-2.ensures
-    ∙ ap (λ (t : TiaState). read_of t c.args.register) c.clocks.ensures.value
+    ∙ ap (λ (t : TiaState). tia_read t c.args.register) c.clocks.ensures.value
     ∙ rw c.owed.ensures (read-pairs (3 * (76 - d.left)) c.in-Some.tia d.tia c.args.register same c.if-register-ge8.false)

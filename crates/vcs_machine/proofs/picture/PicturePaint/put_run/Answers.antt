@@ -3,7 +3,7 @@ use Rattle.std.proofs.lemmas.List.{get_or_default}
 use Rattle.tia_core.specs.Runs.{run_drawn}
 use Rattle.vcs_machine.specs.Pictures.{Rows, with_pixel}
 use Rattle.vcs_machine.specs.Private.Rows.{filled}
-use Rattle.vcs_machine.proofs.Runs.{run-inside, run-outside}
+use Rattle.vcs_machine.proofs.RowLemmas.{run-inside, run-outside}
 use Rattle.vcs_machine.proofs.picture.PicturePaint.put_run.Goals as goal
 
 pub returns-then-line-len : goal.returns-then-line-len

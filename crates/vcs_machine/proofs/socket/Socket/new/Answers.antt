@@ -1,6 +1,6 @@
 use Rattle.std.proofs.Common.{◌≡◌, true, length, arith, rules, tests}
 use Rattle.riot_map.specs.Cart.{has_banks}
-use Rattle.vcs_machine.proofs.Windows.{part-length, part-shown}
+use Rattle.vcs_machine.proofs.BankLemmas.{part-length, part-shown}
 use Rattle.vcs_machine.proofs.socket.Socket.new.Goals as goal
 
 pub invariant_of-result-2 : goal.invariant_of-result-2

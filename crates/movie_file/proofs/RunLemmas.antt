@@ -1,0 +1,64 @@
+-- A run goes on from where it stands, and a frame is sound, faults or has a false checkpoint, and no two of these.
+use Rattle.std.proofs.Common.{◌≡◌, ℕ, zero, suc, ◌+◌, ◌-◌, ◌<◌, ◌≤◌, length, Option, Some, None, refl, sym, ap, subst, ◌∙◌, arith, add-one, add-zero, ◌⊎◌, inl, inr}
+use Rattle.std.proofs.lemmas.Bool.{cases_lt}
+use Rattle.vcs_machine.specs.Outcomes.{FrameOutcome, Failed}
+use Rattle.vcs_machine.specs.declared.fault.FaultKind.{FaultKind}
+use Rattle.vcs_machine.specs.declared.fields.StateFields.{StateFields}
+use Rattle.movie_file.specs.Movie.{MovieData, IsMovie}
+use Rattle.movie_file.specs.Run.{frame_after, run}
+use Rattle.movie_file.specs.Judgement.{IsSound, AllSound, FaultsAt, IsFalseAt}
+use Rattle.movie_file.proofs.CheckpointLemmas.{checkpoints_rise}
+
+-- from where a run stands it goes on as a run of its own
+pub run-shift : (m : MovieData) (s : StateFields) (a i : ℕ) (t : StateFields) → run m s a i ≡ Some t → (j : ℕ) → run m s a (i + j) ≡ run m t (a + i) j
+run-shift m s a i t is zero = rw add-zero is
+run-shift m s a i t is (suc j) =
+    let at : a + (i + j) ≡ a + i + j = omega arith in
+    let more : i + suc j ≡ suc (i + j) = omega arith in
+    rw (more, at, run-shift m s a i t is j) refl
+
+pub IsSound-shift : (m : MovieData) (s : StateFields) (a i : ℕ) (t : StateFields) (k : ℕ) → run m s a i ≡ Some t → IsSound m t (a + i) k → IsSound m s a (i + k)
+IsSound-shift m s a i t k is sound =
+    let more : i + k + 1 ≡ i + (k + 1) = omega arith in
+    (sound.0, rw (more, run-shift m s a i t is (k + 1)) sound.1, λ j c at here. sound.2 j c at (omega arith))
+
+-- two stretches of sound frames, of which the second begins where the first ends, are one
+pub AllSound-shift : (m : MovieData) (s : StateFields) (a i : ℕ) (t : StateFields) (j : ℕ) → run m s a i ≡ Some t → AllSound m s a i → AllSound m t (a + i) j → AllSound m s a (i + j)
+AllSound-shift m s a i t j is first second x less = by (cases_lt x i)
+  where
+    by : (x < i) ⊎ (i ≤ x) → IsSound m s a x
+    by (inl low) = first x low
+    by (inr high) =
+        let same : i + (x - i) ≡ x = omega arith in
+        subst (λ (y : ℕ). IsSound m s a y) same (IsSound-shift m s a i t (x - i) is (second (x - i) (omega arith)))
+
+-- after a fault there is no state
+pub run-fault : (m : MovieData) (s : StateFields) (a k : ℕ) (kind : FaultKind) → FaultsAt m s a k kind → run m s a (k + 1) ≡ None
+run-fault m s a k kind (state, left, ran, faults) = rw (add-one k, ran, faults) refl
+
+pub sound_no_fault : (m : MovieData) (s : StateFields) (a k : ℕ) (kind : FaultKind) → IsSound m s a k → FaultsAt m s a k kind → ⊥
+sound_no_fault m s a k kind sound faults = let one = sound.1 in let two = run-fault m s a k kind faults in cc
+
+pub false_no_fault : (m : MovieData) (s : StateFields) (a k n : ℕ) (kind : FaultKind) → IsFalseAt m s a k n → FaultsAt m s a k kind → ⊥
+false_no_fault m s a k n kind (state, j, c, ran, num, got, at, ne) faults = let two = run-fault m s a k kind faults in cc
+
+pub sound_no_false : (m : MovieData) (s : StateFields) (a k n : ℕ) → IsSound m s a k → IsFalseAt m s a k n → ⊥
+sound_no_false m s a k n (here, ran', claims) (state, j, c, ran, num, got, at, ne) =
+    let same : here ≡ state = cc in ne (claims j c got at ∙ same)
+
+-- a frame has one false checkpoint, and one fault
+pub same_number : (m : MovieData) (s : StateFields) (a k n n' : ℕ) → IsMovie m → IsFalseAt m s a k n → IsFalseAt m s a k n' → n ≡ n'
+same_number m s a k n n' lawful (state, j, c, ran, num, got, at, ne) (state', j', c', ran', num', got', at', ne') = by (cases_lt j j') (cases_lt j' j)
+  where
+    by : (j < j') ⊎ (j' ≤ j) → (j' < j) ⊎ (j ≤ j') → n ≡ n'
+    by (inl less) other = absurd (let h = checkpoints_rise (length m.cart) m.checkpoints 0 _ j j' c c' lawful.checkpoints less got got' in omega arith)
+    by (inr le) (inl less) = absurd (let h = checkpoints_rise (length m.cart) m.checkpoints 0 _ j' j c' c lawful.checkpoints less got' got in omega arith)
+    by (inr le) (inr ge) = omega arith
+
+abbrev failed : FaultKind → StateFields → Option FrameOutcome
+failed kind left = Some (Failed kind left)
+
+pub same_kind : (m : MovieData) (s : StateFields) (a k : ℕ) (kind kind' : FaultKind) → FaultsAt m s a k kind → FaultsAt m s a k kind' → kind ≡ kind'
+same_kind m s a k kind kind' (state, left, ran, faults) (state', left', ran', faults') =
+    let same : state ≡ state' = cc in
+    let both : failed kind left ≡ failed kind' left' = sym faults ∙ (ap (λ (x : StateFields). frame_after m (a + k) x) same ∙ faults') in cc

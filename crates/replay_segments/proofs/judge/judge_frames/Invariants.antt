@@ -1,0 +1,12 @@
+use Rattle.std.proofs.Common.{◌≡◌, ◌+◌, ◌≤◌, vec_len, vec_capacity}
+use Rattle.replay_plan.specs.Keeping.{kept_count}
+use Rattle.replay_segments.specs.Private.Steps.{IsNext, SoFar}
+use Rattle.replay_segments.proofs.judge.judge_frames.Given as goal
+
+abbrev pub invariant-loop-k : goal.invariant-loop-k
+invariant-loop-k l = record {
+  far : SoFar l.movie l.keep l.start l.from l.k l.state l.pictures.items;
+  count : vec_len l.pictures ≡ kept_count l.keep l.from l.k;
+  room : kept_count l.keep l.from l.len ≤ vec_capacity l.pictures;
+  next : IsNext l.movie l.next (l.from + l.k + 1);
+}

@@ -1,0 +1,131 @@
+-- Clocks one after another, and what stays over them.
+use Rattle.std.proofs.Common.{◌≡◌, ℕ, zero, suc, ◌+◌, ◌-◌, ◌*◌, ◌/◌, ◌%◌, ◌==◌, ◌<◌, ◌⊎◌, inl, inr, nat_lt, Bool, true, false, if◌then◌else◌, List, [], ◌∷◌, ◌++◌, append_assoc, bit_or, refl, sym, ap, ◌∙◌, arith}
+use Rattle.std.specs.Fn.{iterate}
+use Rattle.std.proofs.lemmas.Bool.Decides.{nat_tests}
+use Rattle.std.proofs.lemmas.Nat.Bits.{bit_at_or, bit_at-lt}
+use Rattle.std.specs.Int.{bit_at}
+use Rattle.tia_core.specs.Collision.{pairs_of}
+use Rattle.tia_core.specs.Objects.{objects_at}
+use Rattle.tia_core.specs.Bits.{has_bit}
+use Rattle.tia_core.specs.declared.fields.TiaFields.{TiaFields}
+use Rattle.tia_core.specs.TiaState.{TiaState}
+use Rattle.tia_core.specs.Clock.{Pixel, sink_after_pixels, pixels, pixels_of, after_clock, collisions_after}
+use Rattle.tia_core.specs.Beam.{beam_of}
+
+-- ---- in two parts
+pub iterate-add : {A : Type 0} (f : A → A) (m n : ℕ) (a : A) → iterate f (m + n) a ≡ iterate f n (iterate f m a)
+iterate-add f zero n a = let e : zero + n ≡ n = omega arith in rw e
+iterate-add f (suc m) n a = let e : suc m + n ≡ suc (m + n) = omega arith in rw e (iterate-add f m n (f a))
+
+-- pixels in two parts are drawn one part after the other
+pub painted-append : {S : Type 0} (drawn : S → ℕ → ℕ → ℕ → S) (sink : S) (ps qs : List Pixel) → sink_after_pixels drawn sink (ps ++ qs) ≡ sink_after_pixels drawn (sink_after_pixels drawn sink ps) qs
+painted-append drawn sink [] qs = refl
+painted-append drawn sink (p ∷ ps) qs = painted-append drawn (drawn sink p.line p.x p.colour) ps qs
+
+pub pixels-add : (m n : ℕ) (s : TiaState) → pixels (m + n) s ≡ pixels m s ++ pixels n (iterate after_clock m s)
+pixels-add zero n s = let e : zero + n ≡ n = omega arith in rw e
+pixels-add (suc m) n s =
+    let e : suc m + n ≡ suc (m + n) = omega arith in
+    rw e (ap (λ (ps : List Pixel). pixels_of s ++ ps) (pixels-add m n (after_clock s)) ∙ sym (append_assoc (pixels_of s) (pixels m (after_clock s)) (pixels n (iterate after_clock m (after_clock s)))))
+
+pub painted-add : {S : Type 0} (drawn : S → ℕ → ℕ → ℕ → S) (sink : S) (m n : ℕ) (s : TiaState)
+    → sink_after_pixels drawn sink (pixels (m + n) s) ≡ sink_after_pixels drawn (sink_after_pixels drawn sink (pixels m s)) (pixels n (iterate after_clock m s))
+painted-add drawn sink m n s = rw (pixels-add m n s) (painted-append drawn sink (pixels m s) (pixels n (iterate after_clock m s)))
+
+-- one step of those that are left
+one_less : (n i : ℕ) → i < n → n - i ≡ suc (n - (i + 1))
+one_less n i h = omega arith
+
+pub iterate_left : {A : Type 0} (f : A → A) (n i : ℕ) (a : A) → i < n → iterate f (n - i) a ≡ iterate f (n - (i + 1)) (f a)
+iterate_left f n i a h = rw (one_less n i h)
+
+pub painted_left : {S : Type 0} (drawn : S → ℕ → ℕ → ℕ → S) (n i : ℕ) (sink : S) (s : TiaState) → i < n
+    → sink_after_pixels drawn sink (pixels (n - i) s) ≡ sink_after_pixels drawn (sink_after_pixels drawn sink (pixels_of s)) (pixels (n - (i + 1)) (after_clock s))
+painted_left drawn n i sink s h = rw (one_less n i h) (painted-append drawn sink (pixels_of s) (pixels (n - (i + 1)) (after_clock s)))
+
+-- ---- one clock by cases
+pub clocked-inside : (s : TiaState) → s.fields.clock < 227
+    → after_clock s ≡ record s { fields = record s.fields { collisions = collisions_after s.fields; clock = s.fields.clock + 1 } }
+clocked-inside s h = let no : (s.fields.clock == 227) ≡ false = grind (arith, nat_tests) in rw no refl
+
+pub clocked-last : (s : TiaState) → s.fields.clock ≡ 227
+    → after_clock s ≡ record s { fields = record s.fields { collisions = collisions_after s.fields; clock = 0; comb = 0 }; line = (s.line + 1) % 65536 }
+clocked-last s h = let yes : (s.fields.clock == 227) ≡ true = grind (arith, nat_tests) in rw yes refl
+
+pub inside_or_last : (s : TiaState) → s.fields.clock < 228 → (s.fields.clock < 227) ⊎ (s.fields.clock ≡ 227)
+inside_or_last s h = grind arith
+
+-- ---- the beam
+pub clocked-clock : (s : TiaState) → s.fields.clock < 228 → (after_clock s).fields.clock ≡ (s.fields.clock + 1) % 228
+clocked-clock s h = elim (inside_or_last s h) [
+  | inl lt ↦ ap (λ (t : TiaState). t.fields.clock) (clocked-inside s lt) ∙ omega arith
+  | inr eq ↦ ap (λ (t : TiaState). t.fields.clock) (clocked-last s eq) ∙ omega arith
+]
+
+pub clocked-line : (s : TiaState) → s.fields.clock < 228 → s.line < 65536 → (after_clock s).line ≡ (s.line + (s.fields.clock + 1) / 228) % 65536
+clocked-line s h k = elim (inside_or_last s h) [
+  | inl lt ↦ ap (λ (t : TiaState). t.line) (clocked-inside s lt) ∙ omega arith
+  | inr eq ↦ ap (λ (t : TiaState). t.line) (clocked-last s eq) ∙ omega arith
+]
+
+pub iterate-clocked-clock : (n : ℕ) (s : TiaState) → s.fields.clock < 228 → (iterate after_clock n s).fields.clock ≡ (s.fields.clock + n) % 228
+iterate-clocked-clock zero s h = omega arith
+iterate-clocked-clock (suc n) s h =
+    let e = clocked-clock s h in
+    iterate-clocked-clock n (after_clock s) (omega arith) ∙ omega arith
+
+pub iterate-clocked-line : (n : ℕ) (s : TiaState) → s.fields.clock < 228 → s.line < 65536
+    → (iterate after_clock n s).line ≡ (s.line + (s.fields.clock + n) / 228) % 65536
+iterate-clocked-line zero s h k = omega arith
+iterate-clocked-line (suc n) s h k =
+    let e = clocked-clock s h in
+    let f = clocked-line s h k in
+    iterate-clocked-line n (after_clock s) (omega arith) (omega arith) ∙ omega arith
+
+-- while lines aren't counted round, the beam goes on by one place each clock
+pub iterate-clocked-beam : (n : ℕ) (s : TiaState) → s.fields.clock < 228 → beam_of s + n < 228 * 65536 → beam_of (iterate after_clock n s) ≡ beam_of s + n
+iterate-clocked-beam n s h k =
+    let e = iterate-clocked-clock n s h in
+    let f = iterate-clocked-line n s h (omega arith) in
+    omega arith
+
+-- ---- what clocks leave alone: all but the collisions, the clock, the comb and the line
+clocked-others : (s : TiaState) → s.fields.clock < 228
+    → after_clock s ≡ record s { fields = record s.fields { collisions = (after_clock s).fields.collisions; clock = (after_clock s).fields.clock; comb = (after_clock s).fields.comb }; line = (after_clock s).line }
+clocked-others s h = elim (inside_or_last s h) [
+  | inl lt ↦ rw (clocked-inside s lt) refl
+  | inr eq ↦ rw (clocked-last s eq) refl
+]
+
+pub iterate-clocked-others : (n : ℕ) (s : TiaState) → s.fields.clock < 228
+    → iterate after_clock n s ≡ record s { fields = record s.fields { collisions = (iterate after_clock n s).fields.collisions; clock = (iterate after_clock n s).fields.clock; comb = (iterate after_clock n s).fields.comb }; line = (iterate after_clock n s).line }
+iterate-clocked-others zero s h = refl
+iterate-clocked-others (suc n) s h =
+    let e = clocked-clock s h in
+    let after : TiaState = iterate after_clock n (after_clock s) in
+    iterate-clocked-others n (after_clock s) (omega arith)
+    ∙ ap (λ (z : TiaState). record z { fields = record z.fields { collisions = after.fields.collisions; clock = after.fields.clock; comb = after.fields.comb }; line = after.line }) (clocked-others s h)
+
+-- ---- a collision bit that is set stays set
+or-keeps : (a b k : ℕ) → has_bit a k ≡ true → has_bit (bit_or a b) k ≡ true
+or-keeps a b k h =
+    let set : bit_at a k ≡ 1 = grind (arith, nat_tests) in
+    let small = bit_at-lt b k in
+    let both : bit_at (bit_or a b) k ≡ 1 = bit_at_or a b k ∙ omega arith in
+    ap (λ (n : ℕ). n == 1) both
+
+collisions_after-keeps : (t : TiaFields) (k : ℕ) → has_bit t.collisions k ≡ true → has_bit (collisions_after t) k ≡ true
+collisions_after-keeps t k h = either (nat_lt t.clock 68) where
+  either : (b : Bool) → has_bit (if b then t.collisions else bit_or t.collisions (pairs_of (objects_at t (t.clock - 68)))) k ≡ true
+  either true = h
+  either false = or-keeps t.collisions (pairs_of (objects_at t (t.clock - 68))) k h
+
+clocked-keeps : (s : TiaState) (k : ℕ) → has_bit s.fields.collisions k ≡ true → has_bit (after_clock s).fields.collisions k ≡ true
+clocked-keeps s k h = either (s.fields.clock == 227) where
+  either : (b : Bool) → has_bit (if b then (record s { fields = record s.fields { collisions = collisions_after s.fields; clock = 0; comb = 0 }; line = (s.line + 1) % 65536 }) else (record s { fields = record s.fields { collisions = collisions_after s.fields; clock = s.fields.clock + 1 } })).fields.collisions k ≡ true
+  either true = collisions_after-keeps s.fields k h
+  either false = collisions_after-keeps s.fields k h
+
+pub iterate-clocked-keeps : (n : ℕ) (s : TiaState) (k : ℕ) → has_bit s.fields.collisions k ≡ true → has_bit (iterate after_clock n s).fields.collisions k ≡ true
+iterate-clocked-keeps zero s k h = h
+iterate-clocked-keeps (suc n) s k h = iterate-clocked-keeps n (after_clock s) k (clocked-keeps s k h)
