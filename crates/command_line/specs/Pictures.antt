@@ -1,7 +1,8 @@
 -- Which pictures a command asks for. This project's own.
 use Rattle.std.specs.Prelude.{◌≡◌, Option, Some, None}
 use Rattle.command_line.specs.declared.command.Command.{Command}
-use Rattle.command_line.specs.declared.command.Command.TheVariants.{Stdin, Verify, Report, Make, Info, Inputs, Convert}
+use Rattle.command_line.specs.declared.command.Command.TheVariants.{Stdin, Verify, Report, Make}
+use Rattle.command_line.specs.declared.command.Command.TheVariants.{Info, Inputs, Convert}
 
 -- Where no file takes pictures none is kept.
 abbrev pub KeepsWhatIsTaken : Command → Type 0

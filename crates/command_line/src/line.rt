@@ -110,8 +110,8 @@ fn out_of_range(alloc: Global) -> LineFault {
 
 /// The command of some arguments, of which the first is the program's name.
 ///
-/// Where they name no command it is `Command::Stdin`. Each number is tried by `clap`, and once more here, since its type promises
-/// its range.
+/// Where they name no command it is `Command::Stdin`. Each number is tried by `clap`, and once more
+/// here, since its type promises its range.
 pub fn parse_line<S: AsStr>(alloc: Global, words: &[S]) -> Result<Command, LineFault>
     ensures { IfOk result KeepsWhatIsTaken }
 {

@@ -1,5 +1,6 @@
 -- Bits of names and of bytes, one by one.
-use Rattle.std.proofs.Common.{◌≡◌, ℕ, ◌+◌, ◌%◌, ◌<◌, min, Bool, true, false, get_or, bit_and, bit_or, sym, ap, ◌∙◌, arith}
+use Rattle.std.proofs.Common.{◌≡◌, ℕ, ◌+◌, ◌%◌, ◌<◌, min, Bool, true, false, get_or, bit_and}
+use Rattle.std.proofs.Common.{bit_or, sym, ap, ◌∙◌, arith}
 use Rattle.std.specs.Prelude.{not, ◌||◌, bit_xor}
 use Rattle.std.specs.Int.Bits.{or_zero_r, xor_zero_l}
 use Rattle.std.specs.List.{list_all, range_with_len}
@@ -7,7 +8,8 @@ use Rattle.std.proofs.lemmas.List.FromFn.{get_or-range_with_len, length-range_wi
 use Rattle.std.proofs.lemmas.List.Sums.{AllPass-from_list_all}
 use Rattle.std.proofs.lemmas.Bool.{and_from, eq-eqb, lt-ltb, false≢true}
 use Rattle.std.proofs.lemmas.Nat.{and_xor_apart}
-use Rattle.std.proofs.lemmas.Nat.Bits.{bit_at_and, bit_at_xor, bit_at-lt, bit_at-zero, same_from_bits}
+use Rattle.std.proofs.lemmas.Nat.Bits.{bit_at_and, bit_at_xor, bit_at-lt, bit_at-zero}
+use Rattle.std.proofs.lemmas.Nat.Bits.{same_from_bits}
 use Rattle.std.specs.Int.{bit_at}
 use Rattle.vcs_machine.specs.Inputs.{is_input}
 use Rattle.input_text.specs.declared.name.Port.{Port}

@@ -1,9 +1,14 @@
 -- Lines that are good up to a place, and the first that isn't.
-use Rattle.std.proofs.Common.{◌≡◌, ◌⊎◌, ℕ, ◌+◌, ◌-◌, ◌<◌, ◌≤◌, suc, Bool, true, false, List, [], ◌∷◌, ◌++◌, length, get_or, take, drop, replicate, Option, Some, None, Ok, Err, sym, refl, ap, ◌∙◌, inl, inr, arith, add-one, append_assoc, length-append}
+use Rattle.std.proofs.Common.{◌≡◌, ◌⊎◌, ℕ, ◌+◌, ◌-◌, ◌<◌, ◌≤◌, suc, Bool, true, false, List, []}
+use Rattle.std.proofs.Common.{◌∷◌, ◌++◌, length, get_or, take, drop, replicate, Option, Some, None}
+use Rattle.std.proofs.Common.{Ok, Err, sym, refl, ap, ◌∙◌, inl, inr, arith, add-one, append_assoc}
+use Rattle.std.proofs.Common.{length-append}
 use Rattle.std.specs.Prelude.{not, find, sum_by, nat_le}
 use Rattle.std.specs.List.{list_all, flat_map, range_with_len}
-use Rattle.std.proofs.lemmas.Bool.{and_parts, and_from, and_left, and_right, leb-true, le-leb, lt-leb}
-use Rattle.std.proofs.lemmas.List.{append-nil, take-append-drop, take-append-le, take_all, length-replicate}
+use Rattle.std.proofs.lemmas.Bool.{and_parts, and_from, and_left, and_right, leb-true, le-leb}
+use Rattle.std.proofs.lemmas.Bool.{lt-leb}
+use Rattle.std.proofs.lemmas.List.{append-nil, take-append-drop, take-append-le, take_all}
+use Rattle.std.proofs.lemmas.List.{length-replicate}
 use Rattle.std.proofs.lemmas.List.Concat.{flat_map-append}
 use Rattle.std.proofs.lemmas.List.Folds.{list_all-append}
 use Rattle.std.proofs.lemmas.List.FromFn.{get_or-range_with_len, length-range_with_len}
@@ -11,7 +16,8 @@ use Rattle.std.proofs.lemmas.List.Recursion.{found_at, found_nowhere}
 use Rattle.std.proofs.lemmas.List.Sums.{sum_by-append}
 use Rattle.vcs_machine.specs.Inputs.{Controls}
 use Rattle.input_text.specs.Words.{lines_of, words_of}
-use Rattle.input_text.specs.Texts.{most_frames, is_readable, frames_of, input_of, inputs_of, are_good, first_bad, unless_bad, inputs_in, SaysFrames}
+use Rattle.input_text.specs.Texts.{most_frames, is_readable, frames_of, input_of, inputs_of}
+use Rattle.input_text.specs.Texts.{are_good, first_bad, unless_bad, inputs_in, SaysFrames}
 
 abbrev pub can_be_read : List ℕ → Bool
 can_be_read line = is_readable (words_of line)

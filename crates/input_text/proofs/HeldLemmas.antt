@@ -1,5 +1,6 @@
 -- What is held, word by word.
-use Rattle.std.proofs.Common.{◌≡◌, ℕ, Bool, true, false, List, [], ◌∷◌, Option, Some, None, bit_or, fold, sym, refl, ap, ◌∙◌}
+use Rattle.std.proofs.Common.{◌≡◌, ℕ, Bool, true, false, List, [], ◌∷◌, Option, Some, None, bit_or}
+use Rattle.std.proofs.Common.{fold, sym, refl, ap, ◌∙◌}
 use Rattle.std.specs.Prelude.{is_some, ◌&&◌, bit_xor}
 use Rattle.std.specs.List.{list_all, filter_map, cons_option}
 use Rattle.input_text.specs.declared.held.Held.{Held}

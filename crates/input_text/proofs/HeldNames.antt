@@ -1,5 +1,6 @@
 -- The input in which the names are held that are held in an input.
-use Rattle.std.proofs.Common.{◌≡◌, ℕ, ◌^◌, ◌<◌, Bool, true, false, cond, List, [], ◌∷◌, bit_and, bit_or, refl, ap, ◌∙◌, arith}
+use Rattle.std.proofs.Common.{◌≡◌, ℕ, ◌^◌, ◌<◌, Bool, true, false, cond, List, [], ◌∷◌, bit_and}
+use Rattle.std.proofs.Common.{bit_or, refl, ap, ◌∙◌, arith}
 use Rattle.std.specs.Prelude.{not, ◌&&◌, ◌||◌, nat_eq, nat_lt, filter, fold, bit_xor}
 use Rattle.std.specs.Int.{bit_at}
 use Rattle.std.specs.Int.Bits.{or_zero_r}
@@ -8,7 +9,8 @@ use Rattle.vcs_machine.specs.Inputs.{Controls}
 use Rattle.input_text.specs.declared.name.Name.{Name}
 use Rattle.input_text.specs.declared.name.Port.{Port}
 use Rattle.input_text.specs.declared.name.Port.TheVariants.{Swcha, Swchb, Buttons}
-use Rattle.input_text.specs.Names.{bit_of_name, names, idle, port_byte, is_same_port, bit_in, bits_in, is_held, names_in, input_with, IsInputOfBytes}
+use Rattle.input_text.specs.Names.{bit_of_name, names, idle, port_byte, is_same_port, bit_in}
+use Rattle.input_text.specs.Names.{bits_in, is_held, names_in, input_with, IsInputOfBytes}
 use Rattle.input_text.proofs.BitLemmas.{every_byte, follows_if}
 
 -- the bits of a byte that differ from an idle one, name by name

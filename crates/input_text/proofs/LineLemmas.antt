@@ -1,5 +1,7 @@
 -- Lines and words, from where they end.
-use Rattle.std.proofs.Common.{◌≡◌, ℕ, ◌+◌, ◌-◌, ◌<◌, ◌≤◌, suc, Bool, true, false, cond, List, [], ◌∷◌, length, get_or, take, drop, Option, Some, None, sym, refl, ap, ◌∙◌, subst, inl, inr, arith, tests, add-one, drop-cons}
+use Rattle.std.proofs.Common.{◌≡◌, ℕ, ◌+◌, ◌-◌, ◌<◌, ◌≤◌, suc, Bool, true, false, cond, List, []}
+use Rattle.std.proofs.Common.{◌∷◌, length, get_or, take, drop, Option, Some, None, sym, refl, ap}
+use Rattle.std.proofs.Common.{◌∙◌, subst, inl, inr, arith, tests, add-one, drop-cons}
 use Rattle.std.specs.Prelude.{not, filter, nat_eq, unwrap_or}
 use Rattle.std.specs.List.{position, position_or_len, prefix_len, slice_split}
 use Rattle.std.proofs.lemmas.Bool.{cases_eq, false≢true, ne_eqb, not-true}

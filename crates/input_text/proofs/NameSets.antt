@@ -1,5 +1,6 @@
 -- The names that are held in the input of some names: those, and no others.
-use Rattle.std.proofs.Common.{◌≡◌, ℕ, ◌+◌, ◌%◌, ◌<◌, max, zero, suc, Bool, true, false, List, [], ◌∷◌, get_or, bit_or, lit<, refl, ap, ◌∙◌, subst, arith}
+use Rattle.std.proofs.Common.{◌≡◌, ℕ, ◌+◌, ◌%◌, ◌<◌, max, zero, suc, Bool, true, false, List, []}
+use Rattle.std.proofs.Common.{◌∷◌, get_or, bit_or, lit<, refl, ap, ◌∙◌, subst, arith}
 use Rattle.std.specs.Prelude.{not, ◌&&◌, ◌||◌, nat_eq, bit_xor}
 use Rattle.std.specs.Int.{bit_at}
 use Rattle.std.specs.List.{list_all, list_any}
@@ -7,9 +8,12 @@ use Rattle.std.specs.Str.{bytes_eq}
 use Rattle.std.proofs.lemmas.List.Sums.{AllPass-from_list_all}
 use Rattle.std.proofs.lemmas.Nat.Bits.{bit_at_or, bit_at_xor, bit_at-lt, bit_at-zero}
 use Rattle.input_text.specs.declared.name.Name.{Name}
-use Rattle.input_text.specs.declared.name.Name.TheVariants.{Up0, Down0, Left0, Right0, Fire0, Up1, Down1, Left1, Right1, Fire1, Reset, Select, Monochrome, Pro0, Pro1}
+use Rattle.input_text.specs.declared.name.Name.TheVariants.{Up0, Down0, Left0, Right0, Fire0, Up1}
+use Rattle.input_text.specs.declared.name.Name.TheVariants.{Down1, Left1, Right1, Fire1, Reset}
+use Rattle.input_text.specs.declared.name.Name.TheVariants.{Select, Monochrome, Pro0, Pro1}
 use Rattle.input_text.specs.declared.name.Port.{Port}
-use Rattle.input_text.specs.Names.{bit_of_name, names, idle, port_byte, bit_in, bits_in, is_held, input_with}
+use Rattle.input_text.specs.Names.{bit_of_name, names, idle, port_byte, bit_in, bits_in, is_held}
+use Rattle.input_text.specs.Names.{input_with}
 use Rattle.input_text.proofs.HeldLemmas.{by_port, bits_onto}
 
 -- where a name stands in the table

@@ -1,5 +1,7 @@
 -- Reading what was printed.
-use Rattle.std.proofs.Common.{◌≡◌, ℕ, ◌^◌, ◌<◌, ◌≤◌, zero, suc, true, List, [], ◌∷◌, ◌++◌, length, map, replicate, Ok, sym, refl, ap, ◌∙◌, arith, append_assoc, length-append}
+use Rattle.std.proofs.Common.{◌≡◌, ℕ, ◌^◌, ◌<◌, ◌≤◌, zero, suc, true, List, [], ◌∷◌, ◌++◌, length}
+use Rattle.std.proofs.Common.{map, replicate, Ok, sym, refl, ap, ◌∙◌, arith, append_assoc}
+use Rattle.std.proofs.Common.{length-append}
 use Rattle.std.specs.Prelude.{nat_eq}
 use Rattle.std.specs.List.{AllByRecursion, list_all, flat_map}
 use Rattle.std.proofs.lemmas.Bool.{and_from, le-leb}
@@ -14,7 +16,9 @@ use Rattle.input_text.specs.Texts.{is_readable, frames_of, input_of, inputs_of, 
 use Rattle.input_text.specs.Words.{lines_of, words_of}
 use Rattle.input_text.proofs.GoodLines.{can_be_read, frames_in, length-inputs, good_more, said}
 use Rattle.input_text.proofs.HeldNames.{holding-held}
-use Rattle.input_text.proofs.PrintedWords.{line_text, without_byte, words_of-line, number_of-decimal, decimal_is_count, names_readable, names_named}
+use Rattle.input_text.proofs.PrintedWords.{line_text, without_byte, words_of-line}
+use Rattle.input_text.proofs.PrintedWords.{number_of-decimal, decimal_is_count, names_readable}
+use Rattle.input_text.proofs.PrintedWords.{names_named}
 
 -- a stretch whose line is read as that stretch
 record IsPrintable (s : Stretch) : Type 0 where

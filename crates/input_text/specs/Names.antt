@@ -1,15 +1,18 @@
--- What can be held in a frame: fifteen names, each of one bit of an input. The bits are those of the Stella Programmer's
--- Guide, the names this project's own.
-use Rattle.std.specs.Prelude.{ℕ, ◌^◌, ◌<◌, Bool, true, false, not, ◌==◌, List, [], ◌∷◌, codes, bit_or, bit_xor, filter, fold, IsTrue, if◌then◌else◌}
+-- What can be held in a frame: fifteen names, each of one bit of an input. The bits are those of
+-- the Stella Programmer's Guide, the names this project's own.
+use Rattle.std.specs.Prelude.{ℕ, ◌^◌, ◌<◌, Bool, true, false, not, ◌==◌, List, [], ◌∷◌, codes}
+use Rattle.std.specs.Prelude.{bit_or, bit_xor, filter, fold, IsTrue, if◌then◌else◌}
 use Rattle.std.specs.Int.{bit_at}
 use Rattle.vcs_machine.specs.Inputs.{Controls, is_input}
 use Rattle.input_text.specs.declared.name.Port.{Port}
 use Rattle.input_text.specs.declared.name.Port.TheVariants.{Swcha, Swchb, Buttons}
 use Rattle.input_text.specs.declared.name.Name.{Name}
-use Rattle.input_text.specs.declared.name.Name.TheVariants.{Up0, Down0, Left0, Right0, Fire0, Up1, Down1, Left1, Right1, Fire1, Reset, Select, Monochrome, Pro0, Pro1}
+use Rattle.input_text.specs.declared.name.Name.TheVariants.{Up0, Down0, Left0, Right0, Fire0, Up1}
+use Rattle.input_text.specs.declared.name.Name.TheVariants.{Down1, Left1, Right1, Fire1, Reset}
+use Rattle.input_text.specs.declared.name.Name.TheVariants.{Select, Monochrome, Pro0, Pro1}
 
--- A name as it is written, and its bit: the port, which is a byte of an input, and the bit's number there. The buttons are a port
--- like the others.
+-- A name as it is written, and its bit: the port, which is a byte of an input, and the bit's number
+-- there. The buttons are a port like the others.
 pub record NamedBit : Type 0 where
   pub word : List ℕ
   pub port : Port

@@ -25,7 +25,8 @@ name_after_space name = 32 ∷ (bit_of_name name).word
 abbrev pub line_of : Stretch → List ℕ
 line_of s = decimal s.count ++ flat_map name_after_space (names_in s.input) ++ 10 ∷ []
 
--- The text is the lines of stretches that make up the inputs, none of them empty, and each as long as it can be.
+-- The text is the lines of stretches that make up the inputs, none of them empty, and each as long
+-- as it can be.
 pub record IsPrinted (inputs : List Controls) (text : List ℕ) : Type 0 where
   pub stretches : List Stretch
   pub inputs_are : inputs ≡ flat_map inputs_along stretches

@@ -1,5 +1,8 @@
--- What a text says: the inputs of its lines, one after the other, or its first bad line. This project's own.
-use Rattle.std.specs.Prelude.{ℕ, ◌+◌, ◌-◌, ◌*◌, ◌<◌, Bool, true, IsTrue, ◌&&◌, not, nat_le, List, [], ◌∷◌, length, take, replicate, find, fold, sum_by, Option, Some, None, is_some, Result, Ok, Err}
+-- What a text says: the inputs of its lines, one after the other, or its first bad line. This
+-- project's own.
+use Rattle.std.specs.Prelude.{ℕ, ◌+◌, ◌-◌, ◌*◌, ◌<◌, Bool, true, IsTrue, ◌&&◌, not, nat_le, List}
+use Rattle.std.specs.Prelude.{[], ◌∷◌, length, take, replicate, find, fold, sum_by, Option, Some}
+use Rattle.std.specs.Prelude.{None, is_some, Result, Ok, Err}
 use Rattle.std.specs.List.{list_all, filter_map, flat_map, range_with_len}
 use Rattle.std.specs.Str.{all_ascii_digits, bytes_eq}
 use Rattle.vcs_machine.specs.Inputs.{Controls}

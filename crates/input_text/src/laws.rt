@@ -3,7 +3,8 @@ ghost use Rattle.std.specs.Prelude.{◌≡◌, ◌≤◌, ℕ, List, length, Ok}
 ghost use Rattle.std.specs.List.{AllByRecursion, list_any};
 ghost use Rattle.std.specs.Str.{bytes_eq};
 ghost use Rattle.vcs_machine.specs.Inputs.{Controls};
-ghost use Rattle.input_text.specs.Names.{bit_of_name, input_with, is_held, names_in, IsInputOfBytes};
+ghost use Rattle.input_text.specs.Names.{bit_of_name, input_with, is_held, names_in};
+ghost use Rattle.input_text.specs.Names.{IsInputOfBytes};
 ghost use Rattle.input_text.specs.Stretches.{IsPrinted};
 ghost use Rattle.input_text.specs.Texts.{inputs_in, most_frames};
 ghost use Rattle.input_text.specs.declared.name.Name.{Name};

@@ -2,7 +2,8 @@
 ghost use Rattle.std.specs.Prelude.{◌≡◌, ◌≢◌, ◌+◌, ℕ, List, min, is_some, IfOk, IfSome, Ok, Err};
 ghost use Rattle.std.specs.List.{list_all, filter_map};
 ghost use Rattle.input_text.specs.Names.{input_with};
-ghost use Rattle.input_text.specs.Texts.{is_count, number_of, name_of, is_readable, frames_of, input_of, inputs_in, SaysFrames};
+ghost use Rattle.input_text.specs.Texts.{is_count, number_of, name_of, is_readable, frames_of};
+ghost use Rattle.input_text.specs.Texts.{input_of, inputs_in, SaysFrames};
 ghost use Rattle.input_text.specs.Words.{words_in, words_of};
 
 use crate::error::TextError;

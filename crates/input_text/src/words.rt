@@ -1,5 +1,6 @@
 //! The lines of a text and the words of a line.
-ghost use Rattle.std.specs.Prelude.{◌≡◌, ◌<◌, ◌⊎◌, ◌==◌, not, [], ◌∷◌, length, position, IfSome, MatchOption};
+ghost use Rattle.std.specs.Prelude.{◌≡◌, ◌<◌, ◌⊎◌, ◌==◌, not, [], ◌∷◌, length, position, IfSome};
+ghost use Rattle.std.specs.Prelude.{MatchOption};
 ghost use Rattle.input_text.specs.Words.{lines_of, without_comment, is_blank, words_in};
 
 /// The place of the first byte of a value.

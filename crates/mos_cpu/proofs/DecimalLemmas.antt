@@ -1,12 +1,14 @@
 -- Decimal sums and differences, digit by digit in natural numbers.
-use Rattle.std.proofs.Common.{◌≡◌, ℕ, ◌+◌, ◌-◌, ◌%◌, ◌/◌, ◌<◌, ◌≤◌, bit_and, nat_eq, true, false, refl, sym, ◌∙◌, arith}
+use Rattle.std.proofs.Common.{◌≡◌, ℕ, ◌+◌, ◌-◌, ◌%◌, ◌/◌, ◌<◌, ◌≤◌, bit_and, nat_eq, true, false}
+use Rattle.std.proofs.Common.{refl, sym, ◌∙◌, arith}
 use Rattle.std.specs.Prelude.{not, bit_xor, ℤ, pos, ◌+ℤ◌, ◌-ℤ◌, int_lt}
 use Rattle.std.proofs.lemmas.Int.{ints}
 use Rattle.std.proofs.lemmas.Bool.{lt-ltb, le-ltb}
 use Rattle.std.proofs.lemmas.Bool.Decides.{nat_tests}
 use Rattle.mos_cpu.proofs.SumLemmas.{modulo_is, negative_is, top_bits-overflow, signed_sum-modulo}
 use Rattle.mos_cpu.specs.Numbers.{overflows, modulo}
-use Rattle.mos_cpu.specs.Decimal.{high_digit, low_sum, decimal_sum_of, signed_sum_of, low_borrowed, high_borrowed}
+use Rattle.mos_cpu.specs.Decimal.{high_digit, low_sum, decimal_sum_of, signed_sum_of, low_borrowed}
+use Rattle.mos_cpu.specs.Decimal.{high_borrowed}
 
 pub low_sum-lt : (a m p : ℕ) → low_sum a m p < 32
 low_sum-lt a m p = grind (arith, nat_tests)

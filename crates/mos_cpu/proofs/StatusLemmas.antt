@@ -1,11 +1,13 @@
 -- The bits of the status, as the code tests and makes them.
-use Rattle.std.proofs.Common.{◌≡◌, ℕ, ◌+◌, ◌-◌, ◌*◌, ◌/◌, ◌%◌, ◌<◌, Bool, true, false, nat_eq, refl, arith, rules, bit_and, bit_or}
+use Rattle.std.proofs.Common.{◌≡◌, ℕ, ◌+◌, ◌-◌, ◌*◌, ◌/◌, ◌%◌, ◌<◌, Bool, true, false, nat_eq, refl}
+use Rattle.std.proofs.Common.{arith, rules, bit_and, bit_or}
 use Rattle.std.specs.Prelude.{not, if◌then◌else◌}
 use Rattle.std.proofs.lemmas.Bool.{agree_below, agree_below_at, eqb-true}
 use Rattle.std.proofs.lemmas.Grind.{common_steps}
 use Rattle.mos_cpu.specs.Status.{flag_weight, has_flag, put_flag}
 use Rattle.mos_cpu.specs.declared.status.Flag.{Flag}
-use Rattle.mos_cpu.specs.declared.status.Flag.TheVariants.{Carry, Zero, Interrupt, Decimal, Overflow, Negative}
+use Rattle.mos_cpu.specs.declared.status.Flag.TheVariants.{Carry, Zero, Interrupt, Decimal}
+use Rattle.mos_cpu.specs.declared.status.Flag.TheVariants.{Overflow, Negative}
 
 -- A test that holds of each byte.
 at_byte : (test : ℕ → Bool) (p : ℕ) → agree_below test (λ q. true) 256 ≡ true → p < 256

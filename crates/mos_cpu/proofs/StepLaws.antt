@@ -1,15 +1,18 @@
--- What follows from the definition of an instruction: how many cycles it takes, that each clock of its
--- bus is advanced by them, what it keeps, and that a fault changes nothing.
-use Rattle.std.proofs.Common.{◌≡◌, ℕ, ◌+◌, ◌-◌, ◌*◌, ◌%◌, ◌≤◌, List, [], ◌∷◌, Option, Some, None, Result, Ok, Err, zero-add, refl, ap, sym, ◌∙◌, arith}
+-- What follows from the definition of an instruction: how many cycles it takes, that each clock of
+-- its bus is advanced by them, what it keeps, and that a fault changes nothing.
+use Rattle.std.proofs.Common.{◌≡◌, ℕ, ◌+◌, ◌-◌, ◌*◌, ◌%◌, ◌≤◌, List, [], ◌∷◌, Option, Some, None}
+use Rattle.std.proofs.Common.{Result, Ok, Err, zero-add, refl, ap, sym, ◌∙◌, arith}
 use Rattle.std.proofs.Math.Nat.{mod-add-mod}
 use Rattle.std.specs.Result.{result_unwrap_or}
 use Rattle.std.specs.Prelude.{fold, map, IfOk, IfSome, OnErr}
 use Rattle.mos_cpu.specs.Buses.{Meaning, IsClock, IsInvariant}
 use Rattle.mos_cpu.specs.Registers.{Registers}
 use Rattle.mos_cpu.specs.Opcodes.{row_of}
-use Rattle.mos_cpu.specs.Operands.{and_then, instruction_byte, operand_of, row_or_fault, instruction_at}
+use Rattle.mos_cpu.specs.Operands.{and_then, instruction_byte, operand_of, row_or_fault}
+use Rattle.mos_cpu.specs.Operands.{instruction_at}
 use Rattle.mos_cpu.specs.Accesses.{accesses_of, instruction_cycles, use_of}
-use Rattle.mos_cpu.specs.Execution.{Step, Progress, bus_at, after_transfer, after_access, at_start, execution_of, step_by, step_of}
+use Rattle.mos_cpu.specs.Execution.{Step, Progress, bus_at, after_transfer, after_access, at_start}
+use Rattle.mos_cpu.specs.Execution.{execution_of, step_by, step_of}
 use Rattle.mos_cpu.specs.Timing.{IsTimed, least_of, AscendsTo, access_clocks, KeepsTime}
 use Rattle.mos_cpu.proofs.AccessLemmas.{accesses_of-ascend, cycles_of-least, cycles_of-most}
 use Rattle.mos_cpu.proofs.OpcodeLemmas.{row_of-timed}

@@ -1,6 +1,8 @@
 -- Sums and differences over the whole numbers, in natural ones and in bits.
-use Rattle.std.proofs.Common.{◌≡◌, ℕ, ◌+◌, ◌-◌, ◌*◌, ◌/◌, ◌%◌, ◌^◌, ◌<◌, ◌≤◌, Bool, true, false, nat_eq, refl, ap, sym, ◌∙◌, arith, bit_and, bit_or}
-use Rattle.std.specs.Prelude.{not, ◌&&◌, nat_lt, nat_le, min, bit_xor, ℤ, pos, negsuc, ◌+ℤ◌, ◌-ℤ◌, int_lt, int_le, unsigned_abs, cond}
+use Rattle.std.proofs.Common.{◌≡◌, ℕ, ◌+◌, ◌-◌, ◌*◌, ◌/◌, ◌%◌, ◌^◌, ◌<◌, ◌≤◌, Bool, true, false}
+use Rattle.std.proofs.Common.{nat_eq, refl, ap, sym, ◌∙◌, arith, bit_and, bit_or}
+use Rattle.std.specs.Prelude.{not, ◌&&◌, nat_lt, nat_le, min, bit_xor, ℤ, pos, negsuc, ◌+ℤ◌, ◌-ℤ◌}
+use Rattle.std.specs.Prelude.{int_lt, int_le, unsigned_abs, cond}
 use borrow.Author.Differences.{up, down}
 use Rattle.std.proofs.lemmas.Int.{ints, int_rem_euclid_is}
 use Rattle.std.proofs.lemmas.Bool.{leb-false, leb-true}

@@ -1,5 +1,6 @@
 -- A step where its row and its operand are known, by how the operation uses its operand.
-use Rattle.std.proofs.Common.{◌≡◌, ℕ, ◌+◌, ◌%◌, Bool, true, false, [], Option, Some, None, Result, Ok, Err, refl, sym, rules, arith, tests}
+use Rattle.std.proofs.Common.{◌≡◌, ℕ, ◌+◌, ◌%◌, Bool, true, false, [], Option, Some, None, Result}
+use Rattle.std.proofs.Common.{Ok, Err, refl, sym, rules, arith, tests}
 use Rattle.std.proofs.Math.Nat.{sub-zero}
 use Rattle.std.proofs.lemmas.Bool.{and_parts}
 use Rattle.std.specs.Prelude.{IsErr, IfSome, not, if◌then◌else◌}
@@ -9,15 +10,20 @@ use Rattle.mos_cpu.specs.Buses.{Meaning}
 use Rattle.mos_cpu.specs.Effects.{changed_of, effect, with_a, with_p, with_pc}
 use Rattle.mos_cpu.specs.Execution.{execution_of, step_of}
 use Rattle.mos_cpu.specs.Opcodes.{row_of, row_with}
-use Rattle.mos_cpu.specs.Operands.{and_then, instruction_byte, branch_target, row_or_fault, operand_by_mode, operand_of, takes_vector, instruction_at}
+use Rattle.mos_cpu.specs.Operands.{and_then, instruction_byte, branch_target, row_or_fault}
+use Rattle.mos_cpu.specs.Operands.{operand_by_mode, operand_of, takes_vector, instruction_at}
 use Rattle.mos_cpu.specs.Registers.{Registers}
-use Rattle.mos_cpu.specs.Private.Ways.{has_low, row_here, IsRow, IsLow, IsTarget, IsStepOf, IsReader, IsStorer, IsChanger, IsBranch, IsInner}
+use Rattle.mos_cpu.specs.Private.Ways.{has_low, row_here, IsRow, IsLow, IsTarget, IsStepOf}
+use Rattle.mos_cpu.specs.Private.Ways.{IsReader, IsStorer, IsChanger, IsBranch, IsInner}
 use Rattle.mos_cpu.specs.declared.addressing.Target.{Target}
 use Rattle.mos_cpu.specs.declared.fault.CpuFault.{CpuFault}
 use Rattle.mos_cpu.specs.declared.opcode_row.Row.{Row}
 use Rattle.mos_cpu.specs.declared.operation.Operation.{Operation}
 use Rattle.mos_cpu.specs.declared.mode.Mode.{Mode}
-use Rattle.mos_cpu.specs.declared.mode.Mode.TheVariants.{Implied, Accumulator, Immediate, ZeroPage, ZeroPageX, ZeroPageY, Absolute, AbsoluteX, AbsoluteY, Relative, Indirect, IndirectX, IndirectY}
+use Rattle.mos_cpu.specs.declared.mode.Mode.TheVariants.{Implied, Accumulator, Immediate, ZeroPage}
+use Rattle.mos_cpu.specs.declared.mode.Mode.TheVariants.{ZeroPageX, ZeroPageY, Absolute, AbsoluteX}
+use Rattle.mos_cpu.specs.declared.mode.Mode.TheVariants.{AbsoluteY, Relative, Indirect, IndirectX}
+use Rattle.mos_cpu.specs.declared.mode.Mode.TheVariants.{IndirectY}
 use Rattle.mos_cpu.specs.declared.instruction.Operand.{Operand}
 use Rattle.mos_cpu.specs.declared.instruction.Operand.TheVariants.{Register, Value, Place}
 use Rattle.mos_cpu.specs.declared.instruction.Instruction.{Instruction}

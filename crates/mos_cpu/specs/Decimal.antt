@@ -1,6 +1,7 @@
 -- ADC and SBC in decimal mode, by the MOS MCS6500 programming manual. What it leaves open is this
 -- project's own: digits above 9, and N, V and Z.
-use Rattle.std.specs.Prelude.{ℕ, ◌+◌, ◌*◌, ◌/◌, ◌%◌, ◌==◌, nat_le, ℤ, pos, ◌+ℤ◌, ◌-ℤ◌, int_lt, if◌then◌else◌}
+use Rattle.std.specs.Prelude.{ℕ, ◌+◌, ◌*◌, ◌/◌, ◌%◌, ◌==◌, nat_le, ℤ, pos, ◌+ℤ◌, ◌-ℤ◌, int_lt}
+use Rattle.std.specs.Prelude.{if◌then◌else◌}
 use Rattle.mos_cpu.specs.Numbers.{signed, overflows, modulo}
 use Rattle.mos_cpu.specs.Status.{has_flag, put_flag, carry_of}
 use Rattle.mos_cpu.specs.Sums.{sum_of, binary_adc_of, less_borrow, binary_sbc_of}

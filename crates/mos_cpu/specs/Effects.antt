@@ -1,7 +1,8 @@
 -- What an instruction does to the registers, by the MOS MCS6500 programming manual.
 use Rattle.std.specs.Prelude.{ℕ, ◌+◌, ◌*◌, ◌%◌, true, false, if◌then◌else◌, List, slice_index}
 use Rattle.mos_cpu.specs.Accesses.{is_taken}
-use Rattle.mos_cpu.specs.Arithmetic.{load_of, and_of, ora_of, eor_of, compare_of, bit_of, asl_of, lsr_of, rol_of, ror_of, inc_of, dec_of}
+use Rattle.mos_cpu.specs.Arithmetic.{load_of, and_of, ora_of, eor_of, compare_of, bit_of, asl_of}
+use Rattle.mos_cpu.specs.Arithmetic.{lsr_of, rol_of, ror_of, inc_of, dec_of}
 use Rattle.mos_cpu.specs.Decimal.{adc_of, sbc_of}
 use Rattle.mos_cpu.specs.Operands.{length_of}
 use Rattle.mos_cpu.specs.Registers.{Registers, after_pushes, after_pulls}
@@ -9,7 +10,14 @@ use Rattle.mos_cpu.specs.Status.{put_flag, pulled_of}
 use Rattle.mos_cpu.specs.declared.arithmetic.Alu.{Alu}
 use Rattle.mos_cpu.specs.declared.status.Flag.TheVariants.{Carry, Interrupt, Decimal, Overflow}
 use Rattle.mos_cpu.specs.declared.operation.Operation.{Operation}
-use Rattle.mos_cpu.specs.declared.operation.Operation.TheVariants.{Adc, And, Asl, Bit, Brk, Clc, Cld, Cli, Clv, Cmp, Cpx, Cpy, Dec, Dex, Dey, Eor, Inc, Inx, Iny, Jmp, Jsr, Lda, Ldx, Ldy, Lsr, Ora, Pha, Php, Pla, Plp, Rol, Ror, Rti, Rts, Sbc, Sec, Sed, Sei, Tax, Tay, Tsx, Txa, Txs, Tya}
+use Rattle.mos_cpu.specs.declared.operation.Operation.TheVariants.{Adc, And, Asl, Bit, Brk, Clc}
+use Rattle.mos_cpu.specs.declared.operation.Operation.TheVariants.{Cld, Cli, Clv, Cmp, Cpx, Cpy}
+use Rattle.mos_cpu.specs.declared.operation.Operation.TheVariants.{Dec, Dex, Dey, Eor, Inc, Inx}
+use Rattle.mos_cpu.specs.declared.operation.Operation.TheVariants.{Iny, Jmp, Jsr, Lda, Ldx, Ldy}
+use Rattle.mos_cpu.specs.declared.operation.Operation.TheVariants.{Lsr, Ora, Pha, Php, Pla, Plp}
+use Rattle.mos_cpu.specs.declared.operation.Operation.TheVariants.{Rol, Ror, Rti, Rts, Sbc, Sec}
+use Rattle.mos_cpu.specs.declared.operation.Operation.TheVariants.{Sed, Sei, Tax, Tay, Tsx, Txa}
+use Rattle.mos_cpu.specs.declared.operation.Operation.TheVariants.{Txs, Tya}
 use Rattle.mos_cpu.specs.declared.instruction.Operand.{Operand}
 use Rattle.mos_cpu.specs.declared.instruction.Operand.TheVariants.{Register, Value, Place}
 use Rattle.mos_cpu.specs.declared.instruction.Instruction.{Instruction}

@@ -1,5 +1,6 @@
 -- Bytes as signed numbers. MOS MCS6500 programming manual: two's complement.
-use Rattle.std.specs.Prelude.{ℕ, Bool, ◌||◌, nat_le, ℤ, pos, neg_ℤ, ◌-ℤ◌, int_lt, unsigned_abs, if◌then◌else◌}
+use Rattle.std.specs.Prelude.{ℕ, Bool, ◌||◌, nat_le, ℤ, pos, neg_ℤ, ◌-ℤ◌, int_lt, unsigned_abs}
+use Rattle.std.specs.Prelude.{if◌then◌else◌}
 use Rattle.std.specs.Int.{int_rem_euclid}
 
 -- A byte that is read as a signed number.

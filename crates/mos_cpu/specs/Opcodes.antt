@@ -1,10 +1,23 @@
 -- The table of instructions, by the MOS MCS6500 programming manual.
-use Rattle.std.specs.Prelude.{ℕ, Bool, false, true, List, [], ◌∷◌, Option, Some, None, ◌==◌, if◌then◌else◌}
+use Rattle.std.specs.Prelude.{ℕ, Bool, false, true, List, [], ◌∷◌, Option, Some, None, ◌==◌}
+use Rattle.std.specs.Prelude.{if◌then◌else◌}
 use Rattle.mos_cpu.specs.declared.opcode_row.Row.{Row}
 use Rattle.mos_cpu.specs.declared.operation.Operation.{Operation}
-use Rattle.mos_cpu.specs.declared.operation.Operation.TheVariants.{Adc, And, Asl, Bcc, Bcs, Beq, Bit, Bmi, Bne, Bpl, Brk, Bvc, Bvs, Clc, Cld, Cli, Clv, Cmp, Cpx, Cpy, Dec, Dex, Dey, Eor, Inc, Inx, Iny, Jmp, Jsr, Lda, Ldx, Ldy, Lsr, Nop, Ora, Pha, Php, Pla, Plp, Rol, Ror, Rti, Rts, Sbc, Sec, Sed, Sei, Sta, Stx, Sty, Tax, Tay, Tsx, Txa, Txs, Tya}
+use Rattle.mos_cpu.specs.declared.operation.Operation.TheVariants.{Adc, And, Asl, Bcc, Bcs, Beq}
+use Rattle.mos_cpu.specs.declared.operation.Operation.TheVariants.{Bit, Bmi, Bne, Bpl, Brk, Bvc}
+use Rattle.mos_cpu.specs.declared.operation.Operation.TheVariants.{Bvs, Clc, Cld, Cli, Clv, Cmp}
+use Rattle.mos_cpu.specs.declared.operation.Operation.TheVariants.{Cpx, Cpy, Dec, Dex, Dey, Eor}
+use Rattle.mos_cpu.specs.declared.operation.Operation.TheVariants.{Inc, Inx, Iny, Jmp, Jsr, Lda}
+use Rattle.mos_cpu.specs.declared.operation.Operation.TheVariants.{Ldx, Ldy, Lsr, Nop, Ora, Pha}
+use Rattle.mos_cpu.specs.declared.operation.Operation.TheVariants.{Php, Pla, Plp, Rol, Ror, Rti}
+use Rattle.mos_cpu.specs.declared.operation.Operation.TheVariants.{Rts, Sbc, Sec, Sed, Sei, Sta}
+use Rattle.mos_cpu.specs.declared.operation.Operation.TheVariants.{Stx, Sty, Tax, Tay, Tsx, Txa}
+use Rattle.mos_cpu.specs.declared.operation.Operation.TheVariants.{Txs, Tya}
 use Rattle.mos_cpu.specs.declared.mode.Mode.{Mode}
-use Rattle.mos_cpu.specs.declared.mode.Mode.TheVariants.{Implied, Accumulator, Immediate, ZeroPage, ZeroPageX, ZeroPageY, Absolute, AbsoluteX, AbsoluteY, Relative, Indirect, IndirectX, IndirectY}
+use Rattle.mos_cpu.specs.declared.mode.Mode.TheVariants.{Implied, Accumulator, Immediate, ZeroPage}
+use Rattle.mos_cpu.specs.declared.mode.Mode.TheVariants.{ZeroPageX, ZeroPageY, Absolute, AbsoluteX}
+use Rattle.mos_cpu.specs.declared.mode.Mode.TheVariants.{AbsoluteY, Relative, Indirect, IndirectX}
+use Rattle.mos_cpu.specs.declared.mode.Mode.TheVariants.{IndirectY}
 
 -- An opcode, its operation, addressing mode and cycles, and whether it takes one more where
 -- indexing crosses a page.

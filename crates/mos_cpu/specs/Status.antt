@@ -1,7 +1,8 @@
 -- The status register, by the MOS MCS6500 programming manual.
 use Rattle.std.specs.Prelude.{ℕ, ◌+◌, ◌-◌, ◌*◌, ◌/◌, ◌%◌, Bool, ◌==◌, if◌then◌else◌}
 use Rattle.mos_cpu.specs.declared.status.Flag.{Flag}
-use Rattle.mos_cpu.specs.declared.status.Flag.TheVariants.{Carry, Zero, Interrupt, Decimal, Overflow, Negative}
+use Rattle.mos_cpu.specs.declared.status.Flag.TheVariants.{Carry, Zero, Interrupt, Decimal}
+use Rattle.mos_cpu.specs.declared.status.Flag.TheVariants.{Overflow, Negative}
 
 -- The weight of a flag's bit: N V D I Z C are bits 7 6 3 2 1 0.
 abbrev pub flag_weight : Flag → ℕ

@@ -1,7 +1,9 @@
 -- When things happen within an instruction. What is said here follows from the table and the
 -- accesses.
-use Rattle.std.specs.Prelude.{ℕ, ◌≡◌, ◌≤◌, ◌+◌, ◌-◌, map, is_some, if◌then◌else◌, List, [], ◌∷◌, length}
-use Rattle.mos_cpu.specs.Accesses.{Use, Modifies, Pushes, Pulls, use_of, branch_test, accesses_of, instruction_cycles}
+use Rattle.std.specs.Prelude.{ℕ, ◌≡◌, ◌≤◌, ◌+◌, ◌-◌, map, is_some, if◌then◌else◌, List, [], ◌∷◌}
+use Rattle.std.specs.Prelude.{length}
+use Rattle.mos_cpu.specs.Accesses.{Use, Modifies, Pushes, Pulls, use_of, branch_test, accesses_of}
+use Rattle.mos_cpu.specs.Accesses.{instruction_cycles}
 use Rattle.mos_cpu.specs.Buses.{Meaning, IsClock}
 use Rattle.mos_cpu.specs.Execution.{Progress, bus_at, after_access, at_start}
 use Rattle.mos_cpu.specs.Registers.{Registers}

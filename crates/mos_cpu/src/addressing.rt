@@ -1,7 +1,9 @@
 //! Where the operand of an instruction is.
 
 ghost use Rattle.std.specs.Prelude.{◌≡◌, ◌+◌, ◌*◌, ◌/◌, ◌%◌, false, IfSome, IfNone, IsErr, Ok};
-ghost use Rattle.mos_cpu.specs.Operands.{instruction_byte, instruction_word, operand_word, pointer_at, indexed_place, branch_target, next_in_page_of, operand_by_mode};
+ghost use Rattle.mos_cpu.specs.Operands.{instruction_byte, instruction_word, operand_word};
+ghost use Rattle.mos_cpu.specs.Operands.{pointer_at, indexed_place, branch_target, next_in_page_of};
+ghost use Rattle.mos_cpu.specs.Operands.{operand_by_mode};
 ghost use Rattle.mos_cpu.specs.Private.Ways.{IsLow};
 
 use crate::bus::Bus;

@@ -4,7 +4,8 @@ ghost use Rattle.std.specs.Prelude.{◌≡◌, ◌<◌, ◌≤◌, ◌/◌, ◌%
 ghost use Rattle.mos_cpu.specs.Numbers.{modulo};
 ghost use Rattle.mos_cpu.specs.Status.{put_flag};
 ghost use Rattle.mos_cpu.specs.Sums.{sum_of};
-ghost use Rattle.mos_cpu.specs.Decimal.{low_sum, decimal_sum_of, corrected_of, decimal_adc_of, low_difference_of, decimal_difference};
+ghost use Rattle.mos_cpu.specs.Decimal.{low_sum, decimal_sum_of, corrected_of, decimal_adc_of};
+ghost use Rattle.mos_cpu.specs.Decimal.{low_difference_of, decimal_difference};
 
 use crate::arithmetic::Alu;
 use crate::status::{Flag, has, with_flag};

@@ -1,6 +1,7 @@
 //! One instruction.
 
-ghost use Rattle.std.specs.Prelude.{◌≡◌, ℕ, ◌≤◌, ◌+◌, ◌%◌, true, None, IfSome, IfNone, IfOk, OnErr, Err, IsErr};
+ghost use Rattle.std.specs.Prelude.{◌≡◌, ℕ, ◌≤◌, ◌+◌, ◌%◌, true, None, IfSome, IfNone, IfOk, OnErr};
+ghost use Rattle.std.specs.Prelude.{Err, IsErr};
 ghost use Rattle.mos_cpu.specs.Buses.{IsClock};
 ghost use Rattle.mos_cpu.specs.Execution.{step_of};
 ghost use Rattle.mos_cpu.specs.Operands.{instruction_at};
@@ -23,7 +24,8 @@ use crate::registers::Cpu;
 use crate::stack::{brk, jmp, jmp_indirect, jsr, pha, php, pla, plp, rti, rts};
 use crate::stores::{Sta, Stx, Sty, store};
 
-/// Whether an opcode is one with a byte after it. Of opcodes that aren't documented it says nothing.
+/// Whether an opcode is one with a byte after it. Of opcodes that aren't documented it says
+/// nothing.
 fn has_low(opcode: u8) -> bool
     ensures { result ≡ has_low opcode }
 {

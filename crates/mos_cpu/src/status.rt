@@ -2,7 +2,8 @@
 
 ghost use Rattle.std.specs.Prelude.{◌≡◌, ◌+◌, ◌/◌, ◌%◌};
 ghost use Rattle.mos_cpu.specs.Registers.{IsStatus};
-ghost use Rattle.mos_cpu.specs.Status.{flag_weight, has_flag, put_flag, with_nz, pushed_of, pulled_of};
+ghost use Rattle.mos_cpu.specs.Status.{flag_weight, has_flag, put_flag, with_nz, pushed_of};
+ghost use Rattle.mos_cpu.specs.Status.{pulled_of};
 
 /// A flag of the status register.
 #[derive(Clone, Copy)]

@@ -20,7 +20,8 @@ use Rattle.movie_file.specs.Record.{movie_record, movie_state_at}
 use Rattle.movie_file.specs.Movie.{IsStateWith, AreCheckpoints}
 use Rattle.movie_file.specs.declared.checkpoint.Checkpoint.{Checkpoint}
 use Rattle.movie_file.specs.Spelling.{checkpoint_bytes}
-use Rattle.movie_file.specs.Reading.{◌>>=◌, frame_at, head_state_at, claimed_checkpoint, checkpoints_at}
+use Rattle.movie_file.specs.Reading.{◌>>=◌, frame_at, head_state_at, claimed_checkpoint}
+use Rattle.movie_file.specs.Reading.{checkpoints_at}
 use Rattle.movie_file.proofs.ByteLemmas.{IsBytes, IsBytes-take, IsBytes-drop, and_true}
 use Rattle.movie_file.proofs.MovieRecords.{movie_state_takes, movie_state_again}
 use Rattle.movie_file.proofs.MovieRecords.{length-movie_record}

@@ -1,14 +1,18 @@
 -- Records in movies: version 1 leaves out the bank, which is 0.
-use Rattle.std.proofs.Common.{◌≡◌, ℕ, zero, suc, ◌-◌, ◌<◌, ◌≤◌, Bool, true, false, cond, eqb, List, [], ◌∷◌, ◌++◌, length, get_or, take, Option, Some, None, refl, sym, ap, ◌∙◌, arith, inl, inr}
+use Rattle.std.proofs.Common.{◌≡◌, ℕ, zero, suc, ◌-◌, ◌<◌, ◌≤◌, Bool, true, false, cond, eqb, List}
+use Rattle.std.proofs.Common.{[], ◌∷◌, ◌++◌, length, get_or, take, Option, Some, None, refl, sym}
+use Rattle.std.proofs.Common.{ap, ◌∙◌, arith, inl, inr}
 use Rattle.std.specs.Prelude.{◌||◌, IsTrue}
 use Rattle.std.proofs.lemmas.Bool.{cases_lt}
 use Rattle.std.proofs.lemmas.Bool.Decides.{nat_tests}
-use Rattle.std.proofs.lemmas.List.{take_at, take_all, length-append, length-take, get_or_append_left, get_or-append_right}
+use Rattle.std.proofs.lemmas.List.{take_at, take_all, length-append, length-take}
+use Rattle.std.proofs.lemmas.List.{get_or_append_left, get_or-append_right}
 use Rattle.riot_map.specs.Cart.{has_banks}
 use Rattle.vcs_machine.specs.declared.fields.StateFields.{StateFields}
 use Rattle.movie_file.specs.Format.{takes_cart, most_frames, record_length, whole_record}
 use Rattle.movie_file.specs.Movie.{IsState, IsStateWith}
-use Rattle.movie_file.specs.Record.{record_of, recorded_state, movie_record, fits_bank, with_fitting_bank, movie_state_at}
+use Rattle.movie_file.specs.Record.{record_of, recorded_state, movie_record, fits_bank}
+use Rattle.movie_file.specs.Record.{with_fitting_bank, movie_state_at}
 use Rattle.movie_file.specs.RecordParts.{cpu_bytes, riot_bytes, tia_bytes}
 use Rattle.movie_file.proofs.ByteLemmas.{IsBytes, chosen_some}
 use Rattle.movie_file.proofs.RecordParts.{length-riot_bytes}

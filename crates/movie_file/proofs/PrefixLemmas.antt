@@ -1,5 +1,6 @@
 -- What begins with a list begins with each prefix of it.
-use Rattle.std.proofs.Common.{◌≡◌, ℕ, List, ◌++◌, length, take, drop, refl, sym, ap, ◌∙◌, append_assoc}
+use Rattle.std.proofs.Common.{◌≡◌, ℕ, List, ◌++◌, length, take, drop, refl, sym, ap, ◌∙◌}
+use Rattle.std.proofs.Common.{append_assoc}
 use Rattle.std.proofs.lemmas.List.{take_at, take-append-drop}
 
 pub prefix_then : (a b c m : List ℕ) → b ≡ a ++ m → take (length b) c ≡ b → take (length a) c ≡ a

@@ -1,9 +1,12 @@
 -- A record that is read is the record that was written, and what was written is read again.
-use Rattle.std.proofs.Common.{◌≡◌, ℕ, ◌*◌, ◌<◌, ◌≤◌, Bool, true, false, cond, List, [], ◌∷◌, ◌++◌, length, get_or, take, drop, set, Option, Some, None, refl, sym, ap, subst, ◌∙◌, append_assoc, arith}
+use Rattle.std.proofs.Common.{◌≡◌, ℕ, ◌*◌, ◌<◌, ◌≤◌, Bool, true, false, cond, List, [], ◌∷◌, ◌++◌}
+use Rattle.std.proofs.Common.{length, get_or, take, drop, set, Option, Some, None, refl, sym, ap}
+use Rattle.std.proofs.Common.{subst, ◌∙◌, append_assoc, arith}
 use Rattle.std.specs.Prelude.{◌&&◌, nat_eq, nat_lt, IfSome, IsTrue}
 use Rattle.std.proofs.Math.Seq.{take-add}
 use Rattle.std.proofs.lemmas.Bool.{eqb-true, ltb-false}
-use Rattle.std.proofs.lemmas.List.{take_at, drop_at, set_at, take_all, take_more, get_or-drop, length-append, length-take, length-drop}
+use Rattle.std.proofs.lemmas.List.{take_at, drop_at, set_at, take_all, take_more, get_or-drop}
+use Rattle.std.proofs.lemmas.List.{length-append, length-take, length-drop}
 use borrow.Rule.Slice.PartMut.{put_mid}
 use Rattle.mos_cpu.specs.Registers.{Registers, is_status}
 use Rattle.riot_map.specs.declared.fields.RiotFields.{RiotFields}
@@ -12,11 +15,14 @@ use Rattle.vcs_machine.proofs.StateLemmas.{clock_of, clock-thirds}
 use Rattle.vcs_machine.specs.declared.fields.StateFields.{StateFields}
 use Rattle.vcs_machine.specs.States.{is_state}
 use Rattle.movie_file.specs.Format.{state_length}
-use Rattle.movie_file.specs.Record.{record_of, recorded_state, fields_at, cpu_part, riot_part, tia_part}
+use Rattle.movie_file.specs.Record.{record_of, recorded_state, fields_at, cpu_part, riot_part}
+use Rattle.movie_file.specs.Record.{tia_part}
 use Rattle.movie_file.specs.RecordParts.{cpu_bytes, cpu_at, riot_bytes, riot_at, tia_bytes, tia_at}
 use Rattle.movie_file.specs.Movie.{IsState}
-use Rattle.movie_file.proofs.ByteLemmas.{IsBytes, IsBytes-take, IsBytes-drop, two_below, and_true, chosen_some}
-use Rattle.movie_file.proofs.RecordParts.{cpu_back, riot_back, tia_back, cpu_again, riot_again, tia_again, length-riot_bytes}
+use Rattle.movie_file.proofs.ByteLemmas.{IsBytes, IsBytes-take, IsBytes-drop, two_below, and_true}
+use Rattle.movie_file.proofs.ByteLemmas.{chosen_some}
+use Rattle.movie_file.proofs.RecordParts.{cpu_back, riot_back, tia_back, cpu_again, riot_again}
+use Rattle.movie_file.proofs.RecordParts.{tia_again, length-riot_bytes}
 
 -- ---- a record that is read is written again
 

@@ -1,11 +1,14 @@
--- The bytes of a part that are read are those that were written, and what was written is read again.
-use Rattle.std.proofs.Common.{◌≡◌, ℕ, ◌*◌, ◌/◌, ◌^◌, ◌<◌, List, [], ◌∷◌, ◌++◌, length, get_or, take, drop, sym, ap, ◌∙◌, arith}
+-- The bytes of a part that are read are those that were written, and what was written is read
+-- again.
+use Rattle.std.proofs.Common.{◌≡◌, ℕ, ◌*◌, ◌/◌, ◌^◌, ◌<◌, List, [], ◌∷◌, ◌++◌, length, get_or, take}
+use Rattle.std.proofs.Common.{drop, sym, ap, ◌∙◌, arith}
 use Rattle.std.proofs.lemmas.List.{take_at, drop_at, take-append-drop, length-append, length-drop}
 use Rattle.std.proofs.lemmas.Nat.{from_be_bytes-to_be_bytes_2}
 use Rattle.mos_cpu.specs.Registers.{Registers}
 use Rattle.riot_map.specs.declared.fields.RiotFields.{RiotFields}
 use Rattle.tia_core.specs.declared.fields.TiaFields.{TiaFields}
-use Rattle.movie_file.specs.RecordParts.{cpu_bytes, cpu_at, port_bytes, riot_bytes, riot_with, riot_at, tia_bytes, tia_at}
+use Rattle.movie_file.specs.RecordParts.{cpu_bytes, cpu_at, port_bytes, riot_bytes, riot_with}
+use Rattle.movie_file.specs.RecordParts.{riot_at, tia_bytes, tia_at}
 use Rattle.movie_file.proofs.ByteLemmas.{IsBytes, IsBytes-drop, cells, cells_whole, two_back}
 
 -- ---- written as they were read

@@ -1,5 +1,7 @@
--- A run goes on from where it stands, and a frame is sound, faults or has a false checkpoint, and no two of these.
-use Rattle.std.proofs.Common.{◌≡◌, ℕ, zero, suc, ◌+◌, ◌-◌, ◌<◌, ◌≤◌, length, Option, Some, None, refl, sym, ap, subst, ◌∙◌, arith, add-one, add-zero, ◌⊎◌, inl, inr}
+-- A run goes on from where it stands, and a frame is sound, faults or has a false checkpoint, and
+-- no two of these.
+use Rattle.std.proofs.Common.{◌≡◌, ℕ, zero, suc, ◌+◌, ◌-◌, ◌<◌, ◌≤◌, length, Option, Some, None}
+use Rattle.std.proofs.Common.{refl, sym, ap, subst, ◌∙◌, arith, add-one, add-zero, ◌⊎◌, inl, inr}
 use Rattle.std.proofs.lemmas.Bool.{cases_lt}
 use Rattle.vcs_machine.specs.Outcomes.{FrameOutcome, Failed}
 use Rattle.vcs_machine.specs.declared.fault.FaultKind.{FaultKind}

@@ -1,6 +1,7 @@
--- The numbers of the format, and all that differs between its versions, each in this one place. The format is this project's own;
--- its numbers are big-endian.
-use Rattle.std.specs.Prelude.{ℕ, ◌+◌, ◌*◌, List, [], ◌∷◌, ◌++◌, codes, Bool, ◌==◌, ◌&&◌, ◌||◌, not, if◌then◌else◌}
+-- The numbers of the format, and all that differs between its versions, each in this one place. The
+-- format is this project's own; its numbers are big-endian.
+use Rattle.std.specs.Prelude.{ℕ, ◌+◌, ◌*◌, List, [], ◌∷◌, ◌++◌, codes, Bool, ◌==◌, ◌&&◌, ◌||◌, not}
+use Rattle.std.specs.Prelude.{if◌then◌else◌}
 use Rattle.riot_map.specs.Cart.{is_cart_length, has_banks}
 use Rattle.movie_file.specs.declared.reading.sizes.Sizes.{Sizes}
 

@@ -1,5 +1,7 @@
--- Inputs by themselves: three bytes each, one after the other, and nothing else. This project's own.
-use Rattle.std.specs.Prelude.{◌≡◌, ℕ, ◌/◌, ◌%◌, List, length, Result, Ok, Err, IsTrue, ◌==◌, if◌then◌else◌}
+-- Inputs by themselves: three bytes each, one after the other, and nothing else. This project's
+-- own.
+use Rattle.std.specs.Prelude.{◌≡◌, ℕ, ◌/◌, ◌%◌, List, length, Result, Ok, Err, IsTrue, ◌==◌}
+use Rattle.std.specs.Prelude.{if◌then◌else◌}
 use Rattle.std.specs.List.{AllByRecursion, flat_map}
 use Rattle.vcs_machine.specs.Inputs.{Controls, is_input, input_bytes}
 use Rattle.movie_file.specs.declared.error.MovieError.{MovieError}
@@ -12,7 +14,8 @@ pub record SpellsInputs (bytes : List ℕ) (inputs : List Controls) : Type 0 whe
   pub lawful : AllByRecursion (λ i. IsTrue (is_input i)) inputs
   pub spelled : bytes ≡ flat_map input_bytes inputs
 
--- the inputs that the bytes are, or their refusal: an input that is cut short, or the first that is none
+-- the inputs that the bytes are, or their refusal: an input that is cut short, or the first that is
+-- none
 unfoldable pub all_inputs_at : List ℕ → Result (List Controls) MovieError
 all_inputs_at bytes =
     if length bytes % input_length == 0

@@ -1,5 +1,6 @@
--- What is said of the frames of a run: that they are sound, that one faults, or that a checkpoint is false. Checkpoints
--- are found by look-ups, so that no definition needs their order. This project's own.
+-- What is said of the frames of a run: that they are sound, that one faults, or that a checkpoint
+-- is false. Checkpoints are found by look-ups, so that no definition needs their order. This
+-- project's own.
 use Rattle.std.specs.Prelude.{◌≡◌, ◌≢◌, ℕ, ◌+◌, ◌<◌, length, Some, slice_get}
 use Rattle.vcs_machine.specs.Outcomes.{Failed}
 use Rattle.vcs_machine.specs.declared.fault.FaultKind.{FaultKind}
@@ -24,7 +25,8 @@ FaultsAt m start from k kind =
     (state : StateFields) × (left : StateFields) × (run m start from k ≡ Some state)
     × (frame_after m (from + k) state ≡ Some (Failed kind left))
 
--- the checkpoint of this number, from 1, stands after frame k + 1 of the run and claims another state
+-- the checkpoint of this number, from 1, stands after frame k + 1 of the run and claims another
+-- state
 abbrev pub IsFalseAt : MovieData → StateFields → ℕ → ℕ → ℕ → Type 0
 IsFalseAt m start from k number =
     (state : StateFields) × (j : ℕ) × (c : Checkpoint) × (run m start from (k + 1) ≡ Some state)

@@ -1,5 +1,7 @@
--- Making a movie: a run from power-on, with its state after every so many frames as a checkpoint. This project's own.
-use Rattle.std.specs.Prelude.{◌≡◌, ℕ, ◌+◌, ◌*◌, ◌/◌, ◌<◌, List, [], length, Bool, ◌&&◌, ◌||◌, nat_le, nat_lt, IsTrue, if◌then◌else◌, Some, slice_get}
+-- Making a movie: a run from power-on, with its state after every so many frames as a checkpoint.
+-- This project's own.
+use Rattle.std.specs.Prelude.{◌≡◌, ℕ, ◌+◌, ◌*◌, ◌/◌, ◌<◌, List, [], length, Bool, ◌&&◌, ◌||◌}
+use Rattle.std.specs.Prelude.{nat_le, nat_lt, IsTrue, if◌then◌else◌, Some, slice_get}
 use Rattle.riot_map.specs.Cart.{has_banks}
 use Rattle.vcs_machine.specs.Inputs.{Controls}
 use Rattle.vcs_machine.specs.States.{state_at_power_on}
@@ -12,7 +14,8 @@ use Rattle.movie_file.specs.Judgement.{AllSound, FaultsAt}
 use Rattle.movie_file.specs.Movie.{MovieData}
 use Rattle.movie_file.specs.Run.{run}
 
--- the version of a movie that is made of a cartridge of so many bytes and so many inputs: 1 where that has room for them
+-- the version of a movie that is made of a cartridge of so many bytes and so many inputs: 1 where
+-- that has room for them
 abbrev pub version_made : ℕ → ℕ → ℕ
 version_made cart frames = if has_banks cart || nat_lt (most_frames 1) frames then 2 else 1
 
@@ -21,8 +24,8 @@ abbrev pub counts_fit : ℕ → ℕ → Bool
 counts_fit frames every =
     nat_le 1 frames && nat_le frames (most_frames 2) && nat_le 1 every && nat_le (frames / every) most_checkpoints
 
--- The movie of a run from power-on. Checkpoint j + 1 claims the state of the run after frame every * (j + 1), and there
--- is one for each multiple of `every` up to the last frame.
+-- The movie of a run from power-on. Checkpoint j + 1 claims the state of the run after frame every
+-- * (j + 1), and there is one for each multiple of `every` up to the last frame.
 pub record IsMadeOf (cart : List ℕ) (inputs : List Controls) (every : ℕ) (m : MovieData) : Type 0 where
   pub version : m.version ≡ version_made (length cart) (length inputs)
   pub cart_is : m.cart ≡ cart
@@ -49,7 +52,8 @@ IsFirstFault cart inputs frame kind =
     (k : ℕ) × (frame ≡ k + 1) × AllSound (bare cart inputs) (state_at_power_on cart) 0 k
     × FaultsAt (bare cart inputs) (state_at_power_on cart) 0 k kind
 
--- Why no movie is made. The counts are looked at first, and memory is taken before the run, where there is a checkpoint.
+-- Why no movie is made. The counts are looked at first, and memory is taken before the run, where
+-- there is a checkpoint.
 abbrev pub Explains : List ℕ → List Controls → ℕ → MakeError → Type 0
 Explains cart inputs every (Fault frame kind) =
     IsTrue (counts_fit (length inputs) every) × IsFirstFault cart inputs frame kind

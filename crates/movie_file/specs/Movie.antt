@@ -29,7 +29,8 @@ pub record IsStateWith (cart : ℕ) (f : StateFields) : Type 0 where
   pub state : IsState f
   pub bank : IsTrue (fits_bank cart f)
 
--- each frame number is greater than the one before it, and none is above n; each claimed state is one with the cartridge
+-- each frame number is greater than the one before it, and none is above n; each claimed state is
+-- one with the cartridge
 abbrev pub AreCheckpoints : ℕ → ℕ → ℕ → List Checkpoint → Type 0
 AreCheckpoints cart last n [] = Unit {0}
 AreCheckpoints cart last n (c ∷ cs) =

@@ -1,5 +1,6 @@
 -- The record of a state: its 188 bytes, part by part. This project's own.
-use Rattle.std.specs.Prelude.{ℕ, List, [], ◌∷◌, ◌++◌, length, take, drop, slice_index, ◌==◌, ◌&&◌, ◌||◌, Bool, Option, Some, None, if◌then◌else◌}
+use Rattle.std.specs.Prelude.{ℕ, List, [], ◌∷◌, ◌++◌, length, take, drop, slice_index, ◌==◌, ◌&&◌}
+use Rattle.std.specs.Prelude.{◌||◌, Bool, Option, Some, None, if◌then◌else◌}
 use Rattle.vcs_machine.specs.declared.fields.StateFields.{StateFields}
 use Rattle.vcs_machine.specs.States.{is_state}
 use Rattle.riot_map.specs.Cart.{has_banks}
@@ -44,6 +45,7 @@ abbrev pub with_fitting_bank : ℕ → Option StateFields → Option StateFields
 with_fitting_bank cart (Some f) = if fits_bank cart f then Some f else None
 with_fitting_bank cart None = None
 
--- the state whose record in a movie the bytes are: of this version, with a cartridge of so many bytes
+-- the state whose record in a movie the bytes are: of this version, with a cartridge of so many
+-- bytes
 unfoldable pub movie_state_at : ℕ → ℕ → List ℕ → Option StateFields
 movie_state_at version cart bytes = with_fitting_bank cart (recorded_state (whole_record version bytes))

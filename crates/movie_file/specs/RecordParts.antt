@@ -48,8 +48,8 @@ riot_with ram b = record {
 abbrev pub riot_at : List ℕ → RiotFields
 riot_at b = riot_with (take 128 b) (drop 128 b)
 
--- the 42 bytes of the TIA: registers, positions, collisions, buttons, and the beam's place, in cycles
--- of three colour clocks
+-- the 42 bytes of the TIA: registers, positions, collisions, buttons, and the beam's place, in
+-- cycles of three colour clocks
 abbrev pub tia_bytes : TiaFields → List ℕ
 tia_bytes t =
     t.vsync ∷ t.vblank ∷ t.nusiz0 ∷ t.nusiz1 ∷ t.colup0 ∷ t.colup1 ∷ t.colupf ∷ t.colubk

@@ -1,5 +1,6 @@
 -- The run of a movie: one frame after another, from one state. This project's own.
-use Rattle.std.specs.Prelude.{ℕ, zero, suc, ◌+◌, List, [], ◌∷◌, Option, Some, None, slice_get, option_and_then}
+use Rattle.std.specs.Prelude.{ℕ, zero, suc, ◌+◌, List, [], ◌∷◌, Option, Some, None, slice_get}
+use Rattle.std.specs.Prelude.{option_and_then}
 use Rattle.std.specs.Option.{option_map}
 use Rattle.vcs_machine.specs.Outcomes.{FrameOutcome, Played, Failed, frame_of}
 use Rattle.vcs_machine.specs.Pictures.{Rows}
@@ -22,8 +23,8 @@ pictures_of (Some (Played state picture)) = picture ∷ []
 pictures_of (Some (Failed kind state)) = []
 pictures_of None = []
 
--- The run from a state that stands after frame `from`: the state after k more frames, or none where one of them failed.
--- From the movie's start, with from = 0, it is the movie's one unbroken run.
+-- The run from a state that stands after frame `from`: the state after k more frames, or none where
+-- one of them failed. From the movie's start, with from = 0, it is the movie's one unbroken run.
 abbrev pub run : MovieData → StateFields → ℕ → ℕ → Option StateFields
 run m start from zero = Some start
 run m start from (suc k) = option_and_then (λ state. state_after (frame_after m (from + k) state)) (run m start from k)

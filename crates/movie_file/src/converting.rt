@@ -12,7 +12,8 @@ pub enum ConvertError {
     AlreadyTwo(Movie),
 }
 
-/// The movie of version 2 with the same cartridge, start state, inputs and checkpoints. Each bank is 0.
+/// The movie of version 2 with the same cartridge, start state, inputs and checkpoints. Each bank
+/// is 0.
 ///
 /// Takes no memory. `AlreadyTwo` comes for every movie of version 2, whatever its cartridge.
 pub fn convert(movie: Movie) -> Result<Movie, ConvertError>

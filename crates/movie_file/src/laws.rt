@@ -1,5 +1,6 @@
 //! Laws about the definitions.
-ghost use Rattle.std.specs.Prelude.{◌≡◌, ◌+◌, ◌<◌, ◌≤◌, List, ℕ, length, Ok, Some, get_or, slice_get};
+ghost use Rattle.std.specs.Prelude.{◌≡◌, ◌+◌, ◌<◌, ◌≤◌, List, ℕ, length, Ok, Some, get_or};
+ghost use Rattle.std.specs.Prelude.{slice_get};
 ghost use Rattle.movie_file.specs.Conversion.{converted};
 ghost use Rattle.movie_file.specs.InputLists.{SpellsInputs, all_inputs_at};
 ghost use Rattle.movie_file.specs.Judgement.{IsSound, FaultsAt, IsFalseAt, IsGenuine};

@@ -1,5 +1,7 @@
 //! Making movies.
-ghost use Rattle.std.specs.Prelude.{◌≡◌, ◌↔◌, ◌%◌, ◌/◌, ◌≤◌, ◌<◌, ◌++◌, ◌==◌, List, [], ◌∷◌, length, vec_len, vec_capacity, if◌then◌else◌, IfOk, IfErr, OnOk, IsTrue};
+ghost use Rattle.std.specs.Prelude.{◌≡◌, ◌↔◌, ◌%◌, ◌/◌, ◌≤◌, ◌<◌, ◌++◌, ◌==◌, List, [], ◌∷◌};
+ghost use Rattle.std.specs.Prelude.{length, vec_len, vec_capacity, if◌then◌else◌, IfOk, IfErr};
+ghost use Rattle.std.specs.Prelude.{OnOk, IsTrue};
 ghost use Rattle.std.specs.List.{AllByRecursion};
 ghost use Rattle.riot_map.specs.Cart.{is_cart_length};
 ghost use Rattle.vcs_machine.specs.Inputs.{is_input};

@@ -1,5 +1,6 @@
 //! Reading movies.
-ghost use Rattle.std.specs.Prelude.{◌≡◌, ◌≢◌, ◌≤◌, [], length, take, IfErr, IfOk, IsOk, IsTrue, Ok, vec_capacity};
+ghost use Rattle.std.specs.Prelude.{◌≡◌, ◌≢◌, ◌≤◌, [], length, take, IfErr, IfOk, IsOk, IsTrue, Ok};
+ghost use Rattle.std.specs.Prelude.{vec_capacity};
 ghost use Rattle.movie_file.specs.Format.{takes_cart, most_frames, most_checkpoints, body_length};
 ghost use Rattle.movie_file.specs.Movie.{MovieData};
 ghost use Rattle.movie_file.specs.MovieError.{Gives};

@@ -1,5 +1,7 @@
 -- The gaps between checkpoints.
-use Rattle.std.proofs.Common.{◌≡◌, ℕ, zero, suc, ◌+◌, ◌-◌, ◌<◌, List, [], ◌∷◌, ◌++◌, length, append_assoc, Some, slice_get, refl, arith, ◌∙◌, sym, add-one, drop, max}
+use Rattle.std.proofs.Common.{◌≡◌, ℕ, zero, suc, ◌+◌, ◌-◌, ◌<◌, List, [], ◌∷◌, ◌++◌, length}
+use Rattle.std.proofs.Common.{append_assoc, Some, slice_get, refl, arith, ◌∙◌, sym, add-one, drop}
+use Rattle.std.proofs.Common.{max}
 use Rattle.std.specs.Prelude.{fold, codes}
 use Rattle.std.specs.Fmt.{decimal}
 use Rattle.std.proofs.Math.Seq.{drop-length}

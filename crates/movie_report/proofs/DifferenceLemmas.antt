@@ -1,11 +1,13 @@
 -- The numbers of two records from a place on.
-use Rattle.std.proofs.Common.{◌≡◌, ℕ, ◌+◌, ◌<◌, ◌≤◌, List, [], ◌∷◌, ◌++◌, length, refl, arith, ap, ◌∙◌, sym, add-one, take, drop, append_assoc, append-nil, drop-drop}
+use Rattle.std.proofs.Common.{◌≡◌, ℕ, ◌+◌, ◌<◌, ◌≤◌, List, [], ◌∷◌, ◌++◌, length, refl, arith, ap}
+use Rattle.std.proofs.Common.{◌∙◌, sym, add-one, take, drop, append_assoc, append-nil, drop-drop}
 use Rattle.std.specs.Prelude.{map}
 use Rattle.std.specs.List.{flat_map, range_with_len}
 use Rattle.std.proofs.Math.Seq.{drop-cons, drop-length}
 use Rattle.std.proofs.lemmas.List.FromFn.{length-range_with_len}
 use Rattle.movie_report.specs.Differences.{Pair, number_pairs, line_if_different, differences_text}
-use Rattle.movie_report.specs.Numbers.{NumberData, state_numbers, memory_number, memory_numbers, other_numbers, processor_numbers}
+use Rattle.movie_report.specs.Numbers.{NumberData, state_numbers, memory_number, memory_numbers}
+use Rattle.movie_report.specs.Numbers.{other_numbers, processor_numbers}
 use Rattle.movie_report.specs.Private.Places.{state_number_at, no_place}
 use Rattle.movie_report.specs.declared.differences.Comparison.{Comparison}
 use Rattle.movie_report.proofs.NumberLemmas.{length-numbers}

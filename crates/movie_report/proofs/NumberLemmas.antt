@@ -1,12 +1,14 @@
 -- Which number stands at which place.
-use Rattle.std.proofs.Common.{◌≡◌, ℕ, ◌+◌, ◌-◌, ◌<◌, ◌≤◌, List, length, refl, arith, ap, ◌∙◌, sym, get_or, Bor}
+use Rattle.std.proofs.Common.{◌≡◌, ℕ, ◌+◌, ◌-◌, ◌<◌, ◌≤◌, List, length, refl, arith, ap, ◌∙◌, sym}
+use Rattle.std.proofs.Common.{get_or, Bor}
 use Rattle.std.specs.Prelude.{map}
 use Rattle.std.proofs.Math.ListN.{get_or-map}
 use Rattle.std.specs.Prelude.{◌++◌, slice_index_or}
 use Rattle.std.proofs.lemmas.List.{get_or_append_left, get_or-append_right}
 use Rattle.std.proofs.lemmas.List.FromFn.{length-map-range_with_len, get_or-map-range_with_len}
 use Rattle.std.proofs.Math.ListN.{length-append}
-use Rattle.movie_report.specs.Numbers.{NumberData, state_numbers, memory_number, memory_numbers, other_numbers, processor_numbers}
+use Rattle.movie_report.specs.Numbers.{NumberData, state_numbers, memory_number, memory_numbers}
+use Rattle.movie_report.specs.Numbers.{other_numbers, processor_numbers}
 use Rattle.movie_report.specs.Private.Places.{state_number_at, no_place}
 
 length-memory_numbers : length memory_numbers ≡ 128

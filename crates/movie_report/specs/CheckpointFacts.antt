@@ -1,11 +1,13 @@
 -- The facts of a movie's checkpoints. This project's own.
-use Rattle.std.specs.Prelude.{ℕ, ◌-◌, List, [], ◌∷◌, ◌++◌, length, codes, Option, Some, None, slice_get, fold}
+use Rattle.std.specs.Prelude.{ℕ, ◌-◌, List, [], ◌∷◌, ◌++◌, length, codes, Option, Some, None}
+use Rattle.std.specs.Prelude.{slice_get, fold}
 use Rattle.std.specs.Fmt.{decimal}
 use Rattle.std.proofs.Common.{max}
 use Rattle.movie_file.specs.Movie.{MovieData}
 use Rattle.movie_file.specs.declared.checkpoint.Checkpoint.{Checkpoint}
 
--- The gaps before checkpoints: how many frames each stands after the one before it, and the first after frame `last`.
+-- The gaps before checkpoints: how many frames each stands after the one before it, and the first
+-- after frame `last`.
 abbrev pub gaps_from : ℕ → List Checkpoint → List ℕ
 gaps_from last [] = []
 gaps_from last (c ∷ cs) = (c.frame - last) ∷ gaps_from c.frame cs

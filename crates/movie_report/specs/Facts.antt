@@ -1,5 +1,6 @@
 -- The facts of a movie and its verdict. This project's own.
-use Rattle.std.specs.Prelude.{ℕ, ◌-◌, List, [], ◌∷◌, ◌++◌, length, codes, Option, Some, None, slice_get, if◌then◌else◌}
+use Rattle.std.specs.Prelude.{ℕ, ◌-◌, List, [], ◌∷◌, ◌++◌, length, codes, Option, Some, None}
+use Rattle.std.specs.Prelude.{slice_get, if◌then◌else◌}
 use Rattle.std.specs.Fmt.{decimal}
 use Rattle.std.specs.Str.{bytes_eq}
 use Rattle.hex.specs.Hex.{encode_lower}
@@ -17,7 +18,8 @@ use Rattle.movie_file.specs.declared.checkpoint.Checkpoint.{Checkpoint}
 use Rattle.replay_segments.specs.RunStates.{left_at}
 use Rattle.replay_segments.specs.declared.run_states.LeftState.{LeftState}
 use Rattle.replay_segments.specs.declared.verdict.Verdict.{Verdict}
-use Rattle.replay_segments.specs.declared.verdict.Verdict.TheVariants.{Genuine, FalseCheckpoint, Fault}
+use Rattle.replay_segments.specs.declared.verdict.Verdict.TheVariants.{Genuine, FalseCheckpoint}
+use Rattle.replay_segments.specs.declared.verdict.Verdict.TheVariants.{Fault}
 use Rattle.movie_report.specs.CheckpointFacts.{checkpoints_text}
 use Rattle.movie_report.specs.Differences.{differences_text}
 use Rattle.movie_report.specs.declared.differences.Comparison.TheVariants.{Start, Claim}
@@ -30,7 +32,8 @@ cartridge_text cart =
     ++ ((codes "sha1: " ++ (encode_lower (sha1 cart) ++ 10 ∷ []))
     ++ (codes "sha256: " ++ (encode_lower (sha256 cart) ++ 10 ∷ []))))
 
--- Whether a start state is that of power-on, and in which numbers it differs from that: of the records of both.
+-- Whether a start state is that of power-on, and in which numbers it differs from that: of the
+-- records of both.
 abbrev pub start_text : List ℕ → List ℕ → List ℕ
 start_text start power =
     if bytes_eq start power then codes "start: power-on" ++ 10 ∷ []

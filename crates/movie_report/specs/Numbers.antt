@@ -1,4 +1,5 @@
--- The numbers of a state record: the name of each and its length in bytes, in the record's order. This project's own.
+-- The numbers of a state record: the name of each and its length in bytes, in the record's order.
+-- This project's own.
 use Rattle.std.specs.Prelude.{ℕ, List, [], ◌∷◌, ◌++◌, codes, map}
 use Rattle.std.specs.List.{range_with_len}
 use Rattle.vcs_machine.specs.Faults.{hex2}

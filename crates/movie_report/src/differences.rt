@@ -1,6 +1,7 @@
 //! The numbers in which two state records differ.
 ghost use Rattle.std.specs.Prelude.{◌≡◌, ◌<◌, IfOk, string_bytes};
-ghost use Rattle.movie_report.specs.Differences.{difference_line, differences_text, line_if_different};
+ghost use Rattle.movie_report.specs.Differences.{difference_line, differences_text};
+ghost use Rattle.movie_report.specs.Differences.{line_if_different};
 ghost use Rattle.movie_report.specs.Private.Places.{state_number_at};
 
 use crate::numbers::{COUNT, Number};

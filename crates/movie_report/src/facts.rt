@@ -5,8 +5,10 @@ ghost use Rattle.movie_file.specs.Record.{record_of};
 ghost use Rattle.movie_file.specs.Run.{run};
 ghost use Rattle.replay_segments.specs.RunStates.{left_at};
 ghost use Rattle.replay_segments.specs.Verdicts.{HasVerdict};
-ghost use Rattle.replay_segments.specs.declared.verdict.Verdict.TheVariants.{FalseCheckpoint, Fault};
-ghost use Rattle.movie_report.specs.Facts.{cartridge_text, claim_text, left_text, registers_text, start_text, verdict_text, report_text};
+ghost use Rattle.replay_segments.specs.declared.verdict.Verdict.TheVariants.{FalseCheckpoint};
+ghost use Rattle.replay_segments.specs.declared.verdict.Verdict.TheVariants.{Fault};
+ghost use Rattle.movie_report.specs.Facts.{cartridge_text, claim_text, left_text, registers_text};
+ghost use Rattle.movie_report.specs.Facts.{start_text, verdict_text, report_text};
 
 use crate::checkpoints::checkpoint_facts;
 use crate::differences::{Comparison, differences};
@@ -105,9 +107,10 @@ fn verdict_facts(alloc: Global, movie: &Movie, verdict: &Verdict) -> Result<Stri
 
 /// The facts of a movie and its verdict, as lines.
 ///
-/// They are the cartridge's length and digests, whether the start state is that of power-on, and where checkpoints stand. Of a
-/// false checkpoint follow the numbers in which the claimed state differs from that of the run, and of a fault the registers and
-/// the beam's place that its frame left. So much of the movie is replayed as lies between the place and the last checkpoint before
+/// They are the cartridge's length and digests, whether the start state is that of power-on, and
+/// where checkpoints stand. Of a false checkpoint follow the numbers in which the claimed state
+/// differs from that of the run, and of a fault the registers and the beam's place that its frame
+/// left. So much of the movie is replayed as lies between the place and the last checkpoint before
 /// it.
 pub fn report(alloc: Global, movie: &Movie, verdict: &Verdict) -> Result<String, AllocError>
     requires { HasVerdict movie.now verdict.now }

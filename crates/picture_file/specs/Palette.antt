@@ -13,6 +13,7 @@ abbrev pub lighter : ℕ → List ℕ → List ℕ
 lighter by [] = []
 lighter by (x ∷ xs) = (x + by) ∷ lighter by xs
 
--- The red, green and blue of a colour byte: its hue is in bits 7 to 4, its luminance in bits 3 to 1, and each step of that adds 24.
+-- The red, green and blue of a colour byte: its hue is in bits 7 to 4, its luminance in bits 3 to
+-- 1, and each step of that adds 24.
 abbrev pub rgb_of : ℕ → List ℕ
 rgb_of colour = lighter (24 * (colour / 2 % 8)) (slice_index_or hues (colour / 16) [])

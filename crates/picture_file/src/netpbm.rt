@@ -2,7 +2,8 @@
 ghost use Rattle.std.specs.Prelude.{◌≡◌, ◌≤◌, ◌<◌, OnOk, OnErr, drop, length};
 ghost use Rattle.std.specs.Fmt.{decimal};
 ghost use Rattle.std.specs.Io.KnownBytes.{Appends};
-ghost use Rattle.picture_file.specs.PictureBytes.{header_bytes, picture_bytes, pictures_bytes, row_bytes};
+ghost use Rattle.picture_file.specs.PictureBytes.{header_bytes, picture_bytes, pictures_bytes};
+ghost use Rattle.picture_file.specs.PictureBytes.{row_bytes};
 ghost use Rattle.picture_file.specs.Prefixes.{AppendsPrefix};
 
 use crate::bytes::{WriteFault, write_bytes};
@@ -85,7 +86,8 @@ fn write_row<W: Write>(row: &[u8], writer: &mut W) -> Result<(), WriteFault>
     write_bytes(bytes_of_row(row).as_slice(), writer)
 }
 
-/// Writes a picture as a portable pixmap (P6) of 160 columns, or with a fault a prefix of it. It takes no memory.
+/// Writes a picture as a portable pixmap (P6) of 160 columns, or with a fault a prefix of it. It
+/// takes no memory.
 pub fn ppm<W: Write>(picture: &Picture, writer: &mut W) -> Result<(), WriteFault>
     ensures ok { OnOk result (Appends (W.contents writer.old) (W.contents writer.new) (picture_bytes picture.now)) }
     ensures err { OnErr result (AppendsPrefix (W.contents writer.old) (W.contents writer.new) (picture_bytes picture.now)) }

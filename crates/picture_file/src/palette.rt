@@ -22,7 +22,8 @@ const HUES: [[u8; 3]; 16] = [
     [72, 40, 0],
 ];
 
-/// The red, green and blue of a colour byte, whose hue is in bits 7 to 4 and whose luminance is in bits 3 to 1.
+/// The red, green and blue of a colour byte, whose hue is in bits 7 to 4 and whose luminance is in
+/// bits 3 to 1.
 pub fn rgb(colour: u8) -> [u8; 3]
     ensures { result ≡ rgb_of colour }
 {

@@ -5,7 +5,8 @@ ghost use Rattle.replay_plan.specs.Limits.{most_kept};
 /// The most frames whose pictures are kept.
 pub const MOST_KEPT: u32 = 600;
 
-/// The frames whose pictures are kept: `count` of them, at most 600, from frame `first` on, at least 1.
+/// The frames whose pictures are kept: `count` of them, at most 600, from frame `first` on, at
+/// least 1.
 #[derive(Clone, Copy, Debug, PartialEq, Eq)]
 pub struct Keep {
     first: u32,

@@ -1,5 +1,5 @@
-//! How a movie is to be judged: by how many workers, where it is cut, and which pictures are kept. Each number is in its range by
-//! its type.
+//! How a movie is to be judged: by how many workers, where it is cut, and which pictures are kept.
+//! Each number is in its range by its type.
 #![tactic(auto)]
 
 mod keep;

@@ -20,7 +20,8 @@ pub struct Plan {
 }
 
 impl Plan {
-    /// The plan by which so many workers judge a movie that is cut at each checkpoint, and no picture is kept.
+    /// The plan by which so many workers judge a movie that is cut at each checkpoint, and no
+    /// picture is kept.
     pub fn without_pictures(workers: Workers) -> Plan
         ensures workers { result.workers ≡ workers }
         ensures every { non_zero_u16_get result.every ≡ 1 }

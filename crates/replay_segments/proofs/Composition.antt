@@ -1,5 +1,7 @@
 -- Segments one after another are one unbroken run.
-use Rattle.std.proofs.Common.{◌≡◌, ℕ, zero, suc, ◌+◌, ◌-◌, ◌<◌, ◌≤◌, List, [], ◌++◌, length, Some, refl, arith, ap, ◌∙◌, subst, sym, add-zero, append-nil, append_assoc, if◌then◌else◌}
+use Rattle.std.proofs.Common.{◌≡◌, ℕ, zero, suc, ◌+◌, ◌-◌, ◌<◌, ◌≤◌, List, [], ◌++◌, length, Some}
+use Rattle.std.proofs.Common.{refl, arith, ap, ◌∙◌, subst, sym, add-zero, append-nil, append_assoc}
+use Rattle.std.proofs.Common.{if◌then◌else◌}
 use Rattle.vcs_machine.specs.Pictures.{Rows}
 use Rattle.vcs_machine.specs.declared.fields.StateFields.{StateFields}
 use Rattle.movie_file.specs.Movie.{MovieData}
@@ -8,16 +10,20 @@ use Rattle.movie_file.specs.Judgement.{AllSound}
 use Rattle.movie_file.proofs.RunLemmas.{run-shift, AllSound-shift}
 use Rattle.replay_plan.specs.declared.keep.Keep.{Keep}
 use Rattle.replay_segments.specs.declared.verdict.Verdict.{Verdict}
-use Rattle.replay_segments.specs.declared.verdict.Verdict.TheVariants.{Genuine, FalseCheckpoint, Fault}
+use Rattle.replay_segments.specs.declared.verdict.Verdict.TheVariants.{Genuine, FalseCheckpoint}
+use Rattle.replay_segments.specs.declared.verdict.Verdict.TheVariants.{Fault}
 use Rattle.replay_plan.specs.Keeping.{is_kept}
 use Rattle.replay_segments.specs.KeptPictures.{pictures, picture_after}
 use Rattle.replay_segments.specs.Pieces.{Job, IsJob, segments_of}
 use Rattle.replay_segments.specs.Private.Finding.{IsBad}
 use Rattle.replay_segments.specs.Segments.{end_of, from_of, start_of, IsSegment}
 use Rattle.replay_segments.specs.Verdicts.{IsJudged, IsVerdict}
-use Rattle.replay_segments.proofs.SegmentLemmas.{at_cut, end_of-cut, end_of-last, end_of-within, from_of-below, from_of-next, from_of-after, start_of-after}
+use Rattle.replay_segments.proofs.SegmentLemmas.{at_cut, end_of-cut, end_of-last, end_of-within}
+use Rattle.replay_segments.proofs.SegmentLemmas.{from_of-below, from_of-next, from_of-after}
+use Rattle.replay_segments.proofs.SegmentLemmas.{start_of-after}
 
--- The first i segments are genuine, with these pictures, as a beginning of the unbroken run, which stands where the next one begins.
+-- The first i segments are genuine, with these pictures, as a beginning of the unbroken run, which
+-- stands where the next one begins.
 pub record IsPrefix (job : Job) (i : ℕ) (frames : List Rows) : Type 0 where
   pub judged : IsJudged job.movie job.keep job.movie.start 0 (from_of job.movie job.cuts i) (Genuine frames)
   pub stands : i ≤ length job.cuts → run job.movie job.movie.start 0 (from_of job.movie job.cuts i) ≡ Some (start_of job.movie job.cuts i)
@@ -37,7 +43,8 @@ prefixed frames (Genuine more) = Genuine (frames ++ more)
 prefixed frames (FalseCheckpoint number frame) = FalseCheckpoint number frame
 prefixed frames (Fault frame kind) = Fault frame kind
 
--- Two stretches, of which the second begins where the run through the first one stands, are judged as one.
+-- Two stretches, of which the second begins where the run through the first one stands, are judged
+-- as one.
 compose : (m : MovieData) (keep : Keep) (s : StateFields) (a i : ℕ) (t : StateFields) (j : ℕ) (frames : List Rows) (v : Verdict)
     → IsJudged m keep s a i (Genuine frames) → run m s a i ≡ Some t → IsJudged m keep t (a + i) j v
     → IsJudged m keep s a (i + j) (prefixed frames v)

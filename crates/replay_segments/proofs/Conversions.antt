@@ -4,10 +4,13 @@ use Rattle.vcs_machine.specs.declared.fields.StateFields.{StateFields}
 use Rattle.movie_file.specs.Conversion.{converted}
 use Rattle.movie_file.specs.Movie.{MovieData}
 use Rattle.movie_file.specs.Run.{run}
-use Rattle.movie_file.proofs.Conversions.{run-converted, sound-converted, sound-back, faults-converted, faults-back, false-converted, false-back}
+use Rattle.movie_file.proofs.Conversions.{run-converted, sound-converted, sound-back}
+use Rattle.movie_file.proofs.Conversions.{faults-converted, faults-back, false-converted}
+use Rattle.movie_file.proofs.Conversions.{false-back}
 use Rattle.replay_plan.specs.declared.keep.Keep.{Keep}
 use Rattle.replay_segments.specs.declared.verdict.Verdict.{Verdict}
-use Rattle.replay_segments.specs.declared.verdict.Verdict.TheVariants.{Genuine, FalseCheckpoint, Fault}
+use Rattle.replay_segments.specs.declared.verdict.Verdict.TheVariants.{Genuine, FalseCheckpoint}
+use Rattle.replay_segments.specs.declared.verdict.Verdict.TheVariants.{Fault}
 use Rattle.replay_segments.specs.KeptPictures.{picture_after, pictures}
 use Rattle.replay_segments.specs.Verdicts.{IsJudged}
 

@@ -1,12 +1,15 @@
 -- Pieces that are looked for one after another.
-use Rattle.std.proofs.Common.{◌≡◌, ◌≢◌, ℕ, ◌+◌, ◌<◌, ◌≤◌, List, length, Option, Some, None, Err, true, IfSome, slice_get, refl, arith}
+use Rattle.std.proofs.Common.{◌≡◌, ◌≢◌, ℕ, ◌+◌, ◌<◌, ◌≤◌, List, length, Option, Some, None, Err}
+use Rattle.std.proofs.Common.{true, IfSome, slice_get, refl, arith}
 use Rattle.std.specs.Option.{is_some}
 use Rattle.std.proofs.lemmas.Option.{slice_get_within}
 use Rattle.replay_segments.specs.declared.gathering.GatherError.{GatherError}
 use Rattle.replay_segments.specs.declared.gathering.GatherError.TheVariants.{Missing, NoMemory}
 use Rattle.replay_segments.specs.declared.outcome.Outcome.{Outcome}
-use Rattle.replay_segments.specs.declared.outcome.Outcome.TheVariants.{Judged, NoMemory as NoMemoryOutcome}
-use Rattle.replay_segments.specs.declared.verdict.Verdict.TheVariants.{Genuine, FalseCheckpoint, Fault}
+use Rattle.replay_segments.specs.declared.outcome.Outcome.TheVariants.{Judged}
+use Rattle.replay_segments.specs.declared.outcome.Outcome.TheVariants.{NoMemory as NoMemoryOutcome}
+use Rattle.replay_segments.specs.declared.verdict.Verdict.TheVariants.{Genuine, FalseCheckpoint}
+use Rattle.replay_segments.specs.declared.verdict.Verdict.TheVariants.{Fault}
 use Rattle.replay_segments.specs.Private.Finding.{MayPass, IsAnswer}
 use Rattle.replay_segments.specs.Gathering.{HasNumber, HasPassed}
 use Rattle.replay_segments.specs.Pieces.{PieceData, IsPassed}

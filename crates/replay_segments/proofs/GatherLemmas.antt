@@ -1,18 +1,23 @@
 -- What pieces answer, by the first number without a piece that passed.
-use Rattle.std.proofs.Common.{◌≡◌, ℕ, zero, suc, ◌<◌, ◌↔◌, List, [], ◌++◌, Result, Ok, Err, IfOk, refl, arith, ap, ◌∙◌, subst, sym, add-one, ◌⊎◌, inl, inr}
+use Rattle.std.proofs.Common.{◌≡◌, ℕ, zero, suc, ◌<◌, ◌↔◌, List, [], ◌++◌, Result, Ok, Err, IfOk}
+use Rattle.std.proofs.Common.{refl, arith, ap, ◌∙◌, subst, sym, add-one, ◌⊎◌, inl, inr}
 use Rattle.std.proofs.lemmas.Bool.{cases_lt}
 use Rattle.vcs_machine.specs.Pictures.{Rows}
 use Rattle.replay_segments.specs.declared.gathering.GatherError.{GatherError}
 use Rattle.replay_segments.specs.declared.gathering.GatherError.TheVariants.{Missing, NoMemory}
 use Rattle.replay_segments.specs.declared.outcome.Outcome.{Outcome}
-use Rattle.replay_segments.specs.declared.outcome.Outcome.TheVariants.{Judged, NoMemory as NoMemoryOutcome}
+use Rattle.replay_segments.specs.declared.outcome.Outcome.TheVariants.{Judged}
+use Rattle.replay_segments.specs.declared.outcome.Outcome.TheVariants.{NoMemory as NoMemoryOutcome}
 use Rattle.replay_segments.specs.declared.verdict.Verdict.{Verdict}
-use Rattle.replay_segments.specs.declared.verdict.Verdict.TheVariants.{Genuine, FalseCheckpoint, Fault}
+use Rattle.replay_segments.specs.declared.verdict.Verdict.TheVariants.{Genuine, FalseCheckpoint}
+use Rattle.replay_segments.specs.declared.verdict.Verdict.TheVariants.{Fault}
 use Rattle.replay_segments.specs.Private.Finding.{ArePassedBelow, IsFirstUnpassed, IsAnswer}
-use Rattle.replay_segments.specs.Gathering.{NamesAll, HasPassed, PassedBelow, IsMissing, AllRefused, IsFirstMissing, IsFirstRefused, picture_count}
+use Rattle.replay_segments.specs.Gathering.{NamesAll, HasPassed, PassedBelow, IsMissing, AllRefused}
+use Rattle.replay_segments.specs.Gathering.{IsFirstMissing, IsFirstRefused, picture_count}
 use Rattle.replay_segments.specs.Pieces.{PieceData, Job, IsPassed, segments_of}
 use Rattle.replay_segments.specs.Verdicts.{IsVerdict}
-use Rattle.replay_segments.proofs.Composition.{IsPrefix, IsPrefix-start, IsPrefix-next, IsVerdict-bad}
+use Rattle.replay_segments.proofs.Composition.{IsPrefix, IsPrefix-start, IsPrefix-next}
+use Rattle.replay_segments.proofs.Composition.{IsVerdict-bad}
 use Rattle.replay_segments.proofs.TakeLemmas.{of_job}
 
 passed_frames : (o : Outcome) → IsPassed o → (frames : List Rows) × (o ≡ Judged (Genuine frames))

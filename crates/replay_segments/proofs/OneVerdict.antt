@@ -5,10 +5,12 @@ use Rattle.vcs_machine.specs.Pictures.{Rows}
 use Rattle.vcs_machine.specs.declared.fields.StateFields.{StateFields}
 use Rattle.movie_file.specs.Movie.{MovieData, IsMovie}
 use Rattle.movie_file.specs.Judgement.{FaultsAt, IsFalseAt}
-use Rattle.movie_file.proofs.RunLemmas.{sound_no_fault, false_no_fault, sound_no_false, same_number, same_kind}
+use Rattle.movie_file.proofs.RunLemmas.{sound_no_fault, false_no_fault, sound_no_false, same_number}
+use Rattle.movie_file.proofs.RunLemmas.{same_kind}
 use Rattle.replay_plan.specs.declared.keep.Keep.{Keep}
 use Rattle.replay_segments.specs.declared.verdict.Verdict.{Verdict}
-use Rattle.replay_segments.specs.declared.verdict.Verdict.TheVariants.{Genuine, FalseCheckpoint, Fault}
+use Rattle.replay_segments.specs.declared.verdict.Verdict.TheVariants.{Genuine, FalseCheckpoint}
+use Rattle.replay_segments.specs.declared.verdict.Verdict.TheVariants.{Fault}
 use Rattle.replay_segments.specs.Verdicts.{IsJudged}
 
 module _ (m : MovieData) (start : StateFields) (from : ℕ) where

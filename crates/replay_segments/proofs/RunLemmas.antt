@@ -1,5 +1,6 @@
 -- One more frame of a run.
-use Rattle.std.proofs.Common.{◌≡◌, ℕ, ◌+◌, ◌<◌, List, [], ◌∷◌, ◌++◌, Some, None, refl, ap, ◌∙◌, sym, add-one, below_more}
+use Rattle.std.proofs.Common.{◌≡◌, ℕ, ◌+◌, ◌<◌, List, [], ◌∷◌, ◌++◌, Some, None, refl, ap, ◌∙◌, sym}
+use Rattle.std.proofs.Common.{add-one, below_more}
 use Rattle.std.specs.Prelude.{if◌then◌else◌}
 use Rattle.vcs_machine.specs.Outcomes.{Played}
 use Rattle.vcs_machine.specs.Pictures.{Rows}

@@ -1,5 +1,6 @@
 -- From where the one unbroken run of a movie can be replayed.
-use Rattle.std.proofs.Common.{◌≡◌, ℕ, zero, suc, ◌+◌, ◌-◌, ◌<◌, ◌≤◌, length, Option, Some, None, IsSome, Err, false, slice_get, refl, arith, ap, subst, sym, add-zero}
+use Rattle.std.proofs.Common.{◌≡◌, ℕ, zero, suc, ◌+◌, ◌-◌, ◌<◌, ◌≤◌, length, Option, Some, None}
+use Rattle.std.proofs.Common.{IsSome, Err, false, slice_get, refl, arith, ap, subst, sym, add-zero}
 use Rattle.std.specs.Prelude.{option_and_then}
 use Rattle.std.proofs.lemmas.Option.{slice_get_within}
 use Rattle.vcs_machine.specs.declared.fault.FaultKind.{FaultKind}

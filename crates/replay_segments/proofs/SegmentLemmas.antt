@@ -1,5 +1,7 @@
 -- Where segments begin and end.
-use Rattle.std.proofs.Common.{◌≡◌, ℕ, zero, suc, ◌+◌, ◌-◌, ◌<◌, ◌≤◌, List, length, Some, Result, Ok, Err, IfOk, OnErr, true, max, slice_get, refl, arith, ap, ◌∙◌, subst, sym, add-one, ◌⊎◌, inl, inr}
+use Rattle.std.proofs.Common.{◌≡◌, ℕ, zero, suc, ◌+◌, ◌-◌, ◌<◌, ◌≤◌, List, length, Some, Result, Ok}
+use Rattle.std.proofs.Common.{Err, IfOk, OnErr, true, max, slice_get, refl, arith, ap, ◌∙◌, subst}
+use Rattle.std.proofs.Common.{sym, add-one, ◌⊎◌, inl, inr}
 use Rattle.std.proofs.lemmas.Bool.{cases_lt}
 use Rattle.std.proofs.lemmas.Bool.Decides.{nat_tests}
 use Rattle.std.proofs.lemmas.Option.{slice_get_past, slice_get_within}

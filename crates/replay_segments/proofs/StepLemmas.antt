@@ -1,5 +1,6 @@
 -- A frame of a movie, from what one frame answers.
-use Rattle.std.proofs.Common.{◌≡◌, ℕ, Option, Some, None, Result, Ok, Err, Bool, true, slice_get, refl, ap}
+use Rattle.std.proofs.Common.{◌≡◌, ℕ, Option, Some, None, Result, Ok, Err, Bool, true, slice_get}
+use Rattle.std.proofs.Common.{refl, ap}
 use Rattle.std.specs.Prelude.{List, if◌then◌else◌}
 use Rattle.vcs_machine.specs.Inputs.{Controls}
 use Rattle.vcs_machine.specs.Outcomes.{FrameOutcome, Played, Failed, FailsAs, frame_of}

@@ -1,5 +1,6 @@
 -- The pictures of a piece are taken.
-use Rattle.std.proofs.Common.{◌≡◌, ◌≢◌, ℕ, ◌<◌, List, length, Some, refl, slice_get, slice_set, get_or, arith, ap, ◌∙◌, subst, sym}
+use Rattle.std.proofs.Common.{◌≡◌, ◌≢◌, ℕ, ◌<◌, List, length, Some, refl, slice_get, slice_set}
+use Rattle.std.proofs.Common.{get_or, arith, ap, ◌∙◌, subst, sym}
 use Rattle.std.proofs.lemmas.List.Elements.{All-set}
 use Rattle.std.proofs.lemmas.List.Sums.{sum_by-set}
 use Rattle.std.proofs.lemmas.Option.{slice_get_within, get_or_from_slice_get}
@@ -10,7 +11,8 @@ use Rattle.replay_segments.specs.declared.verdict.Verdict.{Verdict}
 use Rattle.replay_segments.specs.declared.verdict.Verdict.TheVariants.{Genuine}
 use Rattle.replay_segments.specs.Private.Finding.{IsPassedAt, IsTaken}
 use Rattle.replay_segments.specs.Gathering.{NamesAll, HasPassed}
-use Rattle.replay_segments.specs.Pieces.{PieceData, IsPiece, IsOutcome, Job, IsJob, segments_of, frames_in}
+use Rattle.replay_segments.specs.Pieces.{PieceData, IsPiece, IsOutcome, Job, IsJob, segments_of}
+use Rattle.replay_segments.specs.Pieces.{frames_in}
 use Rattle.replay_segments.specs.Segments.{IsSegment}
 use Rattle.replay_segments.proofs.ListLemmas.{same_at, All-at, slice_get-set_other}
 

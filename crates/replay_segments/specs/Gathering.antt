@@ -1,4 +1,5 @@
--- What is said of pieces that are gathered, in any order of arrival and with repeats. This project's own.
+-- What is said of pieces that are gathered, in any order of arrival and with repeats. This
+-- project's own.
 use Rattle.std.specs.Prelude.{ℕ, ◌<◌, ◌≡◌, ◌≢◌, List, All, Some, slice_get, sum_by}
 use Rattle.replay_segments.specs.declared.outcome.Outcome.TheVariants.{NoMemory}
 use Rattle.replay_segments.specs.Pieces.{PieceData, Job, IsPassed, frames_in}
@@ -34,7 +35,8 @@ AllRefused pieces number =
 abbrev pub IsFirstMissing : List PieceData → ℕ → ℕ → Type 0
 IsFirstMissing pieces n k = (k < n) × IsMissing pieces k × PassedBelow pieces k
 
--- Of the numbers below n this is the first without a piece that passed, and all its pieces are without memory.
+-- Of the numbers below n this is the first without a piece that passed, and all its pieces are
+-- without memory.
 abbrev pub IsFirstRefused : List PieceData → ℕ → ℕ → Type 0
 IsFirstRefused pieces n k = (k < n) × HasNumber pieces k × AllRefused pieces k × PassedBelow pieces k
 

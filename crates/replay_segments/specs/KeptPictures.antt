@@ -12,7 +12,8 @@ abbrev pub picture_after : MovieData → ℕ → Option StateFields → List Row
 picture_after m k None = []
 picture_after m k (Some state) = pictures_of (frame_after m k state)
 
--- The kept pictures of the first k frames of the run from a state that stands after frame `from`, in order.
+-- The kept pictures of the first k frames of the run from a state that stands after frame `from`,
+-- in order.
 abbrev pub pictures : MovieData → Keep → StateFields → ℕ → ℕ → List Rows
 pictures m keep start from zero = []
 pictures m keep start from (suc k) =

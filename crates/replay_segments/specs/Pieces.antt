@@ -4,7 +4,8 @@ use Rattle.movie_file.specs.Movie.{MovieData, IsMovie}
 use Rattle.replay_plan.specs.declared.keep.Keep.{Keep}
 use Rattle.replay_segments.specs.declared.outcome.Outcome.{Outcome}
 use Rattle.replay_segments.specs.declared.outcome.Outcome.TheVariants.{Judged, NoMemory}
-use Rattle.replay_segments.specs.declared.verdict.Verdict.TheVariants.{Genuine, FalseCheckpoint, Fault}
+use Rattle.replay_segments.specs.declared.verdict.Verdict.TheVariants.{Genuine, FalseCheckpoint}
+use Rattle.replay_segments.specs.declared.verdict.Verdict.TheVariants.{Fault}
 use Rattle.replay_segments.specs.Cuts.{Fits}
 use Rattle.replay_plan.specs.Keeping.{is_kept}
 use Rattle.replay_segments.specs.Segments.{IsSegment, from_of, end_of}

@@ -11,8 +11,8 @@ use Rattle.movie_file.specs.Movie.{MovieData}
 use Rattle.movie_file.specs.Run.{run}
 use Rattle.replay_segments.specs.declared.run_states.LeftState.{LeftState}
 
--- What a frame leaves from a state with an input: the state in which it stops, and the scanline of the beam there, counted from
--- the one in which it began. A scanline has 76 cycles.
+-- What a frame leaves from a state with an input: the state in which it stops, and the scanline of
+-- the beam there, counted from the one in which it began. A scanline has 76 cycles.
 abbrev pub left_by_frame : MovieData → StateFields → Controls → LeftState
 left_by_frame m state input =
     let here = machine_at (stop_of (console_rules with_pixel_logged) (machine_of m.cart state input [])) in

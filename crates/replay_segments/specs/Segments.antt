@@ -1,5 +1,7 @@
--- The segments of a movie between its cuts, each replayed from the state that its first cut claims. This project's own.
-use Rattle.std.specs.Prelude.{ℕ, zero, suc, ◌+◌, ◌-◌, ◌≡◌, List, length, Option, Some, None, slice_get}
+-- The segments of a movie between its cuts, each replayed from the state that its first cut claims.
+-- This project's own.
+use Rattle.std.specs.Prelude.{ℕ, zero, suc, ◌+◌, ◌-◌, ◌≡◌, List, length, Option, Some, None}
+use Rattle.std.specs.Prelude.{slice_get}
 use Rattle.vcs_machine.specs.declared.fields.StateFields.{StateFields}
 use Rattle.movie_file.specs.Movie.{MovieData}
 use Rattle.movie_file.specs.declared.checkpoint.Checkpoint.{Checkpoint}
@@ -20,7 +22,8 @@ abbrev pub state_or : StateFields → Option Checkpoint → StateFields
 state_or other None = other
 state_or other (Some c) = c.state
 
--- The last frame of a segment: that of its cut, or the movie's last one. Segments and cuts are counted from 0.
+-- The last frame of a segment: that of its cut, or the movie's last one. Segments and cuts are
+-- counted from 0.
 abbrev pub end_of : MovieData → List ℕ → ℕ → ℕ
 end_of m cuts i = frame_or (length m.inputs) (checkpoint_at m (slice_get cuts i))
 

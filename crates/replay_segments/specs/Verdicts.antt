@@ -5,12 +5,14 @@ use Rattle.movie_file.specs.Movie.{MovieData}
 use Rattle.movie_file.specs.Judgement.{AllSound, FaultsAt, IsFalseAt}
 use Rattle.replay_plan.specs.declared.keep.Keep.{Keep}
 use Rattle.replay_segments.specs.declared.verdict.Verdict.{Verdict}
-use Rattle.replay_segments.specs.declared.verdict.Verdict.TheVariants.{Genuine, FalseCheckpoint, Fault}
+use Rattle.replay_segments.specs.declared.verdict.Verdict.TheVariants.{Genuine, FalseCheckpoint}
+use Rattle.replay_segments.specs.declared.verdict.Verdict.TheVariants.{Fault}
 use Rattle.replay_segments.specs.KeptPictures.{pictures}
 
--- What is said of `len` frames from a state that stands after frame `from`. It is of the least frame that faults, or after
--- which a checkpoint claims another state; of one that does both the fault, since a frame that faults has no state after it.
--- Where there is no such frame they are genuine, with the kept pictures.
+-- What is said of `len` frames from a state that stands after frame `from`. It is of the least
+-- frame that faults, or after which a checkpoint claims another state; of one that does both the
+-- fault, since a frame that faults has no state after it. Where there is no such frame they are
+-- genuine, with the kept pictures.
 abbrev pub IsJudged : MovieData → Keep → StateFields → ℕ → ℕ → Verdict → Type 0
 IsJudged m keep start from len (Genuine frames) =
     AllSound m start from len × (frames ≡ pictures m keep start from len)

@@ -1,6 +1,7 @@
 //! Looks for pieces by their numbers.
 ghost use Rattle.std.specs.Prelude.{◌≡◌, ◌+◌, IfSome, IfNone};
-ghost use Rattle.replay_segments.specs.Private.Finding.{IsPassedAt, ArePassedBelow, IsFirstUnpassed, IsAnswer};
+ghost use Rattle.replay_segments.specs.Private.Finding.{IsPassedAt, ArePassedBelow};
+ghost use Rattle.replay_segments.specs.Private.Finding.{IsFirstUnpassed, IsAnswer};
 ghost use Rattle.replay_segments.specs.Gathering.{HasPassed};
 
 use crate::gathering::GatherError;

@@ -1,6 +1,7 @@
 //! The verdict of pieces.
 ghost use Rattle.std.specs.Prelude.{◌≡◌, ◌<◌, ◌⊎◌, ◌↔◌, ℕ, Err, IfOk};
-ghost use Rattle.replay_segments.specs.Gathering.{NamesAll, PassedBelow, IsFirstMissing, IsFirstRefused, picture_count};
+ghost use Rattle.replay_segments.specs.Gathering.{NamesAll, PassedBelow, IsFirstMissing};
+ghost use Rattle.replay_segments.specs.Gathering.{IsFirstRefused, picture_count};
 ghost use Rattle.replay_segments.specs.Pieces.{Job, segments_of};
 ghost use Rattle.replay_segments.specs.Verdicts.{IsVerdict};
 

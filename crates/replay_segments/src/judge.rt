@@ -1,5 +1,6 @@
 //! Replays frames from a state, and judges them.
-ghost use Rattle.std.specs.Prelude.{◌≡◌, ℕ, ◌+◌, ◌<◌, ◌≤◌, length, IfOk, OnOk, OnErr, true, vec_len, vec_capacity, if◌then◌else◌};
+ghost use Rattle.std.specs.Prelude.{◌≡◌, ℕ, ◌+◌, ◌<◌, ◌≤◌, length, IfOk, OnOk, OnErr, true};
+ghost use Rattle.std.specs.Prelude.{vec_len, vec_capacity, if◌then◌else◌};
 ghost use Rattle.replay_plan.specs.Keeping.{is_kept, kept_count};
 ghost use Rattle.replay_segments.specs.Private.Steps.{IsFrameStep, IsNext, IsClaim, IsAdvance};
 ghost use Rattle.replay_segments.specs.Verdicts.{IsJudged, IsVerdict};
@@ -50,8 +51,9 @@ fn advance(
     Ok(())
 }
 
-/// Compares a state with the checkpoint after a frame, if there is one. `next` is the index of the first that is not before the
-/// frame. The answer is that of the first after it, or None where the checkpoint is false.
+/// Compares a state with the checkpoint after a frame, if there is one. `next` is the index of the
+/// first that is not before the frame. The answer is that of the first after it, or None where the
+/// checkpoint is false.
 fn next_checkpoint(movie: &Movie, next: u16, frame: u32, state: &State) -> Option<u16>
     requires { IsNext movie.now next frame }
     ensures { IsClaim movie.now next frame state.now result }
@@ -70,7 +72,8 @@ fn next_checkpoint(movie: &Movie, next: u16, frame: u32, state: &State) -> Optio
     }
 }
 
-/// Judges `len` frames from a state that stands after frame `from`. `first` is the index of the first checkpoint after that.
+/// Judges `len` frames from a state that stands after frame `from`. `first` is the index of the
+/// first checkpoint after that.
 ///
 /// The list of the kept pictures is grown once, before the first frame.
 pub(crate) fn judge_frames(

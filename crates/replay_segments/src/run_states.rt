@@ -5,7 +5,8 @@ ghost use Rattle.movie_file.specs.declared.checkpoint.Checkpoint.{Checkpoint};
 ghost use Rattle.replay_segments.specs.Private.Resuming.{IsResumable};
 ghost use Rattle.replay_segments.specs.RunStates.{left_at};
 ghost use Rattle.replay_segments.specs.Verdicts.{HasVerdict};
-ghost use Rattle.replay_segments.specs.declared.verdict.Verdict.TheVariants.{FalseCheckpoint, Fault};
+ghost use Rattle.replay_segments.specs.declared.verdict.Verdict.TheVariants.{FalseCheckpoint};
+ghost use Rattle.replay_segments.specs.declared.verdict.Verdict.TheVariants.{Fault};
 
 use crate::judge::movie_frame;
 use movie_file::Movie;
@@ -18,13 +19,15 @@ const LINE_CYCLES: u64 = 76;
 /// What a frame leaves that faults.
 #[derive(Drop)]
 pub struct LeftState {
-    /// The state before the faulty instruction. Where the frame was overlong it is the one that was reached.
+    /// The state before the faulty instruction. Where the frame was overlong it is the one that was
+    /// reached.
     pub state: State,
     /// The scanline of its beam, 0 being the one in which the frame began.
     pub scanline: u64,
 }
 
-/// The state after `len` frames from a state that stands after frame `from`. None of the frames fails.
+/// The state after `len` frames from a state that stands after frame `from`. None of the frames
+/// fails.
 fn state_after(alloc: Global, movie: &Movie, start: &State, from: u32, len: u32) -> State
     requires range { from + len ≤ length movie.now.inputs }
     requires ends { IsSome (run movie.now start.now from len) }
@@ -41,7 +44,8 @@ fn state_after(alloc: Global, movie: &Movie, start: &State, from: u32, len: u32)
     state
 }
 
-/// The state of the run after a frame, replayed from the checkpoint before index `next`, or from the start where there is none.
+/// The state of the run after a frame, replayed from the checkpoint before index `next`, or from
+/// the start where there is none.
 fn resumed(alloc: Global, movie: &Movie, next: u16, frame: u32) -> State
     requires { IsResumable movie.now next frame }
     ensures { run movie.now movie.now.start 0 frame ≡ Some result }
@@ -56,7 +60,8 @@ fn resumed(alloc: Global, movie: &Movie, next: u16, frame: u32) -> State
 
 /// The state that a movie's one unbroken run has after the frame of its first false checkpoint.
 ///
-/// The movie is replayed from the checkpoint before the false one, or from its start where there is none. No memory is taken.
+/// The movie is replayed from the checkpoint before the false one, or from its start where there is
+/// none. No memory is taken.
 pub fn found_state(alloc: Global, movie: &Movie, number: u16, frame: u32) -> State
     requires { HasVerdict movie.now (FalseCheckpoint number frame) }
     ensures { run movie.now movie.now.start 0 frame ≡ Some result }
@@ -81,7 +86,8 @@ fn checkpoints_before(movie: &Movie, frame: u32) -> u16
 
 /// What the frame leaves in which a movie's one unbroken run faults.
 ///
-/// The movie is replayed from the last checkpoint before that frame, or from its start where there is none. No memory is taken.
+/// The movie is replayed from the last checkpoint before that frame, or from its start where there
+/// is none. No memory is taken.
 pub fn left_state(alloc: Global, movie: &Movie, frame: u32, kind: FaultKind) -> LeftState
     requires { HasVerdict movie.now (Fault frame kind) }
     ensures { left_at movie.now frame ≡ Some result }

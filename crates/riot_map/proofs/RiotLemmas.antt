@@ -1,5 +1,7 @@
 -- What reads, writes and cycles leave is a RIOT again, and a RIOT is known by its numbers and pins.
-use Rattle.std.proofs.Common.{mul-le-mul_right, div-lt_iff_lt-mul, length-set, ◌≡◌, ℕ, zero, suc, ◌+◌, ◌-◌, ◌*◌, ◌/◌, ◌%◌, ◌<◌, ◌≤◌, Bool, true, false, refl, sym, ap, arith, ◌∙◌, not, ◌==◌, if◌then◌else◌}
+use Rattle.std.proofs.Common.{mul-le-mul_right, div-lt_iff_lt-mul, length-set, ◌≡◌, ℕ, zero, suc}
+use Rattle.std.proofs.Common.{◌+◌, ◌-◌, ◌*◌, ◌/◌, ◌%◌, ◌<◌, ◌≤◌, Bool, true, false, refl, sym, ap}
+use Rattle.std.proofs.Common.{arith, ◌∙◌, not, ◌==◌, if◌then◌else◌}
 use Rattle.std.specs.Prelude.{ℤ, pos, negsuc, ◌≤ℤ◌}
 use Rattle.std.specs.Fn.{iterate}
 use Rattle.std.proofs.lemmas.Bool.Decides.{nat_tests}
@@ -7,10 +9,14 @@ use Rattle.std.proofs.lemmas.Int.{ints}
 use Rattle.std.proofs.lemmas.List.Elements.{All-set, All-replicate}
 use Rattle.std.proofs.lemmas.Nat.{div-add-mod'}
 use Rattle.riot_map.specs.Bits.{has_bit}
-use Rattle.riot_map.specs.Timer.{Countdown, IsTimer, next_count, after_cycle, intim, part_left, timer_of_write, is_running, with_clear_flag, interval_of, interval_code, count_of}
+use Rattle.riot_map.specs.Timer.{Countdown, IsTimer, next_count, after_cycle, intim, part_left}
+use Rattle.riot_map.specs.Timer.{timer_of_write, is_running, with_clear_flag, interval_of}
+use Rattle.riot_map.specs.Timer.{interval_code, count_of}
 use Rattle.riot_map.specs.Private.Parts.{ArePartsLawful}
 use Rattle.riot_map.specs.RiotFields.{is_riot, timer_of, AreInRange}
-use Rattle.riot_map.specs.Riot.{RiotState, IsRiot, riot_at_power_on, riot_of, fields_of, with_pins, with_ram, after_cycles, after_timer_read, after_read, after_write, is_timer}
+use Rattle.riot_map.specs.Riot.{RiotState, IsRiot, riot_at_power_on, riot_of, fields_of, with_pins}
+use Rattle.riot_map.specs.Riot.{with_ram, after_cycles, after_timer_read, after_read, after_write}
+use Rattle.riot_map.specs.Riot.{is_timer}
 use Rattle.riot_map.proofs.RiotFieldLemmas.{lawful_parts}
 use Rattle.riot_map.proofs.TimerLemmas.{timer, shown-parts, part-parts, past-parts, one-parts}
 use Rattle.riot_map.specs.declared.fields.RiotFields.{RiotFields}

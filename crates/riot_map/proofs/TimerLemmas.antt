@@ -1,5 +1,6 @@
 -- How the count falls.
-use Rattle.std.proofs.Common.{◌≡◌, ℕ, zero, suc, ◌+◌, ◌-◌, ◌*◌, ◌/◌, ◌%◌, ◌<◌, ◌≤◌, Bool, true, false, refl, sym, ap, subst, arith, ◌∙◌, ◌||◌, not, ◌==◌}
+use Rattle.std.proofs.Common.{◌≡◌, ℕ, zero, suc, ◌+◌, ◌-◌, ◌*◌, ◌/◌, ◌%◌, ◌<◌, ◌≤◌, Bool, true}
+use Rattle.std.proofs.Common.{false, refl, sym, ap, subst, arith, ◌∙◌, ◌||◌, not, ◌==◌}
 use Rattle.std.specs.Prelude.{ℤ, pos, negsuc, ◌+ℤ◌, ◌-ℤ◌, nat_abs, int_le}
 use Rattle.std.specs.Ordering.{int_eq}
 use Rattle.std.specs.Bool.{Decides}
@@ -8,7 +9,8 @@ use Rattle.std.proofs.lemmas.Bool.{agree_below_at, eqb-true}
 use Rattle.std.proofs.lemmas.Bool.Decides.{nat_tests, Decides-int_eq}
 use Rattle.std.proofs.lemmas.Int.{ints}
 use Rattle.std.proofs.lemmas.Nat.{div-add-mod', div-mul-add, mod-mul-add}
-use Rattle.riot_map.specs.Timer.{Countdown, next_count, after_cycle, intim, part_left, is_running, count_of}
+use Rattle.riot_map.specs.Timer.{Countdown, next_count, after_cycle, intim, part_left, is_running}
+use Rattle.riot_map.specs.Timer.{count_of}
 use Rattle.riot_map.specs.Private.Parts.{ArePartsLawful}
 
 abbrev pub timer : ℤ → ℕ → Bool → Countdown

@@ -1,24 +1,26 @@
 -- Cartridges, as lists of bytes.
-use Rattle.std.specs.Prelude.{ℕ, List, length, slice_index, ◌+◌, ◌*◌, ◌%◌, Bool, ◌==◌, ◌&&◌, ◌||◌, if◌then◌else◌}
+use Rattle.std.specs.Prelude.{ℕ, List, length, slice_index, ◌+◌, ◌*◌, ◌%◌, Bool, ◌==◌, ◌&&◌, ◌||◌}
+use Rattle.std.specs.Prelude.{if◌then◌else◌}
 
--- the lengths that are taken: the Stella Programmer's Guide's 2K and 4K cartridges, and 8K in two banks
+-- the lengths that are taken: the Stella Programmer's Guide's 2K and 4K cartridges, and 8K in two
+-- banks
 abbrev pub is_cart_length : ℕ → Bool
 is_cart_length n = (n == 2048) || (n == 4096) || (n == 8192)
 
--- A cartridge of so many bytes has two banks. They are switched as Atari's 8K cartridges switch them, which is called F8
--- after the addresses that do it.
+-- A cartridge of so many bytes has two banks. They are switched as Atari's 8K cartridges switch
+-- them, which is called F8 after the addresses that do it.
 abbrev pub has_banks : ℕ → Bool
 has_banks n = n == 8192
 
--- The byte at an address while a bank is selected, 0 or 1: a bank has 4096 bytes. Without banks the cartridge fills its
--- part of the address space again and again.
+-- The byte at an address while a bank is selected, 0 or 1: a bank has 4096 bytes. Without banks the
+-- cartridge fills its part of the address space again and again.
 abbrev pub cart_byte : List ℕ → ℕ → ℕ → ℕ
 cart_byte cart bank address =
     if has_banks (length cart) then slice_index cart (4096 * bank + address % 4096)
     else slice_index cart (address % length cart)
 
--- The bank after a data access, read or write: of two banks the first is selected at 1FF8 and the second at 1FF9, on the
--- 13 address lines.
+-- The bank after a data access, read or write: of two banks the first is selected at 1FF8 and the
+-- second at 1FF9, on the 13 address lines.
 abbrev pub bank_after : List ℕ → ℕ → ℕ → ℕ
 bank_after cart bank address =
     if has_banks (length cart) && (address % 8192 == 0x1FF8) then 0

@@ -1,8 +1,10 @@
 -- A RIOT as contracts see it, and what its calls do to it.
-use Rattle.std.specs.Prelude.{ℕ, List, length, replicate, slice_set, All, pos, ◌≡◌, ◌<◌, ◌%◌, Bool, false, ◌==◌, if◌then◌else◌}
+use Rattle.std.specs.Prelude.{ℕ, List, length, replicate, slice_set, All, pos, ◌≡◌, ◌<◌, ◌%◌, Bool}
+use Rattle.std.specs.Prelude.{false, ◌==◌, if◌then◌else◌}
 use Rattle.std.specs.Fn.{iterate}
 use Rattle.riot_map.specs.Bits.{has_bit}
-use Rattle.riot_map.specs.Timer.{Countdown, IsTimer, after_cycle, intim, part_left, timer_of_write, is_running, with_clear_flag, interval_of, interval_code}
+use Rattle.riot_map.specs.Timer.{Countdown, IsTimer, after_cycle, intim, part_left, timer_of_write}
+use Rattle.riot_map.specs.Timer.{is_running, with_clear_flag, interval_of, interval_code}
 use Rattle.riot_map.specs.Ports.{IsPort, port_a_byte, port_b_byte}
 use Rattle.riot_map.specs.RiotFields.{timer_of}
 use Rattle.riot_map.specs.declared.fields.RiotFields.{RiotFields}

@@ -3,7 +3,8 @@ ghost use Rattle.std.specs.Prelude.{◌≡◌, ◌<◌, ◌↔◌, length, nat_e
 ghost use Rattle.std.specs.Cmp.Rules.{comparing};
 ghost use Rattle.std.specs.Cmp.Lexicographic.{pointwise};
 ghost use Rattle.std.proofs.Common.{rules};
-ghost use Rattle.riot_map.specs.Cart.{is_cart_length, has_banks, cart_byte, bank_after, bank_at_power_on};
+ghost use Rattle.riot_map.specs.Cart.{is_cart_length, has_banks, cart_byte, bank_after};
+ghost use Rattle.riot_map.specs.Cart.{bank_at_power_on};
 
 use std::marker::Model;
 

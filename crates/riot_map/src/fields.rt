@@ -4,7 +4,8 @@ ghost use Rattle.riot_map.specs.RiotFields.{is_riot};
 
 use crate::interval::Interval;
 
-/// The numbers of a RIOT, in the order of a state's record. The pins of the ports aren't among them.
+/// The numbers of a RIOT, in the order of a state's record. The pins of the ports aren't among
+/// them.
 #[derive(Clone, Copy, Debug, PartialEq, Eq)]
 pub struct RiotFields {
     /// The memory, from address 80 (hexadecimal) on.
@@ -30,7 +31,8 @@ pub struct RiotFields {
 }
 
 impl RiotFields {
-    /// Whether there is a RIOT with these numbers: the timer's are in their ranges, and fit one another.
+    /// Whether there is a RIOT with these numbers: the timer's are in their ranges, and fit one
+    /// another.
     #[tactic(auto, unfolding(crate::specs::RiotFields::is_riot))]
     pub fn is_lawful(&self) -> bool
         ensures { result ≡ is_riot self.now }

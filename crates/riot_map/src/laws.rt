@@ -1,6 +1,8 @@
 //! Laws about the definitions.
 ghost use Rattle.std.specs.Prelude.{◌≡◌, ℕ, ◌<◌, true};
-ghost use Rattle.riot_map.specs.Riot.{RiotState, IsRiot, riot_of, fields_of, with_pins, after_cycles, after_read, after_write, with_ram, riot_at_power_on};
+ghost use Rattle.riot_map.specs.Riot.{RiotState, IsRiot, riot_of, fields_of, with_pins};
+ghost use Rattle.riot_map.specs.Riot.{after_cycles, after_read, after_write, with_ram};
+ghost use Rattle.riot_map.specs.Riot.{riot_at_power_on};
 ghost use Rattle.riot_map.specs.RiotFields.{is_riot, AreInRange};
 ghost use Rattle.riot_map.specs.declared.fields.RiotFields.{RiotFields};
 

@@ -1,6 +1,9 @@
 //! The RIOT.
 ghost use Rattle.std.specs.Prelude.{◌≡◌, ◌<◌, ◌%◌, if◌then◌else◌, IsTrue, slice_index};
-ghost use Rattle.riot_map.specs.Riot.{RiotState, riot_of, fields_of, riot_at_power_on, after_cycles, riot_read, after_read, after_write, after_port_write, after_timer_write, port_read, timer_read, after_timer_read, with_pins, with_ram};
+ghost use Rattle.riot_map.specs.Riot.{RiotState, riot_of, fields_of, riot_at_power_on};
+ghost use Rattle.riot_map.specs.Riot.{after_cycles, riot_read, after_read, after_write};
+ghost use Rattle.riot_map.specs.Riot.{after_port_write, after_timer_write, port_read, timer_read};
+ghost use Rattle.riot_map.specs.Riot.{after_timer_read, with_pins, with_ram};
 ghost use Rattle.riot_map.specs.RiotFields.{is_riot, timer_of};
 
 use crate::bits::has_bit;
@@ -174,7 +177,8 @@ impl Riot {
         self.ram[i as usize] = value;
     }
 
-    /// Sets the pins of both ports: `a` those of the joysticks, `b` those of the console's switches.
+    /// Sets the pins of both ports: `a` those of the joysticks, `b` those of the console's
+    /// switches.
     pub fn set_pins(&mut self, a: u8, b: u8)
         ensures { self.new ≡ with_pins a b self.old }
     {

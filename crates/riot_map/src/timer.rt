@@ -1,7 +1,10 @@
 //! The timer.
-ghost use Rattle.std.specs.Prelude.{◌≡◌, ◌<◌, ◌≤◌, ◌==◌, ◌*◌, ◌+◌, if◌then◌else◌, IsTrue, not, pos, true, false};
+ghost use Rattle.std.specs.Prelude.{◌≡◌, ◌<◌, ◌≤◌, ◌==◌, ◌*◌, ◌+◌, if◌then◌else◌, IsTrue, not, pos};
+ghost use Rattle.std.specs.Prelude.{true, false};
 ghost use Rattle.std.specs.Fn.{iterate};
-ghost use Rattle.riot_map.specs.Timer.{Countdown, after_cycle, intim, part_left, timer_of_write, is_running, interval_of, interval_code, count_of, with_clear_flag};
+ghost use Rattle.riot_map.specs.Timer.{Countdown, after_cycle, intim, part_left, timer_of_write};
+ghost use Rattle.riot_map.specs.Timer.{is_running, interval_of, interval_code, count_of};
+ghost use Rattle.riot_map.specs.Timer.{with_clear_flag};
 ghost use Rattle.riot_map.specs.RiotFields.{timer_of, is_riot};
 ghost use Rattle.riot_map.specs.Private.Interval.{interval_cycles};
 

@@ -1,18 +1,26 @@
 -- Each event keeps the invariant, and what follows from it.
-use Rattle.std.proofs.Common.{◌≡◌, ℕ, zero, suc, ◌+◌, ◌-◌, ◌^◌, ◌<◌, ◌≤◌, ◌≢◌, min, Bool, true, false, if◌then◌else◌, List, [], ◌∷◌, ◌++◌, set, refl, sym, ap, ◌∙◌, subst, ⊎_elim, arith, lt_of_not-le, Some, sum_by}
+use Rattle.std.proofs.Common.{◌≡◌, ℕ, zero, suc, ◌+◌, ◌-◌, ◌^◌, ◌<◌, ◌≤◌, ◌≢◌, min, Bool, true}
+use Rattle.std.proofs.Common.{false, if◌then◌else◌, List, [], ◌∷◌, ◌++◌, set, refl, sym, ap, ◌∙◌}
+use Rattle.std.proofs.Common.{subst, ⊎_elim, arith, lt_of_not-le, Some, sum_by}
 use mathlib.Core.Logic.{dite}
 use mathlib.Core.Option.{some, some-injective, some-ne-none}
 use native.Mathlib.Decide.{dec_le}
 use lib.ListN.{get_elem?}
 use Rattle.std.proofs.lemmas.List.Sums.{sum_by-append}
 use Rattle.atomic_table.proofs.Lists.{at_set, at_snoc, set_else}
-use Rattle.segment_desk.specs.Desk.{times, fresh_part, spent_part, with_drawn, at_end, draw_at, look_at, report_at, with_handed_in}
+use Rattle.segment_desk.specs.Desk.{times, fresh_part, spent_part, with_drawn, at_end, draw_at}
+use Rattle.segment_desk.specs.Desk.{look_at, report_at, with_handed_in}
 use Rattle.segment_desk.specs.Private.Plays.{staying_part, split_of}
 use Rattle.segment_desk.specs.Kept.{IsWhole, IsKnown}
-use Rattle.segment_desk.proofs.InvariantLemmas.{drawn_of, reported_of, share_of, ended_share, IsSound, IsLawful}
+use Rattle.segment_desk.proofs.InvariantLemmas.{drawn_of, reported_of, share_of, ended_share}
+use Rattle.segment_desk.proofs.InvariantLemmas.{IsSound, IsLawful}
 use Rattle.segment_desk.specs.declared.part.Part.{Part}
-use Rattle.segment_desk.proofs.ListLemmas.{sum_by-set-at, term_le, sum_by-le-each, alone, times-append, times-snoc}
-use Rattle.segment_desk.proofs.PartLemmas.{tested, with_number-else, with_number-here, both_ended, later, size_of, sound_drawn, sound_end, sound_look, sound_report, sound_kept, sound_fresh, sound_spent, sound_handed}
+use Rattle.segment_desk.proofs.ListLemmas.{sum_by-set-at, term_le, sum_by-le-each, alone}
+use Rattle.segment_desk.proofs.ListLemmas.{times-append, times-snoc}
+use Rattle.segment_desk.proofs.PartLemmas.{tested, with_number-else, with_number-here, both_ended}
+use Rattle.segment_desk.proofs.PartLemmas.{later, size_of, sound_drawn, sound_end, sound_look}
+use Rattle.segment_desk.proofs.PartLemmas.{sound_report, sound_kept, sound_fresh, sound_spent}
+use Rattle.segment_desk.proofs.PartLemmas.{sound_handed}
 
 abbrev All : ℕ → ℕ → ℕ → ℕ → List Part → Type 0
 All n w c l ps = (j : ℕ) (v : Part) → get_elem? ps j ≡ some v → IsSound n w c l v
@@ -43,7 +51,8 @@ module _ (n w : ℕ) where
         (λ h. omega (arith, o.not_yet k h))
         (λ a. dite (dec_le n k) (λ h. omega (arith, o.within k h)) (λ b. omega (arith, o.once k (lt_of_not-le a) (lt_of_not-le b))))
 
-    -- Parts that have each number drawn and reported as often, and the same shares, are lawful where each is sound.
+    -- Parts that have each number drawn and reported as often, and the same shares, are lawful
+    -- where each is sound.
     same_numbers : (c' : ℕ) (ps' : List Part) → c ≤ c' → ((k : ℕ) → k < c' → k < n → k < c)
         → ((k : ℕ) → sum_by (drawn_of k) ps' ≡ sum_by (drawn_of k) ps) → ((k : ℕ) → sum_by (reported_of k) ps' ≡ sum_by (reported_of k) ps)
         → sum_by share_of ps' ≡ sum_by share_of ps → c' ≤ n + sum_by ended_share ps' → All n w c' l ps' → IsLawful n w c' l ps'

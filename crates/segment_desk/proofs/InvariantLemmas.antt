@@ -1,5 +1,6 @@
 -- The invariant of the events, from which all that is claimed of a desk follows.
-use Rattle.std.proofs.Common.{◌≡◌, ℕ, ◌+◌, ◌^◌, ◌<◌, ◌≤◌, ◌⊎◌, true, if◌then◌else◌, List, Some, sum_by}
+use Rattle.std.proofs.Common.{◌≡◌, ℕ, ◌+◌, ◌^◌, ◌<◌, ◌≤◌, ◌⊎◌, true, if◌then◌else◌, List, Some}
+use Rattle.std.proofs.Common.{sum_by}
 use mathlib.Core.Option.{some}
 use lib.ListN.{get_elem?}
 use Rattle.segment_desk.specs.declared.part.Part.{Part}
@@ -34,7 +35,8 @@ pub record IsSound (n w count least : ℕ) (v : Part) : Type 0 where
 -- What holds between any two steps.
 pub record IsLawful (n w count least : ℕ) (parts : List Part) : Type 0 where
   pub small : n + w < 2 ^ 33
-  -- the numbers below the count and below n are each on one drawn list, once, and no other number is on any
+  -- the numbers below the count and below n are each on one drawn list, once, and no other number
+  -- is on any
   pub once : (k : ℕ) → k < count → k < n → sum_by (drawn_of k) parts ≡ 1
   pub not_yet : (k : ℕ) → count ≤ k → sum_by (drawn_of k) parts ≡ 0
   pub within : (k : ℕ) → n ≤ k → sum_by (drawn_of k) parts ≡ 0

@@ -1,5 +1,7 @@
--- Places in a list, sums over a list that changes at one place, and how often a number stands in a list.
-use Rattle.std.proofs.Common.{◌≡◌, ℕ, zero, suc, ◌+◌, ◌≤◌, ◌≢◌, List, [], ◌∷◌, ◌++◌, set, refl, sym, ap, arith, Some, slice_get, sum_by, cond, ◌==◌, eq-eqb, ne_eqb}
+-- Places in a list, sums over a list that changes at one place, and how often a number stands in a
+-- list.
+use Rattle.std.proofs.Common.{◌≡◌, ℕ, zero, suc, ◌+◌, ◌≤◌, ◌≢◌, List, [], ◌∷◌, ◌++◌, set, refl, sym}
+use Rattle.std.proofs.Common.{ap, arith, Some, slice_get, sum_by, cond, ◌==◌, eq-eqb, ne_eqb}
 use mathlib.Core.Logic.{dite}
 use mathlib.Core.Option.{some, some-injective, some-ne-none}
 use native.Mathlib.Decide.{ℕ_discrete}

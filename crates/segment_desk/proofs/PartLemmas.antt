@@ -1,8 +1,13 @@
 -- What the events do to one ticket's part.
-use Rattle.std.proofs.Common.{◌≡◌, ℕ, ◌+◌, ◌-◌, ◌<◌, ◌≤◌, ◌≢◌, ◌⊎◌, min, Bool, true, false, if◌then◌else◌, ◌||◌, nat_lt, List, [], ◌∷◌, ◌++◌, refl, sym, ap, ◌∙◌, subst, inl, inr, ⊎_elim, arith, lt-ltb, le-ltb, lt_of_not-le, Option, Some, None}
+use Rattle.std.proofs.Common.{◌≡◌, ℕ, ◌+◌, ◌-◌, ◌<◌, ◌≤◌, ◌≢◌, ◌⊎◌, min, Bool, true, false}
+use Rattle.std.proofs.Common.{if◌then◌else◌, ◌||◌, nat_lt, List, [], ◌∷◌, ◌++◌, refl, sym, ap, ◌∙◌}
+use Rattle.std.proofs.Common.{subst, inl, inr, ⊎_elim, arith, lt-ltb, le-ltb, lt_of_not-le, Option}
+use Rattle.std.proofs.Common.{Some, None}
 use mathlib.Core.Logic.{dite}
 use native.Mathlib.Decide.{dec_le}
-use Rattle.segment_desk.specs.Desk.{times, with_number, part, fresh_part, spent_part, with_drawn, at_end, with_passed, look_at, report_at, smaller_of, with_handed_in}
+use Rattle.segment_desk.specs.Desk.{times, with_number, part, fresh_part, spent_part, with_drawn}
+use Rattle.segment_desk.specs.Desk.{at_end, with_passed, look_at, report_at, smaller_of}
+use Rattle.segment_desk.specs.Desk.{with_handed_in}
 use Rattle.segment_desk.specs.Private.Plays.{staying_part}
 use Rattle.segment_desk.proofs.InvariantLemmas.{ended_share, IsSound}
 use Rattle.segment_desk.specs.declared.part.Part.{Part}

@@ -1,7 +1,9 @@
 -- What holds of each state that events reach.
-use Rattle.std.proofs.Common.{◌≡◌, ℕ, Some, slice_get, ◌<◌, ◌≤◌, ◌∙◌, sym, refl, arith, lt_of_not-le}
+use Rattle.std.proofs.Common.{◌≡◌, ℕ, Some, slice_get, ◌<◌, ◌≤◌, ◌∙◌, sym, refl, arith}
+use Rattle.std.proofs.Common.{lt_of_not-le}
 use Rattle.segment_desk.specs.declared.part.Part.{Part}
-use Rattle.segment_desk.specs.Desk.{fresh_part, DeskState, Event, draws, looks, reports, splits, hands_in, Reached, opened, went_on, with_handed_in}
+use Rattle.segment_desk.specs.Desk.{fresh_part, DeskState, Event, draws, looks, reports, splits}
+use Rattle.segment_desk.specs.Desk.{hands_in, Reached, opened, went_on, with_handed_in}
 use Rattle.segment_desk.specs.Kept.{IsDesk}
 use Rattle.segment_desk.proofs.InvariantLemmas.{drawn_of, IsSound, IsLawful}
 use Rattle.segment_desk.proofs.ListLemmas.{some-of_slice_get, term_le}

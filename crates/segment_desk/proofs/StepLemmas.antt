@@ -1,5 +1,8 @@
 -- From the events to what the table asks of each step, and what the calls' clauses say of a step.
-use Rattle.std.proofs.Common.{◌≡◌, ℕ, zero, suc, ◌+◌, ◌%◌, ◌^◌, ◌<◌, ◌≤◌, min, false, List, [], ◌∷◌, ◌++◌, length, get_or, set, refl, sym, ap, ◌∙◌, subst, arith, length-set, get_or-set_same, get_or-set_other, lt_of_not-le, Option, Some}
+use Rattle.std.proofs.Common.{◌≡◌, ℕ, zero, suc, ◌+◌, ◌%◌, ◌^◌, ◌<◌, ◌≤◌, min, false, List, [], ◌∷◌}
+use Rattle.std.proofs.Common.{◌++◌, length, get_or, set, refl, sym, ap, ◌∙◌, subst, arith}
+use Rattle.std.proofs.Common.{length-set, get_or-set_same, get_or-set_other, lt_of_not-le, Option}
+use Rattle.std.proofs.Common.{Some}
 use mathlib.Core.Logic.{dite}
 use native.Mathlib.Decide.{dec_le}
 use mathlib.Core.Option.{none, some, some-ne-none}
@@ -7,8 +10,11 @@ use lib.ListN.{get_elem?}
 use lib.Seq.{set-get_or}
 use Rattle.atomic_table.specs.Table.{step, keeps, opening, Allows, Splits, Joins}
 use Rattle.atomic_table.proofs.Lists.{set_here, set_again, set_else}
-use Rattle.segment_desk.specs.Desk.{times, fresh_part, spent_part, with_drawn, at_end, with_number, with_passed, draw_at, look_at, report_at, with_handed_in, Reached, opened, went_on, DeskState, desk_at, StandsIn}
-use Rattle.segment_desk.specs.Private.Plays.{staying_part, split_of, Seat, Drew, Looked, Reported, Settled}
+use Rattle.segment_desk.specs.Desk.{times, fresh_part, spent_part, with_drawn, at_end, with_number}
+use Rattle.segment_desk.specs.Desk.{with_passed, draw_at, look_at, report_at, with_handed_in}
+use Rattle.segment_desk.specs.Desk.{Reached, opened, went_on, DeskState, desk_at, StandsIn}
+use Rattle.segment_desk.specs.Private.Plays.{staying_part, split_of, Seat, Drew, Looked, Reported}
+use Rattle.segment_desk.specs.Private.Plays.{Settled}
 use Rattle.segment_desk.specs.Desk as event
 use Rattle.segment_desk.specs.Kept.{IsKnown}
 use Rattle.segment_desk.proofs.InvariantLemmas.{IsSound, IsLawful}

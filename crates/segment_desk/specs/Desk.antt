@@ -1,7 +1,9 @@
--- The desk: it gives out the numbers below n, each once, to w tickets, and keeps the least number that was reported bad.
--- Its state is a count, a least number and, for each ticket, its part of the history. A state changes by events alone.
--- This project's own.
-use Rattle.std.specs.Prelude.{◌≡◌, ◌≢◌, ℕ, ◌+◌, ◌-◌, ◌^◌, ◌<◌, min, Bool, true, false, if◌then◌else◌, ◌||◌, ◌==◌, nat_lt, List, [], ◌∷◌, ◌++◌, count_by, slice_get, slice_set, Option, None, Some}
+-- The desk: it gives out the numbers below n, each once, to w tickets, and keeps the least number
+-- that was reported bad. Its state is a count, a least number and, for each ticket, its part of the
+-- history. A state changes by events alone. This project's own.
+use Rattle.std.specs.Prelude.{◌≡◌, ◌≢◌, ℕ, ◌+◌, ◌-◌, ◌^◌, ◌<◌, min, Bool, true, false}
+use Rattle.std.specs.Prelude.{if◌then◌else◌, ◌||◌, ◌==◌, nat_lt, List, [], ◌∷◌, ◌++◌, count_by}
+use Rattle.std.specs.Prelude.{slice_get, slice_set, Option, None, Some}
 use Rattle.segment_desk.specs.declared.part.Part.{Part}
 
 -- How many times k stands in a list.
@@ -67,7 +69,8 @@ smaller_of None y = y
 smaller_of (Some x) None = Some x
 smaller_of (Some x) (Some y) = Some (min x y)
 
--- A ticket that took another in: both their lists and shares, the smaller seen number, its own last one, and ended where either had.
+-- A ticket that took another in: both their lists and shares, the smaller seen number, its own last
+-- one, and ended where either had.
 abbrev pub with_handed_in : Part → Part → Part
 with_handed_in v u =
     part v.segments v.workers (v.drawn ++ u.drawn) (v.reported ++ u.reported) (v.passed_over ++ u.passed_over) v.last (smaller_of v.seen u.seen) (v.ended || u.ended) (v.share + u.share)
@@ -97,16 +100,18 @@ pub data Event (n w : ℕ) : DeskState → DeskState → Type 0 where
   -- a ticket reports the number that it drew last and has not passed over
   reports : (c l : ℕ) (parts : List Part) (j : ℕ) (v : Part) (k : ℕ) → IsTicket parts j v → v.last ≡ Some k → times k v.passed_over ≡ 0
       → Event n w (desk_at c l parts) (desk_at c (min l k) (slice_set parts j (report_at l k v)))
-  -- A ticket with a share above 1 that has done nothing gives one share of it to a fresh ticket. It has done nothing at all: one
-  -- that has ended with no number could be split and taken in again and again, and each part of it could draw once more.
+  -- A ticket with a share above 1 that has done nothing gives one share of it to a fresh ticket. It
+  -- has done nothing at all: one that has ended with no number could be split and taken in again
+  -- and again, and each part of it could draw once more.
   splits : (c l : ℕ) (parts : List Part) (j share : ℕ) → IsTicket parts j (fresh_part n w share) → 1 < share
       → Event n w (desk_at c l parts) (desk_at c l (slice_set parts j (fresh_part n w (share - 1)) ++ fresh_part n w 1 ∷ []))
   -- a ticket takes another in
   hands_in : (c l : ℕ) (parts : List Part) (j : ℕ) (v : Part) (i : ℕ) (u : Part) → IsTicket parts j v → IsTicket parts i u → i ≢ j
       → Event n w (desk_at c l parts) (desk_at c l (slice_set (slice_set parts j (with_handed_in v u)) i spent_part))
 
--- The states that events reach from the first one, in which the count is 0, the least number n, and one ticket stands for all.
--- There are at most 2^32 - 1 numbers and 255 tickets, so that a word of 64 bits holds every count: a draw never comes round to 0.
+-- The states that events reach from the first one, in which the count is 0, the least number n, and
+-- one ticket stands for all. There are at most 2^32 - 1 numbers and 255 tickets, so that a word of
+-- 64 bits holds every count: a draw never comes round to 0.
 pub data Reached (n w : ℕ) : DeskState → Type 0 where
   opened : n + w < 2 ^ 33 → 0 < w → Reached n w (desk_at 0 n (fresh_part n w w ∷ []))
   went_on : (s t : DeskState) → Reached n w s → Event n w s t → Reached n w t

@@ -3,8 +3,8 @@ use Rattle.std.specs.Prelude.{◌≡◌, ℕ, ◌+◌, ◌<◌, ◌≤◌, true,
 use Rattle.segment_desk.specs.declared.part.Part.{Part}
 use Rattle.segment_desk.specs.Desk.{times, DeskState, IsTicket}
 
--- Each number is drawn, and one that is passed over has a smaller one that is reported. So none up to the least reported number is
--- passed over, and where nothing is reported nothing is.
+-- Each number is drawn, and one that is passed over has a smaller one that is reported. So none up
+-- to the least reported number is passed over, and where nothing is reported nothing is.
 pub record IsWhole (v : Part) : Type 0 where
   pub all_drawn : (k : ℕ) → k < v.segments → times k v.drawn ≡ 1
   pub none_missed : (k : ℕ) → 0 < times k v.passed_over → (f : ℕ) × (f < k) × (0 < times f v.reported)
@@ -21,7 +21,8 @@ pub record IsKnown (v : Part) : Type 0 where
   -- one that stands for all first tickets and has ended misses nothing
   pub whole : v.ended ≡ true → v.share ≡ v.workers → IsWhole v
 
--- On how many drawn lists k stands, each counted as often as it stands there; and the same of the reported lists.
+-- On how many drawn lists k stands, each counted as often as it stands there; and the same of the
+-- reported lists.
 abbrev pub drawn_times : ℕ → DeskState → ℕ
 drawn_times k s = sum_by (λ (v : Part). times k v.drawn) s.parts
 
@@ -32,7 +33,8 @@ reported_times k s = sum_by (λ (v : Part). times k v.reported) s.parts
 pub record IsDesk (n w : ℕ) (s : DeskState) : Type 0 where
   -- each ticket has n and w beside its part of the history
   pub sized : (j : ℕ) (v : Part) → IsTicket s.parts j v → (v.segments ≡ n) × (v.workers ≡ w)
-  -- the numbers below the count and below n are each on one drawn list, once, and no other number is on any
+  -- the numbers below the count and below n are each on one drawn list, once, and no other number
+  -- is on any
   pub drawn_once : (k : ℕ) → k < s.count → k < n → drawn_times k s ≡ 1
   pub not_yet : (k : ℕ) → s.count ≤ k → drawn_times k s ≡ 0
   pub within : (k : ℕ) → n ≤ k → drawn_times k s ≡ 0
@@ -43,7 +45,8 @@ pub record IsDesk (n w : ℕ) (s : DeskState) : Type 0 where
   pub is_reported : s.least < n → 0 < reported_times s.least s
   -- and it is at most what any ticket has seen
   pub seen : (j : ℕ) (v : Part) (k : ℕ) → slice_get s.parts j ≡ Some v → v.seen ≡ Some k → s.least ≤ k
-  -- a number is reported or passed over only on the ticket that drew it, and passed over only where a smaller one is reported
+  -- a number is reported or passed over only on the ticket that drew it, and passed over only where
+  -- a smaller one is reported
   pub own_reports : (j : ℕ) (v : Part) (k : ℕ) → slice_get s.parts j ≡ Some v → times k v.reported ≤ times k v.drawn
   pub own_passes : (j : ℕ) (v : Part) (k : ℕ) → slice_get s.parts j ≡ Some v → times k v.passed_over ≤ times k v.drawn
   pub smaller_reported : (j : ℕ) (v : Part) (k : ℕ) → slice_get s.parts j ≡ Some v → 0 < times k v.passed_over

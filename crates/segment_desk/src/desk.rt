@@ -1,5 +1,6 @@
 //! The desk, as two atomic words.
-ghost use Rattle.std.specs.Prelude.{◌≡◌, ℕ, ◌+◌, ◌-◌, ◌<◌, ◌≤◌, false, Some, IfOk, IfSome, MatchOption, replicate};
+ghost use Rattle.std.specs.Prelude.{◌≡◌, ℕ, ◌+◌, ◌-◌, ◌<◌, ◌≤◌, false, Some, IfOk, IfSome};
+ghost use Rattle.std.specs.Prelude.{MatchOption, replicate};
 
 use crate::part::Part;
 use crate::rule::{Rule, Size};
@@ -35,7 +36,8 @@ impl Model for Desk {
 }
 
 impl Desk {
-    ghost use Rattle.segment_desk.specs.Desk.{times, with_drawn, at_end, look_at, report_at, with_handed_in, StandsIn};
+    ghost use Rattle.segment_desk.specs.Desk.{times, with_drawn, at_end, look_at, report_at};
+    ghost use Rattle.segment_desk.specs.Desk.{with_handed_in, StandsIn};
     ghost use Rattle.segment_desk.specs.Kept.{IsKnown};
     ghost use Rattle.segment_desk.specs.Views.{IsOf, IsBelowSeen, first_ticket, shared_ticket};
 

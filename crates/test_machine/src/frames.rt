@@ -5,7 +5,8 @@ use std::alloc::Global;
 use std::process::Abort;
 use vcs_machine::{FaultKind, FrameError, Input, Picture, State, StateFields, frame};
 
-/// A cartridge of 2048 bytes that begins at F000: some bytes at its start, some at an offset, and 0 elsewhere.
+/// A cartridge of 2048 bytes that begins at F000: some bytes at its start, some at an offset, and 0
+/// elsewhere.
 fn cart_of(rt: &impl Abort, alloc: Global, start: &[u8], offset: usize, more: &[u8]) -> Cart {
     let mut bytes = Vec::with_capacity(alloc, 2048).expect(rt, "memory for a cartridge");
     for i in 0..2048usize {
@@ -32,8 +33,8 @@ fn byte_in(part: &[u8], offset: usize, i: usize) -> u8 {
     }
 }
 
-/// A cartridge of 8192 bytes: a program at F003 of the first bank, and A5 at FFF8; in the second bank three bytes at F000, eight
-/// at FFF6, the vector among them, and LDA #00, STA VSYNC at FF80.
+/// A cartridge of 8192 bytes: a program at F003 of the first bank, and A5 at FFF8; in the second
+/// bank three bytes at F000, eight at FFF6, the vector among them, and LDA #00, STA VSYNC at FF80.
 fn banked_cart(rt: &impl Abort, alloc: Global, second: [u8; 3], last: [u8; 8]) -> Cart {
     let first = [
         0x85, 0x80, 0xA9, 2, 0x85, 0, 0xA9, 0, 0x85, 0, 0x4C, 0x05, 0xF0,

@@ -1,5 +1,5 @@
-//! Worked examples of the TIA, the RIOT, the address map and whole frames. They stand apart from those crates, since a crate with
-//! tests is proved twice, and all else waits for these.
+//! Worked examples of the TIA, the RIOT, the address map and whole frames. They stand apart from
+//! those crates, since a crate with tests is proved twice, and all else waits for these.
 #![tactic(auto)]
 
 #[cfg(test)]

@@ -40,9 +40,11 @@ impl Trial {
     }
 }
 
-/// The first step of a case that isn't met. Where its first line names no source, or no step checks anything, that line.
+/// The first step of a case that isn't met. Where its first line names no source, or no step checks
+/// anything, that line.
 ///
-/// The first line is the case's name and its source with ` | ` between them. The others are its steps, with `;` between them.
+/// The first line is the case's name and its source with ` | ` between them. The others are its
+/// steps, with `;` between them.
 pub(crate) fn difference(case: &str) -> Option<&str> {
     let (title, steps) = case.split_once('\n').unwrap_or((case, ""));
     let mut trial = Trial {

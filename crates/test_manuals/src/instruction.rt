@@ -8,7 +8,8 @@ use test_processor::{Event, LogBus};
 /// No page of the address space, so that each byte can be fetched.
 const NO_PAGE: u16 = 256;
 
-/// What is at addresses that an instruction doesn't use. It isn't 0, which some of the named bytes are.
+/// What is at addresses that an instruction doesn't use. It isn't 0, which some of the named bytes
+/// are.
 const UNUSED: u8 = 0xA5;
 
 /// An instruction with what it finds, and what another processor left.
@@ -43,7 +44,8 @@ impl Instruction {
         })
     }
 
-    /// Whether the processor leaves the same registers in as many cycles, and makes the same writes in theirs.
+    /// Whether the processor leaves the same registers in as many cycles, and makes the same writes
+    /// in theirs.
     pub(crate) fn is_met(&self) -> bool {
         let mut bus = self.bus();
         let mut cpu = self.before;

@@ -1,10 +1,12 @@
-//! Executes cases of the processor, the TIA and the RIOT, and compares what they leave with what another emulator's processor left
-//! or with what the manuals say. It is a program of its own, and no tests, so that the cases are data that can be laid beside a
-//! manual, and so that errors put into bodies can be tried on them without a proof.
+//! Executes cases of the processor, the TIA and the RIOT, and compares what they leave with what
+//! another emulator's processor left or with what the manuals say. It is a program of its own, and
+//! no tests, so that the cases are data that can be laid beside a manual, and so that errors put
+//! into bodies can be tried on them without a proof.
 //!
-//! Each line of `instructions.txt` is one instruction, in four parts with ` | ` between them: the opcode and the registers before,
-//! the bytes that it uses, the registers and cycles after, and its writes with their cycles. Numbers are hexadecimal but for cycles.
-//! `tia.txt` and `riot.txt` say themselves how their cases are written. Lines that begin with `#` are none.
+//! Each line of `instructions.txt` is one instruction, in four parts with ` | ` between them: the
+//! opcode and the registers before, the bytes that it uses, the registers and cycles after, and its
+//! writes with their cycles. Numbers are hexadecimal but for cycles. `tia.txt` and `riot.txt` say
+//! themselves how their cases are written. Lines that begin with `#` are none.
 #![tactic(auto)]
 
 mod case;
@@ -55,7 +57,8 @@ fn try_instructions<R: Print>(rt: &R, text: &str) -> io::Result<Count> {
     Ok(count)
 }
 
-/// Tries the cases of a text, which stand between empty lines, and prints each that differs and where.
+/// Tries the cases of a text, which stand between empty lines, and prints each that differs and
+/// where.
 fn try_cases<R: Print>(rt: &R, text: &str) -> io::Result<Count> {
     let mut count = Count::none();
     for case in text.split("\n\n").filter(|text| !is_comment(text)) {

@@ -1,4 +1,5 @@
-//! The registers by name, as the tables of the Stella Programmer's Guide list them. TIMINT, the timer's flag, isn't in them.
+//! The registers by name, as the tables of the Stella Programmer's Guide list them. TIMINT, the
+//! timer's flag, isn't in them.
 
 /// The TIA's registers that are written, then those that are read, then the RIOT's.
 const REGISTERS: &[(&str, u16)] = &[

@@ -28,8 +28,8 @@ impl Row {
         }
     }
 
-    /// The row of a text as `00 40-47:1E 50:1E`: the background's colour, then stretches of other colours, each from its first
-    /// pixel to its last.
+    /// The row of a text as `00 40-47:1E 50:1E`: the background's colour, then stretches of other
+    /// colours, each from its first pixel to its last.
     pub(crate) fn parse(text: &str) -> Option<Row> {
         let (background, stretches) = text.split_once(' ').unwrap_or((text, ""));
         let mut row = Row::of(byte(background)?);

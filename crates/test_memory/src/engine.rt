@@ -124,8 +124,8 @@ pub(crate) fn is_listed(alloc: Global) -> Result<(), Failure> {
     }
 }
 
-/// The length of the report of two frames: a line of the verdict, one for the length of the cartridge, three digests, and six of
-/// the start and the checkpoints.
+/// The length of the report of two frames: a line of the verdict, one for the length of the
+/// cartridge, three digests, and six of the start and the checkpoints.
 const REPORT: usize = 33 + 22 + 38 + 47 + 73 + 16 + 15 + 26 + 25 + 22 + 36;
 
 /// Two frames judged by so many workers, and their report.

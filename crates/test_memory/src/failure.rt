@@ -17,7 +17,8 @@ pub(crate) enum Failure {
     /// It gave another value, wrote what it shouldn't, or failed as if its arguments were bad.
     #[error("wrong")]
     Wrong,
-    /// It is right, and a gate of its own met the refused growth after the last one of the call's that could be refused.
+    /// It is right, and a gate of its own met the refused growth after the last one of the call's
+    /// that could be refused.
     #[error("right, in fewer growths")]
     Fewer,
 }

@@ -20,7 +20,8 @@ pub(crate) fn grow(alloc: Global, count: usize) -> bool {
     granted
 }
 
-/// A gate that makes growths before the first replay, up to the refused one: after its entry no growth is refused any more.
+/// A gate that makes growths before the first replay, up to the refused one: after its entry no
+/// growth is refused any more.
 #[derive(Drop)]
 pub(crate) struct TakesRefused {
     alloc: Global,

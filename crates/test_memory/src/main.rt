@@ -1,12 +1,15 @@
-//! A program that tries each call which takes memory, reads or writes: with memory enough, or with one growth of memory refused.
-//! It is a program, since the growth that is refused is chosen for a whole process.
+//! A program that tries each call which takes memory, reads or writes: with memory enough, or with
+//! one growth of memory refused. It is a program, since the growth that is refused is chosen for a
+//! whole process.
 //!
-//! Each line of standard input names a call, and is answered by a line: the call is right, or failed with out of memory or another
-//! error, or is wrong, which means any other value, or something written where nothing was to be.
+//! Each line of standard input names a call, and is answered by a line: the call is right, or
+//! failed with out of memory or another error, or is wrong, which means any other value, or
+//! something written where nothing was to be.
 //!
-//! A line `CALL N` is for a process whose thousandth growth is refused (`rt try --fail-alloc 1000`). The program makes so many
-//! growths before the call that it is the call's N-th one, and says whether the call came so far. `ci/refused-growths` walks
-//! through N. Without N, and where nothing is refused, each call has to be right; `ci/wrong-bodies` has bodies that keep their
+//! A line `CALL N` is for a process whose thousandth growth is refused (`rt try --fail-alloc
+//! 1000`). The program makes so many growths before the call that it is the call's N-th one, and
+//! says whether the call came so far. `ci/refused-growths` walks through N. Without N, and where
+//! nothing is refused, each call has to be right; `ci/wrong-bodies` has bodies that keep their
 //! contracts and are not.
 #![tactic(auto)]
 

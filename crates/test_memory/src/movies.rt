@@ -6,7 +6,8 @@ use riot_map::Cart;
 use std::alloc::{AllocError, Global};
 use vcs_machine::Input;
 
-/// LDA #02, STA 80, STA VSYNC, LDA #00, STA VSYNC, JMP F000: a frame of 13 cycles, then frames of 16.
+/// LDA #02, STA 80, STA VSYNC, LDA #00, STA VSYNC, JMP F000: a frame of 13 cycles, then frames of
+/// 16.
 const ENDLESS_FRAMES: [u8; 13] = [
     0xA9, 2, 0x85, 0x80, 0x85, 0, 0xA9, 0, 0x85, 0, 0x4C, 0, 0xF0,
 ];
@@ -24,7 +25,8 @@ fn put<const N: usize>(bytes: &mut [u8; N], from: usize, values: &[u8]) {
     }
 }
 
-/// The bytes of a movie of two frames from power-on, with a checkpoint after the first. They take no memory.
+/// The bytes of a movie of two frames from power-on, with a checkpoint after the first. They take
+/// no memory.
 pub(crate) fn two_frames() -> [u8; LENGTH] {
     let mut bytes = [0; LENGTH];
     put(&mut bytes, 0, b"A26M");
@@ -56,7 +58,8 @@ pub(crate) fn two_frames_to_the_end() -> [u8; LENGTH] {
     bytes
 }
 
-/// The movie of two frames in version 2: another version, and a last byte of each state, the bank, which is 0.
+/// The movie of two frames in version 2: another version, and a last byte of each state, the bank,
+/// which is 0.
 pub(crate) fn converted() -> [u8; CONVERTED_LENGTH] {
     let old = two_frames();
     let (to_the_start, rest) = old.split_at(2249);

@@ -38,7 +38,8 @@ pub(crate) fn is_cut(alloc: Global) -> Result<(), Failure> {
     right(cuts.segments() == 2)
 }
 
-/// The first segment, with its picture. That a piece is out of memory is seen by the verdict that it decides.
+/// The first segment, with its picture. That a piece is out of memory is seen by the verdict that
+/// it decides.
 pub(crate) fn is_replayed(alloc: Global) -> Result<(), Failure> {
     let movie = movie(alloc)?;
     let cuts = Cuts::new(&movie, vec![in alloc; 1u16]?)?;

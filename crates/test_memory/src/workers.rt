@@ -82,8 +82,8 @@ fn judged<R: Threads + Wait + Sync>(
     judged_with(rt, alloc, movie, workers, &NoGate)
 }
 
-/// One worker, whose gate meets the refused growth unless that came before the first entry. So no growth of a replay is refused:
-/// where one is, the replay came before the entry.
+/// One worker, whose gate meets the refused growth unless that came before the first entry. So no
+/// growth of a replay is refused: where one is, the replay came before the entry.
 pub(crate) fn is_entered_before_replay<R: Threads + Wait + Sync>(
     rt: &R,
     alloc: Global,
@@ -117,8 +117,8 @@ pub(crate) fn is_judged_by_eight<R: Threads + Wait + Sync>(
     judged(rt, alloc, &made(alloc, 19, 2)?, 8)
 }
 
-/// Two segments of 300 frames each, and an empty one: a growth for each picture, and few besides. A second replay would need 600
-/// more.
+/// Two segments of 300 frames each, and an empty one: a growth for each picture, and few besides. A
+/// second replay would need 600 more.
 pub(crate) fn is_judged_once<R: Threads + Wait + Sync>(
     rt: &R,
     alloc: Global,

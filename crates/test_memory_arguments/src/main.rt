@@ -1,8 +1,10 @@
-//! A program that reads the arguments of a command line: with memory enough, or with one growth of memory refused. It stands apart
-//! from `test_memory`, since `clap` takes as long to compile as all the rest.
+//! A program that reads the arguments of a command line: with memory enough, or with one growth of
+//! memory refused. It stands apart from `test_memory`, since `clap` takes as long to compile as all
+//! the rest.
 //!
-//! It is asked and answers as `test_memory` does: each line of standard input names some arguments, and `NAME N` is for a process
-//! whose thousandth growth is refused, so that it is the N-th one of the call. `ci/refused-growths` walks through N.
+//! It is asked and answers as `test_memory` does: each line of standard input names some arguments,
+//! and `NAME N` is for a process whose thousandth growth is refused, so that it is the N-th one of
+//! the call. `ci/refused-growths` walks through N.
 #![tactic(auto)]
 
 use command_line::{Command, LineFault, parse_line};

@@ -1,5 +1,5 @@
-//! Worked examples of the processor, on a bus that keeps a log. They stand apart from `mos_cpu`, since a crate with tests is
-//! proved twice, and all else waits for that one.
+//! Worked examples of the processor, on a bus that keeps a log. They stand apart from `mos_cpu`,
+//! since a crate with tests is proved twice, and all else waits for that one.
 #![tactic(auto)]
 
 mod event;

@@ -6,12 +6,14 @@ use std::alloc::Global;
 use std::test::Fail;
 use vcs_machine::Input;
 
-/// LDA #02, STA 80, STA VSYNC, LDA #00, STA VSYNC, JMP F000: a frame of 13 cycles, then frames of 16.
+/// LDA #02, STA 80, STA VSYNC, LDA #00, STA VSYNC, JMP F000: a frame of 13 cycles, then frames of
+/// 16.
 pub(crate) const ENDLESS_FRAMES: [u8; 13] = [
     0xA9, 2, 0x85, 0x80, 0x85, 0, 0xA9, 0, 0x85, 0, 0x4C, 0, 0xF0,
 ];
 
-/// INX, CPX #07, BEQ F010, LDA #02, STA VSYNC, LDA #00, STA VSYNC, JMP F000: byte 02 stands at F010.
+/// INX, CPX #07, BEQ F010, LDA #02, STA VSYNC, LDA #00, STA VSYNC, JMP F000: byte 02 stands at
+/// F010.
 pub(crate) const SEVEN_FRAMES: [u8; 16] = [
     0xE8, 0xE0, 7, 0xF0, 0x0B, 0xA9, 2, 0x85, 0, 0xA9, 0, 0x85, 0, 0x4C, 0, 0xF0,
 ];

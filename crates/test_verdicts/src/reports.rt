@@ -1,5 +1,5 @@
-//! Reports of movies, by their first and last lines: a text of some hundred bytes keeps the prover for minutes. Whole reports, with
-//! digests, are compared by `ci/demo`.
+//! Reports of movies, by their first and last lines: a text of some hundred bytes keeps the prover
+//! for minutes. Whole reports, with digests, are compared by `ci/demo`.
 
 use crate::movies::{ENDLESS_FRAMES, SEVEN_FRAMES, after_frame, movie, power_on, read, two};
 use movie_file::Movie;
@@ -41,8 +41,9 @@ fn false_checkpoint_has_each_number_that_differs(rt: HostRuntime) -> Result<(), 
     Ok(())
 }
 
-/// The run begins at line cycle 35, and takes 16 cycles for frame 1 and 19 for each of the next five. So frame 7 begins at cycle 70
-/// of a scanline. After JMP, INX, CPX and a branch, 10 cycles, it comes to the byte 02 at F010.
+/// The run begins at line cycle 35, and takes 16 cycles for frame 1 and 19 for each of the next
+/// five. So frame 7 begins at cycle 70 of a scanline. After JMP, INX, CPX and a branch, 10 cycles,
+/// it comes to the byte 02 at F010.
 #[test]
 fn fault_has_its_registers_and_its_beam(rt: HostRuntime) -> Result<(), Fail> {
     let mut start = power_on();

@@ -31,8 +31,8 @@ fn banked_state() -> [u8; 187] {
     record
 }
 
-/// A movie of two frames of that cartridge, with a checkpoint after the first that claims this bank:
-/// 8,592 bytes.
+/// A movie of two frames of that cartridge, with a checkpoint after the first that claims this
+/// bank: 8,592 bytes.
 fn two_banks(alloc: Global, bank: u8) -> Result<Vec<u8>, Fail> {
     let mut bytes = Vec::new(alloc);
     bytes.extend_from_slice(b"A26M")?;

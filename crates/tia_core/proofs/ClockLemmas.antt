@@ -1,5 +1,7 @@
 -- Clocks one after another, and what stays over them.
-use Rattle.std.proofs.Common.{◌≡◌, ℕ, zero, suc, ◌+◌, ◌-◌, ◌*◌, ◌/◌, ◌%◌, ◌==◌, ◌<◌, ◌⊎◌, inl, inr, nat_lt, Bool, true, false, if◌then◌else◌, List, [], ◌∷◌, ◌++◌, append_assoc, bit_or, refl, sym, ap, ◌∙◌, arith}
+use Rattle.std.proofs.Common.{◌≡◌, ℕ, zero, suc, ◌+◌, ◌-◌, ◌*◌, ◌/◌, ◌%◌, ◌==◌, ◌<◌, ◌⊎◌, inl, inr}
+use Rattle.std.proofs.Common.{nat_lt, Bool, true, false, if◌then◌else◌, List, [], ◌∷◌, ◌++◌}
+use Rattle.std.proofs.Common.{append_assoc, bit_or, refl, sym, ap, ◌∙◌, arith}
 use Rattle.std.specs.Fn.{iterate}
 use Rattle.std.proofs.lemmas.Bool.Decides.{nat_tests}
 use Rattle.std.proofs.lemmas.Nat.Bits.{bit_at_or, bit_at-lt}
@@ -9,7 +11,8 @@ use Rattle.tia_core.specs.Objects.{objects_at}
 use Rattle.tia_core.specs.Bits.{has_bit}
 use Rattle.tia_core.specs.declared.fields.TiaFields.{TiaFields}
 use Rattle.tia_core.specs.TiaState.{TiaState}
-use Rattle.tia_core.specs.Clock.{Pixel, sink_after_pixels, pixels, pixels_of, after_clock, collisions_after}
+use Rattle.tia_core.specs.Clock.{Pixel, sink_after_pixels, pixels, pixels_of, after_clock}
+use Rattle.tia_core.specs.Clock.{collisions_after}
 use Rattle.tia_core.specs.Beam.{beam_of}
 
 -- ---- in two parts

@@ -1,5 +1,7 @@
 -- Clocks and writes keep lawful numbers lawful.
-use Rattle.std.proofs.Common.{◌≡◌, ℕ, zero, suc, ◌+◌, ◌-◌, ◌*◌, ◌/◌, ◌^◌, pos, ◌+ℤ◌, ◌-ℤ◌, ◌<◌, inl, inr, nat_lt, Bool, true, false, if◌then◌else◌, List, [], ◌∷◌, length, refl, ap, ◌∙◌, arith, rules, bit_and}
+use Rattle.std.proofs.Common.{◌≡◌, ℕ, zero, suc, ◌+◌, ◌-◌, ◌*◌, ◌/◌, ◌^◌, pos, ◌+ℤ◌, ◌-ℤ◌, ◌<◌, inl}
+use Rattle.std.proofs.Common.{inr, nat_lt, Bool, true, false, if◌then◌else◌, List, [], ◌∷◌, length}
+use Rattle.std.proofs.Common.{refl, ap, ◌∙◌, arith, rules, bit_and}
 use Rattle.std.specs.Fn.{iterate}
 use Rattle.std.specs.Int.Bits.{and_self}
 use Rattle.std.proofs.Math.Nat.{pow-suc}
@@ -19,7 +21,15 @@ use Rattle.tia_core.specs.Write.{fields_after, tia_after_write}
 use Rattle.tia_core.specs.declared.fields.TiaFields.{TiaFields}
 use Rattle.tia_core.specs.declared.objects.Objects.{Objects}
 use Rattle.tia_core.specs.declared.register.Register.{Register}
-use Rattle.tia_core.specs.declared.register.Register.TheVariants.{Vsync, Vblank, Wsync, Nusiz0, Nusiz1, Colup0, Colup1, Colupf, Colubk, Ctrlpf, Refp0, Refp1, Pf0, Pf1, Pf2, Resp0, Resp1, Resm0, Resm1, Resbl, Grp0, Grp1, Enam0, Enam1, Enabl, Hmp0, Hmp1, Hmm0, Hmm1, Hmbl, Vdelp0, Vdelp1, Vdelbl, Resmp0, Resmp1, Hmove, Hmclr, Cxclr, Ignored}
+use Rattle.tia_core.specs.declared.register.Register.TheVariants.{Vsync, Vblank, Wsync, Nusiz0}
+use Rattle.tia_core.specs.declared.register.Register.TheVariants.{Nusiz1, Colup0, Colup1, Colupf}
+use Rattle.tia_core.specs.declared.register.Register.TheVariants.{Colubk, Ctrlpf, Refp0, Refp1, Pf0}
+use Rattle.tia_core.specs.declared.register.Register.TheVariants.{Pf1, Pf2, Resp0, Resp1, Resm0}
+use Rattle.tia_core.specs.declared.register.Register.TheVariants.{Resm1, Resbl, Grp0, Grp1, Enam0}
+use Rattle.tia_core.specs.declared.register.Register.TheVariants.{Enam1, Enabl, Hmp0, Hmp1, Hmm0}
+use Rattle.tia_core.specs.declared.register.Register.TheVariants.{Hmm1, Hmbl, Vdelp0, Vdelp1}
+use Rattle.tia_core.specs.declared.register.Register.TheVariants.{Vdelbl, Resmp0, Resmp1, Hmove}
+use Rattle.tia_core.specs.declared.register.Register.TheVariants.{Hmclr, Cxclr, Ignored}
 
 pub kept-is_kept : (r : Register) (v : ℕ) → FitsRegister r (register_bits r v)
 kept-is_kept r v = let m = mask_of r in and_assoc m v m ∙ ap (bit_and v) (and_self m)

@@ -1,5 +1,6 @@
 -- A frame ends exactly where VSYNC's bit 1 falls.
-use Rattle.std.proofs.Common.{◌≡◌, ℕ, ◌==◌, ◌&&◌, not, ◌↔◌, Bool, true, false, if◌then◌else◌, refl, ap, bit_and, arith}
+use Rattle.std.proofs.Common.{◌≡◌, ℕ, ◌==◌, ◌&&◌, not, ◌↔◌, Bool, true, false, if◌then◌else◌, refl}
+use Rattle.std.proofs.Common.{ap, bit_and, arith}
 use Rattle.std.specs.Int.{bit_at}
 use Rattle.std.proofs.lemmas.Nat.Bits.{bit_at_and, bit_at-lt}
 use Rattle.tia_core.specs.Bits.{has_bit}

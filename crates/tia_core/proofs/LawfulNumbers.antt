@@ -5,10 +5,16 @@ use Rattle.std.proofs.lemmas.Bool.Decides.{nat_tests, Decides-eqb, Decides-ltb}
 use Rattle.tia_core.specs.Bits.{has_bit}
 use Rattle.tia_core.specs.Private.Lawful.{IsLawfulTia}
 use Rattle.tia_core.specs.Registers.{register_bits, FitsRegister, fits_register}
-use Rattle.tia_core.specs.TiaState.{is_tia, has_lawful_colours, has_lawful_objects, has_lawful_motion, has_lawful_positions, has_lawful_beam}
+use Rattle.tia_core.specs.TiaState.{is_tia, has_lawful_colours, has_lawful_objects}
+use Rattle.tia_core.specs.TiaState.{has_lawful_motion, has_lawful_positions, has_lawful_beam}
 use Rattle.tia_core.specs.declared.fields.TiaFields.{TiaFields}
 use Rattle.tia_core.specs.declared.register.Register.{Register}
-use Rattle.tia_core.specs.declared.register.Register.TheVariants.{Vsync, Vblank, Nusiz0, Nusiz1, Colup0, Colup1, Colupf, Colubk, Ctrlpf, Refp0, Refp1, Pf0, Enam0, Enam1, Enabl, Hmp0, Hmp1, Hmm0, Hmm1, Hmbl, Vdelp0, Vdelp1, Vdelbl, Resmp0, Resmp1}
+use Rattle.tia_core.specs.declared.register.Register.TheVariants.{Vsync, Vblank, Nusiz0, Nusiz1}
+use Rattle.tia_core.specs.declared.register.Register.TheVariants.{Colup0, Colup1, Colupf, Colubk}
+use Rattle.tia_core.specs.declared.register.Register.TheVariants.{Ctrlpf, Refp0, Refp1, Pf0, Enam0}
+use Rattle.tia_core.specs.declared.register.Register.TheVariants.{Enam1, Enabl, Hmp0, Hmp1, Hmm0}
+use Rattle.tia_core.specs.declared.register.Register.TheVariants.{Hmm1, Hmbl, Vdelp0, Vdelp1}
+use Rattle.tia_core.specs.declared.register.Register.TheVariants.{Vdelbl, Resmp0, Resmp1}
 
 both : (a b : Bool) → IsTrue (a && b) → IsTrue a × IsTrue b
 both a b h = grind arith

@@ -1,9 +1,13 @@
 -- Masks that fit the numbers of a TIA go on to fit them.
-use Rattle.std.proofs.Common.{◌≡◌, ℕ, zero, suc, ◌+◌, ◌-◌, ◌<◌, ◌≤◌, ◌&&◌, ◌||◌, nat_le, nat_lt, arith, Bool, true, false, if◌then◌else◌, List, bit_or, refl, sym, ap, ◌∙◌}
+use Rattle.std.proofs.Common.{◌≡◌, ℕ, zero, suc, ◌+◌, ◌-◌, ◌<◌, ◌≤◌, ◌&&◌, ◌||◌, nat_le, nat_lt}
+use Rattle.std.proofs.Common.{arith, Bool, true, false, if◌then◌else◌, List, bit_or, refl, sym, ap}
+use Rattle.std.proofs.Common.{◌∙◌}
 use Rattle.tia_core.specs.Collision.{pairs_of}
 use Rattle.tia_core.specs.Mask.{any_from, covers}
 use Rattle.tia_core.specs.Objects.{objects_at}
-use Rattle.tia_core.specs.Private.Stretches.{bl, is_any, m0, m1, with_stale, with_objects, meet_within, no_objects, objects_in, p0, p1, pf, IsBound, IsMaskOf, MasksFit}
+use Rattle.tia_core.specs.Private.Stretches.{bl, is_any, m0, m1, with_stale, with_objects}
+use Rattle.tia_core.specs.Private.Stretches.{meet_within, no_objects, objects_in, p0, p1, pf}
+use Rattle.tia_core.specs.Private.Stretches.{IsBound, IsMaskOf, MasksFit}
 use Rattle.tia_core.specs.declared.fields.TiaFields.{TiaFields}
 use Rattle.tia_core.specs.declared.masks.Masks.{Masks}
 use Rattle.tia_core.specs.declared.objects.Objects.{Objects}

@@ -1,5 +1,6 @@
 -- Places on a line of 160 pixels.
-use Rattle.std.proofs.Common.{◌≡◌, ℕ, ◌*◌, ◌<◌, ◌%◌, arith, refl, ap, ℤ, pos, negsuc, ◌+ℤ◌, unsigned_abs}
+use Rattle.std.proofs.Common.{◌≡◌, ℕ, ◌*◌, ◌<◌, ◌%◌, arith, refl, ap, ℤ, pos, negsuc, ◌+ℤ◌}
+use Rattle.std.proofs.Common.{unsigned_abs}
 use Rattle.std.proofs.lemmas.Int.{int_rem_euclid_is}
 use Rattle.tia_core.specs.Position.{modulo_160}
 

@@ -1,5 +1,6 @@
 -- HMOVE leaves an object without motion where it is.
-use Rattle.std.proofs.Common.{◌≡◌, ℕ, ◌%◌, ◌<◌, ◌==◌, inl, inr, pos, ◌-ℤ◌, not, Bool, false, if◌then◌else◌, refl, ap, ◌∙◌, arith}
+use Rattle.std.proofs.Common.{◌≡◌, ℕ, ◌%◌, ◌<◌, ◌==◌, inl, inr, pos, ◌-ℤ◌, not, Bool, false}
+use Rattle.std.proofs.Common.{if◌then◌else◌, refl, ap, ◌∙◌, arith}
 use Rattle.std.proofs.lemmas.Bool.{cases_eq}
 use Rattle.std.proofs.lemmas.Bool.Decides.{nat_tests}
 use Rattle.std.proofs.lemmas.Int.{ints}

@@ -1,8 +1,10 @@
 -- Coverage goes round a line of 160 pixels.
-use Rattle.std.proofs.Common.{◌≡◌, ℕ, ◌+◌, ◌-◌, ◌*◌, ◌%◌, ◌<◌, nat_lt, Bool, List, [], ◌∷◌, refl, sym, ap, ◌∙◌, arith, pos, ◌-ℤ◌}
+use Rattle.std.proofs.Common.{◌≡◌, ℕ, ◌+◌, ◌-◌, ◌*◌, ◌%◌, ◌<◌, nat_lt, Bool, List, [], ◌∷◌, refl}
+use Rattle.std.proofs.Common.{sym, ap, ◌∙◌, arith, pos, ◌-ℤ◌}
 use Rattle.std.specs.List.{list_any}
 use Rattle.std.proofs.lemmas.Int.{ints}
-use Rattle.tia_core.specs.Coverage.{distance_of, copies_of, width_of, is_shown_at, player_covers, missile_covers, ball_covers}
+use Rattle.tia_core.specs.Coverage.{distance_of, copies_of, width_of, is_shown_at, player_covers}
+use Rattle.tia_core.specs.Coverage.{missile_covers, ball_covers}
 use Rattle.tia_core.proofs.Modulo.{modulo_160-is}
 
 -- the distance as a remainder of natural numbers, with so many lines added that nothing is below 0

@@ -1,8 +1,11 @@
 -- A stretch of a line by runs of pixels of one colour.
-use Rattle.std.proofs.Common.{◌≡◌, ℕ, zero, suc, ◌+◌, ◌-◌, ◌/◌, ◌%◌, ◌^◌, ◌<◌, ◌≤◌, ◌==◌, ◌⊎◌, inl, inr, ◌||◌, nat_lt, Bool, true, false, List, slice_index_or, bit_or, bit_and, bit_xor, refl, sym, ap, ◌∙◌, arith}
+use Rattle.std.proofs.Common.{◌≡◌, ℕ, zero, suc, ◌+◌, ◌-◌, ◌/◌, ◌%◌, ◌^◌, ◌<◌, ◌≤◌, ◌==◌, ◌⊎◌, inl}
+use Rattle.std.proofs.Common.{inr, ◌||◌, nat_lt, Bool, true, false, List, slice_index_or, bit_or}
+use Rattle.std.proofs.Common.{bit_and, bit_xor, refl, sym, ap, ◌∙◌, arith}
 use Rattle.std.specs.Int.{bit_at, trailing_zeros, w32}
 use Rattle.std.proofs.lemmas.Bool.Decides.{nat_tests}
-use Rattle.std.proofs.lemmas.Nat.Bits.{bit_at_xor, bit_at-lt, bit_at_ones, bit_at-trailing_zeros, shr_and_one}
+use Rattle.std.proofs.lemmas.Nat.Bits.{bit_at_xor, bit_at-lt, bit_at_ones, bit_at-trailing_zeros}
+use Rattle.std.proofs.lemmas.Nat.Bits.{shr_and_one}
 use Rattle.tia_core.specs.Bits.{has_bit}
 use Rattle.tia_core.specs.Clock.{sink_after_pixels}
 use Rattle.tia_core.specs.Colour.{colour_at}
@@ -34,7 +37,8 @@ stretch-run drawn sink t line x (suc k) n colour h =
     let f : suc k + n ≡ suc (k + n) = omega arith in
     rw (f, h x (omega arith) (omega arith), ← e) (stretch-run drawn (drawn sink line x colour) t line (x + 1) k n colour (λ y le lt. h y (omega arith) (omega arith)))
 
--- the colour of a pixel is that of another that the same objects cover, on the same side of the comb and of the line's middle
+-- the colour of a pixel is that of another that the same objects cover, on the same side of the
+-- comb and of the line's middle
 pub colour-same : (t : TiaFields) (o : Objects) (x y : ℕ) → nat_lt x 8 ≡ nat_lt y 8 → nat_lt x 80 ≡ nat_lt y 80 → colour_at t o y ≡ colour_at t o x
 unfolding colour_at
 colour-same t o x y p q = rw (p, q) refl

@@ -1,12 +1,19 @@
 -- Rows of bits in the words of a mask.
-use Rattle.std.proofs.Common.{◌≡◌, ◌≢◌, ℕ, zero, suc, [], ◌∷◌, ◌+◌, ◌-◌, ◌*◌, ◌/◌, ◌%◌, ◌^◌, ◌==◌, ◌<◌, ◌≤◌, ◌⊎◌, inl, inr, ◌||◌, ◌&&◌, nat_le, nat_lt, Bool, true, false, List, length, length-set, slice_index_or, slice_set, bit_or, bit_and, refl, sym, ap, ◌∙◌, arith, pos, ◌-ℤ◌, get_or-set_same, get_or-set_other}
+use Rattle.std.proofs.Common.{◌≡◌, ◌≢◌, ℕ, zero, suc, [], ◌∷◌, ◌+◌, ◌-◌, ◌*◌, ◌/◌, ◌%◌, ◌^◌, ◌==◌}
+use Rattle.std.proofs.Common.{◌<◌, ◌≤◌, ◌⊎◌, inl, inr, ◌||◌, ◌&&◌, nat_le, nat_lt, Bool, true}
+use Rattle.std.proofs.Common.{false, List, length, length-set, slice_index_or, slice_set, bit_or}
+use Rattle.std.proofs.Common.{bit_and, refl, sym, ap, ◌∙◌, arith, pos, ◌-ℤ◌, get_or-set_same}
+use Rattle.std.proofs.Common.{get_or-set_other}
 use Rattle.std.specs.Int.{bit_at, trailing_zeros, w32}
 use Rattle.std.proofs.lemmas.Bool.Decides.{nat_tests}
 use Rattle.std.proofs.lemmas.Int.{ints}
 use Rattle.std.proofs.lemmas.List.FromFn.{get_or-map-range_with_len}
 use Rattle.std.proofs.Math.Nat.{pow-le-pow_right}
 use Rattle.std.proofs.lemmas.Nat.{shr_split, shr-shr, mul-le, pow_pos, and_le_l, one_shl}
-use Rattle.std.proofs.lemmas.Nat.Bits.{bit_at_or, bit_at_and, bit_at-lt, bit_at_above, bit_at_cat_low, bit_at_cat_high, bit_at-zero, bit_at-trailing_zeros, bit_at_mask_inside, bit_at_mask_below, bit_at_mask_above}
+use Rattle.std.proofs.lemmas.Nat.Bits.{bit_at_or, bit_at_and, bit_at-lt, bit_at_above}
+use Rattle.std.proofs.lemmas.Nat.Bits.{bit_at_cat_low, bit_at_cat_high, bit_at-zero}
+use Rattle.std.proofs.lemmas.Nat.Bits.{bit_at-trailing_zeros, bit_at_mask_inside, bit_at_mask_below}
+use Rattle.std.proofs.lemmas.Nat.Bits.{bit_at_mask_above}
 use Rattle.tia_core.specs.Bits.{has_bit}
 use Rattle.tia_core.specs.Coverage.{distance_of}
 use Rattle.tia_core.specs.Private.Stretches.{has_two}
@@ -305,7 +312,8 @@ and-true : (a b : Bool) → (a && b) ≡ false → b ≡ true → a ≡ false
 and-true true b h e = let q : true ≡ false = sym e ∙ h in cc
 and-true false b h e = refl
 
--- where a word has no bit that is set in two of six words, none of its pixels is covered by two masks
+-- where a word has no bit that is set in two of six words, none of its pixels is covered by two
+-- masks
 pub none-twice : (a b c d e f : List ℕ) (w twice i x : ℕ)
     → ((k : ℕ) → has_bit twice k ≡ has_two (has_bit (slice_index_or a i 0) k) (has_bit (slice_index_or b i 0) k) (has_bit (slice_index_or c i 0) k) (has_bit (slice_index_or d i 0) k) (has_bit (slice_index_or e i 0) k) (has_bit (slice_index_or f i 0) k))
     → bit_and twice w ≡ 0 → x / 32 ≡ i → x < 160 → has_bit w (x % 32) ≡ true

@@ -1,6 +1,7 @@
--- The colour of a pixel, by the priority of the objects that cover it.
--- Stella Programmer's Guide: object priorities, CTRLPF D1 and D2, VBLANK, the colour registers. This project's own: score mode
--- only without D2, the ball's colour in it, black while VSYNC is on, and the comb of 8 pixels after HMOVE.
+-- The colour of a pixel, by the priority of the objects that cover it. Stella Programmer's Guide:
+-- object priorities, CTRLPF D1 and D2, VBLANK, the colour registers. This project's own: score mode
+-- only without D2, the ball's colour in it, black while VSYNC is on, and the comb of 8 pixels after
+-- HMOVE.
 use Rattle.std.specs.Prelude.{ℕ, ◌&&◌, ◌||◌, not, nat_lt, Bool, if◌then◌else◌, List, [], ◌∷◌}
 use Rattle.tia_core.specs.Bits.{has_bit}
 use Rattle.tia_core.specs.declared.fields.TiaFields.{TiaFields}

@@ -1,6 +1,8 @@
 -- Which pixels of a line a player, missile or ball covers, by remainders modulo 160 and divisions.
--- Stella Programmer's Guide: NUSIZ0 and NUSIZ1, REFP0 and REFP1. This project's own: copies wrap at 160.
-use Rattle.std.specs.Prelude.{ℕ, ◌-◌, ◌/◌, ◌==◌, ◌&&◌, nat_lt, Bool, if◌then◌else◌, List, [], ◌∷◌, pos, ◌-ℤ◌}
+-- Stella Programmer's Guide: NUSIZ0 and NUSIZ1, REFP0 and REFP1. This project's own: copies wrap at
+-- 160.
+use Rattle.std.specs.Prelude.{ℕ, ◌-◌, ◌/◌, ◌==◌, ◌&&◌, nat_lt, Bool, if◌then◌else◌, List, [], ◌∷◌}
+use Rattle.std.specs.Prelude.{pos, ◌-ℤ◌}
 use Rattle.std.specs.List.{list_any}
 use Rattle.tia_core.specs.Bits.{has_bit}
 use Rattle.tia_core.specs.Position.{modulo_160}

@@ -1,5 +1,5 @@
--- The latches of the two buttons: bit 0 of button 0, bit 1 of button 1.
--- Stella Programmer's Guide: INPT4, INPT5 and VBLANK D6. This project's own: the moments at which a button sets its latch.
+-- The latches of the two buttons: bit 0 of button 0, bit 1 of button 1. Stella Programmer's Guide:
+-- INPT4, INPT5 and VBLANK D6. This project's own: the moments at which a button sets its latch.
 use Rattle.std.specs.Prelude.{ℕ, ◌+◌, ◌||◌, Bool, if◌then◌else◌}
 use Rattle.tia_core.specs.Bits.{has_bit}
 

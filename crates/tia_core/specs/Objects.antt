@@ -1,5 +1,5 @@
--- The set of the six objects that cover a pixel.
--- Stella Programmer's Guide: VDELP0, VDELP1, VDELBL, ENAM0 to ENABL, RESMP0 and RESMP1, sizes by NUSIZ and CTRLPF.
+-- The set of the six objects that cover a pixel. Stella Programmer's Guide: VDELP0, VDELP1, VDELBL,
+-- ENAM0 to ENABL, RESMP0 and RESMP1, sizes by NUSIZ and CTRLPF.
 use Rattle.std.specs.Prelude.{Bool, ℕ, ◌/◌, ◌%◌, ◌^◌, ◌==◌, ◌&&◌, not, if◌then◌else◌}
 use Rattle.tia_core.specs.Bits.{has_bit}
 use Rattle.tia_core.specs.Coverage.{player_covers, missile_covers, ball_covers}
@@ -7,7 +7,8 @@ use Rattle.tia_core.specs.Playfield.{playfield_bit, playfield_index}
 use Rattle.tia_core.specs.declared.fields.TiaFields.{TiaFields}
 use Rattle.tia_core.specs.declared.objects.Objects.{Objects}
 
--- what is shown of graphics, or of the ball's enable: the old value where bit 0 of its delay register is set
+-- what is shown of graphics, or of the ball's enable: the old value where bit 0 of its delay
+-- register is set
 abbrev pub value_by_delay : ℕ → ℕ → ℕ → ℕ
 value_by_delay delay old new = if has_bit delay 0 then old else new
 
@@ -34,7 +35,8 @@ objects_at t x = record {
   playfield = playfield_bit t.pf0 t.pf1 t.pf2 (playfield_index (has_bit t.ctrlpf 0) x);
 }
 
--- whether the object with this number is in a set: 0 to 5 are player 0, player 1, missile 0, missile 1, the ball and the playfield
+-- whether the object with this number is in a set: 0 to 5 are player 0, player 1, missile 0,
+-- missile 1, the ball and the playfield
 abbrev pub has_object : ℕ → Objects → Bool
 has_object n o =
     if n == 0 then o.player0 else if n == 1 then o.player1 else if n == 2 then o.missile0

@@ -1,5 +1,5 @@
--- The playfield: twenty bits, shown on the left half of a line and again, or mirrored, on the right.
--- Stella Programmer's Guide: PF0, PF1, PF2 and CTRLPF D0.
+-- The playfield: twenty bits, shown on the left half of a line and again, or mirrored, on the
+-- right. Stella Programmer's Guide: PF0, PF1, PF2 and CTRLPF D0.
 use Rattle.std.specs.Prelude.{ℕ, ◌+◌, ◌-◌, ◌/◌, nat_lt, Bool, if◌then◌else◌}
 use Rattle.tia_core.specs.Bits.{has_bit}
 

@@ -1,7 +1,9 @@
--- Where objects stand on a line of 160 pixels: the position strobes, horizontal motion, missiles locked to their players.
--- Stella Programmer's Guide: RESP0 to RESBL, HMOVE and the HM registers, RESMP0 and RESMP1. This project's own: the exact clocks
--- of the strobes, all motion at once, and where a missile is released.
-use Rattle.std.specs.Prelude.{ℕ, ◌+◌, ◌-◌, ◌/◌, ◌%◌, ◌==◌, ◌&&◌, not, nat_lt, if◌then◌else◌, ℤ, pos, ◌+ℤ◌, ◌-ℤ◌, unsigned_abs}
+-- Where objects stand on a line of 160 pixels: the position strobes, horizontal motion, missiles
+-- locked to their players. Stella Programmer's Guide: RESP0 to RESBL, HMOVE and the HM registers,
+-- RESMP0 and RESMP1. This project's own: the exact clocks of the strobes, all motion at once, and
+-- where a missile is released.
+use Rattle.std.specs.Prelude.{ℕ, ◌+◌, ◌-◌, ◌/◌, ◌%◌, ◌==◌, ◌&&◌, not, nat_lt, if◌then◌else◌, ℤ, pos}
+use Rattle.std.specs.Prelude.{◌+ℤ◌, ◌-ℤ◌, unsigned_abs}
 use Rattle.std.specs.Int.{int_rem_euclid}
 use Rattle.tia_core.specs.Bits.{has_bit}
 
@@ -9,11 +11,13 @@ use Rattle.tia_core.specs.Bits.{has_bit}
 unfoldable pub modulo_160 : ℤ → ℕ
 modulo_160 z = unsigned_abs (int_rem_euclid z (pos 160))
 
--- where a strobe at this clock of a line puts an object: `blank` in the blank, else `delay` pixels on
+-- where a strobe at this clock of a line puts an object: `blank` in the blank, else `delay` pixels
+-- on
 abbrev pub strobed_position : ℕ → ℕ → ℕ → ℕ
 strobed_position blank delay clock = if nat_lt clock 68 then blank else (clock - 68 + delay) % 160
 
--- where an object is after HMOVE: a nibble to 7 moves it left that far, one from 8 right by 16 minus it
+-- where an object is after HMOVE: a nibble to 7 moves it left that far, one from 8 right by 16
+-- minus it
 abbrev pub moved_position : ℕ → ℕ → ℕ
 moved_position motion position =
     if nat_lt (motion / 16) 8

@@ -1,6 +1,6 @@
--- What a read gives. It changes nothing.
--- Stella Programmer's Guide: the summary of TIA read addresses. This project's own: INPT0 to INPT3, the numbers 0E and 0F and all
--- bits that aren't named read 0.
+-- What a read gives. It changes nothing. Stella Programmer's Guide: the summary of TIA read
+-- addresses. This project's own: INPT0 to INPT3, the numbers 0E and 0F and all bits that aren't
+-- named read 0.
 use Rattle.std.specs.Prelude.{ℕ, ◌%◌, ◌==◌, Bool, false, if◌then◌else◌}
 use Rattle.tia_core.specs.Bits.{has_bit, two_bits}
 use Rattle.tia_core.specs.TiaState.{TiaState}
@@ -10,7 +10,8 @@ use Rattle.tia_core.specs.declared.fields.TiaFields.{TiaFields}
 abbrev pub button_byte : ℕ → Bool → Bool → ℕ
 button_byte vblank fire latch = if (if has_bit vblank 6 then latch else fire) then 0 else 128
 
--- what a read of register 0 to 15 gives: CXM0P, CXM1P, CXP0FB, CXP1FB, CXM0FB, CXM1FB, CXBLPF, CXPPMM, then INPT4 and INPT5
+-- what a read of register 0 to 15 gives: CXM0P, CXM1P, CXP0FB, CXP1FB, CXM0FB, CXM1FB, CXBLPF,
+-- CXPPMM, then INPT4 and INPT5
 abbrev pub register_byte : TiaFields → Bool → Bool → ℕ → ℕ
 register_byte t fire0 fire1 register =
     if register == 0 then two_bits (has_bit t.collisions 14) (has_bit t.collisions 13)

@@ -1,9 +1,17 @@
--- The registers that are written, by number, and the bits that each keeps.
--- Stella Programmer's Guide: the summary of TIA write addresses. This project's own: RSYNC (03), the audio registers (15 to 1A)
--- and the numbers from 2D on are ignored.
+-- The registers that are written, by number, and the bits that each keeps. Stella Programmer's
+-- Guide: the summary of TIA write addresses. This project's own: RSYNC (03), the audio registers
+-- (15 to 1A) and the numbers from 2D on are ignored.
 use Rattle.std.specs.Prelude.{◌≡◌, ◌==◌, ℕ, ◌%◌, Bool, List, [], ◌∷◌, bit_and, slice_index_or}
 use Rattle.tia_core.specs.declared.register.Register.{Register}
-use Rattle.tia_core.specs.declared.register.Register.TheVariants.{Vsync, Vblank, Wsync, Nusiz0, Nusiz1, Colup0, Colup1, Colupf, Colubk, Ctrlpf, Refp0, Refp1, Pf0, Pf1, Pf2, Resp0, Resp1, Resm0, Resm1, Resbl, Grp0, Grp1, Enam0, Enam1, Enabl, Hmp0, Hmp1, Hmm0, Hmm1, Hmbl, Vdelp0, Vdelp1, Vdelbl, Resmp0, Resmp1, Hmove, Hmclr, Cxclr, Ignored}
+use Rattle.tia_core.specs.declared.register.Register.TheVariants.{Vsync, Vblank, Wsync, Nusiz0}
+use Rattle.tia_core.specs.declared.register.Register.TheVariants.{Nusiz1, Colup0, Colup1, Colupf}
+use Rattle.tia_core.specs.declared.register.Register.TheVariants.{Colubk, Ctrlpf, Refp0, Refp1, Pf0}
+use Rattle.tia_core.specs.declared.register.Register.TheVariants.{Pf1, Pf2, Resp0, Resp1, Resm0}
+use Rattle.tia_core.specs.declared.register.Register.TheVariants.{Resm1, Resbl, Grp0, Grp1, Enam0}
+use Rattle.tia_core.specs.declared.register.Register.TheVariants.{Enam1, Enabl, Hmp0, Hmp1, Hmm0}
+use Rattle.tia_core.specs.declared.register.Register.TheVariants.{Hmm1, Hmbl, Vdelp0, Vdelp1}
+use Rattle.tia_core.specs.declared.register.Register.TheVariants.{Vdelbl, Resmp0, Resmp1, Hmove}
+use Rattle.tia_core.specs.declared.register.Register.TheVariants.{Hmclr, Cxclr, Ignored}
 
 -- the registers from 00 to 2C
 abbrev pub registers_list : List Register

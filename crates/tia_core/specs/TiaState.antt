@@ -1,10 +1,16 @@
--- A TIA as contracts see it, and what is true of its numbers. This project's own: the ranges, all 0 at power-on, and how a frame begins.
+-- A TIA as contracts see it, and what is true of its numbers. This project's own: the ranges, all 0
+-- at power-on, and how a frame begins.
 use Rattle.std.specs.Prelude.{ℕ, nat_lt, Bool, false, ◌==◌, ◌&&◌, ◌||◌}
 use Rattle.tia_core.specs.Bits.{has_bit}
 use Rattle.tia_core.specs.Latch.{latches_at_start}
 use Rattle.tia_core.specs.Registers.{fits_register}
 use Rattle.tia_core.specs.declared.fields.TiaFields.{TiaFields}
-use Rattle.tia_core.specs.declared.register.Register.TheVariants.{Vsync, Vblank, Nusiz0, Nusiz1, Colup0, Colup1, Colupf, Colubk, Ctrlpf, Refp0, Refp1, Pf0, Enam0, Enam1, Enabl, Hmp0, Hmp1, Hmm0, Hmm1, Hmbl, Vdelp0, Vdelp1, Vdelbl, Resmp0, Resmp1}
+use Rattle.tia_core.specs.declared.register.Register.TheVariants.{Vsync, Vblank, Nusiz0, Nusiz1}
+use Rattle.tia_core.specs.declared.register.Register.TheVariants.{Colup0, Colup1, Colupf, Colubk}
+use Rattle.tia_core.specs.declared.register.Register.TheVariants.{Ctrlpf, Refp0, Refp1, Pf0, Enam0}
+use Rattle.tia_core.specs.declared.register.Register.TheVariants.{Enam1, Enabl, Hmp0, Hmp1, Hmm0}
+use Rattle.tia_core.specs.declared.register.Register.TheVariants.{Hmm1, Hmbl, Vdelp0, Vdelp1}
+use Rattle.tia_core.specs.declared.register.Register.TheVariants.{Vdelbl, Resmp0, Resmp1}
 
 -- its numbers, the line that the beam is in, and whether each button is pressed
 pub record TiaState : Type 0 where
@@ -37,7 +43,8 @@ has_lawful_positions t =
     fits_register Resmp0 t.resmp0 && fits_register Resmp1 t.resmp1 && nat_lt t.position_p0 160 && nat_lt t.position_p1 160
     && nat_lt t.position_m0 160 && nat_lt t.position_m1 160 && nat_lt t.position_bl 160
 
--- fifteen collision bits and two latches, of which none is set where VBLANK has bit 6 clear; 228 clocks of a line; a comb or none
+-- fifteen collision bits and two latches, of which none is set where VBLANK has bit 6 clear; 228
+-- clocks of a line; a comb or none
 abbrev pub has_lawful_beam : TiaFields → Bool
 has_lawful_beam t =
     nat_lt t.collisions 32768 && nat_lt t.latches 4 && (has_bit t.vblank 6 || (t.latches == 0))

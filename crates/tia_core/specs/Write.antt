@@ -8,7 +8,15 @@ use Rattle.tia_core.specs.Registers.{register_of, register_bits}
 use Rattle.tia_core.specs.TiaState.{TiaState}
 use Rattle.tia_core.specs.declared.fields.TiaFields.{TiaFields}
 use Rattle.tia_core.specs.declared.register.Register.{Register}
-use Rattle.tia_core.specs.declared.register.Register.TheVariants.{Vsync, Vblank, Wsync, Nusiz0, Nusiz1, Colup0, Colup1, Colupf, Colubk, Ctrlpf, Refp0, Refp1, Pf0, Pf1, Pf2, Resp0, Resp1, Resm0, Resm1, Resbl, Grp0, Grp1, Enam0, Enam1, Enabl, Hmp0, Hmp1, Hmm0, Hmm1, Hmbl, Vdelp0, Vdelp1, Vdelbl, Resmp0, Resmp1, Hmove, Hmclr, Cxclr, Ignored}
+use Rattle.tia_core.specs.declared.register.Register.TheVariants.{Vsync, Vblank, Wsync, Nusiz0}
+use Rattle.tia_core.specs.declared.register.Register.TheVariants.{Nusiz1, Colup0, Colup1, Colupf}
+use Rattle.tia_core.specs.declared.register.Register.TheVariants.{Colubk, Ctrlpf, Refp0, Refp1, Pf0}
+use Rattle.tia_core.specs.declared.register.Register.TheVariants.{Pf1, Pf2, Resp0, Resp1, Resm0}
+use Rattle.tia_core.specs.declared.register.Register.TheVariants.{Resm1, Resbl, Grp0, Grp1, Enam0}
+use Rattle.tia_core.specs.declared.register.Register.TheVariants.{Enam1, Enabl, Hmp0, Hmp1, Hmm0}
+use Rattle.tia_core.specs.declared.register.Register.TheVariants.{Hmm1, Hmbl, Vdelp0, Vdelp1}
+use Rattle.tia_core.specs.declared.register.Register.TheVariants.{Vdelbl, Resmp0, Resmp1, Hmove}
+use Rattle.tia_core.specs.declared.register.Register.TheVariants.{Hmclr, Cxclr, Ignored}
 use Rattle.tia_core.specs.declared.effect.Effect.{Effect}
 use Rattle.tia_core.specs.declared.effect.Effect.TheVariants.{Nothing, Sync, FrameEnd}
 

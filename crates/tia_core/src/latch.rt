@@ -1,7 +1,8 @@
 //! The latches of the two buttons.
 ghost use Rattle.std.specs.Prelude.{◌≡◌, ◌<◌, false};
 ghost use Rattle.tia_core.specs.Bits.{has_bit};
-ghost use Rattle.tia_core.specs.Latch.{latches_with_buttons, latches_after_vblank, latches_at_start};
+ghost use Rattle.tia_core.specs.Latch.{latches_with_buttons, latches_after_vblank};
+ghost use Rattle.tia_core.specs.Latch.{latches_at_start};
 
 use crate::bits::has_bit;
 

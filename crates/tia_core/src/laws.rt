@@ -1,5 +1,6 @@
 //! Laws of what a TIA does, for the machine that runs one.
-ghost use Rattle.std.specs.Prelude.{◌≡◌, ◌↔◌, ◌<◌, ◌+◌, ◌*◌, ◌/◌, ◌%◌, ◌++◌, ◌^◌, ℕ, Bool, IsTrue, true, false, All, map, filter, [], ◌∷◌};
+ghost use Rattle.std.specs.Prelude.{◌≡◌, ◌↔◌, ◌<◌, ◌+◌, ◌*◌, ◌/◌, ◌%◌, ◌++◌, ◌^◌, ℕ, Bool, IsTrue};
+ghost use Rattle.std.specs.Prelude.{true, false, All, map, filter, [], ◌∷◌};
 ghost use Rattle.std.specs.Fn.{iterate};
 ghost use Rattle.std.specs.List.{range_with_len};
 ghost use Rattle.std.specs.List.Sorted.{IsStrictlyIncreasing};
@@ -30,7 +31,8 @@ pub fn law_of_the_beam()
         → (iterate after_clock n s).line ≡ (s.line + (s.fields.clock + n) / 228) % 2 ^ 16 }
 {}
 
-/// Until lines are counted round, clocks put one pixel for each visible clock, in order, and so no pixel twice.
+/// Until lines are counted round, clocks put one pixel for each visible clock, in order, and so no
+/// pixel twice.
 pub fn law_of_pixels()
     ensures places { (n : ℕ) (s : TiaState) → IsTrue (is_tia s.fields) → beam_of s + n < 228 * 2 ^ 16
         → map beam_of_pixel (pixels n s) ≡ filter is_visible (range_with_len (beam_of s) n) }
@@ -66,13 +68,15 @@ pub fn law_of_frame_ends()
         → (effect_after t r v ≡ Effect.FrameEnd) ↔ ((has_bit t.vsync 1 ≡ true) × (has_bit (fields_after t fire0 fire1 r v).vsync 1 ≡ false)) }
 {}
 
-/// After a pixel that these objects cover, with the collisions cleared before, the registers 0 to 7 give the pairs that met.
+/// After a pixel that these objects cover, with the collisions cleared before, the registers 0 to 7
+/// give the pairs that met.
 pub fn law_of_collision_registers()
     ensures { (t : TiaFields) (fire0 fire1 : Bool) (o : Objects)
         → map (register_byte (record t { collisions = pairs_of o }) fire0 fire1) (0 ∷ 1 ∷ 2 ∷ 3 ∷ 4 ∷ 5 ∷ 6 ∷ 7 ∷ []) ≡ collision_bytes o }
 {}
 
-/// Coverage goes round the line: an object that is moved by k pixels covers the pixels k further, counted modulo 160.
+/// Coverage goes round the line: an object that is moved by k pixels covers the pixels k further,
+/// counted modulo 160.
 pub fn law_of_coverage()
     ensures players { (mode : ℕ) (reflected : Bool) (graphic position x k : ℕ) → x < 160 → position < 160
         → player_covers mode reflected graphic ((position + k) % 160) ((x + k) % 160) ≡ player_covers mode reflected graphic position x }

@@ -1,5 +1,6 @@
 //! The pixels of a line that an object covers.
-ghost use Rattle.std.specs.Prelude.{◌≡◌, ◌<◌, ◌≤◌, ◌||◌, ◌&&◌, ◌-◌, ◌+◌, ◌%◌, ℕ, nat_le, nat_lt, bit_and, ◌^◌, true, false};
+ghost use Rattle.std.specs.Prelude.{◌≡◌, ◌<◌, ◌≤◌, ◌||◌, ◌&&◌, ◌-◌, ◌+◌, ◌%◌, ℕ, nat_le, nat_lt};
+ghost use Rattle.std.specs.Prelude.{bit_and, ◌^◌, true, false};
 ghost use Rattle.tia_core.specs.Bits.{has_bit};
 ghost use Rattle.tia_core.specs.Coverage.{distance_of};
 ghost use Rattle.tia_core.specs.Private.Stretches.{has_two};
@@ -32,7 +33,8 @@ impl Mask {
         Mask { words: [0; 5] }
     }
 
-    /// Covers, from pixel `at` on and round from 159 to 0, the pixels whose bits are set in `row`, of which the lowest is the first.
+    /// Covers, from pixel `at` on and round from 159 to 0, the pixels whose bits are set in `row`,
+    /// of which the lowest is the first.
     #[inline]
     pub(crate) fn place(&mut self, row: u32, at: u8)
         requires { at < 160 }
@@ -71,8 +73,8 @@ impl Mask {
         self.words[(x / 32) as usize] >> (x % 32) & 1 == 1
     }
 
-    /// Where the mask differs from its pixel `x`, up to the end of the word: bit k is set where one of pixels `x` and `x + k` is
-    /// covered and the other is not.
+    /// Where the mask differs from its pixel `x`, up to the end of the word: bit k is set where one
+    /// of pixels `x` and `x + k` is covered and the other is not.
     #[inline]
     pub(crate) fn changes(&self, x: u8) -> u32
         requires { x < 160 }
@@ -144,7 +146,8 @@ impl Mask {
     }
 }
 
-/// Which bits of `word` from bit `first` on differ from bit `first`; bit 0 of the answer is that of bit `first`.
+/// Which bits of `word` from bit `first` on differ from bit `first`; bit 0 of the answer is that of
+/// bit `first`.
 #[inline]
 fn changes(word: u32, first: u8) -> u32
     requires { first < 32 }

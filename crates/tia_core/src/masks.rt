@@ -4,7 +4,9 @@ ghost use Rattle.tia_core.specs.Clock.{sink_after_pixels};
 ghost use Rattle.tia_core.specs.Collision.{number_from, pairs_of};
 ghost use Rattle.tia_core.specs.Mask.{covers};
 ghost use Rattle.tia_core.specs.Objects.{ball_at, has_object, missile_at, objects_at};
-ghost use Rattle.tia_core.specs.Private.Stretches.{bl, with_stale, m0, m1, no_objects, objects_in, p0, p1, pf, stretch_pairs, stretch_pixels, IsBound, IsMaskOf, MasksFit};
+ghost use Rattle.tia_core.specs.Private.Stretches.{bl, with_stale, m0, m1, no_objects, objects_in};
+ghost use Rattle.tia_core.specs.Private.Stretches.{p0, p1, pf, stretch_pairs, stretch_pixels};
+ghost use Rattle.tia_core.specs.Private.Stretches.{IsBound, IsMaskOf, MasksFit};
 ghost use Rattle.tia_core.specs.Private.Lawful.{IsLawfulTia};
 
 use crate::bits::has_bit;
@@ -256,7 +258,8 @@ impl Masks {
     }
 }
 
-/// The next pixel at which the comb ends, the picture's right half or a word of a mask begins, or the line ends.
+/// The next pixel at which the comb ends, the picture's right half or a word of a mask begins, or
+/// the line ends.
 #[inline]
 fn edge_after(x: u8) -> u8
     requires { x < 160 }
@@ -274,7 +277,8 @@ fn edge_after(x: u8) -> u8
     }
 }
 
-/// The mask of an object: 0 to 5 are player 0, player 1, missile 0, missile 1, the ball and the playfield.
+/// The mask of an object: 0 to 5 are player 0, player 1, missile 0, missile 1, the ball and the
+/// playfield.
 pub fn mask_of(t: &TiaFields, object: u8) -> Mask
     requires lawful { IsLawfulTia t.now }
     requires range { object < 6 }

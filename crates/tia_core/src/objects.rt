@@ -30,7 +30,8 @@ pub struct Objects {
 }
 
 impl Objects {
-    /// The objects that may be visible: a player or a playfield with a bit set, a missile or a ball that is enabled.
+    /// The objects that may be visible: a player or a playfield with a bit set, a missile or a ball
+    /// that is enabled.
     #[inline]
     pub fn visible(t: &TiaFields) -> Self
         ensures { (x : ℕ) → union_of result (objects_at t.now x) ≡ result }
@@ -68,7 +69,8 @@ impl Objects {
         self.player0 | self.player1 | self.missile0 | self.missile1 | self.ball | self.playfield
     }
 
-    /// The number of the set: each object has a bit, from player 0 in the lowest to the playfield in bit 5.
+    /// The number of the set: each object has a bit, from player 0 in the lowest to the playfield
+    /// in bit 5.
     #[inline]
     fn number(self) -> u8
         ensures value { result ≡ set_number self.player0 self.player1 self.missile0 self.missile1 self.ball self.playfield }

@@ -1,10 +1,13 @@
-//! Where objects stand: the position strobes, horizontal motion, missiles released from their players.
+//! Where objects stand: the position strobes, horizontal motion, missiles released from their
+//! players.
 ghost use Rattle.std.specs.Prelude.{◌≡◌, ◌<◌, ◌≤◌, pos, ◌+ℤ◌, ◌-ℤ◌};
-ghost use Rattle.tia_core.specs.Position.{modulo_160, strobed_position, moved_position, release_of, released_position};
+ghost use Rattle.tia_core.specs.Position.{modulo_160, strobed_position, moved_position, release_of};
+ghost use Rattle.tia_core.specs.Position.{released_position};
 
 use crate::bits::has_bit;
 
-/// Where a strobe at colour clock `clock` of a line puts an object: at `blank` in the blank, else `delay` pixels past the beam.
+/// Where a strobe at colour clock `clock` of a line puts an object: at `blank` in the blank, else
+/// `delay` pixels past the beam.
 pub fn strobed_position(blank: u8, delay: u8, clock: u8) -> u8
     requires blank { blank < 160 }
     requires delay { delay < 10 }

@@ -2,7 +2,8 @@
 ghost use Rattle.std.specs.Prelude.{◌≡◌, ◌<◌, ◌≤◌, ◌+◌, ◌-◌, ◌%◌, ℕ, if◌then◌else◌};
 ghost use Rattle.std.specs.List.{list_any};
 ghost use Rattle.tia_core.specs.Bits.{has_bit};
-ghost use Rattle.tia_core.specs.Coverage.{ball_covers, copies_of, distance_of, missile_covers, player_covers};
+ghost use Rattle.tia_core.specs.Coverage.{ball_covers, copies_of, distance_of, missile_covers};
+ghost use Rattle.tia_core.specs.Coverage.{player_covers};
 ghost use Rattle.tia_core.specs.Mask.{covers};
 ghost use Rattle.tia_core.specs.Playfield.{playfield_bit, playfield_index};
 

@@ -1,5 +1,6 @@
 -- From what a command's function answers to what the command does.
-use Rattle.std.proofs.Common.{◌≡◌, ℕ, Bool, List, refl, subst, Result, Ok, Err, Option, Some, None, String, Global, string_bytes}
+use Rattle.std.proofs.Common.{◌≡◌, ℕ, Bool, List, refl, subst, Result, Ok, Err, Option, Some, None}
+use Rattle.std.proofs.Common.{String, Global, string_bytes}
 use Rattle.std.specs.NonZero.{non_zero_u32_get}
 use Rattle.std.specs.declared.num.NonZeroU32.{NonZeroU32}
 use Rattle.std.specs.Io.KnownBytes.{Keeps}

@@ -1,9 +1,12 @@
--- What a command reads of standard input and writes to standard output, and its status. This project's own.
-use Rattle.std.specs.Prelude.{◌≡◌, ◌≢◌, ◌≤◌, ℕ, Bool, if◌then◌else◌, List, Option, Result, Err, IfOk, OnErr, codes, string_bytes}
+-- What a command reads of standard input and writes to standard output, and its status. This
+-- project's own.
+use Rattle.std.specs.Prelude.{◌≡◌, ◌≢◌, ◌≤◌, ℕ, Bool, if◌then◌else◌, List, Option, Result, Err}
+use Rattle.std.specs.Prelude.{IfOk, OnErr, codes, string_bytes}
 use Rattle.std.specs.NonZero.{non_zero_u32_get}
 use Rattle.std.specs.Io.KnownBytes.{Appends, Keeps}
 use Rattle.command_line.specs.declared.command.Command.{Command}
-use Rattle.command_line.specs.declared.command.Command.TheVariants.{Stdin, Verify, Report, Make, Info, Inputs, Convert}
+use Rattle.command_line.specs.declared.command.Command.TheVariants.{Stdin, Verify, Report, Make}
+use Rattle.command_line.specs.declared.command.Command.TheVariants.{Info, Inputs, Convert}
 use Rattle.movie_file.specs.Reading.{movie_at}
 use Rattle.replay_plan.specs.declared.keep.Keep.{Keep}
 use Rattle.vcs_check.specs.declared.commands.Failure.{Failure}
@@ -51,12 +54,13 @@ IsConverted status line =
 abbrev pub form_of : Bool → InputForm
 form_of text = if text then Text else Bytes
 
--- What is read of the file of this name is `input`: of `-` all that standard input has left, and any other leaves that alone.
+-- What is read of the file of this name is `input`: of `-` all that standard input has left, and
+-- any other leaves that alone.
 abbrev pub ReadsFile : List ℕ → Option (List ℕ) → Option (List ℕ) → List ℕ → Type 0
 ReadsFile name old new input = (name ≡ codes "-" → ReadsAll old new input) × (name ≢ codes "-" → Keeps old new)
 
--- What a command answers, where standard input has the bytes `old` before it and `new` after it. Without arguments standard input
--- is judged, and no picture is kept.
+-- What a command answers, where standard input has the bytes `old` before it and `new` after it.
+-- Without arguments standard input is judged, and no picture is kept.
 abbrev pub Answers : Command → Option (List ℕ) → Option (List ℕ) → Status → List ℕ → Type 0
 Answers Stdin old new status line =
     (input : List ℕ) × ReadsAll old new input × ((keep : Keep) × (keep.count ≡ 0) × IsVerified keep input status line)

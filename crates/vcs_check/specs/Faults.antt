@@ -13,6 +13,7 @@ Names name noted = IsSomeAnd noted (λ fault. fault.file.now ≡ name)
 abbrev pub IsAbout : List ℕ → Reason → Option FileFault → Type 0
 IsAbout name reason noted = IsSomeAnd noted (λ fault. (fault.file.now ≡ name) × (fault.reason ≡ reason))
 
--- Why a stream failed of which so many bytes were read, and which had failed before as is said: no input has so many.
+-- Why a stream failed of which so many bytes were read, and which had failed before as is said: no
+-- input has so many.
 abbrev pub reason_at_length : ℕ → Option Reason → Option Reason
 reason_at_length length before = if nat_lt input_limit length then Some TooLong else before

@@ -1,7 +1,8 @@
 //! What each command does with files.
 ghost use Rattle.std.specs.Prelude.{◌≡◌, ◌≢◌, ◌≤◌, List, ℕ, Err, OnErr, IsSome};
 ghost use Rattle.std.specs.NonZero.{non_zero_u16_get, non_zero_u32_get};
-ghost use Rattle.vcs_check.specs.Commands.{form_of, IsConverted, IsInformation, IsVerified, IsMade, IsQuiet, ReadsFile, Writes};
+ghost use Rattle.vcs_check.specs.Commands.{form_of, IsConverted, IsInformation, IsVerified, IsMade};
+ghost use Rattle.vcs_check.specs.Commands.{IsQuiet, ReadsFile, Writes};
 ghost use Rattle.movie_file.specs.Reading.{movie_at};
 ghost use Rattle.vcs_engine.specs.Listings.{Lists};
 ghost use Rattle.vcs_engine.specs.Reports.{Reports};

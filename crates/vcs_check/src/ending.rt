@@ -52,8 +52,8 @@ impl Ending {
         }
     }
 
-    /// Prints it, help on standard output and all else on standard error, and answers the exit status. Where standard error is a
-    /// terminal, the fault of a file stands on a line after it.
+    /// Prints it, help on standard output and all else on standard error, and answers the exit
+    /// status. Where standard error is a terminal, the fault of a file stands on a line after it.
     pub(crate) fn report<R: Print + Eprint, E: IsTerminal>(
         self,
         rt: &R,

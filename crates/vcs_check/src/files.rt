@@ -93,8 +93,8 @@ impl Identity {
     }
 }
 
-/// Opens an output, which is created where it isn't there, and empties it. Pipes and devices keep nothing, so they are not
-/// emptied, and may be inputs as well.
+/// Opens an output, which is created where it isn't there, and empties it. Pipes and devices keep
+/// nothing, so they are not emptied, and may be inputs as well.
 fn open_empty<R: Files>(rt: &R, name: &str, inputs: &[Identity]) -> Result<R::File, Reason> {
     let file = OpenOptions::new().write(true).create(true).open(rt, name)?;
     let metadata = file.metadata()?;
@@ -107,9 +107,10 @@ fn open_empty<R: Files>(rt: &R, name: &str, inputs: &[Identity]) -> Result<R::Fi
     Ok(file)
 }
 
-/// Opens an output, which is created where it isn't there, and empties it. Where it is one of the inputs of the command, which are
-/// open, nothing is touched, and the answer is `Failure::Open`. Pipes and devices keep nothing, so they are not emptied, and
-/// may be inputs as well. Where it can't be opened or is an input, `fault` says why.
+/// Opens an output, which is created where it isn't there, and empties it. Where it is one of the
+/// inputs of the command, which are open, nothing is touched, and the answer is `Failure::Open`.
+/// Pipes and devices keep nothing, so they are not emptied, and may be inputs as well. Where it
+/// can't be opened or is an input, `fault` says why.
 pub(crate) fn create<'a, R: Files>(
     rt: &R,
     name: &'a str,

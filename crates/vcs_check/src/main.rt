@@ -1,7 +1,9 @@
-//! The program: judges movies, makes them, converts them, and says what they hold and how they were played.
+//! The program: judges movies, makes them, converts them, and says what they hold and how they were
+//! played.
 //!
-//! Status 0: done; 1: a false checkpoint; 2: a fault; 3: refused; 4: no command; 5: an error of files, memory or devices, which is
-//! printed on standard error. Without arguments it judges the movie on standard input.
+//! Status 0: done; 1: a false checkpoint; 2: a fault; 3: refused; 4: no command; 5: an error of
+//! files, memory or devices, which is printed on standard error. Without arguments it judges the
+//! movie on standard input.
 #![tactic(auto)]
 
 mod commands;
@@ -41,7 +43,8 @@ fn command_of(alloc: Global, arguments: Args) -> Result<Command, LineFault> {
     parse_line(alloc, &arguments)
 }
 
-/// Does what a command asks for. Where a file that it names fails, `fault` says why. The gate is called around replays.
+/// Does what a command asks for. Where a file that it names fails, `fault` says why. The gate is
+/// called around replays.
 fn answer_command<
     'a,
     R: Files + Threads + Wait + Sync + AllocGlobal,

@@ -11,7 +11,8 @@ use std::io::{self, Read, Write};
 /// The most bytes of one input.
 const INPUT_LIMIT: u64 = 16_777_216;
 
-/// A file or a standard stream with its name, which remembers how many bytes were read of it, and why it failed last.
+/// A file or a standard stream with its name, which remembers how many bytes were read of it, and
+/// why it failed last.
 #[derive(Drop)]
 pub(crate) struct Named<'a, S> {
     name: &'a str,

@@ -15,10 +15,12 @@ const BETWEEN_LINES: u64 = 200;
 /// A time that never comes.
 const NEVER: u64 = u64::MAX;
 
-/// A gate that counts segments and writes on standard error, over the same line again and again, how many are done. No line comes
-/// in the first half second, or less than a fifth of a second after another. At the end the line is wiped.
+/// A gate that counts segments and writes on standard error, over the same line again and again,
+/// how many are done. No line comes in the first half second, or less than a fifth of a second
+/// after another. At the end the line is wiped.
 ///
-/// Where standard error is no terminal, or where the clock fails, it writes nothing. A failed write is ignored.
+/// Where standard error is no terminal, or where the clock fails, it writes nothing. A failed write
+/// is ignored.
 #[derive(Drop)]
 pub(crate) struct Progress<'a, R> {
     rt: &'a R,

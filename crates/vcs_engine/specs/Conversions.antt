@@ -1,4 +1,5 @@
--- What is written of the bytes of a movie that is to be converted, and the status. This project's own.
+-- What is written of the bytes of a movie that is to be converted, and the status. This project's
+-- own.
 use Rattle.std.specs.Prelude.{[], length, Result, Ok, Err, ◌==◌, if◌then◌else◌}
 use Rattle.movie_file.specs.Conversion.{converted}
 use Rattle.movie_file.specs.Movie.{MovieData}

@@ -12,8 +12,8 @@ pub record Information : Type 0 where
   pub status : Status
   pub line : List ℕ
 
--- Of a movie its version, the length of its cartridge, and how many frames and checkpoints it has; of bytes that are
--- refused, that they are.
+-- Of a movie its version, the length of its cartridge, and how many frames and checkpoints it has;
+-- of bytes that are refused, that they are.
 abbrev pub information_of : Result MovieData MovieError → Information
 information_of (Ok m) =
     record { status = statuses.Done; line = line_bytes (lines.Movie m.version (length m.cart) (length m.inputs) (length m.checkpoints)) }

@@ -4,7 +4,9 @@ use Rattle.std.specs.Fmt.{decimal}
 use Rattle.vcs_machine.specs.Faults.{fault_text}
 use Rattle.movie_file.specs.MovieError.{refusal_text}
 use Rattle.vcs_engine.specs.declared.line.Line.{Line}
-use Rattle.vcs_engine.specs.declared.line.Line.TheVariants.{Genuine, FalseCheckpoint, Fault, Refused, BadLine, Made, Converted, AlreadyTwo, Movie}
+use Rattle.vcs_engine.specs.declared.line.Line.TheVariants.{Genuine, FalseCheckpoint, Fault}
+use Rattle.vcs_engine.specs.declared.line.Line.TheVariants.{Refused, BadLine, Made, Converted}
+use Rattle.vcs_engine.specs.declared.line.Line.TheVariants.{AlreadyTwo, Movie}
 
 -- How many frames and checkpoints a movie has.
 abbrev pub counts_text : ℕ → ℕ → List ℕ

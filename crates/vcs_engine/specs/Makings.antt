@@ -1,4 +1,5 @@
--- What the making of a movie writes for the bytes of a ROM and of inputs, and its status. This project's own.
+-- What the making of a movie writes for the bytes of a ROM and of inputs, and its status. This
+-- project's own.
 use Rattle.std.specs.Prelude.{◌≡◌, ◌⊎◌, ℕ, List, [], length, Option, Result, Ok, Err, IsTrue}
 use Rattle.std.specs.Result.{result_map_both}
 use Rattle.std.specs.Io.KnownBytes.{Keeps}
@@ -44,8 +45,8 @@ made_with_line line = record { status = statuses.Refused; movie = []; line = lin
 abbrev pub made_refused : MovieError → Made
 made_refused error = made_with_line (lines.Refused error)
 
--- What is written of a cartridge and inputs: the movie of their run, which is genuine, or the run's first fault; or that
--- their counts are refused.
+-- What is written of a cartridge and inputs: the movie of their run, which is genuine, or the run's
+-- first fault; or that their counts are refused.
 abbrev pub MakesOf : List ℕ → List Controls → ℕ → Made → Type 0
 MakesOf cart inputs every made =
     (IsTrue (counts_fit (length inputs) every)
@@ -63,7 +64,8 @@ abbrev pub MakesFrom : List ℕ → Result (List Controls) Line → ℕ → Made
 MakesFrom cart (Ok inputs) every made = MakesOf cart inputs every made
 MakesFrom cart (Err line) every made = made ≡ made_with_line line
 
--- What is written of the bytes of a ROM, and what is read of the inputs: where no cartridge has the ROM's length, nothing.
+-- What is written of the bytes of a ROM, and what is read of the inputs: where no cartridge has the
+-- ROM's length, nothing.
 abbrev pub Makes : InputForm → List ℕ → Option (List ℕ) → Option (List ℕ) → ℕ → Made → Type 0
 Makes form rom old new every made =
     (IsTrue (is_cart_length (length rom)) × ((input : List ℕ) × ReadsAll old new input × MakesFrom rom (inputs_by form input) every made))

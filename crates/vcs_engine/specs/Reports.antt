@@ -1,4 +1,5 @@
--- What is written of a movie for whoever judges it: the line of its verdict, and then facts. This project's own.
+-- What is written of a movie for whoever judges it: the line of its verdict, and then facts. This
+-- project's own.
 use Rattle.std.specs.Prelude.{◌≡◌, ℕ, List, ◌++◌, Result, Ok, Err}
 use Rattle.movie_file.specs.Movie.{MovieData}
 use Rattle.movie_file.specs.Reading.{movie_at}
@@ -12,7 +13,8 @@ use Rattle.vcs_engine.specs.declared.line.Line.TheVariants as lines
 use Rattle.vcs_engine.specs.declared.status.Status.{Status}
 use Rattle.vcs_engine.specs.declared.status.Status.TheVariants as statuses
 
--- Those of what reading found: of a movie the line and the facts of its verdict, of a refusal the line alone.
+-- Those of what reading found: of a movie the line and the facts of its verdict, of a refusal the
+-- line alone.
 abbrev pub ReportsOf : Result MovieData MovieError → Status → List ℕ → Type 0
 ReportsOf (Ok m) status text =
     (verdict : Verdict) × HasVerdict m verdict × (status ≡ (told_of m verdict).status) × (text ≡ (told_of m verdict).line ++ report_text m verdict)

@@ -38,11 +38,13 @@ fn of_bytes(alloc: Global, bytes: &[u8]) -> Result<Making, AllocError>
     }
 }
 
-/// Reads a movie, and writes the same movie in version 2 and then a line, which ends with a line feed.
+/// Reads a movie, and writes the same movie in version 2 and then a line, which ends with a line
+/// feed.
 ///
-/// A movie that is refused, or has version 2 already, is a line and `Status::Refused` without a movie. After ReadFault, TooLong
-/// and NoMemory nothing was written; after WriteFault the new movie's writer has got a prefix of it, and the line's writer a prefix
-/// of the line only after the whole movie. At most 16,777,217 reads are made.
+/// A movie that is refused, or has version 2 already, is a line and `Status::Refused` without a
+/// movie. After ReadFault, TooLong and NoMemory nothing was written; after WriteFault the new
+/// movie's writer has got a prefix of it, and the line's writer a prefix of the line only after the
+/// whole movie. At most 16,777,217 reads are made.
 pub fn run_convert<R: Read, W: Write, L: Write>(
     alloc: Global,
     movie: &mut R,

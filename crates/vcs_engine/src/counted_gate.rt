@@ -2,10 +2,11 @@
 
 use verify_pool::{Gate, NoGate};
 
-/// A gate that is called before the first replay of a movie and after the last, on the calling thread. A movie that is refused
-/// has neither call.
+/// A gate that is called before the first replay of a movie and after the last, on the calling
+/// thread. A movie that is refused has neither call.
 ///
-/// Of `begin` and `end` holds what holds of the other calls: they have to return, and can't change a verdict.
+/// Of `begin` and `end` holds what holds of the other calls: they have to return, and can't change
+/// a verdict.
 pub trait CountedGate: Gate {
     /// The movie has so many segments. Each is replayed once, but for those that are passed over.
     fn begin(&self, segments: u32);

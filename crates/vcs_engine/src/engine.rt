@@ -16,14 +16,16 @@ use std::io::{Read, Write};
 use std::sync::Wait;
 use std::thread::Threads;
 
-/// Reads a movie, judges it by the plan's workers, and writes its line, which ends with a line feed, and then the kept pictures of
-/// a genuine movie.
+/// Reads a movie, judges it by the plan's workers, and writes its line, which ends with a line
+/// feed, and then the kept pictures of a genuine movie.
 ///
-/// A movie that is refused is a line and `Status::Refused`. After ReadFault, TooLong, NoMemory and NoThread nothing was written.
-/// After WriteFault the line's writer has got a prefix of the line, or the whole line and the pictures' writer a prefix of the
-/// pictures. At most 16,777,217 reads are made. With more than one worker it joins the threads that it starts.
+/// A movie that is refused is a line and `Status::Refused`. After ReadFault, TooLong, NoMemory and
+/// NoThread nothing was written. After WriteFault the line's writer has got a prefix of the line,
+/// or the whole line and the pictures' writer a prefix of the pictures. At most 16,777,217 reads
+/// are made. With more than one worker it joins the threads that it starts.
 ///
-/// The gate is called around each replay, and before and after all of them, where the movie isn't refused.
+/// The gate is called around each replay, and before and after all of them, where the movie isn't
+/// refused.
 pub fn run<T: Threads + Wait + Sync, R: Read, W: Write, P: Write, G: CountedGate + Sync>(
     rt: &T,
     alloc: Global,

@@ -39,10 +39,12 @@ fn told(alloc: Global, bytes: &[u8]) -> Result<(Status, String), AllocError>
     Ok((status, line.text(alloc)?))
 }
 
-/// Reads a movie, and writes a line about it, which ends with a line feed. The movie is not replayed.
+/// Reads a movie, and writes a line about it, which ends with a line feed. The movie is not
+/// replayed.
 ///
-/// A movie that is refused is a line and `Status::Refused`. After ReadFault, TooLong and NoMemory nothing was written; after
-/// WriteFault the line's writer has got a prefix of the line. At most 16,777,217 reads are made.
+/// A movie that is refused is a line and `Status::Refused`. After ReadFault, TooLong and NoMemory
+/// nothing was written; after WriteFault the line's writer has got a prefix of the line. At most
+/// 16,777,217 reads are made.
 pub fn run_info<R: Read, W: Write>(
     alloc: Global,
     movie: &mut R,

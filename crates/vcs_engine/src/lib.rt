@@ -1,5 +1,6 @@
-//! The engines of the verifier: from the bytes of a movie to its verdict, to facts about it, to what is in it, to its inputs as text or
-//! to the same movie in version 2, and from those of a ROM and of inputs to a movie.
+//! The engines of the verifier: from the bytes of a movie to its verdict, to facts about it, to
+//! what is in it, to its inputs as text or to the same movie in version 2, and from those of a ROM
+//! and of inputs to a movie.
 #![tactic(auto)]
 
 mod converting;

@@ -23,7 +23,8 @@ pub enum Line {
         kind: FaultKind,
     },
     Refused(MovieError),
-    /// The line of this number, from 1, is the first of a text of inputs that can't be read, or with which there are too many frames.
+    /// The line of this number, from 1, is the first of a text of inputs that can't be read, or
+    /// with which there are too many frames.
     BadLine(u64),
     Made {
         frames: u32,

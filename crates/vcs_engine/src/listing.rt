@@ -29,8 +29,9 @@ fn listed(alloc: Global, bytes: &[u8]) -> Result<(Status, String), AllocError>
 
 /// Reads a movie, and writes its inputs as text. The movie is not replayed.
 ///
-/// A movie that is refused is a line and `Status::Refused`. After ReadFault, TooLong and NoMemory nothing was written; after
-/// WriteFault the writer has got a prefix of the text. At most 16,777,217 reads are made.
+/// A movie that is refused is a line and `Status::Refused`. After ReadFault, TooLong and NoMemory
+/// nothing was written; after WriteFault the writer has got a prefix of the text. At most
+/// 16,777,217 reads are made.
 pub fn run_inputs<R: Read, W: Write>(
     alloc: Global,
     movie: &mut R,

@@ -44,13 +44,16 @@ fn reported<T: Threads + Wait + Sync, G: CountedGate + Sync>(
     Ok((status, text))
 }
 
-/// Reads a movie, judges it by the plan's workers, and writes its line and then facts about it, each on a line.
+/// Reads a movie, judges it by the plan's workers, and writes its line and then facts about it,
+/// each on a line.
 ///
-/// A movie that is refused is a line and `Status::Refused`. No picture is written. After ReadFault, TooLong, NoMemory and NoThread
-/// nothing was written; after WriteFault the writer has got a prefix of the text. At most 16,777,217 reads are made. With more
-/// than one worker it joins the threads that it starts.
+/// A movie that is refused is a line and `Status::Refused`. No picture is written. After ReadFault,
+/// TooLong, NoMemory and NoThread nothing was written; after WriteFault the writer has got a prefix
+/// of the text. At most 16,777,217 reads are made. With more than one worker it joins the threads
+/// that it starts.
 ///
-/// The gate is called around each replay, and before and after all of them, where the movie isn't refused.
+/// The gate is called around each replay, and before and after all of them, where the movie isn't
+/// refused.
 pub fn run_report<T: Threads + Wait + Sync, R: Read, W: Write, G: CountedGate + Sync>(
     rt: &T,
     alloc: Global,

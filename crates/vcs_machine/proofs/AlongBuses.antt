@@ -5,7 +5,9 @@ use Rattle.mos_cpu.specs.Registers.{Registers}
 use Rattle.mos_cpu.specs.Execution.{Step, step_of}
 use Rattle.mos_cpu.specs.declared.fault.CpuFault.{CpuFault}
 use Rattle.mos_cpu.proofs.AlongMaps.{step_of-along}
-use Rattle.vcs_machine.specs.Frame.{Rules, Machine, Turn, Failed, Went, turn, turn_by, Ended, Overlong, stop_after, stop_within, stop_of, most_turns, overlong_cycles}
+use Rattle.vcs_machine.specs.Frame.{Rules, Machine, Turn, Failed, Went, turn, turn_by, Ended}
+use Rattle.vcs_machine.specs.Frame.{Overlong, stop_after, stop_within, stop_of, most_turns}
+use Rattle.vcs_machine.specs.Frame.{overlong_cycles}
 use Rattle.vcs_machine.specs.Private.Along.{Follows, machine_along, stop_along}
 
 module _ {B C : Type 0} (b : Rules B) (c : Rules C) (h : B → C) (follows : Follows b c h) where

@@ -11,8 +11,10 @@ use Rattle.riot_map.specs.Place.{place_of}
 use Rattle.riot_map.specs.declared.places.Place.{Place}
 use Rattle.riot_map.specs.declared.places.Place.TheVariants.{Cart, Tia, Ram, Io}
 use Rattle.tia_core.specs.Clock.{Pixel}
-use Rattle.vcs_machine.specs.Consoles.{Console, meaning_of, passed, read_at, written_at, after_wait, cycles_to_line_start, console_rules, with_pixel_logged}
-use Rattle.vcs_machine.specs.Frame.{Machine, machine_at, Stop, Ended, Overlong, Faulted, Went, turn, turn_by, stop_of}
+use Rattle.vcs_machine.specs.Consoles.{Console, meaning_of, passed, read_at, written_at, after_wait}
+use Rattle.vcs_machine.specs.Consoles.{cycles_to_line_start, console_rules, with_pixel_logged}
+use Rattle.vcs_machine.specs.Frame.{Machine, machine_at, Stop, Ended, Overlong, Faulted, Went, turn}
+use Rattle.vcs_machine.specs.Frame.{turn_by, stop_of}
 use Rattle.vcs_machine.specs.Inputs.{Controls}
 use Rattle.vcs_machine.specs.Outcomes.{frame_of, outcome_of, machine_of, left_by}
 use Rattle.vcs_machine.specs.States.{line_cycle_of}

@@ -1,5 +1,6 @@
 -- The beam over instructions, waits and frames: three colour clocks a cycle.
-use Rattle.std.proofs.Common.{◌≡◌, ◌⊎◌, inl, inr, ℕ, zero, suc, ◌+◌, ◌-◌, ◌*◌, ◌/◌, ◌%◌, ◌<◌, ◌≤◌, ◌==◌, Bool, true, false, refl, ap, ◌∙◌, arith}
+use Rattle.std.proofs.Common.{◌≡◌, ◌⊎◌, inl, inr, ℕ, zero, suc, ◌+◌, ◌-◌, ◌*◌, ◌/◌, ◌%◌, ◌<◌, ◌≤◌}
+use Rattle.std.proofs.Common.{◌==◌, Bool, true, false, refl, ap, ◌∙◌, arith}
 use Rattle.std.specs.Prelude.{Result, Ok, Err, IfOk, if◌then◌else◌}
 use Rattle.std.specs.Fn.{iterate}
 use Rattle.std.proofs.lemmas.Bool.Decides.{nat_tests}
@@ -7,7 +8,8 @@ use Rattle.mos_cpu.specs.Buses.{IsClock, IsInvariant}
 use Rattle.mos_cpu.specs.Registers.{Registers}
 use Rattle.mos_cpu.specs.Execution.{step_of}
 use Rattle.mos_cpu.specs.declared.fault.CpuFault.{CpuFault}
-use Rattle.mos_cpu.proofs.StepLaws.{step_of-least, step_of-most, step_of-clock, step_of-kept, count_modulo-adds}
+use Rattle.mos_cpu.proofs.StepLaws.{step_of-least, step_of-most, step_of-clock, step_of-kept}
+use Rattle.mos_cpu.proofs.StepLaws.{count_modulo-adds}
 use Rattle.riot_map.specs.Place.{place_of}
 use Rattle.riot_map.specs.declared.places.Place.{Place}
 use Rattle.riot_map.specs.declared.places.Place.TheVariants.{Cart, Tia, Ram, Io}
@@ -18,8 +20,10 @@ use Rattle.tia_core.specs.declared.fields.TiaFields.{TiaFields}
 use Rattle.tia_core.specs.declared.register.Register.{Register}
 use Rattle.tia_core.specs.declared.register.Register.TheVariants.{Vsync}
 use Rattle.tia_core.proofs.ClockLemmas.{iterate-clocked-clock}
-use Rattle.vcs_machine.specs.Consoles.{Console, meaning_of, passed, read_at, written_at, after_wait, cycles_to_line_start, wait_cycles, console_rules}
-use Rattle.vcs_machine.specs.Frame.{Machine, Turn, Failed, Went, machine_at, turn, turn_by, turn_after, turns, overlong_cycles, stop_of}
+use Rattle.vcs_machine.specs.Consoles.{Console, meaning_of, passed, read_at, written_at, after_wait}
+use Rattle.vcs_machine.specs.Consoles.{cycles_to_line_start, wait_cycles, console_rules}
+use Rattle.vcs_machine.specs.Frame.{Machine, Turn, Failed, Went, machine_at, turn, turn_by}
+use Rattle.vcs_machine.specs.Frame.{turn_after, turns, overlong_cycles, stop_of}
 use Rattle.vcs_machine.specs.Pictures.{rows_of}
 use Rattle.vcs_machine.proofs.OneStop.{stop_of-keeps}
 
@@ -93,7 +97,8 @@ module _ {S : Type 0} (drawn : S → ℕ → ℕ → ℕ → S) where
   after_wait-line c awaits_line inside aligned =
       rw awaits_line (iterate-clocked-clock (3 * cycles_to_line_start (clock_of c)) c.tia inside ∙ line_begins (clock_of c) inside aligned)
 
-  -- What a turn does to the beam: it moves three clocks a cycle, and after a wait it stands where a scanline begins.
+  -- What a turn does to the beam: it moves three clocks a cycle, and after a wait it stands where a
+  -- scanline begins.
   pub record MovesBeam (m next : Machine (Console S)) : Type 0 where
     pub taken : ℕ
     pub cycles : next.cycles ≡ m.cycles + taken
@@ -196,7 +201,8 @@ module _ {S : Type 0} (drawn : S → ℕ → ℕ → ℕ → S) where
   step-whole count start m whole e =
       step_of-kept (meaning_of drawn) IsWhole keeps_whole m.registers m.bus (turns-whole count start m whole e)
 
-  -- A frame that began at this cycle of its scanline, on its way: so far it took so many cycles, by which the beam has moved.
+  -- A frame that began at this cycle of its scanline, on its way: so far it took so many cycles, by
+  -- which the beam has moved.
   pub record OnItsWay (line_cycle : ℕ) (m : Machine (Console S)) : Type 0 where
     pub beam : m.bus.tia.fields.clock ≡ (3 * line_cycle + 3 * m.cycles) % 228
     pub most : m.cycles ≤ 24401

@@ -1,5 +1,6 @@
 -- Devices that are behind.
-use Rattle.std.proofs.Common.{◌≡◌, ℕ, zero, suc, ◌+◌, ◌-◌, ◌*◌, ◌/◌, ◌%◌, ◌==◌, ◌<◌, ◌≤◌, ◌⊎◌, inl, inr, nat_lt, Bool, true, false, refl, sym, ap, ◌∙◌, arith}
+use Rattle.std.proofs.Common.{◌≡◌, ℕ, zero, suc, ◌+◌, ◌-◌, ◌*◌, ◌/◌, ◌%◌, ◌==◌, ◌<◌, ◌≤◌, ◌⊎◌, inl}
+use Rattle.std.proofs.Common.{inr, nat_lt, Bool, true, false, refl, sym, ap, ◌∙◌, arith}
 use Rattle.std.specs.Prelude.{if◌then◌else◌, ◌||◌}
 use Rattle.std.specs.Fn.{iterate}
 use Rattle.std.proofs.lemmas.Bool.Decides.{nat_tests}
@@ -15,7 +16,8 @@ use Rattle.tia_core.specs.declared.effect.Effect.TheVariants.{Nothing}
 use Rattle.tia_core.specs.declared.fields.TiaFields.{TiaFields}
 use Rattle.vcs_machine.specs.Consoles.{Console, after_tia_write, is_sync, is_frame_end}
 use Rattle.vcs_machine.specs.Private.Owing.{after_beam}
-use Rattle.tia_core.proofs.ClockLemmas.{iterate-add, painted-add, iterate-clocked-clock, iterate-clocked-others}
+use Rattle.tia_core.proofs.ClockLemmas.{iterate-add, painted-add, iterate-clocked-clock}
+use Rattle.tia_core.proofs.ClockLemmas.{iterate-clocked-others}
 
 -- ---- more cycles
 pub riot-later : (owed paid n : ℕ) (r : RiotState) → paid ≤ owed → after_cycles (owed + n - paid) r ≡ after_cycles n (after_cycles (owed - paid) r)

@@ -1,5 +1,6 @@
 -- What a frame does, from how it stops.
-use Rattle.std.proofs.Common.{◌≡◌, ℕ, ◌+◌, ◌*◌, ◌/◌, ◌%◌, ◌≤◌, IsTrue, Result, Ok, Err, List, [], refl, ap, ◌∙◌, arith}
+use Rattle.std.proofs.Common.{◌≡◌, ℕ, ◌+◌, ◌*◌, ◌/◌, ◌%◌, ◌≤◌, IsTrue, Result, Ok, Err, List, []}
+use Rattle.std.proofs.Common.{refl, ap, ◌∙◌, arith}
 use Rattle.std.specs.Prelude.{IfOk, IfErr}
 use Rattle.mos_cpu.specs.Registers.{Registers}
 use Rattle.tia_core.specs.Clock.{Pixel}
@@ -7,11 +8,13 @@ use Rattle.vcs_machine.specs.Consoles.{Console, console_rules, with_pixel_logged
 use Rattle.vcs_machine.specs.Faults.{stop_with}
 use Rattle.vcs_machine.specs.Frame.{Machine, Ended, Stop, machine_at, stop_of}
 use Rattle.vcs_machine.specs.Inputs.{Controls}
-use Rattle.vcs_machine.specs.Outcomes.{Played, Failed, frame_of, outcome_of, machine_of, state_left, Halts}
+use Rattle.vcs_machine.specs.Outcomes.{Played, Failed, frame_of, outcome_of, machine_of, state_left}
+use Rattle.vcs_machine.specs.Outcomes.{Halts}
 use Rattle.vcs_machine.specs.Pictures.{picture_of, rows_of}
 use Rattle.vcs_machine.specs.States.{is_state, line_cycle_of}
 use Rattle.vcs_machine.specs.declared.fault.FaultKind.{FaultKind}
-use Rattle.vcs_machine.specs.declared.fault.FaultKind.TheVariants.{BadOpcode, FetchOutside, Overlong}
+use Rattle.vcs_machine.specs.declared.fault.FaultKind.TheVariants.{BadOpcode, FetchOutside}
+use Rattle.vcs_machine.specs.declared.fault.FaultKind.TheVariants.{Overlong}
 use Rattle.vcs_machine.specs.declared.fault.Halt.{Halt}
 use Rattle.vcs_machine.specs.declared.fields.StateFields.{StateFields}
 use Rattle.vcs_machine.proofs.BeamLaws.{OnItsWay, way-stops, rows_of-most}

@@ -1,12 +1,16 @@
 -- A frame stops in one way, and the search for it finds that one.
-use Rattle.std.proofs.Common.{◌≡◌, ℕ, zero, suc, ◌+◌, ◌-◌, ◌*◌, ◌<◌, ◌≤◌, Bool, true, false, inl, inr, ◌⊎◌, zero-add, suc-add, refl, sym, ap, ◌∙◌, arith, below_more}
+use Rattle.std.proofs.Common.{◌≡◌, ℕ, zero, suc, ◌+◌, ◌-◌, ◌*◌, ◌<◌, ◌≤◌, Bool, true, false, inl}
+use Rattle.std.proofs.Common.{inr, ◌⊎◌, zero-add, suc-add, refl, sym, ap, ◌∙◌, arith, below_more}
 use Rattle.std.specs.Prelude.{Result, Ok, Err, IfOk, nat_le, if◌then◌else◌}
 use Rattle.mos_cpu.proofs.StepLaws.{step_of-least}
 use Rattle.std.proofs.lemmas.Bool.Decides.{nat_tests}
 use Rattle.mos_cpu.specs.Registers.{Registers}
 use Rattle.mos_cpu.specs.Execution.{step_of}
 use Rattle.mos_cpu.specs.declared.fault.CpuFault.{CpuFault}
-use Rattle.vcs_machine.specs.Frame.{Rules, Machine, Turn, Failed, Went, turn, turn_by, turns, is_over, Reaches, Ends, IsOverlong, Faults, Stop, Ended, Overlong, Faulted, machine_at, StopsAs, stop_after, stop_within, stop_of, most_turns, overlong_cycles}
+use Rattle.vcs_machine.specs.Frame.{Rules, Machine, Turn, Failed, Went, turn, turn_by, turns}
+use Rattle.vcs_machine.specs.Frame.{is_over, Reaches, Ends, IsOverlong, Faults, Stop, Ended}
+use Rattle.vcs_machine.specs.Frame.{Overlong, Faulted, machine_at, StopsAs, stop_after, stop_within}
+use Rattle.vcs_machine.specs.Frame.{stop_of, most_turns, overlong_cycles}
 
 module _ {B : Type 0} (rules : Rules B) where
   -- A turn takes at least two cycles.

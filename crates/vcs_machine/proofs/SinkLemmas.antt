@@ -1,5 +1,6 @@
 -- A console that draws on a sink does what one does that lists its pixels.
-use Rattle.std.proofs.Common.{◌≡◌, ℕ, ◌*◌, Bool, true, false, List, [], ◌∷◌, ◌++◌, refl, sym, ap, ◌∙◌, append_assoc, append-nil}
+use Rattle.std.proofs.Common.{◌≡◌, ℕ, ◌*◌, Bool, true, false, List, [], ◌∷◌, ◌++◌, refl, sym, ap}
+use Rattle.std.proofs.Common.{◌∙◌, append_assoc, append-nil}
 use Rattle.std.specs.Prelude.{if◌then◌else◌}
 use Rattle.mos_cpu.specs.Buses.{Respects}
 use Rattle.riot_map.specs.Place.{place_of}
@@ -8,16 +9,20 @@ use Rattle.riot_map.specs.declared.places.Place.TheVariants.{Cart, Tia, Ram, Io}
 use Rattle.tia_core.specs.Clock.{Pixel, sink_after_pixels, pixels}
 use Rattle.tia_core.proofs.ClockLemmas.{painted-append}
 use Rattle.mos_cpu.specs.declared.fault.CpuFault.{CpuFault}
-use Rattle.mos_cpu.specs.declared.fault.CpuFault.TheVariants.{BadOpcode as CpuBadOpcode, FetchOutside as CpuFetchOutside}
+use Rattle.mos_cpu.specs.declared.fault.CpuFault.TheVariants.{BadOpcode as CpuBadOpcode}
+use Rattle.mos_cpu.specs.declared.fault.CpuFault.TheVariants.{FetchOutside as CpuFetchOutside}
 use Rattle.vcs_machine.specs.Faults.{stop_with}
 use Rattle.vcs_machine.specs.Inputs.{Controls}
 use Rattle.vcs_machine.specs.Outcomes.{machine_of, state_left, PlaysOn, Halts}
 use Rattle.vcs_machine.specs.declared.fault.FaultKind.{FaultKind}
-use Rattle.vcs_machine.specs.declared.fault.FaultKind.TheVariants.{BadOpcode, FetchOutside, Overlong as TooLong}
+use Rattle.vcs_machine.specs.declared.fault.FaultKind.TheVariants.{BadOpcode, FetchOutside}
+use Rattle.vcs_machine.specs.declared.fault.FaultKind.TheVariants.{Overlong as TooLong}
 use Rattle.vcs_machine.specs.declared.fields.StateFields.{StateFields}
 use Rattle.vcs_machine.proofs.AlongBuses.{stop_of-along}
 use Rattle.vcs_machine.specs.Frame.{Machine, Stop, Ended, Overlong, Faulted, stop_of}
-use Rattle.vcs_machine.specs.Consoles.{Console, meaning_of, passed, value_at, peeked_at, read_at, written_at, after_wait, cycles_to_line_start, console_rules, with_pixel_logged}
+use Rattle.vcs_machine.specs.Consoles.{Console, meaning_of, passed, value_at, peeked_at, read_at}
+use Rattle.vcs_machine.specs.Consoles.{written_at, after_wait, cycles_to_line_start, console_rules}
+use Rattle.vcs_machine.specs.Consoles.{with_pixel_logged}
 use Rattle.vcs_machine.specs.Private.Along.{Follows, machine_along, stop_along, drawn_on}
 
 -- A list takes pixels at its end.

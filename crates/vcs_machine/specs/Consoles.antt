@@ -1,8 +1,11 @@
--- The console as its processor's bus: the address map, the RIOT and the TIA of the Stella Programmer's Guide, joined.
-use Rattle.std.specs.Prelude.{ℕ, ◌-◌, ◌*◌, ◌/◌, ◌%◌, ◌||◌, Bool, true, false, if◌then◌else◌, Option, Some, None, List, [], ◌∷◌, ◌++◌, slice_index}
+-- The console as its processor's bus: the address map, the RIOT and the TIA of the Stella
+-- Programmer's Guide, joined.
+use Rattle.std.specs.Prelude.{ℕ, ◌-◌, ◌*◌, ◌/◌, ◌%◌, ◌||◌, Bool, true, false, if◌then◌else◌, Option}
+use Rattle.std.specs.Prelude.{Some, None, List, [], ◌∷◌, ◌++◌, slice_index}
 use Rattle.std.specs.Fn.{iterate}
 use Rattle.mos_cpu.specs.Buses.{Meaning}
-use Rattle.riot_map.specs.Riot.{RiotState, after_cycles, after_read, after_write, with_ram, riot_read as riot_read_of}
+use Rattle.riot_map.specs.Riot.{RiotState, after_cycles, after_read, after_write, with_ram}
+use Rattle.riot_map.specs.Riot.{riot_read as riot_read_of}
 use Rattle.riot_map.specs.Cart.{cart_byte, bank_after}
 use Rattle.riot_map.specs.Place.{place_of}
 use Rattle.riot_map.specs.declared.places.Place.{Place}
@@ -15,8 +18,9 @@ use Rattle.tia_core.specs.declared.effect.Effect.{Effect}
 use Rattle.tia_core.specs.declared.effect.Effect.TheVariants.{Sync, FrameEnd}
 use Rattle.vcs_machine.specs.Frame.{Rules}
 
--- A console whose pixels go to a sink. `bank` is the selected bank of the cartridge, `awaits_line` says whether WSYNC was written in
--- this instruction, and `ended` whether VSYNC has fallen in this frame.
+-- A console whose pixels go to a sink. `bank` is the selected bank of the cartridge, `awaits_line`
+-- says whether WSYNC was written in this instruction, and `ended` whether VSYNC has fallen in this
+-- frame.
 pub record Console (S : Type 0) : Type 0 where
   pub cart : List ℕ
   pub bank : ℕ
@@ -42,7 +46,8 @@ module _ {S : Type 0} where
   value_at c (Ram index) = slice_index c.riot.ram index
   value_at c (Io register) = riot_read_of c.riot register
 
-  -- A read may select a bank, and changes a port or the timer at most. It still sees the bank before it.
+  -- A read may select a bank, and changes a port or the timer at most. It still sees the bank
+  -- before it.
   abbrev pub read_at : Console S → Place → Console S
   read_at c (Cart address) = record c { bank = bank_after c.cart c.bank address }
   read_at c (Io register) = record c { riot = after_read c.riot register }
@@ -90,8 +95,8 @@ module _ {S : Type 0} where
     peeked_zero = λ c address. value_at c (place_of address);
   }
 
--- The cycles until a scanline begins, none where one begins. That an instruction which wrote WSYNC waits so long, and only
--- when it is over, is this project's own rule.
+-- The cycles until a scanline begins, none where one begins. That an instruction which wrote WSYNC
+-- waits so long, and only when it is over, is this project's own rule.
 abbrev pub cycles_to_line_start : ℕ → ℕ
 cycles_to_line_start clock = (76 - clock / 3) % 76
 

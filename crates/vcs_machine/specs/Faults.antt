@@ -2,10 +2,12 @@
 use Rattle.std.specs.Prelude.{ℕ, List, [], ◌∷◌, ◌++◌, ◌/◌, ◌%◌, codes, true}
 use Rattle.std.specs.Fmt.{digit_glyph}
 use Rattle.mos_cpu.specs.declared.fault.CpuFault.{CpuFault}
-use Rattle.mos_cpu.specs.declared.fault.CpuFault.TheVariants.{BadOpcode as BadOpcodeOfCpu, FetchOutside as FetchOutsideOfCpu}
+use Rattle.mos_cpu.specs.declared.fault.CpuFault.TheVariants.{BadOpcode as BadOpcodeOfCpu}
+use Rattle.mos_cpu.specs.declared.fault.CpuFault.TheVariants.{FetchOutside as FetchOutsideOfCpu}
 use Rattle.vcs_machine.specs.Frame.{Machine, Stop, Faulted, Overlong as Overlongs}
 use Rattle.vcs_machine.specs.declared.fault.FaultKind.{FaultKind}
-use Rattle.vcs_machine.specs.declared.fault.FaultKind.TheVariants.{BadOpcode, FetchOutside, Overlong}
+use Rattle.vcs_machine.specs.declared.fault.FaultKind.TheVariants.{BadOpcode, FetchOutside}
+use Rattle.vcs_machine.specs.declared.fault.FaultKind.TheVariants.{Overlong}
 
 -- The processor's fault as a frame's.
 abbrev pub kind_of : CpuFault → FaultKind

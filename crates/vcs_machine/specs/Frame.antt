@@ -1,13 +1,14 @@
--- A frame over any bus: instructions, each with its wait, until the least number of them at which the frame stops.
--- When a frame stops is this project's own rule.
-use Rattle.std.specs.Prelude.{◌≡◌, ℕ, zero, suc, ◌+◌, ◌<◌, ◌≤◌, ◌||◌, nat_le, Bool, true, false, if◌then◌else◌, Result, Ok, Err}
+-- A frame over any bus: instructions, each with its wait, until the least number of them at which
+-- the frame stops. When a frame stops is this project's own rule.
+use Rattle.std.specs.Prelude.{◌≡◌, ℕ, zero, suc, ◌+◌, ◌<◌, ◌≤◌, ◌||◌, nat_le, Bool, true, false}
+use Rattle.std.specs.Prelude.{if◌then◌else◌, Result, Ok, Err}
 use Rattle.mos_cpu.specs.Buses.{Meaning}
 use Rattle.mos_cpu.specs.Registers.{Registers}
 use Rattle.mos_cpu.specs.Execution.{step_of}
 use Rattle.mos_cpu.specs.declared.fault.CpuFault.{CpuFault}
 
--- What a frame asks of a bus: what its calls mean, the bus after the wait that an instruction left to it and the cycles of
--- that wait, and whether the frame's end has come.
+-- What a frame asks of a bus: what its calls mean, the bus after the wait that an instruction left
+-- to it and the cycles of that wait, and whether the frame's end has come.
 pub record Rules (B : Type 0) : Type 0 where
   pub meaning : Meaning B
   pub after_wait : B → B
@@ -103,8 +104,9 @@ StopsAs rules start (Ended here) = Ends rules start here
 StopsAs rules start (Overlong here) = IsOverlong rules start here
 StopsAs rules start (Faulted fault here) = Faults rules start here fault
 
--- The one way in which a frame stops, found by trying one instruction after another. Each takes at least two cycles, so that
--- this many are enough: a law says that a frame stops so, and in no other way.
+-- The one way in which a frame stops, found by trying one instruction after another. Each takes at
+-- least two cycles, so that this many are enough: a law says that a frame stops so, and in no other
+-- way.
 abbrev pub most_turns : ℕ
 most_turns = 12160
 

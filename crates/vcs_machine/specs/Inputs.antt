@@ -1,13 +1,15 @@
 -- The pins and buttons of one frame.
 use Rattle.std.specs.Prelude.{ℕ, ◌/◌, ◌%◌, ◌^◌, Bool, ◌==◌, ◌&&◌, nat_lt, bit_and, List, [], ◌∷◌}
 
--- The pins of the two ports, and the buttons. The ports' bits are those of the Stella Programmer's Guide.
+-- The pins of the two ports, and the buttons. The ports' bits are those of the Stella Programmer's
+-- Guide.
 pub record Controls : Type 0 where
   pub swcha : ℕ
   pub swchb : ℕ
   pub buttons : ℕ
 
--- Bits 2, 4 and 5 of SWCHB's pins are 1, and the buttons have bits 0 and 1 alone: this project's own rule.
+-- Bits 2, 4 and 5 of SWCHB's pins are 1, and the buttons have bits 0 and 1 alone: this project's
+-- own rule.
 abbrev pub is_input : Controls → Bool
 is_input c = (bit_and c.swchb 0x34 == 0x34) && nat_lt c.buttons 4
 

@@ -7,8 +7,8 @@ use Rattle.riot_map.specs.RiotFields.{is_riot}
 use Rattle.tia_core.specs.TiaState.{is_tia, tia_at_power_on}
 use Rattle.vcs_machine.specs.declared.fields.StateFields.{StateFields}
 
--- Which numbers are those of a state: those of a processor, a RIOT and a TIA, whose beam stands where a cycle begins, and one of
--- two banks.
+-- Which numbers are those of a state: those of a processor, a RIOT and a TIA, whose beam stands
+-- where a cycle begins, and one of two banks.
 unfoldable pub is_state : StateFields → Bool
 is_state f = is_status f.cpu.p && is_riot f.riot && is_tia f.tia && (f.tia.clock % 3 == 0) && nat_lt f.bank 2
 
@@ -16,8 +16,9 @@ is_state f = is_status f.cpu.p && is_riot f.riot && is_tia f.tia && (f.tia.clock
 abbrev pub line_cycle_of : StateFields → ℕ
 line_cycle_of f = f.tia.clock / 3
 
--- A console that was just switched on. PC comes from the reset vector, in the second bank where there are two; the rest is
--- this project's own: S is FF, I is set, and all else of the processor is 0.
+-- A console that was just switched on. PC comes from the reset vector, in the second bank where
+-- there are two; the rest is this project's own: S is FF, I is set, and all else of the processor
+-- is 0.
 abbrev pub state_at_power_on : List ℕ → StateFields
 state_at_power_on cart = record {
   cpu = record {

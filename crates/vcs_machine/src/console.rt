@@ -2,7 +2,8 @@
 ghost use Rattle.std.specs.Prelude.{◌≡◌, ◌%◌, ◌/◌, ◌-◌, ◌*◌, ◌+◌, ◌<◌, ◌≤◌, IsTrue, false};
 ghost use Rattle.riot_map.specs.Riot.{riot_of, fields_of, with_pins, with_ram};
 ghost use Rattle.tia_core.specs.TiaState.{tia_of as tia_state_of, with_fire, at_frame_start};
-ghost use Rattle.vcs_machine.specs.Consoles.{meaning_of, after_wait, wait_cycles, cycles_to_line_start};
+ghost use Rattle.vcs_machine.specs.Consoles.{meaning_of, after_wait, wait_cycles};
+ghost use Rattle.vcs_machine.specs.Consoles.{cycles_to_line_start};
 ghost use Rattle.vcs_machine.specs.Inputs.{is_pressed};
 
 use crate::devices::{Devices, MOST_OWED};
@@ -32,7 +33,8 @@ pub struct Console<'a, S: Paint> {
 
 impl<'a, S: Paint> Model for Console<'a, S> {
     ghost use Rattle.vcs_machine.specs.Consoles.{Console as ConsoleOf};
-    ghost use Rattle.vcs_machine.specs.Private.Owing.{riot_seen, tia_seen, sink_seen, IsBehind, IsStirring};
+    ghost use Rattle.vcs_machine.specs.Private.Owing.{riot_seen, tia_seen, sink_seen, IsBehind};
+    ghost use Rattle.vcs_machine.specs.Private.Owing.{IsStirring};
 
     ghost Value = { ConsoleOf S };
 

@@ -2,7 +2,8 @@
 ghost use Rattle.std.specs.Prelude.{◌≡◌, ◌≤◌, ◌<◌, ◌+◌, ◌-◌, ◌*◌, ◌/◌};
 ghost use Rattle.std.specs.Fn.{iterate};
 ghost use Rattle.tia_core.specs.Read.{tia_read};
-ghost use Rattle.vcs_machine.specs.Private.Owing.{riot_seen, tia_seen, sink_seen, given_back, IsBehind};
+ghost use Rattle.vcs_machine.specs.Private.Owing.{riot_seen, tia_seen, sink_seen, given_back};
+ghost use Rattle.vcs_machine.specs.Private.Owing.{IsBehind};
 ghost use Rattle.riot_map.specs.Riot.{after_cycles};
 ghost use Rattle.tia_core.specs.Clock.{after_clock, pixels, sink_after_pixels};
 
@@ -12,11 +13,12 @@ use tia_core::{NoPaint, Paint, Tia};
 /// Most cycles that devices are behind: those of a scanline, whose clocks fit a call of the TIA.
 pub const MOST_OWED: u8 = 76;
 
-/// A RIOT, a TIA and its sink, and how many cycles of the processor they have yet to see: the TIA's are `MOST_OWED` less those
-/// that are left.
+/// A RIOT, a TIA and its sink, and how many cycles of the processor they have yet to see: the TIA's
+/// are `MOST_OWED` less those that are left.
 ///
-/// Most instructions look at memory alone, so the cycles are passed on where a device is looked at. Those that are left are
-/// counted, since whether there are enough is then told by the subtraction itself.
+/// Most instructions look at memory alone, so the cycles are passed on where a device is looked at.
+/// Those that are left are counted, since whether there are enough is then told by the subtraction
+/// itself.
 #[derive(Drop)]
 pub struct Devices<S> {
     pub riot: Riot,
@@ -88,7 +90,8 @@ impl<S: Paint> Devices<S> {
         }
     }
 
-    /// Takes back the cycles that were too many, lets both see those that they have not seen, and owes them these.
+    /// Takes back the cycles that were too many, lets both see those that they have not seen, and
+    /// owes them these.
     #[cold]
     #[inline(never)]
     fn settle_and_owe(&mut self, cycles: u8)

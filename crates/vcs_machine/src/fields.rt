@@ -8,13 +8,14 @@ use tia_core::TiaFields;
 
 /// The numbers of a console between two frames: those of its parts, and the selected bank.
 ///
-/// Pins and pressed buttons are no part of a state: each frame's input has them. The line is none either: each frame counts its
-/// own.
+/// Pins and pressed buttons are no part of a state: each frame's input has them. The line is none
+/// either: each frame counts its own.
 #[derive(Clone, Copy, Debug, PartialEq, Eq)]
 pub struct StateFields {
     pub cpu: Cpu,
     pub riot: RiotFields,
-    /// The beam stands where a cycle of the processor begins, so that `clock` is three times the cycles of its scanline.
+    /// The beam stands where a cycle of the processor begins, so that `clock` is three times the
+    /// cycles of its scanline.
     pub tia: TiaFields,
     /// The selected bank of the cartridge, 0 or 1; 0 where it has no banks.
     pub bank: u8,

@@ -1,10 +1,12 @@
 //! One frame.
-ghost use Rattle.std.specs.Prelude.{◌≡◌, ◌≤◌, ◌+◌, true, false, if◌then◌else◌, Some, None, IfOk, IfErr, IfSome, IfNone};
+ghost use Rattle.std.specs.Prelude.{◌≡◌, ◌≤◌, ◌+◌, true, false, if◌then◌else◌, Some, None, IfOk};
+ghost use Rattle.std.specs.Prelude.{IfErr, IfSome, IfNone};
 ghost use Rattle.tia_core.specs.Clock.{Pixel, sink_after_pixels};
 ghost use Rattle.vcs_machine.specs.Consoles.{console_rules, with_pixel_logged, Console};
 ghost use Rattle.vcs_machine.specs.Faults.{stop_with};
 ghost use Rattle.vcs_machine.specs.Frame.{stop_of, Machine, Ended, most_frame_cycles};
-ghost use Rattle.vcs_machine.specs.Outcomes.{frame_of, machine_of, state_left, Played, FailsAs, PlaysOn, Halts};
+ghost use Rattle.vcs_machine.specs.Outcomes.{frame_of, machine_of, state_left, Played, FailsAs};
+ghost use Rattle.vcs_machine.specs.Outcomes.{PlaysOn, Halts};
 ghost use Rattle.vcs_machine.specs.Pictures.{Rows};
 
 use crate::console::Console;
@@ -41,10 +43,11 @@ fn frame_onto<S: Paint + Drop>(
 
 /// One frame on a cartridge from a state, with its picture where `keep` is true.
 ///
-/// A frame sets the pins and buttons from its input, then executes instructions, each with its wait after WSYNC, until bit 1 of
-/// VSYNC has fallen. It takes at most 24,401 cycles. After a fault the state is the one before the faulty instruction, with the
-/// frame's beginning done, and after `Overlong` the one that was reached. With `keep` false no memory is taken; with `keep` true
-/// that of 322 rows is taken first, in one growth, and where it is refused the state stays as it was.
+/// A frame sets the pins and buttons from its input, then executes instructions, each with its wait
+/// after WSYNC, until bit 1 of VSYNC has fallen. It takes at most 24,401 cycles. After a fault the
+/// state is the one before the faulty instruction, with the frame's beginning done, and after
+/// `Overlong` the one that was reached. With `keep` false no memory is taken; with `keep` true that
+/// of 322 rows is taken first, in one growth, and where it is refused the state stays as it was.
 pub fn frame(
     alloc: Global,
     cart: &Cart,
@@ -74,10 +77,11 @@ pub fn frame(
     }
 }
 
-/// How one frame on a cartridge stops before its end, and after how many of its cycles; none where it ends.
+/// How one frame on a cartridge stops before its end, and after how many of its cycles; none where
+/// it ends.
 ///
-/// The state is left as `frame` leaves it, and no memory is taken. The cycles are those of the instructions before the faulty
-/// one, with their waits.
+/// The state is left as `frame` leaves it, and no memory is taken. The cycles are those of the
+/// instructions before the faulty one, with their waits.
 pub fn halt(cart: &Cart, state: &mut State, input: Input) -> Option<Halt>
     ensures halted { IfSome result (λ halt. Halts cart.now state.old input halt.kind state.new halt.cycles) }
     ensures ended { IfNone result ((rows : Rows) × (frame_of cart.now state.old input ≡ Played state.new rows)) }

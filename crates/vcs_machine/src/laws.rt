@@ -1,9 +1,11 @@
 //! Laws about the definitions of a frame.
-ghost use Rattle.std.specs.Prelude.{◌≡◌, ◌↔◌, ℕ, ◌+◌, ◌*◌, ◌%◌, ◌<◌, ◌≤◌, List, [], length, IsTrue, true, false};
+ghost use Rattle.std.specs.Prelude.{◌≡◌, ◌↔◌, ℕ, ◌+◌, ◌*◌, ◌%◌, ◌<◌, ◌≤◌, List, [], length, IsTrue};
+ghost use Rattle.std.specs.Prelude.{true, false};
 ghost use Rattle.mos_cpu.specs.Execution.{step_of};
 ghost use Rattle.riot_map.specs.Cart.{has_banks};
 ghost use Rattle.tia_core.specs.Clock.{Pixel};
-ghost use Rattle.vcs_machine.specs.Consoles.{Console, console_rules, with_pixel_logged, meaning_of, after_wait, wait_cycles};
+ghost use Rattle.vcs_machine.specs.Consoles.{Console, console_rules, with_pixel_logged, meaning_of};
+ghost use Rattle.vcs_machine.specs.Consoles.{after_wait, wait_cycles};
 ghost use Rattle.vcs_machine.specs.Frame.{Rules, Machine, Stop, Ended, machine_at, StopsAs};
 ghost use Rattle.vcs_machine.specs.Frame.{most_frame_cycles, stop_of, turn, turns, Went};
 ghost use Rattle.vcs_machine.specs.Inputs.{Controls};
@@ -12,8 +14,8 @@ ghost use Rattle.vcs_machine.specs.Pictures.{most_rows, rows_of};
 ghost use Rattle.vcs_machine.specs.States.{is_state, line_cycle_of};
 ghost use Rattle.vcs_machine.specs.declared.fields.StateFields.{StateFields};
 
-/// A law: on any bus a frame stops in one way, at the least number of instructions at which it can stop, and the function that
-/// searches for that way finds it.
+/// A law: on any bus a frame stops in one way, at the least number of instructions at which it can
+/// stop, and the function that searches for that way finds it.
 pub const fn law_of_one_stop<B>()
     ensures only { (rules : Rules B) (start : Machine B) (stop : Stop B) → start.cycles ≡ 0
         → StopsAs rules start stop → stop ≡ stop_of rules start }
@@ -28,8 +30,9 @@ pub const fn law_of_waits<S>()
         → (after_wait drawn c).tia.fields.clock ≡ 0 }
 {}
 
-/// A law: what the law of waits asks for holds in each frame. After so many instructions with their waits, and one more without
-/// its wait, the beam stands at one of the 228 clocks of a scanline, and a whole number of cycles after its begin.
+/// A law: what the law of waits asks for holds in each frame. After so many instructions with their
+/// waits, and one more without its wait, the beam stands at one of the 228 clocks of a scanline,
+/// and a whole number of cycles after its begin.
 pub const fn law_of_whole_cycles()
     ensures { (cart : List ℕ) (s : StateFields) (i : Controls) (count : ℕ) (m : Machine (Console (List Pixel))) → IsTrue (is_state s)
         → turns (console_rules with_pixel_logged) count (machine_of cart s i []) ≡ Went m
@@ -37,8 +40,8 @@ pub const fn law_of_whole_cycles()
         (c.tia.fields.clock < 228) × (c.tia.fields.clock % 3 ≡ 0) }
 {}
 
-/// A law: however a frame stops, it takes at most 24,401 cycles, its picture has at most 322 rows, and the state that it leaves
-/// has the beam's place: three clocks a cycle on from where it began.
+/// A law: however a frame stops, it takes at most 24,401 cycles, its picture has at most 322 rows,
+/// and the state that it leaves has the beam's place: three clocks a cycle on from where it began.
 pub const fn law_of_frame_lengths()
     ensures cycles { (cart : List ℕ) (s : StateFields) (i : Controls) → IsTrue (is_state s)
         → (machine_at (stop_of (console_rules with_pixel_logged) (machine_of cart s i []))).cycles ≤ most_frame_cycles }

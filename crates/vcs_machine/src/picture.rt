@@ -1,5 +1,6 @@
 //! The picture of a frame.
-ghost use Rattle.std.specs.Prelude.{◌≡◌, ◌↔◌, ◌<◌, ◌≤◌, ◌-◌, [], length, take, slice_index, slice_index_or, vec_capacity, IsTrue, IfOk};
+ghost use Rattle.std.specs.Prelude.{◌≡◌, ◌↔◌, ◌<◌, ◌≤◌, ◌-◌, [], length, take, slice_index};
+ghost use Rattle.std.specs.Prelude.{slice_index_or, vec_capacity, IsTrue, IfOk};
 ghost use Rattle.vcs_machine.specs.Frame.{most_frame_cycles};
 ghost use Rattle.vcs_machine.specs.Pictures.{with_pixel, blank, rows_of};
 ghost use Rattle.vcs_machine.specs.Private.Rows.{filled};
@@ -11,9 +12,11 @@ use tia_core::Paint;
 /// The most scanlines that a frame reaches.
 pub const MOST_ROWS: u16 = 322;
 
-/// Rows from the top, each of 160 colour bytes from the left, which contracts see as a list of lists.
+/// Rows from the top, each of 160 colour bytes from the left, which contracts see as a list of
+/// lists.
 ///
-/// A colour byte is a colour register of the TIA, with the hue in bits 7 to 4 and the luminance in bits 3 to 1.
+/// A colour byte is a colour register of the TIA, with the hue in bits 7 to 4 and the luminance in
+/// bits 3 to 1.
 #[derive(Drop)]
 pub struct Picture {
     rows: Vec<[u8; 160]>,

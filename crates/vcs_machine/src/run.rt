@@ -13,7 +13,8 @@ use tia_core::Paint;
 /// Cycles after which a frame that has not ended is too long.
 const TOO_MANY_CYCLES: u32 = 24_320;
 
-/// One instruction with its wait; it answers the cycles of the frame so far. A fault changes nothing.
+/// One instruction with its wait; it answers the cycles of the frame so far. A fault changes
+/// nothing.
 #[tactic(auto, unfolding(crate::specs::Consoles::console_rules, crate::specs::Frame::turn))]
 #[inline(always)]
 fn turn<S: Paint>(cpu: &mut Cpu, console: &mut Console<S>, cycles: u32) -> Result<u32, CpuFault>

@@ -10,8 +10,8 @@ const BANK_LENGTH: usize = 4096;
 /// The part of an address that finds a byte in a bank.
 const BANK_MASK: u16 = 0xFFF;
 
-/// A cartridge and its selected bank, with the bytes that this bank shows at hand. Their number is a power of two, so that
-/// an address finds its byte by a mask, one less.
+/// A cartridge and its selected bank, with the bytes that this bank shows at hand. Their number is
+/// a power of two, so that an address finds its byte by a mask, one less.
 #[derive(Clone, Copy)]
 pub struct Socket<'a> {
     pub cart: &'a Cart,

@@ -7,8 +7,9 @@ ghost use Rattle.vcs_machine.specs.Private.Owing.{after_beam};
 
 use tia_core::{Register, TiaFields};
 
-/// Whether a write of a register is known to leave a TIA of these numbers as it is, wherever its beam is. A register keeps the bits
-/// of its mask. Games write most registers in each scanline, and mostly what is there already.
+/// Whether a write of a register is known to leave a TIA of these numbers as it is, wherever its
+/// beam is. A register keeps the bits of its mask. Games write most registers in each scanline, and
+/// mostly what is there already.
 #[inline(always)]
 pub fn is_unchanged(fields: &TiaFields, register: u8, value: u8) -> bool
     ensures fields { IsTrue result → (fire0 fire1 : Bool) (collisions clock comb : ℕ) →

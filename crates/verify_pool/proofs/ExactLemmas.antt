@@ -1,5 +1,7 @@
 -- What the steps of a worker do to its pieces, beside its ticket's part.
-use Rattle.std.proofs.Common.{◌≡◌, ℕ, ◌+◌, ◌-◌, ◌<◌, ◌≤◌, if◌then◌else◌, nat_lt, List, [], ◌∷◌, ◌++◌, refl, sym, ap, ◌∙◌, subst, arith, lt_of_not-le, Option, Some, None}
+use Rattle.std.proofs.Common.{◌≡◌, ℕ, ◌+◌, ◌-◌, ◌<◌, ◌≤◌, if◌then◌else◌, nat_lt, List, [], ◌∷◌}
+use Rattle.std.proofs.Common.{◌++◌, refl, sym, ap, ◌∙◌, subst, arith, lt_of_not-le, Option, Some}
+use Rattle.std.proofs.Common.{None}
 use Rattle.std.proofs.lemmas.List.{map-append}
 use Rattle.std.proofs.lemmas.List.Elements.{All-push, All-append}
 use Rattle.std.proofs.lemmas.Grind.{flat_map-append}
@@ -7,12 +9,15 @@ use mathlib.Core.Logic.{dite}
 use native.Mathlib.Decide.{dec_le}
 use Rattle.replay_segments.specs.declared.outcome.Outcome.{Outcome}
 use Rattle.replay_segments.specs.declared.outcome.Outcome.TheVariants.{Judged, NoMemory}
-use Rattle.replay_segments.specs.declared.verdict.Verdict.TheVariants.{Genuine, FalseCheckpoint, Fault}
+use Rattle.replay_segments.specs.declared.verdict.Verdict.TheVariants.{Genuine, FalseCheckpoint}
+use Rattle.replay_segments.specs.declared.verdict.Verdict.TheVariants.{Fault}
 use Rattle.replay_segments.specs.Pieces.{PieceData, Job, IsPassed, HasKept}
 use Rattle.segment_desk.specs.declared.part.Part.{Part}
-use Rattle.segment_desk.specs.Desk.{times, with_number, with_drawn, at_end, look_at, report_at, with_handed_in}
+use Rattle.segment_desk.specs.Desk.{times, with_number, with_drawn, at_end, look_at, report_at}
+use Rattle.segment_desk.specs.Desk.{with_handed_in}
 use Rattle.segment_desk.specs.Private.Draws.{to_draw, left_of}
-use Rattle.verify_pool.specs.Exact.{piece_numbers, if_bad, bad_numbers, IsExact, WantsMemoryForPictures}
+use Rattle.verify_pool.specs.Exact.{piece_numbers, if_bad, bad_numbers, IsExact}
+use Rattle.verify_pool.specs.Exact.{WantsMemoryForPictures}
 use Rattle.verify_pool.specs.Private.Replays.{IsReplayed}
 use Rattle.segment_desk.specs.Kept.{IsKnown}
 use Rattle.segment_desk.proofs.PartLemmas.{tested}

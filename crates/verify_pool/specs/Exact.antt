@@ -1,8 +1,10 @@
--- The pieces of a worker, beside what its ticket drew, passed over and reported. This project's own.
+-- The pieces of a worker, beside what its ticket drew, passed over and reported. This project's
+-- own.
 use Rattle.std.specs.Prelude.{ℕ, ◌+◌, ◌≡◌, List, [], ◌∷◌, map, flat_map, All}
 use Rattle.replay_segments.specs.declared.outcome.Outcome.{Outcome}
 use Rattle.replay_segments.specs.declared.outcome.Outcome.TheVariants.{Judged, NoMemory}
-use Rattle.replay_segments.specs.declared.verdict.Verdict.TheVariants.{Genuine, FalseCheckpoint, Fault}
+use Rattle.replay_segments.specs.declared.verdict.Verdict.TheVariants.{Genuine, FalseCheckpoint}
+use Rattle.replay_segments.specs.declared.verdict.Verdict.TheVariants.{Fault}
 use Rattle.replay_segments.specs.Gathering.{NamesAll}
 use Rattle.replay_segments.specs.Pieces.{PieceData, Job, HasKept}
 use Rattle.segment_desk.specs.declared.part.Part.{Part}
@@ -27,7 +29,8 @@ bad_numbers pieces = flat_map (λ (p : PieceData). if_bad p.number p.outcome) pi
 abbrev pub WantsMemoryForPictures : PieceData → Type 0
 WantsMemoryForPictures p = p.outcome ≡ NoMemory → HasKept p.job p.number
 
--- The pieces of one job, beside the part of the desk's history of the ticket that drew their numbers.
+-- The pieces of one job, beside the part of the desk's history of the ticket that drew their
+-- numbers.
 pub record IsExact (job : Job) (v : Part) (pieces : List PieceData) : Type 0 where
   pub names : NamesAll job pieces
   -- One piece for each number that was drawn and not passed over, and no other.

@@ -4,8 +4,8 @@ use replay_segments::Piece;
 use segment_desk::Ticket;
 
 /// A worker calls it for each segment that it replays, and not for one that it passes over: `enter`
-/// once before the replay, `leave` once after it. Both come on that worker's own thread, the calling
-/// one for one of the workers, and the worker calls nothing of the gate between them.
+/// once before the replay, `leave` once after it. Both come on that worker's own thread, the
+/// calling one for one of the workers, and the worker calls nothing of the gate between them.
 ///
 /// No number is entered twice. The numbers of one worker rise. Of those of several workers no order
 /// is promised, and their calls may come at the same time.

@@ -52,12 +52,13 @@ fn hands_of(
 }
 
 /// The verdict of a movie, which is that of one unbroken run from its start state, by workers, who
-/// replay the segments between the cuts: one on the calling thread, each other one in a thread of its
-/// own. The cuts fit the movie. Where there is one worker, or one segment, no thread is started.
+/// replay the segments between the cuts: one on the calling thread, each other one in a thread of
+/// its own. The cuts fit the movie. Where there is one worker, or one segment, no thread is
+/// started.
 ///
-/// It joins its threads, so it returns where each of them does. It is refused in this order: NoMemory
-/// for the desk or the lists of pieces; NoThread; and NoMemory, where that was the outcome of the first
-/// segment that did not pass, or for the list of all pictures.
+/// It joins its threads, so it returns where each of them does. It is refused in this order:
+/// NoMemory for the desk or the lists of pieces; NoThread; and NoMemory, where that was the outcome
+/// of the first segment that did not pass, or for the list of all pictures.
 pub fn verify<G: Gate + Sync, R: Threads + Wait + Sync>(
     rt: &R,
     alloc: Global,

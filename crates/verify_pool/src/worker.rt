@@ -1,5 +1,6 @@
 //! What workers share, and one worker, which draws segments and replays them.
-ghost use Rattle.std.specs.Prelude.{◌≡◌, ◌+◌, ◌<◌, ◌≤◌, ◌⊎◌, length, true, false, Some, vec_len, vec_capacity};
+ghost use Rattle.std.specs.Prelude.{◌≡◌, ◌+◌, ◌<◌, ◌≤◌, ◌⊎◌, length, true, false, Some, vec_len};
+ghost use Rattle.std.specs.Prelude.{vec_capacity};
 ghost use Rattle.replay_segments.specs.Cuts.{Fits};
 ghost use Rattle.replay_segments.specs.Pieces.{job_of, HasKept, IsPassed};
 ghost use Rattle.replay_segments.specs.declared.outcome.Outcome.{Outcome};
@@ -75,8 +76,8 @@ impl<'s, G: Gate> Shared<'s, G> {
         piece
     }
 
-    /// Draws a segment and replays it, unless a smaller one is known not to have passed. False where
-    /// none is left.
+    /// Draws a segment and replays it, unless a smaller one is known not to have passed. False
+    /// where none is left.
     fn work_once(&self, ticket: &mut Ticket, pieces: &mut Vec<Piece>) -> bool
         requires own { IsOf self.now.desk.now ticket.old }
         requires known { IsKnown ticket.old.part }

@@ -1,5 +1,6 @@
 //! Workers side by side at one desk.
-ghost use Rattle.std.specs.Prelude.{◌≡◌, ℕ, ◌+◌, ◌*◌, ◌≤◌, length, IfOk, OnErr, vec_len, vec_capacity};
+ghost use Rattle.std.specs.Prelude.{◌≡◌, ℕ, ◌+◌, ◌*◌, ◌≤◌, length, IfOk, OnErr, vec_len};
+ghost use Rattle.std.specs.Prelude.{vec_capacity};
 ghost use Rattle.replay_segments.specs.Cuts.{Fits};
 ghost use Rattle.replay_segments.specs.Pieces.{Job, job_of};
 ghost use Rattle.verify_pool.specs.Crew.{AreReady, IsReady, IsWorked, first_room, shares};
@@ -120,7 +121,8 @@ fn start<'s, E, G: Gate + Sync>(
     Ok(worker)
 }
 
-/// Works on all hands, the last one in a thread of its own, and the first one on the calling thread.
+/// Works on all hands, the last one in a thread of its own, and the first one on the calling
+/// thread.
 fn crew_within<'s, E, G: Gate + Sync, R: Threads + Wait + Sync>(
     scope: &'s Scope<'s, E>,
     rt: &'s R,

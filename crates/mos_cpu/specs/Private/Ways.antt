@@ -1,12 +1,15 @@
 -- What the ways of opcodes stand on: an opcode's row and operand, each known by itself, and how an
 -- operation uses its operand. These are helpers of proofs: no public contract names them.
-use Rattle.std.specs.Prelude.{ℕ, ◌≡◌, ◌+◌, ◌%◌, Bool, false, not, ◌==◌, ◌||◌, if◌then◌else◌, List, [], Option, Some, None, Result, Ok, IsErr, slice_index}
-use Rattle.mos_cpu.specs.Accesses.{StoredByte, Nothing, Reads, Stores, Modifies, use_of, branch_test, is_taken}
+use Rattle.std.specs.Prelude.{ℕ, ◌≡◌, ◌+◌, ◌%◌, Bool, false, not, ◌==◌, ◌||◌, if◌then◌else◌, List}
+use Rattle.std.specs.Prelude.{[], Option, Some, None, Result, Ok, IsErr, slice_index}
+use Rattle.mos_cpu.specs.Accesses.{StoredByte, Nothing, Reads, Stores, Modifies, use_of}
+use Rattle.mos_cpu.specs.Accesses.{branch_test, is_taken}
 use Rattle.mos_cpu.specs.Buses.{Meaning}
 use Rattle.mos_cpu.specs.Effects.{changed_of, target_of, with_a, with_p, with_pc, effect}
 use Rattle.mos_cpu.specs.Execution.{step_of}
 use Rattle.mos_cpu.specs.Opcodes.{row_of, row_with}
-use Rattle.mos_cpu.specs.Operands.{and_then, instruction_byte, row_or_fault, operand_by_mode, length_of, takes_vector, instruction_at}
+use Rattle.mos_cpu.specs.Operands.{and_then, instruction_byte, row_or_fault, operand_by_mode}
+use Rattle.mos_cpu.specs.Operands.{length_of, takes_vector, instruction_at}
 use Rattle.mos_cpu.specs.Registers.{Registers}
 use Rattle.mos_cpu.specs.declared.addressing.Target.{Target}
 use Rattle.mos_cpu.specs.declared.fault.CpuFault.{CpuFault}

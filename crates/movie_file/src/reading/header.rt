@@ -1,9 +1,11 @@
 //! Reading the header.
 ghost use Rattle.std.specs.Prelude.{◌≡◌, ◌≢◌, ◌≤◌, IfErr, IfOk, IsTrue, length};
 ghost use Rattle.std.specs.Int.{w16, w32};
-ghost use Rattle.movie_file.specs.Format.{takes_cart, is_version, most_frames, most_checkpoints, body_length};
+ghost use Rattle.movie_file.specs.Format.{takes_cart, is_version, most_frames, most_checkpoints};
+ghost use Rattle.movie_file.specs.Format.{body_length};
 ghost use Rattle.movie_file.specs.MovieError.{Gives};
-ghost use Rattle.movie_file.specs.Reading.{number_at, magic_at, version_at, cart_length_at, counts_at, sizes_at};
+ghost use Rattle.movie_file.specs.Reading.{number_at, magic_at, version_at, cart_length_at};
+ghost use Rattle.movie_file.specs.Reading.{counts_at, sizes_at};
 
 use super::sizes::Sizes;
 use crate::error::MovieError;

@@ -1,8 +1,10 @@
 //! Reading inputs and checkpoints.
 ghost use Rattle.std.specs.Prelude.{◌≡◌, ◌≢◌, ◌≤◌, ◌+◌, ◌*◌, [], IfErr, IfOk, length, vec_capacity};
-ghost use Rattle.movie_file.specs.Format.{input_length, record_length, checkpoint_length, most_checkpoints};
+ghost use Rattle.movie_file.specs.Format.{input_length, record_length, checkpoint_length};
+ghost use Rattle.movie_file.specs.Format.{most_checkpoints};
 ghost use Rattle.movie_file.specs.MovieError.{Gives};
-ghost use Rattle.movie_file.specs.Reading.{input_at, inputs_at, head_state_at, claimed_checkpoint, checkpoints_at};
+ghost use Rattle.movie_file.specs.Reading.{input_at, inputs_at, head_state_at, claimed_checkpoint};
+ghost use Rattle.movie_file.specs.Reading.{checkpoints_at};
 
 use super::sizes::Sizes;
 use crate::checkpoint::Checkpoint;

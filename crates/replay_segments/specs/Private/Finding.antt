@@ -4,10 +4,13 @@ use Rattle.vcs_machine.specs.Pictures.{Rows}
 use Rattle.replay_segments.specs.declared.gathering.GatherError.{GatherError}
 use Rattle.replay_segments.specs.declared.gathering.GatherError.TheVariants.{Missing, NoMemory}
 use Rattle.replay_segments.specs.declared.outcome.Outcome.{Outcome}
-use Rattle.replay_segments.specs.declared.outcome.Outcome.TheVariants.{Judged, NoMemory as NoMemoryOutcome}
+use Rattle.replay_segments.specs.declared.outcome.Outcome.TheVariants.{Judged}
+use Rattle.replay_segments.specs.declared.outcome.Outcome.TheVariants.{NoMemory as NoMemoryOutcome}
 use Rattle.replay_segments.specs.declared.verdict.Verdict.{Verdict}
-use Rattle.replay_segments.specs.declared.verdict.Verdict.TheVariants.{Genuine, FalseCheckpoint, Fault}
-use Rattle.replay_segments.specs.Gathering.{NamesAll, HasNumber, HasPassed, IsMissing, AllRefused, picture_count}
+use Rattle.replay_segments.specs.declared.verdict.Verdict.TheVariants.{Genuine, FalseCheckpoint}
+use Rattle.replay_segments.specs.declared.verdict.Verdict.TheVariants.{Fault}
+use Rattle.replay_segments.specs.Gathering.{NamesAll, HasNumber, HasPassed, IsMissing, AllRefused}
+use Rattle.replay_segments.specs.Gathering.{picture_count}
 use Rattle.replay_segments.specs.Pieces.{PieceData, IsPiece, Job, IsJob, IsPassed, segments_of}
 use Rattle.replay_segments.specs.Segments.{IsSegment}
 
@@ -39,7 +42,8 @@ pub record IsFirstUnpassed (pieces : List PieceData) (n number : ℕ) : Type 0 w
   pub below : ArePassedBelow pieces number
   pub none : HasPassed pieces number → ⊥
 
--- What is answered of a number without a piece that passed: the verdict of one that was judged, else why there is none.
+-- What is answered of a number without a piece that passed: the verdict of one that was judged,
+-- else why there is none.
 abbrev pub IsAnswer : List PieceData → ℕ → Result Verdict GatherError → Type 0
 IsAnswer pieces number (Ok v) =
     (i : ℕ) × (p : PieceData) × (slice_get pieces i ≡ Some p) × (p.number ≡ number) × (p.outcome ≡ Judged v) × IsBad v × IsPiece p

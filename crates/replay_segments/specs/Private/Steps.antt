@@ -1,5 +1,6 @@
 -- What replaying a frame answers, and how far a replay has come. This project's own.
-use Rattle.std.specs.Prelude.{ℕ, ◌+◌, ◌<◌, ◌≤◌, ◌≡◌, ◌≢◌, List, length, Option, Some, None, Result, Ok, Err, Bool, true, slice_get, [], ◌∷◌, ◌++◌, if◌then◌else◌}
+use Rattle.std.specs.Prelude.{ℕ, ◌+◌, ◌<◌, ◌≤◌, ◌≡◌, ◌≢◌, List, length, Option, Some, None, Result}
+use Rattle.std.specs.Prelude.{Ok, Err, Bool, true, slice_get, [], ◌∷◌, ◌++◌, if◌then◌else◌}
 use Rattle.vcs_machine.specs.Outcomes.{Played, Failed}
 use Rattle.vcs_machine.specs.Pictures.{Rows}
 use Rattle.vcs_machine.specs.declared.fault.FrameError.{FrameError}

@@ -1,4 +1,5 @@
--- The timer's intervals as the code names them. MOS MCS6532 data sheet; Stella Programmer's Guide: TIM1T, TIM8T, TIM64T, T1024T.
+-- The timer's intervals as the code names them. MOS MCS6532 data sheet; Stella Programmer's Guide:
+-- TIM1T, TIM8T, TIM64T, T1024T.
 use Rattle.std.specs.Prelude.{ℕ}
 use Rattle.riot_map.specs.declared.interval.Interval.{Interval}
 use Rattle.riot_map.specs.declared.interval.Interval.TheVariants.{Tim1t, Tim8t, Tim64t, T1024t}

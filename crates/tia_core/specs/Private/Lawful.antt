@@ -3,7 +3,12 @@ use Rattle.std.specs.Prelude.{◌≡◌, ◌<◌, ◌^◌, false}
 use Rattle.tia_core.specs.Bits.{has_bit}
 use Rattle.tia_core.specs.Registers.{FitsRegister}
 use Rattle.tia_core.specs.declared.fields.TiaFields.{TiaFields}
-use Rattle.tia_core.specs.declared.register.Register.TheVariants.{Vsync, Vblank, Nusiz0, Nusiz1, Colup0, Colup1, Colupf, Colubk, Ctrlpf, Refp0, Refp1, Pf0, Enam0, Enam1, Enabl, Hmp0, Hmp1, Hmm0, Hmm1, Hmbl, Vdelp0, Vdelp1, Vdelbl, Resmp0, Resmp1}
+use Rattle.tia_core.specs.declared.register.Register.TheVariants.{Vsync, Vblank, Nusiz0, Nusiz1}
+use Rattle.tia_core.specs.declared.register.Register.TheVariants.{Colup0, Colup1, Colupf, Colubk}
+use Rattle.tia_core.specs.declared.register.Register.TheVariants.{Ctrlpf, Refp0, Refp1, Pf0, Enam0}
+use Rattle.tia_core.specs.declared.register.Register.TheVariants.{Enam1, Enabl, Hmp0, Hmp1, Hmm0}
+use Rattle.tia_core.specs.declared.register.Register.TheVariants.{Hmm1, Hmbl, Vdelp0, Vdelp1}
+use Rattle.tia_core.specs.declared.register.Register.TheVariants.{Vdelbl, Resmp0, Resmp1}
 
 pub record IsLawfulTia (t : TiaFields) : Type 0 where
   pub vsync : FitsRegister Vsync t.vsync

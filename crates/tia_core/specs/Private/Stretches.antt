@@ -1,5 +1,7 @@
--- What the masks of a line are to say, and which pairs of objects meet in a stretch of it. This project's own.
-use Rattle.std.specs.Prelude.{◌≡◌, ◌<◌, ℕ, zero, suc, ◌+◌, ◌*◌, ◌&&◌, ◌||◌, Bool, false, if◌then◌else◌, List, [], ◌∷◌, bit_or}
+-- What the masks of a line are to say, and which pairs of objects meet in a stretch of it. This
+-- project's own.
+use Rattle.std.specs.Prelude.{◌≡◌, ◌<◌, ℕ, zero, suc, ◌+◌, ◌*◌, ◌&&◌, ◌||◌, Bool, false}
+use Rattle.std.specs.Prelude.{if◌then◌else◌, List, [], ◌∷◌, bit_or}
 use Rattle.tia_core.specs.Clock.{Pixel}
 use Rattle.tia_core.specs.Collision.{pairs_of}
 use Rattle.tia_core.specs.Colour.{colour_at}

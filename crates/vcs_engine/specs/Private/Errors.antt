@@ -1,10 +1,14 @@
 -- The error of a run for that of one of its parts. This project's own.
 use Rattle.vcs_engine.specs.declared.run_error.JudgeError.{JudgeError}
-use Rattle.vcs_engine.specs.declared.run_error.JudgeError.TheVariants.{NoMemory as NoMemoryToJudge, NoThread as NoThreadToJudge}
+use Rattle.vcs_engine.specs.declared.run_error.JudgeError.TheVariants.{NoMemory as NoMemoryToJudge}
+use Rattle.vcs_engine.specs.declared.run_error.JudgeError.TheVariants.{NoThread as NoThreadToJudge}
 use Rattle.vcs_engine.specs.declared.run_error.ReadError.{ReadError}
-use Rattle.vcs_engine.specs.declared.run_error.ReadError.TheVariants.{Fault as FaultToRead, TooLong as TooLongToRead, NoMemory as NoMemoryToRead}
+use Rattle.vcs_engine.specs.declared.run_error.ReadError.TheVariants.{Fault as FaultToRead}
+use Rattle.vcs_engine.specs.declared.run_error.ReadError.TheVariants.{TooLong as TooLongToRead}
+use Rattle.vcs_engine.specs.declared.run_error.ReadError.TheVariants.{NoMemory as NoMemoryToRead}
 use Rattle.vcs_engine.specs.declared.run_error.RunError.{RunError}
-use Rattle.vcs_engine.specs.declared.run_error.RunError.TheVariants.{ReadFault, TooLong, NoMemory, NoThread}
+use Rattle.vcs_engine.specs.declared.run_error.RunError.TheVariants.{ReadFault, TooLong, NoMemory}
+use Rattle.vcs_engine.specs.declared.run_error.RunError.TheVariants.{NoThread}
 
 abbrev pub of_reading : ReadError → RunError
 of_reading FaultToRead = ReadFault

@@ -1,4 +1,5 @@
--- A frame on one bus, followed on another: a map between buses that keeps what a frame asks of them. This project's own.
+-- A frame on one bus, followed on another: a map between buses that keeps what a frame asks of
+-- them. This project's own.
 use Rattle.std.specs.Prelude.{ℕ, ◌≡◌, List}
 use Rattle.mos_cpu.specs.Buses.{Respects}
 use Rattle.tia_core.specs.Clock.{Pixel, sink_after_pixels}

@@ -18,7 +18,8 @@ module _ {S : Type 0} where
   abbrev pub sink_seen : (S → ℕ → ℕ → ℕ → S) → Devices S → S
   sink_seen drawn d = sink_after_pixels drawn d.sink (pixels (3 * (76 - d.left)) d.tia)
 
--- What is true of the cycles that devices are owed: the RIOT has seen no others, and they are at most those of a scanline.
+-- What is true of the cycles that devices are owed: the RIOT has seen no others, and they are at
+-- most those of a scanline.
 pub record IsBehind {S : Type 0} (d : Devices S) : Type 0 where
   pub paid : d.paid ≤ 76 - d.left
   pub most : d.left ≤ 76

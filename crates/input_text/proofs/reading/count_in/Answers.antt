@@ -1,5 +1,6 @@
 use Rattle.std.proofs.Common.{sym, ◌∙◌, arith}
-use Rattle.input_text.proofs.CountLemmas.{counted_none, counted_more, counted_bad, counted_zero, counted_value, counted_some}
+use Rattle.input_text.proofs.CountLemmas.{counted_none, counted_more, counted_bad, counted_zero}
+use Rattle.input_text.proofs.CountLemmas.{counted_value, counted_some}
 use Rattle.input_text.proofs.reading.count_in.Goals as goal
 
 pub loop-byte-init : goal.loop-byte-init

@@ -1,4 +1,5 @@
-use Rattle.std.proofs.Common.{◌≡◌, ℕ, true, Some, None, List, get_or, sym, refl, ap, ◌∙◌, arith, below_more}
+use Rattle.std.proofs.Common.{◌≡◌, ℕ, true, Some, None, List, get_or, sym, refl, ap, ◌∙◌, arith}
+use Rattle.std.proofs.Common.{below_more}
 use Rattle.std.specs.Prelude.{find}
 use Rattle.std.specs.Str.{bytes_eq}
 use Rattle.std.proofs.lemmas.List.Recursion.{found_at, found_nowhere}

@@ -1,9 +1,11 @@
-use Rattle.std.proofs.Common.{◌≡◌, ℕ, ◌+◌, ◌<◌, ◌≤◌, ◌++◌, length, vec_len, replicate, Err, inl, inr, sym, ap, ◌∙◌, arith, rules}
+use Rattle.std.proofs.Common.{◌≡◌, ℕ, ◌+◌, ◌<◌, ◌≤◌, ◌++◌, length, vec_len, replicate, Err, inl}
+use Rattle.std.proofs.Common.{inr, sym, ap, ◌∙◌, arith, rules}
 use Rattle.input_text.specs.Texts.{frames_of}
 use Rattle.input_text.specs.Words.{words_of}
 use Rattle.input_text.proofs.GoodLines.{read_more, read_bad, read_all, frames_said, resized}
 use Rattle.input_text.proofs.reading.read_text.Goals as goal
-use Rattle.input_text.proofs.reading.read_text.Goals.{in_default-via-in-Some+else-stretch-left, in_default-via-in_default}
+use Rattle.input_text.proofs.reading.read_text.Goals.{in_default-via-in-Some+else-stretch-left}
+use Rattle.input_text.proofs.reading.read_text.Goals.{in_default-via-in_default}
 
 pub returns-in_default-clause-bad : goal.returns-in_default-clause-bad
 returns-in_default-clause-bad c number e =

@@ -4,7 +4,8 @@ use Rattle.std.specs.String.{string_bytes}
 use Rattle.input_text.specs.declared.name.Name.{Name}
 use Rattle.input_text.specs.declared.name.Name.TheVariants.{Up0}
 use Rattle.input_text.specs.Names.{names, is_held}
-use Rattle.input_text.proofs.PrintedNames.{printed_names, printed_held, printed_other, held_bits, after_name}
+use Rattle.input_text.proofs.PrintedNames.{printed_names, printed_held, printed_other, held_bits}
+use Rattle.input_text.proofs.PrintedNames.{after_name}
 use Rattle.input_text.proofs.writing.put_line.Goals as goal
 use Rattle.input_text.proofs.writing.put_line.Goals.{then-has+in_ok-push+in_ok-push_str, else-has}
 

@@ -1,4 +1,5 @@
-use Rattle.mos_cpu.proofs.StepLaws.{told-fault_registers, told-fault_bus, told-least, told-most, told-clock}
+use Rattle.mos_cpu.proofs.StepLaws.{told-fault_registers, told-fault_bus, told-least, told-most}
+use Rattle.mos_cpu.proofs.StepLaws.{told-clock}
 use Rattle.mos_cpu.proofs.processor.step.Goals as goal
 
 pub returns-clause-fault_cpu : goal.returns-clause-fault_cpu

@@ -1,4 +1,5 @@
-use Rattle.movie_file.proofs.RunLemmas.{sound_no_fault, sound_no_false, false_no_fault, same_kind, same_number}
+use Rattle.movie_file.proofs.RunLemmas.{sound_no_fault, sound_no_false, false_no_fault, same_kind}
+use Rattle.movie_file.proofs.RunLemmas.{same_number}
 use Rattle.movie_file.proofs.laws.law_of_judgements.Goals as goal
 
 pub returns-clause-no_fault : goal.returns-clause-no_fault

@@ -5,7 +5,8 @@ use Rattle.vcs_machine.specs.Inputs.{Controls, is_input}
 use Rattle.movie_file.specs.Making.{counts_fit, version_made}
 use Rattle.movie_file.specs.Record.{fits_bank}
 use Rattle.movie_file.specs.Private.MakingSteps.{Records}
-use Rattle.movie_file.proofs.MakingRuns.{AreCheckpoints-run, made_of_parts, counts_are, version_takes, bank_at_start, explains}
+use Rattle.movie_file.proofs.MakingRuns.{AreCheckpoints-run, made_of_parts, counts_are}
+use Rattle.movie_file.proofs.MakingRuns.{version_takes, bank_at_start, explains}
 use Rattle.movie_file.proofs.making.make_movie.Goals as goal
 
 pub returns-in-Err-clause-refused : goal.returns-in-Err-clause-refused

@@ -1,7 +1,8 @@
 use Rattle.std.proofs.Common.{◌≡◌, ◌∙◌, ◌-◌, arith, length, refl, string_bytes}
 use Rattle.replay_segments.proofs.SegmentLemmas.{IfOk-follows, checkpoint_within}
 use Rattle.movie_report.specs.CheckpointFacts.{checkpoints_text}
-use Rattle.movie_report.proofs.CheckpointLemmas.{text_with, text_with-is, text_without, text_without-is}
+use Rattle.movie_report.proofs.CheckpointLemmas.{text_with, text_with-is, text_without}
+use Rattle.movie_report.proofs.CheckpointLemmas.{text_without-is}
 use Rattle.movie_report.proofs.checkpoints.checkpoint_facts.Goals as goal
 
 pub overflow_sub-after : goal.overflow_sub-after

@@ -1,7 +1,8 @@
 use Rattle.std.proofs.Common.{◌+◌, ◌∙◌, sym, refl, subst}
 use Rattle.std.proofs.lemmas.Option.{slice_get_read}
 use Rattle.replay_segments.specs.declared.gathering.GatherError.{GatherError}
-use Rattle.replay_segments.proofs.FindLemmas.{IsAnswerBelow, IsAnswerBelow-other, IsAnswerBelow-may, IsAnswer-whole}
+use Rattle.replay_segments.proofs.FindLemmas.{IsAnswerBelow, IsAnswerBelow-other, IsAnswerBelow-may}
+use Rattle.replay_segments.proofs.FindLemmas.{IsAnswer-whole}
 use Rattle.replay_segments.proofs.finding.answer_of.Goals as goal
 use Rattle.replay_segments.proofs.finding.answer_of.Goals.{then-number+in_default, else-number}
 

@@ -3,7 +3,8 @@ use Rattle.std.proofs.lemmas.Option.{slice_get_read}
 use Rattle.replay_segments.specs.Pieces.{PieceData, IsPassed}
 use Rattle.replay_segments.proofs.ListLemmas.{each-below}
 use Rattle.replay_segments.proofs.finding.find_passed.Goals as goal
-use Rattle.replay_segments.proofs.finding.find_passed.Goals.{else-number-via-then-number+else-passed, else-number-via-else-number}
+use Rattle.replay_segments.proofs.finding.find_passed.Goals.{else-number-via-then-number+else-passed}
+use Rattle.replay_segments.proofs.finding.find_passed.Goals.{else-number-via-else-number}
 
 pub returns-then-passed-clause-some : goal.returns-then-passed-clause-some
 returns-then-passed-clause-some c =

@@ -1,5 +1,7 @@
 use Rattle.std.proofs.Common.{inr}
-use Rattle.replay_segments.proofs.GatherLemmas.{PassedBelow-found, none_missing, none_refused, verdict-answer, missing-answer, refused-answer, memory-answer}
+use Rattle.replay_segments.proofs.GatherLemmas.{PassedBelow-found, none_missing, none_refused}
+use Rattle.replay_segments.proofs.GatherLemmas.{verdict-answer, missing-answer, refused-answer}
+use Rattle.replay_segments.proofs.GatherLemmas.{memory-answer}
 use Rattle.replay_segments.proofs.gathering.gather.Goals as goal
 
 pub answer_of-requires : goal.answer_of-requires

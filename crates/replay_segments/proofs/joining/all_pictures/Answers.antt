@@ -1,4 +1,5 @@
-use Rattle.std.proofs.Common.{◌≡◌, ◌≢◌, ◌∙◌, sym, arith, ◌+◌, ◌++◌, List, length, ap, subst, inl, inr, vec_len}
+use Rattle.std.proofs.Common.{◌≡◌, ◌≢◌, ◌∙◌, sym, arith, ◌+◌, ◌++◌, List, length, ap, subst, inl}
+use Rattle.std.proofs.Common.{inr, vec_len}
 use Rattle.std.proofs.lemmas.Bool.{cases_lt}
 use Rattle.vcs_machine.specs.Pictures.{Rows}
 use Rattle.replay_segments.specs.Gathering.{picture_count}

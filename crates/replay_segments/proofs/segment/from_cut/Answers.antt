@@ -1,7 +1,8 @@
 use Rattle.std.proofs.Common.{◌+◌, sym, arith}
 use Rattle.replay_segments.specs.Pieces.{job_of, HasKept}
 use Rattle.replay_segments.specs.Segments.{IsSegment}
-use Rattle.replay_segments.proofs.SegmentLemmas.{IsStretch-found, IsNext-cut, IsSegment-cut, HasKept-cut, IfOk-follows, OnErr-follows}
+use Rattle.replay_segments.proofs.SegmentLemmas.{IsStretch-found, IsNext-cut, IsSegment-cut}
+use Rattle.replay_segments.proofs.SegmentLemmas.{HasKept-cut, IfOk-follows, OnErr-follows}
 use Rattle.replay_segments.proofs.segment.from_cut.Goals as goal
 
 pub overflow_sub-end : goal.overflow_sub-end

@@ -1,4 +1,5 @@
-use Rattle.riot_map.proofs.RiotLemmas.{IsRiot-power_on, IsRiot-riot_of, IsRiot-cycles, IsRiot-read, IsRiot-write, IsRiot-ram, IsRiot-pins}
+use Rattle.riot_map.proofs.RiotLemmas.{IsRiot-power_on, IsRiot-riot_of, IsRiot-cycles, IsRiot-read}
+use Rattle.riot_map.proofs.RiotLemmas.{IsRiot-write, IsRiot-ram, IsRiot-pins}
 use Rattle.riot_map.proofs.laws.law_of_lawful_riots.Goals as goal
 
 pub returns-clause-power_on : goal.returns-clause-power_on

@@ -1,4 +1,5 @@
-use Rattle.tia_core.proofs.RoundTheLine.{player_covers-round, missile_covers-round, ball_covers-round}
+use Rattle.tia_core.proofs.RoundTheLine.{player_covers-round, missile_covers-round}
+use Rattle.tia_core.proofs.RoundTheLine.{ball_covers-round}
 use Rattle.tia_core.proofs.laws.law_of_coverage.Goals as goal
 
 pub returns-clause-players : goal.returns-clause-players

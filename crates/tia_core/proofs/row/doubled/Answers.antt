@@ -1,6 +1,7 @@
 use Rattle.std.proofs.Common.{◌∙◌, ◌-◌, ◌/◌, ◌%◌, ◌≡◌, slice_index_or, ap, arith}
 use Rattle.tia_core.specs.Bits.{has_bit}
-use Rattle.tia_core.proofs.Tables.{halves, half-low, half-high, doubled-fits, doubled-below, doubled_table}
+use Rattle.tia_core.proofs.Tables.{halves, half-low, half-high, doubled-fits, doubled-below}
+use Rattle.tia_core.proofs.Tables.{doubled_table}
 use Rattle.tia_core.proofs.row.doubled.Goals as goal
 
 pub returns : goal.returns

@@ -4,7 +4,8 @@ use Rattle.mos_cpu.specs.declared.fault.CpuFault.TheVariants.{BadOpcode, FetchOu
 use Rattle.vcs_machine.specs.Consoles.{console_rules}
 use Rattle.vcs_machine.specs.Faults.{stop_with, kind_of}
 use Rattle.vcs_machine.specs.Frame.{Machine, Faulted}
-use Rattle.vcs_machine.proofs.OneStop.{search-begins, search-failed, search-ended, search-goes_on, search-long}
+use Rattle.vcs_machine.proofs.OneStop.{search-begins, search-failed, search-ended, search-goes_on}
+use Rattle.vcs_machine.proofs.OneStop.{search-long}
 use Rattle.vcs_machine.proofs.run.run_frame.Goals as goal
 
 -- The stop of a processor's fault.

@@ -1,7 +1,8 @@
 use Rattle.std.proofs.Common.{◌<◌, length, refl, arith, inl, inr}
 use Rattle.std.proofs.lemmas.Option.{slice_get_read}
 use Rattle.movie_file.specs.Format.{most_checkpoints}
-use Rattle.replay_segments.proofs.CutLemmas.{AreCuts-more, AreCutsBelow-start, AreCutsBelow-whole, AreCutsBelow-not, AreCutsBelow-next}
+use Rattle.replay_segments.proofs.CutLemmas.{AreCuts-more, AreCutsBelow-start, AreCutsBelow-whole}
+use Rattle.replay_segments.proofs.CutLemmas.{AreCutsBelow-not, AreCutsBelow-next}
 use Rattle.replay_segments.proofs.cuts.Cuts.new.Goals as goal
 
 pub loop-i-init : goal.loop-i-init
