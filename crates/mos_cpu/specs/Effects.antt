@@ -83,56 +83,62 @@ abbrev pub with_result : Operand → Registers → Alu → Registers
 with_result Register r o = with_a r o
 with_result other r o = with_p r o.p
 
--- The registers after an operation, from those with the next instruction's address.
-abbrev pub effect : Operation → Operand → Registers → List ℕ → Registers
-effect Adc operand r bytes = with_a r (adc_of r.a (operand_value operand r.a bytes) r.p)
-effect And operand r bytes = with_a r (and_of r.a (operand_value operand r.a bytes) r.p)
-effect Eor operand r bytes = with_a r (eor_of r.a (operand_value operand r.a bytes) r.p)
-effect Ora operand r bytes = with_a r (ora_of r.a (operand_value operand r.a bytes) r.p)
-effect Sbc operand r bytes = with_a r (sbc_of r.a (operand_value operand r.a bytes) r.p)
-effect Lda operand r bytes = with_a r (load_of (operand_value operand r.a bytes) r.p)
-effect Ldx operand r bytes = with_x r (load_of (operand_value operand r.a bytes) r.p)
-effect Ldy operand r bytes = with_y r (load_of (operand_value operand r.a bytes) r.p)
-effect Cmp operand r bytes = with_p r (compare_of r.a (operand_value operand r.a bytes) r.p).p
-effect Cpx operand r bytes = with_p r (compare_of r.x (operand_value operand r.a bytes) r.p).p
-effect Cpy operand r bytes = with_p r (compare_of r.y (operand_value operand r.a bytes) r.p).p
-effect Bit operand r bytes = with_p r (bit_of r.a (operand_value operand r.a bytes) r.p).p
-effect Asl operand r bytes = with_result operand r (asl_of (operand_value operand r.a bytes) r.p)
-effect Lsr operand r bytes = with_result operand r (lsr_of (operand_value operand r.a bytes) r.p)
-effect Rol operand r bytes = with_result operand r (rol_of (operand_value operand r.a bytes) r.p)
-effect Ror operand r bytes = with_result operand r (ror_of (operand_value operand r.a bytes) r.p)
-effect Inc operand r bytes = with_result operand r (inc_of (operand_value operand r.a bytes) r.p)
-effect Dec operand r bytes = with_result operand r (dec_of (operand_value operand r.a bytes) r.p)
-effect Jmp operand r bytes = with_pc r (target_of operand)
-effect Jsr operand r bytes = with_pc (stack_down r 2) (target_of operand)
-effect Brk operand r bytes =
+-- What an operation whose operand has the value m does to the registers, which have the next
+-- instruction's address.
+abbrev pub effect_on : ℕ → Operation → Operand → Registers → List ℕ → Registers
+effect_on m Adc operand r bytes = with_a r (adc_of r.a m r.p)
+effect_on m And operand r bytes = with_a r (and_of r.a m r.p)
+effect_on m Eor operand r bytes = with_a r (eor_of r.a m r.p)
+effect_on m Ora operand r bytes = with_a r (ora_of r.a m r.p)
+effect_on m Sbc operand r bytes = with_a r (sbc_of r.a m r.p)
+effect_on m Lda operand r bytes = with_a r (load_of m r.p)
+effect_on m Ldx operand r bytes = with_x r (load_of m r.p)
+effect_on m Ldy operand r bytes = with_y r (load_of m r.p)
+effect_on m Cmp operand r bytes = with_p r (compare_of r.a m r.p).p
+effect_on m Cpx operand r bytes = with_p r (compare_of r.x m r.p).p
+effect_on m Cpy operand r bytes = with_p r (compare_of r.y m r.p).p
+effect_on m Bit operand r bytes = with_p r (bit_of r.a m r.p).p
+effect_on m Asl operand r bytes = with_result operand r (asl_of m r.p)
+effect_on m Lsr operand r bytes = with_result operand r (lsr_of m r.p)
+effect_on m Rol operand r bytes = with_result operand r (rol_of m r.p)
+effect_on m Ror operand r bytes = with_result operand r (ror_of m r.p)
+effect_on m Inc operand r bytes = with_result operand r (inc_of m r.p)
+effect_on m Dec operand r bytes = with_result operand r (dec_of m r.p)
+effect_on m Jmp operand r bytes = with_pc r (target_of operand)
+effect_on m Jsr operand r bytes = with_pc (stack_down r 2) (target_of operand)
+effect_on m Brk operand r bytes =
     with_pc (with_p (stack_down r 3) (put_flag Interrupt true r.p)) (target_of operand)
-effect Rts operand r bytes = with_pc (stack_up r 2) ((word_in bytes 0 + 1) % 65536)
-effect Rti operand r bytes =
+effect_on m Rts operand r bytes = with_pc (stack_up r 2) ((word_in bytes 0 + 1) % 65536)
+effect_on m Rti operand r bytes =
     with_pc (with_p (stack_up r 3) (pulled_of (slice_index bytes 0))) (word_in bytes 1)
-effect Pha operand r bytes = stack_down r 1
-effect Php operand r bytes = stack_down r 1
-effect Pla operand r bytes = with_a (stack_up r 1) (load_of (slice_index bytes 0) r.p)
-effect Plp operand r bytes = with_p (stack_up r 1) (pulled_of (slice_index bytes 0))
-effect Clc operand r bytes = with_p r (put_flag Carry false r.p)
-effect Sec operand r bytes = with_p r (put_flag Carry true r.p)
-effect Cli operand r bytes = with_p r (put_flag Interrupt false r.p)
-effect Sei operand r bytes = with_p r (put_flag Interrupt true r.p)
-effect Clv operand r bytes = with_p r (put_flag Overflow false r.p)
-effect Cld operand r bytes = with_p r (put_flag Decimal false r.p)
-effect Sed operand r bytes = with_p r (put_flag Decimal true r.p)
-effect Tax operand r bytes = with_x r (load_of r.a r.p)
-effect Txa operand r bytes = with_a r (load_of r.x r.p)
-effect Tay operand r bytes = with_y r (load_of r.a r.p)
-effect Tya operand r bytes = with_a r (load_of r.y r.p)
-effect Tsx operand r bytes = with_x r (load_of r.s r.p)
-effect Txs operand r bytes = record r { s = r.x }
-effect Inx operand r bytes = with_x r (inc_of r.x r.p)
-effect Iny operand r bytes = with_y r (inc_of r.y r.p)
-effect Dex operand r bytes = with_x r (dec_of r.x r.p)
-effect Dey operand r bytes = with_y r (dec_of r.y r.p)
+effect_on m Pha operand r bytes = stack_down r 1
+effect_on m Php operand r bytes = stack_down r 1
+effect_on m Pla operand r bytes = with_a (stack_up r 1) (load_of (slice_index bytes 0) r.p)
+effect_on m Plp operand r bytes = with_p (stack_up r 1) (pulled_of (slice_index bytes 0))
+effect_on m Clc operand r bytes = with_p r (put_flag Carry false r.p)
+effect_on m Sec operand r bytes = with_p r (put_flag Carry true r.p)
+effect_on m Cli operand r bytes = with_p r (put_flag Interrupt false r.p)
+effect_on m Sei operand r bytes = with_p r (put_flag Interrupt true r.p)
+effect_on m Clv operand r bytes = with_p r (put_flag Overflow false r.p)
+effect_on m Cld operand r bytes = with_p r (put_flag Decimal false r.p)
+effect_on m Sed operand r bytes = with_p r (put_flag Decimal true r.p)
+effect_on m Tax operand r bytes = with_x r (load_of r.a r.p)
+effect_on m Txa operand r bytes = with_a r (load_of r.x r.p)
+effect_on m Tay operand r bytes = with_y r (load_of r.a r.p)
+effect_on m Tya operand r bytes = with_a r (load_of r.y r.p)
+effect_on m Tsx operand r bytes = with_x r (load_of r.s r.p)
+effect_on m Txs operand r bytes = record r { s = r.x }
+effect_on m Inx operand r bytes = with_x r (inc_of r.x r.p)
+effect_on m Iny operand r bytes = with_y r (inc_of r.y r.p)
+effect_on m Dex operand r bytes = with_x r (dec_of r.x r.p)
+effect_on m Dey operand r bytes = with_y r (dec_of r.y r.p)
 -- of the rest NOP and the stores change no register, and a branch that is taken goes to its target
-effect other operand r bytes = if is_taken other r.p then with_pc r (target_of operand) else r
+effect_on m other operand r bytes = if is_taken other r.p then with_pc r (target_of operand) else r
+
+-- What an operation does to the registers, which have the next instruction's address.
+abbrev pub effect : Operation → Operand → Registers → List ℕ → Registers
+effect operation operand r bytes =
+    effect_on (operand_value operand r.a bytes) operation operand r bytes
 
 -- The registers after an instruction that read some bytes.
 abbrev pub registers_after : Instruction → Registers → List ℕ → Registers
