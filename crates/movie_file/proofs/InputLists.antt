@@ -5,7 +5,7 @@ use Rattle.std.specs.Prelude.{IfOk, IfErr, ◌≢◌}
 use Rattle.std.specs.List.{flat_map}
 use Rattle.std.proofs.lemmas.Bool.{eqb-true}
 use Rattle.std.proofs.lemmas.List.{append-nil, nil_from_length}
-use Rattle.vcs_machine.specs.Inputs.{Controls, input_bytes}
+use Rattle.vcs_machine.specs.Inputs.{InputData, input_bytes}
 use Rattle.movie_file.specs.Format.{input_length}
 use Rattle.movie_file.specs.InputLists.{SpellsInputs, all_inputs_at}
 use Rattle.movie_file.specs.MovieError.{Gives}
@@ -17,10 +17,10 @@ use Rattle.movie_file.proofs.ItemLemmas.{fails_is}
 use Rattle.movie_file.proofs.ReadLemmas.{bind_ok, guard_then}
 use Rattle.movie_file.proofs.InputLemmas.{inputs_take, inputs_again, length-inputs}
 
-abbrev first_of : List Controls × List ℕ → Result (List Controls) MovieError
+abbrev first_of : List InputData × List ℕ → Result (List InputData) MovieError
 first_of read = Ok read.0
 
-pub inputs_are_spelled : (bytes : List ℕ) (inputs : List Controls) → IsBytes bytes → all_inputs_at bytes ≡ Ok inputs → SpellsInputs bytes inputs
+pub inputs_are_spelled : (bytes : List ℕ) (inputs : List InputData) → IsBytes bytes → all_inputs_at bytes ≡ Ok inputs → SpellsInputs bytes inputs
 unfolding all_inputs_at
 inputs_are_spelled bytes inputs fits e =
     let n = length bytes / input_length in
@@ -35,7 +35,7 @@ inputs_are_spelled bytes inputs fits e =
       spelled = taken.takes.parts ∙ ap (λ (rest : List ℕ). flat_map input_bytes read.0.0 ++ rest) none ∙ append-nil (flat_map input_bytes read.0.0);
     })
 
-pub spelled_inputs_are_read : (bytes : List ℕ) (inputs : List Controls) → SpellsInputs bytes inputs → all_inputs_at bytes ≡ Ok inputs
+pub spelled_inputs_are_read : (bytes : List ℕ) (inputs : List InputData) → SpellsInputs bytes inputs → all_inputs_at bytes ≡ Ok inputs
 unfolding all_inputs_at
 spelled_inputs_are_read bytes inputs h =
     let text = flat_map input_bytes inputs in
@@ -47,12 +47,12 @@ spelled_inputs_are_read bytes inputs h =
 
 -- ---- what is said of an answer
 
-module _ {X : Type 0} (view : X → List Controls) (bytes : List ℕ) where
+module _ {X : Type 0} (view : X → List InputData) (bytes : List ℕ) where
   pub found_spelled : (r : Result X MovieError) → IsBytes bytes → Gives view r (all_inputs_at bytes) → IfOk r (λ x. SpellsInputs bytes (view x))
   found_spelled (Ok x) fits h = inputs_are_spelled bytes (view x) fits h
   found_spelled (Err e) fits h = tt
 
-  pub spelled_only : (r : Result X MovieError) (inputs : List Controls) → Gives view r (all_inputs_at bytes) → SpellsInputs bytes inputs → Gives view r (Ok inputs)
+  pub spelled_only : (r : Result X MovieError) (inputs : List InputData) → Gives view r (all_inputs_at bytes) → SpellsInputs bytes inputs → Gives view r (Ok inputs)
   spelled_only (Ok x) inputs h spelled = sym (spelled_inputs_are_read bytes inputs spelled) ∙ h
   spelled_only (Err e) inputs h spelled = fails_is e (all_inputs_at bytes) (Ok inputs) (spelled_inputs_are_read bytes inputs spelled) h
 

@@ -2,7 +2,7 @@
 use Rattle.std.proofs.Common.{◌≡◌, ℕ, suc, ◌-◌, ◌+◌, ◌≤◌, ◌<◌, List, [], ◌∷◌, ◌++◌, drop, Result}
 use Rattle.std.proofs.Common.{Ok, Err, refl, sym, ap, ◌∙◌, append_assoc, arith}
 use Rattle.std.proofs.lemmas.List.{append-nil}
-use Rattle.vcs_machine.specs.Inputs.{Controls}
+use Rattle.vcs_machine.specs.Inputs.{InputData}
 use Rattle.movie_file.specs.Format.{input_length, checkpoint_length}
 use Rattle.movie_file.specs.declared.error.MovieError.{MovieError}
 use Rattle.movie_file.specs.declared.checkpoint.Checkpoint.{Checkpoint}
@@ -35,13 +35,13 @@ inputs_step count i bytes lt =
     let j : suc (i + 1) ≡ i + 1 + 1 = omega arith in
     ap (λ (n : ℕ). inputs_at n (i + 1) bytes) k ∙ ap (λ (n : ℕ). input_at (i + 1) bytes >>= λ first. inputs_at (count - (i + 1)) n (drop input_length bytes) >>= λ others. Ok (first ∷ others.0, others.1)) j
 
-pub inputs_go_on : (prefix : List Controls) (count i : ℕ) (bytes : List ℕ) (n : Controls) (total : Result (List Controls × List ℕ) MovieError) → i < count → input_at (i + 1) bytes ≡ Ok n
+pub inputs_go_on : (prefix : List InputData) (count i : ℕ) (bytes : List ℕ) (n : InputData) (total : Result (List InputData × List ℕ) MovieError) → i < count → input_at (i + 1) bytes ≡ Ok n
     → with_prefix prefix (inputs_at (count - i) (i + 1) bytes) ≡ total → with_prefix (prefix ++ n ∷ []) (inputs_at (count - (i + 1)) (i + 1 + 1) (drop input_length bytes)) ≡ total
 inputs_go_on prefix count i bytes n total lt h so_far =
     let rest = inputs_at (count - (i + 1)) (i + 1 + 1) (drop input_length bytes) in
-    sym (ap (with_prefix prefix) (inputs_step count i bytes lt ∙ ap (λ (r : Result Controls MovieError). r >>= λ first. rest >>= λ others. Ok (first ∷ others.0, others.1)) h) ∙ regroup prefix n rest) ∙ so_far
+    sym (ap (with_prefix prefix) (inputs_step count i bytes lt ∙ ap (λ (r : Result InputData MovieError). r >>= λ first. rest >>= λ others. Ok (first ∷ others.0, others.1)) h) ∙ regroup prefix n rest) ∙ so_far
 
-pub inputs_end : (e : MovieError) (prefix : List Controls) (count i : ℕ) (bytes : List ℕ) (total : Result (List Controls × List ℕ) MovieError) → i < count → Fails e (input_at (i + 1) bytes)
+pub inputs_end : (e : MovieError) (prefix : List InputData) (count i : ℕ) (bytes : List ℕ) (total : Result (List InputData × List ℕ) MovieError) → i < count → Fails e (input_at (i + 1) bytes)
     → with_prefix prefix (inputs_at (count - i) (i + 1) bytes) ≡ total → Fails e total
 inputs_end e prefix count i bytes total lt h so_far =
     let rest = inputs_at (count - (i + 1)) (i + 1 + 1) (drop input_length bytes) in
@@ -49,11 +49,11 @@ inputs_end e prefix count i bytes total lt h so_far =
     (fails_on e (input_at (i + 1) bytes >>= λ first. rest >>= λ others. Ok (first ∷ others.0, others.1)) (λ x. Ok (prefix ++ x.0, x.1))
     (fails_on e (input_at (i + 1) bytes) (λ first. rest >>= λ others. Ok (first ∷ others.0, others.1)) h)))
 
-pub inputs_done : (prefix : List Controls) (count i : ℕ) (bytes : List ℕ) (total : Result (List Controls × List ℕ) MovieError) → count ≤ i → with_prefix prefix (inputs_at (count - i) (i + 1) bytes) ≡ total → total ≡ Ok (prefix, bytes)
+pub inputs_done : (prefix : List InputData) (count i : ℕ) (bytes : List ℕ) (total : Result (List InputData × List ℕ) MovieError) → count ≤ i → with_prefix prefix (inputs_at (count - i) (i + 1) bytes) ≡ total → total ≡ Ok (prefix, bytes)
 unfolding inputs_at
 inputs_done prefix count i bytes total le so_far =
     let k : count - i ≡ 0 = omega arith in
-    sym so_far ∙ ap (λ (n : ℕ). with_prefix prefix (inputs_at n (i + 1) bytes)) k ∙ ap (λ (ns : List Controls). Ok (ns, bytes)) (append-nil prefix)
+    sym so_far ∙ ap (λ (n : ℕ). with_prefix prefix (inputs_at n (i + 1) bytes)) k ∙ ap (λ (ns : List InputData). Ok (ns, bytes)) (append-nil prefix)
 
 -- ---- checkpoints
 

@@ -9,7 +9,7 @@ use Rattle.std.proofs.lemmas.Bool.Decides.{nat_tests}
 use Rattle.std.proofs.lemmas.List.{append-nil, length-append}
 use Rattle.std.proofs.lemmas.Nat.{le-div, div_below}
 use Rattle.std.proofs.Math.Nat.{div-mul-le_self, add-mul, mul_comm}
-use Rattle.vcs_machine.specs.Inputs.{Controls}
+use Rattle.vcs_machine.specs.Inputs.{InputData}
 use Rattle.riot_map.specs.Cart.{is_cart_length, has_banks}
 use Rattle.vcs_machine.specs.Outcomes.{FrameOutcome, Played, Failed, left_by, frame_of}
 use Rattle.vcs_machine.proofs.BankLaws.{frame_of-bank}
@@ -79,7 +79,7 @@ each_more P (b ∷ cs) d each here (suc j) c e = each_more (λ (i : ℕ). P (suc
 
 -- ---- one frame more
 
-module _ (cart : List ℕ) (inputs : List Controls) (k : ℕ) (state : StateFields) (input : Controls)
+module _ (cart : List ℕ) (inputs : List InputData) (k : ℕ) (state : StateFields) (input : InputData)
     (is : run (bare cart inputs) (state_at_power_on cart) 0 k ≡ Some state) (at : slice_get inputs k ≡ Some input) where
   frame_is : (outcome : FrameOutcome) → frame_of cart state input ≡ outcome → frame_after (bare cart inputs) (0 + k) state ≡ Some outcome
   frame_is outcome e = let none : 0 + k ≡ k = omega arith in rw (none, at, e) refl
@@ -118,7 +118,7 @@ module _ (cart : List ℕ) (inputs : List Controls) (k : ℕ) (state : StateFiel
         lawful = far.lawful;
       })
 
-pub Records-none : (cart : List ℕ) (inputs : List Controls) (every : ℕ) → Records cart inputs every 0 []
+pub Records-none : (cart : List ℕ) (inputs : List InputData) (every : ℕ) → Records cart inputs every 0 []
 Records-none cart inputs every = record {
   sound = λ i less. absurd (omega arith);
   count = omega arith;
@@ -129,11 +129,11 @@ Records-none cart inputs every = record {
 
 -- ---- the movie
 
-abbrev pub with_checkpoints : List ℕ → List Controls → List Checkpoint → MovieData
+abbrev pub with_checkpoints : List ℕ → List InputData → List Checkpoint → MovieData
 with_checkpoints cart inputs cs = record { version = version_made (length cart) (length inputs); cart = cart; start = state_at_power_on cart; inputs = inputs; checkpoints = cs }
 
 -- a run knows nothing of checkpoints
-pub run_same : (cart : List ℕ) (inputs : List Controls) (cs : List Checkpoint) (k : ℕ) → run (bare cart inputs) (state_at_power_on cart) 0 k ≡ run (with_checkpoints cart inputs cs) (state_at_power_on cart) 0 k
+pub run_same : (cart : List ℕ) (inputs : List InputData) (cs : List Checkpoint) (k : ℕ) → run (bare cart inputs) (state_at_power_on cart) 0 k ≡ run (with_checkpoints cart inputs cs) (state_at_power_on cart) 0 k
 run_same cart inputs cs zero = refl
 run_same cart inputs cs (suc k) =
     ap (λ (before : Option StateFields). option_and_then (λ state. state_after (frame_after (bare cart inputs) (0 + k) state)) before) (run_same cart inputs cs k)
@@ -154,7 +154,7 @@ outcome_bank : (outcome : FrameOutcome) (s t : StateFields) → (left_by outcome
 outcome_bank (Played left rows) s t kept e = rw (← same_state left t e) kept
 outcome_bank (Failed kind left) s t kept e = no_state t e
 
-frame_bank : (cart : List ℕ) (u t : StateFields) (input : Option Controls) → has_banks (length cart) ≡ false → state_after (option_map (λ input. frame_of cart u input) input) ≡ Some t → t.bank ≡ u.bank
+frame_bank : (cart : List ℕ) (u t : StateFields) (input : Option InputData) → has_banks (length cart) ≡ false → state_after (option_map (λ input. frame_of cart u input) input) ≡ Some t → t.bank ≡ u.bank
 frame_bank cart u t (Some input) single e = outcome_bank (frame_of cart u input) u t (frame_of-bank cart u input single) e
 frame_bank cart u t None single e = no_state t e
 
@@ -176,7 +176,7 @@ bank_at_start cart = by (has_banks (length cart))
     by true = refl
     by false = refl
 
-bank_fits : (cart : List ℕ) (inputs : List Controls) (k : ℕ) (t : StateFields) → run (bare cart inputs) (state_at_power_on cart) 0 k ≡ Some t → IsTrue (fits_bank (length cart) t)
+bank_fits : (cart : List ℕ) (inputs : List InputData) (k : ℕ) (t : StateFields) → run (bare cart inputs) (state_at_power_on cart) 0 k ≡ Some t → IsTrue (fits_bank (length cart) t)
 bank_fits cart inputs k t ran = by (has_banks (length cart)) refl
   where
     by : (banks : Bool) → has_banks (length cart) ≡ banks → IsTrue (banks || eqb t.bank 0)
@@ -198,7 +198,7 @@ rising cart every n b (d ∷ cs) some places lawful fits =
     in
     (omega arith, omega arith, lawful 0 d refl, subst (λ (f : ℕ). AreCheckpoints cart f n cs) next later)
 
-module _ (cart : List ℕ) (inputs : List Controls) (every : ℕ) (cs : List Checkpoint) (some : 1 ≤ every) (far : Records cart inputs every (length inputs) cs) where
+module _ (cart : List ℕ) (inputs : List InputData) (every : ℕ) (cs : List Checkpoint) (some : 1 ≤ every) (far : Records cart inputs every (length inputs) cs) where
   pub IsMadeOf-run : IsMadeOf cart inputs every (with_checkpoints cart inputs cs)
   IsMadeOf-run = record {
     version = refl;
@@ -231,17 +231,17 @@ module _ (cart : List ℕ) (inputs : List Controls) (every : ℕ) (cs : List Che
       (λ j c e. let at : j + 1 ≡ 0 + j + 1 = omega arith in far.places j c e ∙ ap (λ (i : ℕ). every * i) at)
       (λ j c e. record { state = far.lawful j c e; bank = bank_fits cart inputs c.frame c.state (far.states j c e) }) fits)
 
-abbrev from_start : List ℕ → List Controls → List Checkpoint → ℕ → StateFields → MovieData
+abbrev from_start : List ℕ → List InputData → List Checkpoint → ℕ → StateFields → MovieData
 from_start cart inputs cs version start = record { version = version; cart = cart; start = start; inputs = inputs; checkpoints = cs }
 
 -- the movie of these parts is the made one
-pub made_of_parts : (cart : List ℕ) (inputs seen : List Controls) (every : ℕ) (cs : List Checkpoint) (version : ℕ) (start : StateFields) (m : MovieData)
+pub made_of_parts : (cart : List ℕ) (inputs seen : List InputData) (every : ℕ) (cs : List Checkpoint) (version : ℕ) (start : StateFields) (m : MovieData)
     → IsTrue (counts_fit (length inputs) every) → seen ≡ inputs → Records cart seen every (length seen) cs → version ≡ version_made (length cart) (length inputs) → start ≡ state_at_power_on cart
     → m ≡ from_start cart inputs cs version start
     → IsMadeOf cart inputs every m × IsGenuine m
 made_of_parts cart inputs seen every cs version start m fit seen-is made version-is start-is m-is =
     let some = (counts_are (length inputs) every fit).2 in
-    let far = subst (λ (is : List Controls). Records cart is every (length is) cs) seen-is made in
+    let far = subst (λ (is : List InputData). Records cart is every (length is) cs) seen-is made in
     let is = sym (m-is ∙ ap (λ (v : ℕ). from_start cart inputs cs v start) version-is ∙ ap (from_start cart inputs cs (version_made (length cart) (length inputs))) start-is) in
     (subst (IsMadeOf cart inputs every) is (IsMadeOf-run cart inputs every cs some far), subst IsGenuine is (IsGenuine-run cart inputs every cs some far))
 
@@ -257,7 +257,7 @@ version_takes cart frames lawful few = by (has_banks cart) (ltb 65535 frames) re
     by false false e f = (refl, grind (arith, nat_tests), ltb-false 65535 frames f)
 
 -- why a run stopped is why no movie is made
-pub explains : (cart : List ℕ) (inputs seen : List Controls) (every : ℕ) (e : MakeError) → seen ≡ inputs → IsTrue (counts_fit (length inputs) every) → RunFails cart seen e → Explains cart inputs every e
+pub explains : (cart : List ℕ) (inputs seen : List InputData) (every : ℕ) (e : MakeError) → seen ≡ inputs → IsTrue (counts_fit (length inputs) every) → RunFails cart seen e → Explains cart inputs every e
 explains cart inputs seen every (Fault frame kind) is fit fails = (fit, rw is at fails)
 explains cart inputs seen every BadCounts is fit fails = absurd fails
 explains cart inputs seen every NoMemory is fit fails = absurd fails

@@ -8,7 +8,7 @@ use Rattle.std.proofs.lemmas.Bool.{eqb-true}
 use Rattle.std.proofs.lemmas.List.{append-nil, nil_from_length, take_at, drop_at, length-append}
 use Rattle.std.proofs.lemmas.List.{length-take, length-drop}
 use Rattle.vcs_machine.specs.declared.fields.StateFields.{StateFields}
-use Rattle.vcs_machine.specs.Inputs.{Controls, input_bytes}
+use Rattle.vcs_machine.specs.Inputs.{InputData, input_bytes}
 use Rattle.movie_file.specs.Format.{record_length, input_length, checkpoint_length, body_length}
 use Rattle.movie_file.specs.declared.error.MovieError.{MovieError}
 use Rattle.movie_file.specs.declared.error.MovieError.TheVariants.{BadState, Trailing}
@@ -49,7 +49,7 @@ body_takes h bytes m long fits e =
     let w = checkpoint_length h.version * h.checkpoints in
     let b1 = drop h.cart bytes in
     let b2 = drop n b1 in
-    let last = λ (s : StateFields) (i : List Controls × List ℕ) (c : List Checkpoint × List ℕ). cond {A = Result MovieData MovieError} (eqb (length c.1) 0) (Ok (record { version = h.version; cart = take h.cart bytes; start = s; inputs = i.0; checkpoints = c.0 })) (Err Trailing) in
+    let last = λ (s : StateFields) (i : List InputData × List ℕ) (c : List Checkpoint × List ℕ). cond {A = Result MovieData MovieError} (eqb (length c.1) 0) (Ok (record { version = h.version; cart = take h.cart bytes; start = s; inputs = i.0; checkpoints = c.0 })) (Err Trailing) in
     let s = bind_ok (ok_or (head_state_at h b1) (BadState 0)) (λ s. inputs_at h.frames 1 b2 >>= λ i. checkpoints_at h h.checkpoints 1 0 i.1 >>= λ c. last s i c) m e in
     let i = bind_ok (inputs_at h.frames 1 b2) (λ i. checkpoints_at h h.checkpoints 1 0 i.1 >>= λ c. last s.0 i c) m s.2 in
     let c = bind_ok (checkpoints_at h h.checkpoints 1 0 i.0.1) (λ c. last s.0 i.0 c) m i.2 in
@@ -91,7 +91,7 @@ body_again m l =
     let b2 = flat_map input_bytes m.inputs ++ checkpoints in
     let b1 = movie_record m.version m.start ++ b2 in
     let bytes = m.cart ++ b1 in
-    let last = λ (cart : List ℕ) (s : StateFields) (i : List Controls × List ℕ) (c : List Checkpoint × List ℕ). cond {A = Result MovieData MovieError} (eqb (length c.1) 0) (Ok (record { version = m.version; cart = cart; start = s; inputs = i.0; checkpoints = c.0 })) (Err Trailing) in
+    let last = λ (cart : List ℕ) (s : StateFields) (i : List InputData × List ℕ) (c : List Checkpoint × List ℕ). cond {A = Result MovieData MovieError} (eqb (length c.1) 0) (Ok (record { version = m.version; cart = cart; start = s; inputs = i.0; checkpoints = c.0 })) (Err Trailing) in
     let k1 = λ (cart b : List ℕ) (s : StateFields). inputs_at (length m.inputs) 1 b >>= λ i. checkpoints_at h (length m.checkpoints) 1 0 i.1 >>= λ c. last cart s i c in
     let cart-is : take (length m.cart) bytes ≡ m.cart = take_at m.cart b1 (length m.cart) refl in
     let b1-is : drop (length m.cart) bytes ≡ b1 = drop_at m.cart b1 (length m.cart) refl in
@@ -104,7 +104,7 @@ body_again m l =
     ∙ ap (λ (b : List ℕ). ok_or (head_state_at h b) (BadState 0) >>= λ s. k1 m.cart (drop n b) s) b1-is
     ∙ ap (λ (o : Option StateFields). ok_or o (BadState 0) >>= λ s. k1 m.cart (drop n b1) s) s-is
     ∙ ap (λ (b : List ℕ). k1 m.cart b m.start) b2-is
-    ∙ ap (λ (r : Result (List Controls × List ℕ) MovieError). r >>= λ i. checkpoints_at h (length m.checkpoints) 1 0 i.1 >>= λ c. last m.cart m.start i c) (inputs_again m.inputs 1 checkpoints l.inputs)
+    ∙ ap (λ (r : Result (List InputData × List ℕ) MovieError). r >>= λ i. checkpoints_at h (length m.checkpoints) 1 0 i.1 >>= λ c. last m.cart m.start i c) (inputs_again m.inputs 1 checkpoints l.inputs)
     ∙ ap (λ (r : Result (List Checkpoint × List ℕ) MovieError). r >>= λ c. last m.cart m.start (m.inputs, checkpoints) c) checkpoints-is
 
 movie_takes : (bytes : List ℕ) (m : MovieData) → IsBytes bytes → movie_at bytes ≡ Ok m → IsMovie m × (bytes ≡ spelling m)

@@ -4,7 +4,7 @@ use Rattle.std.proofs.Common.{None, refl, sym, ap, subst, ◌∙◌, arith, ◌�
 use Rattle.std.specs.Prelude.{slice_get}
 use Rattle.std.proofs.lemmas.Bool.{cases_lt}
 use Rattle.std.proofs.lemmas.Option.{slice_get_past}
-use Rattle.vcs_machine.specs.Inputs.{Controls}
+use Rattle.vcs_machine.specs.Inputs.{InputData}
 use Rattle.vcs_machine.specs.States.{state_at_power_on}
 use Rattle.vcs_machine.specs.declared.fault.FaultKind.{FaultKind}
 use Rattle.vcs_machine.specs.declared.fields.StateFields.{StateFields}
@@ -37,7 +37,7 @@ same_claim c d frames states =
     ap (λ (f : ℕ). claim f c.state) frames ∙ ap (claim d.frame) same
 
 -- a movie has each frame that faults
-fault_within : (cart : List ℕ) (inputs : List Controls) (k : ℕ) (kind : FaultKind) → FaultsAt (bare cart inputs) (state_at_power_on cart) 0 k kind → k < length inputs
+fault_within : (cart : List ℕ) (inputs : List InputData) (k : ℕ) (kind : FaultKind) → FaultsAt (bare cart inputs) (state_at_power_on cart) 0 k kind → k < length inputs
 fault_within cart inputs k kind (state, left, ran, faults) = by (cases_lt k (length inputs))
   where
     by : (k < length inputs) ⊎ (length inputs ≤ k) → k < length inputs
@@ -47,15 +47,15 @@ fault_within cart inputs k kind (state, left, ran, faults) = by (cases_lt k (len
         let gone : frame_after (bare cart inputs) (0 + k) state ≡ None = rw none refl in
         absurd cc
 
-abbrev movie_of : ℕ → List ℕ → StateFields → List Controls → List Checkpoint → MovieData
+abbrev movie_of : ℕ → List ℕ → StateFields → List InputData → List Checkpoint → MovieData
 movie_of version cart start inputs checkpoints = record { version = version; cart = cart; start = start; inputs = inputs; checkpoints = checkpoints }
 
-module _ (cart : List ℕ) (inputs : List Controls) (every : ℕ) (m : MovieData) (made : IsMadeOf cart inputs every m) where
+module _ (cart : List ℕ) (inputs : List InputData) (every : ℕ) (m : MovieData) (made : IsMadeOf cart inputs every m) where
   made_parts : m ≡ with_checkpoints cart inputs m.checkpoints
   made_parts =
       let version = version_made (length cart) (length inputs) in
       ap (λ (v : ℕ). movie_of v m.cart m.start m.inputs m.checkpoints) made.version ∙ ap (λ (c : List ℕ). movie_of version c m.start m.inputs m.checkpoints) made.cart_is
-      ∙ ap (λ (s : StateFields). movie_of version cart s m.inputs m.checkpoints) made.start ∙ ap (λ (i : List Controls). movie_of version cart (state_at_power_on cart) i m.checkpoints) made.inputs_are
+      ∙ ap (λ (s : StateFields). movie_of version cart s m.inputs m.checkpoints) made.start ∙ ap (λ (i : List InputData). movie_of version cart (state_at_power_on cart) i m.checkpoints) made.inputs_are
 
   -- its run is that of the movie that claims nothing
   made_run : (k : ℕ) → run m m.start 0 k ≡ run (bare cart inputs) (state_at_power_on cart) 0 k
@@ -66,13 +66,13 @@ module _ (cart : List ℕ) (inputs : List Controls) (every : ℕ) (m : MovieData
 
   pub no_made_fault : IsGenuine m → (frame : ℕ) (kind : FaultKind) → IsFirstFault cart inputs frame kind → ⊥
   no_made_fault genuine frame kind (k, is, before, fault) =
-      let sound = genuine k (subst (λ (is : List Controls). k < length is) (sym made.inputs_are) (fault_within cart inputs k kind fault)) in
+      let sound = genuine k (subst (λ (is : List InputData). k < length is) (sym made.inputs_are) (fault_within cart inputs k kind fault)) in
       let gone = run-fault (bare cart inputs) (state_at_power_on cart) 0 k kind fault in
       let same = made_run (k + 1) in
       let ran = sound.1 in
       absurd cc
 
-pub one_made_movie : (cart : List ℕ) (inputs : List Controls) (every : ℕ) (m n : MovieData) → IsMadeOf cart inputs every m → IsMadeOf cart inputs every n → m ≡ n
+pub one_made_movie : (cart : List ℕ) (inputs : List InputData) (every : ℕ) (m n : MovieData) → IsMadeOf cart inputs every m → IsMadeOf cart inputs every n → m ≡ n
 one_made_movie cart inputs every m n made again =
     let lengths : length m.checkpoints ≡ length n.checkpoints = made.count ∙ sym again.count in
     let each = λ (j : ℕ) (c d : Checkpoint) (at : slice_get m.checkpoints j ≡ Some c) (here : slice_get n.checkpoints j ≡ Some d).
@@ -80,7 +80,7 @@ one_made_movie cart inputs every m n made again =
     in
     made_parts cart inputs every m made ∙ ap (with_checkpoints cart inputs) (same_lists m.checkpoints n.checkpoints lengths each) ∙ sym (made_parts cart inputs every n again)
 
-pub one_first_fault : (cart : List ℕ) (inputs : List Controls) (frame other : ℕ) (kind other_kind : FaultKind) → IsFirstFault cart inputs frame kind → IsFirstFault cart inputs other other_kind
+pub one_first_fault : (cart : List ℕ) (inputs : List InputData) (frame other : ℕ) (kind other_kind : FaultKind) → IsFirstFault cart inputs frame kind → IsFirstFault cart inputs other other_kind
     → (frame ≡ other) × (kind ≡ other_kind)
 one_first_fault cart inputs frame other kind other_kind (k, is, before, fault) (k', is', before', fault') = by (cases_lt k k') (cases_lt k' k)
   where

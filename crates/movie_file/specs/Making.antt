@@ -3,7 +3,7 @@
 use Rattle.std.specs.Prelude.{◌≡◌, ℕ, ◌+◌, ◌*◌, ◌/◌, ◌<◌, List, [], length, Bool, ◌&&◌, ◌||◌}
 use Rattle.std.specs.Prelude.{nat_le, nat_lt, IsTrue, if◌then◌else◌, Some, slice_get}
 use Rattle.riot_map.specs.Cart.{has_banks}
-use Rattle.vcs_machine.specs.Inputs.{Controls}
+use Rattle.vcs_machine.specs.Inputs.{InputData}
 use Rattle.vcs_machine.specs.States.{state_at_power_on}
 use Rattle.vcs_machine.specs.declared.fault.FaultKind.{FaultKind}
 use Rattle.movie_file.specs.declared.checkpoint.Checkpoint.{Checkpoint}
@@ -26,7 +26,7 @@ counts_fit frames every =
 
 -- The movie of a run from power-on. Checkpoint j + 1 claims the state of the run after frame every
 -- * (j + 1), and there is one for each multiple of `every` up to the last frame.
-pub record IsMadeOf (cart : List ℕ) (inputs : List Controls) (every : ℕ) (m : MovieData) : Type 0 where
+pub record IsMadeOf (cart : List ℕ) (inputs : List InputData) (every : ℕ) (m : MovieData) : Type 0 where
   pub version : m.version ≡ version_made (length cart) (length inputs)
   pub cart_is : m.cart ≡ cart
   pub start : m.start ≡ state_at_power_on cart
@@ -36,7 +36,7 @@ pub record IsMadeOf (cart : List ℕ) (inputs : List Controls) (every : ℕ) (m 
   pub states : (j : ℕ) (c : Checkpoint) → slice_get m.checkpoints j ≡ Some c → run m m.start 0 c.frame ≡ Some c.state
 
 -- a movie that claims nothing
-abbrev pub bare : List ℕ → List Controls → MovieData
+abbrev pub bare : List ℕ → List InputData → MovieData
 bare cart inputs =
     record {
       version = version_made (length cart) (length inputs);
@@ -47,14 +47,14 @@ bare cart inputs =
     }
 
 -- this frame of the run from power-on, counted from 1, faults, and each frame before it ends
-abbrev pub IsFirstFault : List ℕ → List Controls → ℕ → FaultKind → Type 0
+abbrev pub IsFirstFault : List ℕ → List InputData → ℕ → FaultKind → Type 0
 IsFirstFault cart inputs frame kind =
     (k : ℕ) × (frame ≡ k + 1) × AllSound (bare cart inputs) (state_at_power_on cart) 0 k
     × FaultsAt (bare cart inputs) (state_at_power_on cart) 0 k kind
 
 -- Why no movie is made. The counts are looked at first, and memory is taken before the run, where
 -- there is a checkpoint.
-abbrev pub Explains : List ℕ → List Controls → ℕ → MakeError → Type 0
+abbrev pub Explains : List ℕ → List InputData → ℕ → MakeError → Type 0
 Explains cart inputs every (Fault frame kind) =
     IsTrue (counts_fit (length inputs) every) × IsFirstFault cart inputs frame kind
 Explains cart inputs every BadCounts = ¬ IsTrue (counts_fit (length inputs) every)

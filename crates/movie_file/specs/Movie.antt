@@ -1,7 +1,7 @@
 -- What a movie is, wherever it lies in memory. This project's own.
 use Rattle.std.specs.Prelude.{◌≡◌, ℕ, ◌<◌, ◌≤◌, ◌^◌, List, [], ◌∷◌, length, IsTrue}
 use Rattle.std.specs.List.{AllByRecursion}
-use Rattle.vcs_machine.specs.Inputs.{Controls, is_input}
+use Rattle.vcs_machine.specs.Inputs.{InputData, is_input}
 use Rattle.vcs_machine.specs.States.{is_state}
 use Rattle.vcs_machine.specs.declared.fields.StateFields.{StateFields}
 use Rattle.movie_file.specs.declared.checkpoint.Checkpoint.{Checkpoint}
@@ -13,7 +13,7 @@ pub record MovieData : Type 0 where
   pub version : ℕ
   pub cart : List ℕ
   pub start : StateFields
-  pub inputs : List Controls
+  pub inputs : List InputData
   pub checkpoints : List Checkpoint
 
 -- numbers that meet the conditions of a state record, in the ranges of their types

@@ -5,7 +5,7 @@ use Rattle.std.specs.Prelude.{ℕ, zero, suc, ◌&&◌, List, [], ◌∷◌, len
 use Rattle.std.specs.Prelude.{Option, Result, Ok, Err, nat_lt, nat_le, ◌==◌, if◌then◌else◌}
 use Rattle.std.specs.Option.{ok_or}
 use Rattle.std.specs.Int.{Width, w16, w32, byte_len, from_be_bytes}
-use Rattle.vcs_machine.specs.Inputs.{Controls, is_input}
+use Rattle.vcs_machine.specs.Inputs.{InputData, is_input}
 use Rattle.vcs_machine.specs.declared.fields.StateFields.{StateFields}
 use Rattle.movie_file.specs.declared.checkpoint.Checkpoint.{Checkpoint}
 use Rattle.movie_file.specs.declared.error.MovieError.{MovieError}
@@ -66,15 +66,15 @@ sizes_at bytes = do
   c ← counts_at v.0 l.1
   enough_of (record { version = v.0; cart = l.0; frames = c.0; checkpoints = c.1 }) c.2
 
-abbrev pub controls_at : List ℕ → Controls
-controls_at bytes = record { swcha = slice_index bytes 0; swchb = slice_index bytes 1; buttons = slice_index bytes 2 }
+abbrev pub input_data_at : List ℕ → InputData
+input_data_at bytes = record { swcha = slice_index bytes 0; swchb = slice_index bytes 1; buttons = slice_index bytes 2 }
 
 -- the input of number k
-unfoldable pub input_at : ℕ → List ℕ → Result Controls MovieError
-input_at k bytes = if is_input (controls_at bytes) then Ok (controls_at bytes) else Err (BadInput k)
+unfoldable pub input_at : ℕ → List ℕ → Result InputData MovieError
+input_at k bytes = if is_input (input_data_at bytes) then Ok (input_data_at bytes) else Err (BadInput k)
 
 -- so many inputs, the first of number k, and the bytes after them
-unfoldable pub inputs_at : ℕ → ℕ → List ℕ → Result (List Controls × List ℕ) MovieError
+unfoldable pub inputs_at : ℕ → ℕ → List ℕ → Result (List InputData × List ℕ) MovieError
 inputs_at zero k bytes = Ok ([], bytes)
 inputs_at (suc n) k bytes = do
   first ← input_at k bytes

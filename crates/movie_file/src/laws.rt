@@ -11,7 +11,7 @@ ghost use Rattle.movie_file.specs.Record.{record_of, recorded_state};
 ghost use Rattle.movie_file.specs.Run.{run};
 ghost use Rattle.movie_file.specs.Spelling.{Spells};
 ghost use Rattle.movie_file.specs.declared.checkpoint.Checkpoint.{Checkpoint};
-ghost use Rattle.vcs_machine.specs.Inputs.{Controls};
+ghost use Rattle.vcs_machine.specs.Inputs.{InputData};
 ghost use Rattle.vcs_machine.specs.declared.fault.FaultKind.{FaultKind};
 ghost use Rattle.vcs_machine.specs.declared.fields.StateFields.{StateFields};
 
@@ -34,9 +34,9 @@ pub const fn law_of_reading()
 
 /// A law: reading inputs with the first refusal finds exactly the inputs that bytes spell.
 pub const fn law_of_inputs()
-    ensures found { (bytes : List ℕ) (inputs : List Controls) → SpellsInputs bytes inputs
+    ensures found { (bytes : List ℕ) (inputs : List InputData) → SpellsInputs bytes inputs
         → all_inputs_at bytes ≡ Ok inputs }
-    ensures spelled { (bytes : List ℕ) (inputs : List Controls)
+    ensures spelled { (bytes : List ℕ) (inputs : List InputData)
         → ((i : ℕ) → get_or bytes i 0 < 256)
         → all_inputs_at bytes ≡ Ok inputs → SpellsInputs bytes inputs }
 {}
@@ -44,12 +44,12 @@ pub const fn law_of_inputs()
 /// A law: of a cartridge and inputs one movie can be made at most, their run has one first fault at
 /// most, and not both are there.
 pub const fn law_of_making()
-    ensures one_movie { (cart : List ℕ) (inputs : List Controls) (every : ℕ) (m n : MovieData)
+    ensures one_movie { (cart : List ℕ) (inputs : List InputData) (every : ℕ) (m n : MovieData)
         → IsMadeOf cart inputs every m → IsMadeOf cart inputs every n → m ≡ n }
-    ensures one_fault { (cart : List ℕ) (inputs : List Controls) (frame other : ℕ)
+    ensures one_fault { (cart : List ℕ) (inputs : List InputData) (frame other : ℕ)
         (kind other_kind : FaultKind) → IsFirstFault cart inputs frame kind
         → IsFirstFault cart inputs other other_kind → (frame ≡ other) × (kind ≡ other_kind) }
-    ensures not_both { (cart : List ℕ) (inputs : List Controls) (every frame : ℕ)
+    ensures not_both { (cart : List ℕ) (inputs : List InputData) (every frame : ℕ)
         (kind : FaultKind) (m : MovieData) → IsMadeOf cart inputs every m → IsGenuine m
         → IsFirstFault cart inputs frame kind → ⊥ }
 {}

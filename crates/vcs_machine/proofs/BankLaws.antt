@@ -15,7 +15,7 @@ use Rattle.vcs_machine.specs.Consoles.{Console, meaning_of, passed, read_at, wri
 use Rattle.vcs_machine.specs.Consoles.{cycles_to_line_start, console_rules, with_pixel_logged}
 use Rattle.vcs_machine.specs.Frame.{Machine, machine_at, Stop, Ended, Overlong, Faulted, Went, turn}
 use Rattle.vcs_machine.specs.Frame.{turn_by, stop_of}
-use Rattle.vcs_machine.specs.Inputs.{Controls}
+use Rattle.vcs_machine.specs.Inputs.{InputData}
 use Rattle.vcs_machine.specs.Outcomes.{frame_of, outcome_of, machine_of, left_by}
 use Rattle.vcs_machine.specs.States.{line_cycle_of}
 use Rattle.vcs_machine.specs.declared.fields.StateFields.{StateFields}
@@ -78,7 +78,7 @@ outcome-bank line_cycle (Ended m) = refl
 outcome-bank line_cycle (Overlong m) = refl
 outcome-bank line_cycle (Faulted fault m) = refl
 
-pub frame_of-bank : (cart : List ℕ) (s : StateFields) (i : Controls) → has_banks (length cart) ≡ false → (left_by (frame_of cart s i)).bank ≡ s.bank
+pub frame_of-bank : (cart : List ℕ) (s : StateFields) (i : InputData) → has_banks (length cart) ≡ false → (left_by (frame_of cart s i)).bank ≡ s.bank
 unfolding frame_of
 frame_of-bank cart s i single =
     let stop = stop_of (console_rules with_pixel_logged) (machine_of cart s i []) in

@@ -7,7 +7,7 @@ use Rattle.tia_core.specs.Clock.{Pixel}
 use Rattle.vcs_machine.specs.Consoles.{Console, console_rules, with_pixel_logged}
 use Rattle.vcs_machine.specs.Faults.{stop_with}
 use Rattle.vcs_machine.specs.Frame.{Machine, Ended, Stop, machine_at, stop_of}
-use Rattle.vcs_machine.specs.Inputs.{Controls}
+use Rattle.vcs_machine.specs.Inputs.{InputData}
 use Rattle.vcs_machine.specs.Outcomes.{Played, Failed, frame_of, outcome_of, machine_of, state_left}
 use Rattle.vcs_machine.specs.Outcomes.{Halts}
 use Rattle.vcs_machine.specs.Pictures.{picture_of, rows_of}
@@ -20,7 +20,7 @@ use Rattle.vcs_machine.specs.declared.fields.StateFields.{StateFields}
 use Rattle.vcs_machine.proofs.BeamLaws.{OnItsWay, way-stops, rows_of-most}
 use Rattle.vcs_machine.proofs.StateLemmas.{line_cycle-lt, clock-thirds}
 
-pub played : (cart : List ℕ) (s after : StateFields) (i : Controls) (here : Machine (Console (List Pixel)))
+pub played : (cart : List ℕ) (s after : StateFields) (i : InputData) (here : Machine (Console (List Pixel)))
     → stop_of (console_rules with_pixel_logged) (machine_of cart s i []) ≡ Ended here → state_left here ≡ after
     → frame_of cart s i ≡ Played after (picture_of (rows_of (line_cycle_of s) here.cycles) here.bus.sink)
 unfolding frame_of
@@ -33,7 +33,7 @@ outcome-halted line_cycle (BadOpcode opcode at) m = refl
 outcome-halted line_cycle (FetchOutside at) m = refl
 outcome-halted line_cycle Overlong m = refl
 
-pub failed : (cart : List ℕ) (s after : StateFields) (i : Controls) (kind : FaultKind) (cycles : ℕ) → Halts cart s i kind after cycles
+pub failed : (cart : List ℕ) (s after : StateFields) (i : InputData) (kind : FaultKind) (cycles : ℕ) → Halts cart s i kind after cycles
     → frame_of cart s i ≡ Failed kind after
 unfolding frame_of
 failed cart s after i kind cycles h =
@@ -41,7 +41,7 @@ failed cart s after i kind cycles h =
     ∙ outcome-halted (line_cycle_of s) kind h.0
     ∙ ap (λ (f : StateFields). Failed kind f) h.2
 
-module _ (cart : List ℕ) (s : StateFields) (i : Controls) (lawful : IsTrue (is_state s)) where
+module _ (cart : List ℕ) (s : StateFields) (i : InputData) (lawful : IsTrue (is_state s)) where
   abbrev here : Machine (Console (List Pixel))
   here = machine_at (stop_of (console_rules with_pixel_logged) (machine_of cart s i []))
 
@@ -72,7 +72,7 @@ module _ (cart : List ℕ) (s : StateFields) (i : Controls) (lawful : IsTrue (is
       whole t c e = omega arith
 
 -- The same of a frame that ends.
-pub ended-rows : (cart : List ℕ) (s : StateFields) (i : Controls) (here : Machine (Console (List Pixel))) → IsTrue (is_state s)
+pub ended-rows : (cart : List ℕ) (s : StateFields) (i : InputData) (here : Machine (Console (List Pixel))) → IsTrue (is_state s)
     → stop_of (console_rules with_pixel_logged) (machine_of cart s i []) ≡ Ended here → rows_of (line_cycle_of s) here.cycles ≤ 322
 ended-rows cart s i here lawful stops = let most = stop-rows cart s i lawful in rw stops at most
 
@@ -82,7 +82,7 @@ machine_at-halted (FetchOutside at) m = refl
 machine_at-halted Overlong m = refl
 
 -- However a frame stops, and whatever its pixels go to, its beam is left where a cycle begins.
-module _ {S : Type 0} (drawn : S → ℕ → ℕ → ℕ → S) (cart : List ℕ) (s : StateFields) (i : Controls) (sink : S) (lawful : IsTrue (is_state s)) where
+module _ {S : Type 0} (drawn : S → ℕ → ℕ → ℕ → S) (cart : List ℕ) (s : StateFields) (i : InputData) (sink : S) (lawful : IsTrue (is_state s)) where
   begins_cycle : (here : Machine (Console S)) → machine_at (stop_of (console_rules drawn) (machine_of cart s i sink)) ≡ here → here.bus.tia.fields.clock % 3 ≡ 0
   begins_cycle here e =
       let way = way-stops drawn (line_cycle_of s) (machine_of cart s i sink) (line_cycle-lt s lawful) refl (clock-thirds s lawful) in

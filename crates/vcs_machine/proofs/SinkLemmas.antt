@@ -12,7 +12,7 @@ use Rattle.mos_cpu.specs.declared.fault.CpuFault.{CpuFault}
 use Rattle.mos_cpu.specs.declared.fault.CpuFault.TheVariants.{BadOpcode as CpuBadOpcode}
 use Rattle.mos_cpu.specs.declared.fault.CpuFault.TheVariants.{FetchOutside as CpuFetchOutside}
 use Rattle.vcs_machine.specs.Faults.{stop_with}
-use Rattle.vcs_machine.specs.Inputs.{Controls}
+use Rattle.vcs_machine.specs.Inputs.{InputData}
 use Rattle.vcs_machine.specs.Outcomes.{machine_of, state_left, PlaysOn, Halts}
 use Rattle.vcs_machine.specs.declared.fault.FaultKind.{FaultKind}
 use Rattle.vcs_machine.specs.declared.fault.FaultKind.TheVariants.{BadOpcode, FetchOutside}
@@ -110,7 +110,7 @@ halted-from h stop (BadOpcode opcode at) there e = faulted-from h stop (CpuBadOp
 halted-from h stop (FetchOutside at) there e = faulted-from h stop (CpuFetchOutside at) there e
 halted-from h stop TooLong there e = overlong-from h stop there e
 
-module _ {S : Type 0} (drawn : S → ℕ → ℕ → ℕ → S) (cart : List ℕ) (s : StateFields) (i : Controls) (sink : S) where
+module _ {S : Type 0} (drawn : S → ℕ → ℕ → ℕ → S) (cart : List ℕ) (s : StateFields) (i : InputData) (sink : S) where
   along : stop_of (console_rules drawn) (machine_of cart s i sink) ≡ stop_along (drawn_on drawn sink) (stop_of (console_rules with_pixel_logged) (machine_of cart s i []))
   along = stop_of-along (console_rules with_pixel_logged) (console_rules drawn) (drawn_on drawn sink) (follows drawn sink) (machine_of cart s i [])
 

@@ -6,7 +6,7 @@ use Rattle.tia_core.specs.Clock.{Pixel, sink_after_pixels}
 use Rattle.vcs_machine.specs.Consoles.{Console, console_rules, with_pixel_logged}
 use Rattle.vcs_machine.specs.Faults.{kind_of, stop_with}
 use Rattle.vcs_machine.specs.Frame.{Machine, Stop, Ended, Overlong, Faulted, stop_of}
-use Rattle.vcs_machine.specs.Inputs.{Controls, is_pressed}
+use Rattle.vcs_machine.specs.Inputs.{InputData, is_pressed}
 use Rattle.vcs_machine.specs.Pictures.{Rows, picture_of, rows_of}
 use Rattle.vcs_machine.specs.States.{line_cycle_of}
 use Rattle.vcs_machine.specs.declared.fault.FaultKind.{FaultKind}
@@ -27,7 +27,7 @@ left_by (Failed kind s) = s
 
 -- The console of a state at a frame's start: the pins and the buttons are those of the input, then
 -- a pressed button sets its latch where VBLANK has bit 6, and the line is 0.
-abbrev pub console_of : {S : Type 0} → List ℕ → StateFields → Controls → S → Console S
+abbrev pub console_of : {S : Type 0} → List ℕ → StateFields → InputData → S → Console S
 console_of cart s i sink =
     record {
       cart = cart;
@@ -39,7 +39,7 @@ console_of cart s i sink =
       sink = sink;
     }
 
-abbrev pub machine_of : {S : Type 0} → List ℕ → StateFields → Controls → S → Machine (Console S)
+abbrev pub machine_of : {S : Type 0} → List ℕ → StateFields → InputData → S → Machine (Console S)
 machine_of cart s i sink = record { registers = s.cpu; bus = console_of cart s i sink; cycles = 0 }
 
 -- The state that a machine leaves.
@@ -53,7 +53,7 @@ outcome_of line_cycle (Overlong m) = Failed TooLong (state_left m)
 outcome_of line_cycle (Faulted fault m) = Failed (kind_of fault) (state_left m)
 
 -- What a frame on a cartridge does to a state, with this input.
-unfoldable pub frame_of : List ℕ → StateFields → Controls → FrameOutcome
+unfoldable pub frame_of : List ℕ → StateFields → InputData → FrameOutcome
 frame_of cart s i = outcome_of (line_cycle_of s) (stop_of (console_rules with_pixel_logged) (machine_of cart s i []))
 
 -- A frame's error, and the state that it leaves.
@@ -62,13 +62,13 @@ FailsAs outcome (Fault kind) s = outcome ≡ Failed kind s
 FailsAs outcome NoMemory s = Unit {0}
 
 -- A frame stops for this cause, leaves this state, and has taken so many cycles.
-abbrev pub Halts : List ℕ → StateFields → Controls → FaultKind → StateFields → ℕ → Type 0
+abbrev pub Halts : List ℕ → StateFields → InputData → FaultKind → StateFields → ℕ → Type 0
 Halts cart s i kind after cycles =
     (here : Machine (Console (List Pixel))) × (stop_of (console_rules with_pixel_logged) (machine_of cart s i []) ≡ stop_with kind here) × (state_left here ≡ after)
     × (here.cycles ≡ cycles)
 
 -- A frame that ends leaves this state after so many cycles, and its pixels have been put on a sink.
-abbrev pub PlaysOn : {S : Type 0} → (S → ℕ → ℕ → ℕ → S) → List ℕ → StateFields → Controls → S → StateFields → S → ℕ → Type 0
+abbrev pub PlaysOn : {S : Type 0} → (S → ℕ → ℕ → ℕ → S) → List ℕ → StateFields → InputData → S → StateFields → S → ℕ → Type 0
 PlaysOn drawn cart s i sink after sink_after cycles =
     (here : Machine (Console (List Pixel))) × (stop_of (console_rules with_pixel_logged) (machine_of cart s i []) ≡ Ended here) × (state_left here ≡ after)
     × (sink_after_pixels drawn sink here.bus.sink ≡ sink_after) × (here.cycles ≡ cycles)

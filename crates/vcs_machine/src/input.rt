@@ -20,9 +20,9 @@ pub struct Input {
 
 impl Model for Input {
     ghost use Rattle.std.specs.Prelude.{IsTrue};
-    ghost use Rattle.vcs_machine.specs.Inputs.{Controls, is_input};
+    ghost use Rattle.vcs_machine.specs.Inputs.{InputData, is_input};
 
-    ghost Value = { Controls };
+    ghost Value = { InputData };
 
     ghost view = { λ i. record { swcha = i.swcha; swchb = i.swchb; buttons = i.buttons } };
 

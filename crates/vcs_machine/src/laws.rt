@@ -8,7 +8,7 @@ ghost use Rattle.vcs_machine.specs.Consoles.{Console, console_rules, with_pixel_
 ghost use Rattle.vcs_machine.specs.Consoles.{after_wait, wait_cycles};
 ghost use Rattle.vcs_machine.specs.Frame.{Rules, Machine, Stop, Ended, machine_at, StopsAs};
 ghost use Rattle.vcs_machine.specs.Frame.{most_frame_cycles, stop_of, turn, turns, Went};
-ghost use Rattle.vcs_machine.specs.Inputs.{Controls};
+ghost use Rattle.vcs_machine.specs.Inputs.{InputData};
 ghost use Rattle.vcs_machine.specs.Outcomes.{frame_of, left_by, machine_of, state_left};
 ghost use Rattle.vcs_machine.specs.Pictures.{most_rows, rows_of};
 ghost use Rattle.vcs_machine.specs.States.{is_state, line_cycle_of};
@@ -34,7 +34,7 @@ pub const fn law_of_waits<S>()
 /// waits, and one more without its wait, the beam stands at one of the 228 clocks of a scanline,
 /// and a whole number of cycles after its begin.
 pub const fn law_of_whole_cycles()
-    ensures { (cart : List ℕ) (s : StateFields) (i : Controls) (count : ℕ) (m : Machine (Console (List Pixel))) → IsTrue (is_state s)
+    ensures { (cart : List ℕ) (s : StateFields) (i : InputData) (count : ℕ) (m : Machine (Console (List Pixel))) → IsTrue (is_state s)
         → turns (console_rules with_pixel_logged) count (machine_of cart s i []) ≡ Went m
         → let c = (step_of (meaning_of with_pixel_logged) m.registers m.bus).bus in
         (c.tia.fields.clock < 228) × (c.tia.fields.clock % 3 ≡ 0) }
@@ -43,20 +43,20 @@ pub const fn law_of_whole_cycles()
 /// A law: however a frame stops, it takes at most 24,401 cycles, its picture has at most 322 rows,
 /// and the state that it leaves has the beam's place: three clocks a cycle on from where it began.
 pub const fn law_of_frame_lengths()
-    ensures cycles { (cart : List ℕ) (s : StateFields) (i : Controls) → IsTrue (is_state s)
+    ensures cycles { (cart : List ℕ) (s : StateFields) (i : InputData) → IsTrue (is_state s)
         → (machine_at (stop_of (console_rules with_pixel_logged) (machine_of cart s i []))).cycles ≤ most_frame_cycles }
-    ensures rows { (cart : List ℕ) (s : StateFields) (i : Controls) → IsTrue (is_state s)
+    ensures rows { (cart : List ℕ) (s : StateFields) (i : InputData) → IsTrue (is_state s)
         → rows_of (line_cycle_of s) (machine_at (stop_of (console_rules with_pixel_logged) (machine_of cart s i []))).cycles ≤ most_rows }
-    ensures beam { (cart : List ℕ) (s : StateFields) (i : Controls) → IsTrue (is_state s)
+    ensures beam { (cart : List ℕ) (s : StateFields) (i : InputData) → IsTrue (is_state s)
         → let here = machine_at (stop_of (console_rules with_pixel_logged) (machine_of cart s i [])) in
         here.bus.tia.fields.clock ≡ 3 * line_cycle_of (state_left here) }
-    ensures line_cycle { (cart : List ℕ) (s : StateFields) (i : Controls) → IsTrue (is_state s)
+    ensures line_cycle { (cart : List ℕ) (s : StateFields) (i : InputData) → IsTrue (is_state s)
         → let here = machine_at (stop_of (console_rules with_pixel_logged) (machine_of cart s i [])) in
         line_cycle_of (state_left here) ≡ (line_cycle_of s + here.cycles) % 76 }
 {}
 
 /// A law: on a cartridge without banks a frame leaves the bank as it was.
 pub const fn law_of_banks()
-    ensures { (cart : List ℕ) (s : StateFields) (i : Controls) → has_banks (length cart) ≡ false
+    ensures { (cart : List ℕ) (s : StateFields) (i : InputData) → has_banks (length cart) ≡ false
         → (left_by (frame_of cart s i)).bank ≡ s.bank }
 {}

@@ -1,7 +1,7 @@
 -- The making of a movie frame by frame. This project's own.
 use Rattle.std.specs.Prelude.{◌≡◌, ℕ, ◌+◌, ◌*◌, ◌/◌, ◌%◌, List, [], ◌∷◌, length, Some, slice_get}
 use Rattle.std.specs.Prelude.{◌==◌, if◌then◌else◌}
-use Rattle.vcs_machine.specs.Inputs.{Controls}
+use Rattle.vcs_machine.specs.Inputs.{InputData}
 use Rattle.vcs_machine.specs.States.{state_at_power_on}
 use Rattle.vcs_machine.specs.declared.fields.StateFields.{StateFields}
 use Rattle.movie_file.specs.declared.checkpoint.Checkpoint.{Checkpoint}
@@ -18,7 +18,7 @@ checkpoint_if every frame state = if frame % every == 0 then record { frame = fr
 
 -- k frames of the run from power-on have ended, and these are the checkpoints at the multiples up
 -- to k
-pub record Records (cart : List ℕ) (inputs : List Controls) (every k : ℕ) (made : List Checkpoint) : Type 0 where
+pub record Records (cart : List ℕ) (inputs : List InputData) (every k : ℕ) (made : List Checkpoint) : Type 0 where
   pub sound : AllSound (bare cart inputs) (state_at_power_on cart) 0 k
   pub count : length made ≡ k / every
   pub places : (j : ℕ) (c : Checkpoint) → slice_get made j ≡ Some c → c.frame ≡ every * (j + 1)
@@ -26,7 +26,7 @@ pub record Records (cart : List ℕ) (inputs : List Controls) (every k : ℕ) (m
   pub lawful : (j : ℕ) (c : Checkpoint) → slice_get made j ≡ Some c → IsState c.state
 
 -- the run from power-on has its first fault at this frame; nothing else stops it
-abbrev pub RunFails : List ℕ → List Controls → MakeError → Type 0
+abbrev pub RunFails : List ℕ → List InputData → MakeError → Type 0
 RunFails cart inputs (Fault frame kind) = IsFirstFault cart inputs frame kind
 RunFails cart inputs BadCounts = ⊥
 RunFails cart inputs NoMemory = ⊥

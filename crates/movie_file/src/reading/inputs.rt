@@ -1,6 +1,6 @@
 //! Reading inputs that stand by themselves.
 ghost use Rattle.std.specs.Prelude.{◌≡◌, ◌≢◌, ◌%◌, ◌<◌, List, length, IfErr, IfOk, Ok};
-ghost use Rattle.vcs_machine.specs.Inputs.{Controls};
+ghost use Rattle.vcs_machine.specs.Inputs.{InputData};
 ghost use Rattle.movie_file.specs.Format.{input_length};
 ghost use Rattle.movie_file.specs.InputLists.{SpellsInputs, all_inputs_at};
 ghost use Rattle.movie_file.specs.MovieError.{Gives};
@@ -32,7 +32,7 @@ fn all_inputs_in(alloc: Global, bytes: &[u8]) -> Result<Vec<Input>, MovieError>
 pub fn read_inputs(alloc: Global, bytes: &[u8]) -> Result<Vec<Input>, MovieError>
     ensures found { IfOk result (λ inputs. SpellsInputs bytes.now inputs.items) }
     // What the bytes spell is read, unless memory was refused.
-    ensures only { (inputs : List Controls) → SpellsInputs bytes.now inputs
+    ensures only { (inputs : List InputData) → SpellsInputs bytes.now inputs
         → Gives (λ read. read.items) result (Ok inputs) }
     ensures exact { Gives (λ inputs. inputs.items) result (all_inputs_at bytes.now) }
     ensures refused { IfErr result (λ e. e ≢ MovieError.NoMemory

@@ -1,7 +1,7 @@
 use Rattle.std.proofs.Common.{List, length, subst, ap, ◌∙◌, arith, rules}
 use Rattle.std.specs.Prelude.{IsTrue}
 use Rattle.std.specs.List.{AllByRecursion}
-use Rattle.vcs_machine.specs.Inputs.{Controls, is_input}
+use Rattle.vcs_machine.specs.Inputs.{InputData, is_input}
 use Rattle.movie_file.specs.Making.{counts_fit, version_made}
 use Rattle.movie_file.specs.Record.{fits_bank}
 use Rattle.movie_file.specs.Private.MakingSteps.{Records}
@@ -19,9 +19,9 @@ from_parts-requires c =
     let fit : IsTrue (counts_fit (length c.args.inputs.items) c.args.every) = search rules in
     let counts = counts_are (length c.args.inputs.items) c.args.every fit in
     let cs = c.in-Ok-checkpoints_of_run.checkpoints.items in
-    let far = subst (λ (is : List Controls). Records c.args.cart is c.args.every (length is) cs) c.deref.ensures.value c.in-Ok-checkpoints_of_run.ensures.ok in
+    let far = subst (λ (is : List InputData). Records c.args.cart is c.args.every (length is) cs) c.deref.ensures.value c.in-Ok-checkpoints_of_run.ensures.ok in
     let looked : AllByRecursion (λ i. IsTrue (is_input i)) c.deref-3.result.now = c.look_at_inputs.ensures in
-    let is = c.version_made-version.ensures.value ∙ ap (λ (is : List Controls). version_made (length c.args.cart) (length is)) c.deref-2.ensures.value in
+    let is = c.version_made-version.ensures.value ∙ ap (λ (is : List InputData). version_made (length c.args.cart) (length is)) c.deref-2.ensures.value in
     let version = version_takes (length c.args.cart) (length c.args.inputs.items) c.version_made-version.ensures.lawful counts.1 in
     let fits : IsTrue (fits_bank (length c.args.cart) c.power_on-start.result) = rw c.power_on-start.ensures (bank_at_start c.args.cart) in
     record {
@@ -31,7 +31,7 @@ from_parts-requires c =
       some_frames = counts.0;
       few_frames = rw is version.2;
       few_checkpoints = omega (arith, far.count, counts.3);
-      inputs = subst (λ (is : List Controls). AllByRecursion (λ i. IsTrue (is_input i)) is) c.deref-3.ensures.value looked;
+      inputs = subst (λ (is : List InputData). AllByRecursion (λ i. IsTrue (is_input i)) is) c.deref-3.ensures.value looked;
       checkpoints = AreCheckpoints-run c.args.cart c.args.inputs.items c.args.every cs counts.2 far;
     }
 
@@ -40,11 +40,11 @@ returns-clause-made c =
     let fit : IsTrue (counts_fit (length c.args.inputs.items) c.args.every) = search rules in
     (made_of_parts c.args.cart c.args.inputs.items c.deref.result.now c.args.every c.in-Ok-checkpoints_of_run.checkpoints.items c.version_made-version.result c.power_on-start.result c.from_parts.result
     fit c.deref.ensures.value c.in-Ok-checkpoints_of_run.ensures.ok
-    (c.version_made-version.ensures.value ∙ ap (λ (is : List Controls). version_made (length c.args.cart) (length is)) c.deref-2.ensures.value) c.power_on-start.ensures c.from_parts.ensures).0
+    (c.version_made-version.ensures.value ∙ ap (λ (is : List InputData). version_made (length c.args.cart) (length is)) c.deref-2.ensures.value) c.power_on-start.ensures c.from_parts.ensures).0
 
 pub returns-clause-genuine : goal.returns-clause-genuine
 returns-clause-genuine c =
     let fit : IsTrue (counts_fit (length c.args.inputs.items) c.args.every) = search rules in
     (made_of_parts c.args.cart c.args.inputs.items c.deref.result.now c.args.every c.in-Ok-checkpoints_of_run.checkpoints.items c.version_made-version.result c.power_on-start.result c.from_parts.result
     fit c.deref.ensures.value c.in-Ok-checkpoints_of_run.ensures.ok
-    (c.version_made-version.ensures.value ∙ ap (λ (is : List Controls). version_made (length c.args.cart) (length is)) c.deref-2.ensures.value) c.power_on-start.ensures c.from_parts.ensures).1
+    (c.version_made-version.ensures.value ∙ ap (λ (is : List InputData). version_made (length c.args.cart) (length is)) c.deref-2.ensures.value) c.power_on-start.ensures c.from_parts.ensures).1
