@@ -5,7 +5,7 @@ use Rattle.std.proofs.Common.{subst, inl, inr, ⊎_elim, arith, lt-ltb, le-ltb, 
 use Rattle.std.proofs.Common.{Some, None}
 use mathlib.Core.Logic.{dite}
 use native.Mathlib.Decide.{dec_le}
-use Rattle.segment_desk.specs.Desk.{times, with_number, part, fresh_part, spent_part, with_drawn}
+use Rattle.segment_desk.specs.Desk.{times, with_number, fresh_part, spent_part, with_drawn}
 use Rattle.segment_desk.specs.Desk.{at_end, with_passed, look_at, report_at, smaller_of}
 use Rattle.segment_desk.specs.Desk.{with_handed_in}
 use Rattle.segment_desk.specs.Private.Plays.{staying_part}
@@ -185,4 +185,4 @@ module _ (n w : ℕ) where
 
 -- The end of a ticket that has ended changes nothing.
 pub end_again : (v : Part) → v.ended ≡ true → v ≡ at_end v
-end_again v h = ap (λ (b : Bool). part v.segments v.workers v.drawn v.reported v.passed_over v.last v.seen b v.share) h
+end_again v h = ap (λ (b : Bool). record v { ended = b }) h

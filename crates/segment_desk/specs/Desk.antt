@@ -1,7 +1,7 @@
 -- The desk: it gives out the numbers below n, each once, to w tickets, and keeps the least number
 -- that was reported bad. Its state is a count, a least number and, for each ticket, its part of the
 -- history. A state changes by events alone. This project's own.
-use Rattle.std.specs.Prelude.{◌≡◌, ◌≢◌, ℕ, ◌+◌, ◌-◌, ◌^◌, ◌<◌, min, Bool, true, false}
+use Rattle.std.specs.Prelude.{◌≡◌, ◌≢◌, ℕ, ◌+◌, ◌-◌, ◌^◌, ◌<◌, min, true, false}
 use Rattle.std.specs.Prelude.{if◌then◌else◌, ◌||◌, ◌==◌, nat_lt, List, [], ◌∷◌, ◌++◌, count_by}
 use Rattle.std.specs.Prelude.{slice_get, slice_set, Option, None, Some}
 use Rattle.segment_desk.specs.declared.part.Part.{Part}
@@ -14,23 +14,19 @@ times k xs = count_by (λ x. x == k) xs
 abbrev pub with_number : ℕ → List ℕ → List ℕ
 with_number k xs = if nat_lt 0 (times k xs) then xs else xs ++ k ∷ []
 
--- A part by its fields, in their order.
-abbrev pub part : ℕ → ℕ → List ℕ → List ℕ → List ℕ → Option ℕ → Option ℕ → Bool → ℕ → Part
-part n w drawn reported passed_over last seen ended share = record {
+-- The part of a ticket that has done nothing, and stands for so many first tickets.
+abbrev pub fresh_part : ℕ → ℕ → ℕ → Part
+fresh_part n w share = record {
   segments = n;
   workers = w;
-  drawn = drawn;
-  reported = reported;
-  passed_over = passed_over;
-  last = last;
-  seen = seen;
-  ended = ended;
+  drawn = [];
+  reported = [];
+  passed_over = [];
+  last = None;
+  seen = None;
+  ended = false;
   share = share;
 }
-
--- That of a ticket that has done nothing, and stands for so many first tickets.
-abbrev pub fresh_part : ℕ → ℕ → ℕ → Part
-fresh_part n w share = part n w [] [] [] None None false share
 
 -- What is left of a ticket that was handed in.
 abbrev pub spent_part : Part
@@ -40,11 +36,11 @@ spent_part = fresh_part 0 0 0
 
 -- k was drawn: it is on the drawn list, and is the last.
 abbrev pub with_drawn : ℕ → Part → Part
-with_drawn k v = part v.segments v.workers (v.drawn ++ k ∷ []) v.reported v.passed_over (Some k) v.seen v.ended v.share
+with_drawn k v = record v { drawn = v.drawn ++ k ∷ []; last = Some k }
 
 -- A draw found no number left: the ticket has ended.
 abbrev pub at_end : Part → Part
-at_end v = part v.segments v.workers v.drawn v.reported v.passed_over v.last v.seen true v.share
+at_end v = record v { ended = true }
 
 -- A draw where the count was k.
 abbrev pub draw_at : ℕ → Part → Part
@@ -57,11 +53,11 @@ with_passed x (Some k) ks = if nat_lt x k then with_number k ks else ks
 
 -- A look that found the least number x, which it sees.
 abbrev pub look_at : ℕ → Part → Part
-look_at x v = part v.segments v.workers v.drawn v.reported (with_passed x v.last v.passed_over) v.last (Some x) v.ended v.share
+look_at x v = record v { passed_over = with_passed x v.last v.passed_over; seen = Some x }
 
 -- A report of k where the least number was x: the smaller of both is seen.
 abbrev pub report_at : ℕ → ℕ → Part → Part
-report_at x k v = part v.segments v.workers v.drawn (with_number k v.reported) v.passed_over v.last (Some (min x k)) v.ended v.share
+report_at x k v = record v { reported = with_number k v.reported; seen = Some (min x k) }
 
 -- The smaller of two numbers of which each may be none.
 abbrev pub smaller_of : Option ℕ → Option ℕ → Option ℕ
@@ -72,8 +68,14 @@ smaller_of (Some x) (Some y) = Some (min x y)
 -- A ticket that took another in: both their lists and shares, the smaller seen number, its own last
 -- one, and ended where either had.
 abbrev pub with_handed_in : Part → Part → Part
-with_handed_in v u =
-    part v.segments v.workers (v.drawn ++ u.drawn) (v.reported ++ u.reported) (v.passed_over ++ u.passed_over) v.last (smaller_of v.seen u.seen) (v.ended || u.ended) (v.share + u.share)
+with_handed_in v u = record v {
+  drawn = v.drawn ++ u.drawn;
+  reported = v.reported ++ u.reported;
+  passed_over = v.passed_over ++ u.passed_over;
+  seen = smaller_of v.seen u.seen;
+  ended = v.ended || u.ended;
+  share = v.share + u.share;
+}
 
 -- The states, and the events between them.
 

@@ -3,14 +3,14 @@
 #![tactic(auto)]
 
 mod desk;
-mod law;
+mod laws;
 mod part;
 mod rule;
 mod steps;
 mod ticket;
 
 pub use desk::Desk;
-pub use law::holds_between_steps;
+pub use laws::law_of_desk_states;
 pub use part::Part;
 pub use ticket::Ticket;
 

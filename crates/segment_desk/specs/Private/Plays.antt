@@ -2,7 +2,7 @@
 use Rattle.std.specs.Prelude.{◌≡◌, ℕ, ◌-◌, ◌<◌, ◌≤◌, []}
 use Rattle.atomic_table.specs.Table.{Me, Step}
 use Rattle.segment_desk.specs.declared.part.Part.{Part}
-use Rattle.segment_desk.specs.Desk.{times, part, fresh_part, draw_at, look_at, report_at, StandsIn}
+use Rattle.segment_desk.specs.Desk.{times, fresh_part, draw_at, look_at, report_at, StandsIn}
 use Rattle.segment_desk.specs.Kept.{IsKnown}
 use Rattle.segment_desk.specs.Views.{IsBelowSeen}
 
@@ -39,7 +39,7 @@ Settled step before x after = HasPart after before.0
 
 -- A ticket that gave one of its shares to a fresh ticket, and that fresh ticket.
 abbrev pub staying_part : Part → Part
-staying_part v = part v.segments v.workers v.drawn v.reported v.passed_over v.last v.seen v.ended (v.share - 1)
+staying_part v = record v { share = v.share - 1 }
 
 abbrev pub split_of : Part → Part
 split_of v = fresh_part v.segments v.workers 1

@@ -1,6 +1,6 @@
 use Rattle.segment_desk.specs.Tables.{desk_of}
 use Rattle.segment_desk.proofs.ReachLemmas.{kept}
-use Rattle.segment_desk.proofs.law.holds_between_steps.Goals as goal
+use Rattle.segment_desk.proofs.laws.law_of_desk_states.Goals as goal
 
 pub returns : goal.returns
 returns c = record {
