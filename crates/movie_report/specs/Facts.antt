@@ -61,7 +61,7 @@ left_text (Some left) =
 
 -- What is to be said of a verdict.
 abbrev pub verdict_text : MovieData → Verdict → List ℕ
-verdict_text m (Genuine frames) = []
+verdict_text m (Genuine kept) = []
 verdict_text m (FalseCheckpoint number frame) = claim_text (slice_get m.checkpoints (number - 1)) (run m m.start 0 frame)
 verdict_text m (Fault frame kind) = left_text (left_at m frame)
 

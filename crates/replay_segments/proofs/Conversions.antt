@@ -25,7 +25,7 @@ pictures-converted m keep start from (suc k) =
 
 module _ (m : MovieData) (keep : Keep) (start : StateFields) (from len : ℕ) where
   pub judged-converted : (v : Verdict) → IsJudged m keep start from len v → IsJudged (converted m) keep start from len v
-  judged-converted (Genuine frames) said =
+  judged-converted (Genuine kept) said =
       (λ i less. sound-converted m start from i (said.0 i less), said.1 ∙ sym (pictures-converted m keep start from len))
   judged-converted (FalseCheckpoint number frame) (k, less, at, before, bad) =
       (k, less, at, λ i low. sound-converted m start from i (before i low), false-converted m start from k number bad)
@@ -33,7 +33,7 @@ module _ (m : MovieData) (keep : Keep) (start : StateFields) (from len : ℕ) wh
       (k, less, at, λ i low. sound-converted m start from i (before i low), faults-converted m start from k kind bad)
 
   pub judged-back : (v : Verdict) → IsJudged (converted m) keep start from len v → IsJudged m keep start from len v
-  judged-back (Genuine frames) said =
+  judged-back (Genuine kept) said =
       (λ i less. sound-back m start from i (said.0 i less), said.1 ∙ pictures-converted m keep start from len)
   judged-back (FalseCheckpoint number frame) (k, less, at, before, bad) =
       (k, less, at, λ i low. sound-back m start from i (before i low), false-back m start from k number bad)

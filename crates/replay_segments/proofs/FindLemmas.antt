@@ -1,18 +1,15 @@
 -- Pieces that are looked for one after another.
 use Rattle.std.proofs.Common.{◌≡◌, ◌≢◌, ℕ, ◌+◌, ◌<◌, ◌≤◌, List, length, Option, Some, None, Err}
-use Rattle.std.proofs.Common.{true, IfSome, slice_get, refl, arith}
+use Rattle.std.proofs.Common.{true, IsFalse, IfSome, slice_get, arith}
+use Rattle.std.proofs.lemmas.Bool.{false_from_ne_true}
 use Rattle.std.specs.Option.{is_some}
 use Rattle.std.proofs.lemmas.Option.{slice_get_within}
 use Rattle.replay_segments.specs.declared.gathering.GatherError.{GatherError}
 use Rattle.replay_segments.specs.declared.gathering.GatherError.TheVariants.{Missing, NoMemory}
-use Rattle.replay_segments.specs.declared.outcome.Outcome.{Outcome}
-use Rattle.replay_segments.specs.declared.outcome.Outcome.TheVariants.{Judged}
 use Rattle.replay_segments.specs.declared.outcome.Outcome.TheVariants.{NoMemory as NoMemoryOutcome}
-use Rattle.replay_segments.specs.declared.verdict.Verdict.TheVariants.{Genuine, FalseCheckpoint}
-use Rattle.replay_segments.specs.declared.verdict.Verdict.TheVariants.{Fault}
-use Rattle.replay_segments.specs.Private.Finding.{MayPass, IsAnswer}
+use Rattle.replay_segments.specs.Private.Finding.{IsAnswer}
 use Rattle.replay_segments.specs.Gathering.{HasNumber, HasPassed}
-use Rattle.replay_segments.specs.Pieces.{PieceData, IsPassed}
+use Rattle.replay_segments.specs.Pieces.{PieceData, passed}
 use Rattle.replay_segments.proofs.ListLemmas.{each-below}
 
 -- What is no None is found.
@@ -20,12 +17,16 @@ pub found : (P : ℕ → Type 0) (o : Option ℕ) → is_some o ≡ true → IfS
 found P (Some i) is holds = (i, holds)
 found P None is holds = absurd cc
 
+-- The piece passed, or it is without memory.
+abbrev pub IsUnjudged : PieceData → Type 0
+IsUnjudged p = IsFalse (passed p.outcome) → p.outcome ≡ NoMemoryOutcome
+
 -- What is answered where only the first n pieces are looked at, of which none was judged bad.
 abbrev pub IsAnswerBelow : List PieceData → ℕ → ℕ → GatherError → Type 0
 IsAnswerBelow pieces number n (Missing k) =
     (k ≡ number) × ((i : ℕ) (p : PieceData) → i < n → slice_get pieces i ≡ Some p → p.number ≢ number)
 IsAnswerBelow pieces number n NoMemory =
-    HasNumber pieces number × ((i : ℕ) (p : PieceData) → i < n → slice_get pieces i ≡ Some p → p.number ≡ number → MayPass p.outcome)
+    HasNumber pieces number × ((i : ℕ) (p : PieceData) → i < n → slice_get pieces i ≡ Some p → p.number ≡ number → IsUnjudged p)
 
 -- The next piece has another number.
 pub IsAnswerBelow-other : (pieces : List PieceData) (number n : ℕ) (answer : GatherError) (q : PieceData) → IsAnswerBelow pieces number n answer
@@ -33,24 +34,17 @@ pub IsAnswerBelow-other : (pieces : List PieceData) (number n : ℕ) (answer : G
 IsAnswerBelow-other pieces number n (Missing k) q below at other =
     (below.0, each-below (λ (p : PieceData). p.number ≢ number) pieces n q at other below.1)
 IsAnswerBelow-other pieces number n NoMemory q below at other =
-    (below.0, each-below (λ (p : PieceData). p.number ≡ number → MayPass p.outcome) pieces n q at (λ is. absurd (other is)) below.1)
+    (below.0, each-below (λ (p : PieceData). p.number ≡ number → IsUnjudged p) pieces n q at (λ is. absurd (other is)) below.1)
 
 -- The next piece has this number, and was not judged bad.
 pub IsAnswerBelow-may : (pieces : List PieceData) (number n : ℕ) (answer : GatherError) (q : PieceData) → IsAnswerBelow pieces number n answer
-    → slice_get pieces n ≡ Some q → q.number ≡ number → MayPass q.outcome → IsAnswerBelow pieces number (n + 1) NoMemory
+    → slice_get pieces n ≡ Some q → q.number ≡ number → IsUnjudged q → IsAnswerBelow pieces number (n + 1) NoMemory
 IsAnswerBelow-may pieces number n answer q below at is may =
-    ((n, q, at, is), each-below (λ (p : PieceData). p.number ≡ number → MayPass p.outcome) pieces n q at (λ _. may) (old answer below))
+    ((n, q, at, is), each-below (λ (p : PieceData). p.number ≡ number → IsUnjudged p) pieces n q at (λ _. may) (old answer below))
   where
-    old : (a : GatherError) → IsAnswerBelow pieces number n a → (i : ℕ) (p : PieceData) → i < n → slice_get pieces i ≡ Some p → p.number ≡ number → MayPass p.outcome
+    old : (a : GatherError) → IsAnswerBelow pieces number n a → (i : ℕ) (p : PieceData) → i < n → slice_get pieces i ≡ Some p → p.number ≡ number → IsUnjudged p
     old (Missing k) b = λ i p low here same. absurd (b.1 i p low here same)
     old NoMemory b = b.1
-
--- What may have passed and did not is without memory.
-unpassed : (o : Outcome) → MayPass o → (IsPassed o → ⊥) → o ≡ NoMemoryOutcome
-unpassed (Judged (Genuine frames)) may not = absurd (not tt)
-unpassed (Judged (FalseCheckpoint number frame)) may not = absurd may
-unpassed (Judged (Fault frame kind)) may not = absurd may
-unpassed NoMemoryOutcome may not = refl
 
 pub IsAnswer-whole : (pieces : List PieceData) (number n : ℕ) (answer : GatherError) → length pieces ≤ n → (HasPassed pieces number → ⊥)
     → IsAnswerBelow pieces number n answer → IsAnswer pieces number (Err answer)
@@ -60,5 +54,5 @@ IsAnswer-whole pieces number n NoMemory past none below = (
   below.0,
   λ i p here is.
       let may = below.1 i p (let w = slice_get_within pieces i p here in omega arith) here is in
-      unpassed p.outcome may (λ passed. none (i, p, here, is, passed)),
+      may (false_from_ne_true (passed p.outcome) (λ good. none (i, p, here, is, good))),
 )

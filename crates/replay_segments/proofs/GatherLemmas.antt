@@ -1,6 +1,7 @@
 -- What pieces answer, by the first number without a piece that passed.
 use Rattle.std.proofs.Common.{◌≡◌, ℕ, zero, suc, ◌<◌, ◌↔◌, List, [], ◌++◌, Result, Ok, Err, IfOk}
-use Rattle.std.proofs.Common.{refl, arith, ap, ◌∙◌, subst, sym, add-one, ◌⊎◌, inl, inr}
+use Rattle.std.proofs.Common.{refl, arith, ap, ◌∙◌, subst, sym, add-one, ◌⊎◌, inl, inr, IsTrue}
+use Rattle.std.proofs.Common.{IsFalse}
 use Rattle.std.proofs.lemmas.Bool.{cases_lt}
 use Rattle.vcs_machine.specs.Pictures.{Rows}
 use Rattle.replay_segments.specs.declared.gathering.GatherError.{GatherError}
@@ -14,36 +15,36 @@ use Rattle.replay_segments.specs.declared.verdict.Verdict.TheVariants.{Fault}
 use Rattle.replay_segments.specs.Private.Finding.{ArePassedBelow, IsFirstUnpassed, IsAnswer}
 use Rattle.replay_segments.specs.Gathering.{NamesAll, HasPassed, PassedBelow, IsMissing, AllRefused}
 use Rattle.replay_segments.specs.Gathering.{IsFirstMissing, IsFirstRefused, picture_count}
-use Rattle.replay_segments.specs.Pieces.{PieceData, Job, IsPassed, segments_of}
+use Rattle.replay_segments.specs.Pieces.{PieceData, Job, passed, segments_of}
 use Rattle.replay_segments.specs.Verdicts.{IsVerdict}
 use Rattle.replay_segments.proofs.Composition.{IsPrefix, IsPrefix-start, IsPrefix-next}
 use Rattle.replay_segments.proofs.Composition.{IsVerdict-bad}
 use Rattle.replay_segments.proofs.TakeLemmas.{of_job}
 
-passed_frames : (o : Outcome) → IsPassed o → (frames : List Rows) × (o ≡ Judged (Genuine frames))
-passed_frames (Judged (Genuine frames)) passed = (frames, refl)
-passed_frames (Judged (FalseCheckpoint number frame)) passed = absurd passed
-passed_frames (Judged (Fault frame kind)) passed = absurd passed
-passed_frames NoMemoryOutcome passed = absurd passed
+passed_pictures : (o : Outcome) → IsTrue (passed o) → (kept : List Rows) × (o ≡ Judged (Genuine kept))
+passed_pictures (Judged (Genuine kept)) good = (kept, refl)
+passed_pictures (Judged (FalseCheckpoint number frame)) good = absurd cc
+passed_pictures (Judged (Fault frame kind)) good = absurd cc
+passed_pictures NoMemoryOutcome good = absurd cc
 
 -- Segments that passed are a genuine beginning.
-prefix_of : (job : Job) (pieces : List PieceData) → NamesAll job pieces → (number : ℕ) → ArePassedBelow pieces number → (frames : List Rows) × IsPrefix job number frames
+prefix_of : (job : Job) (pieces : List PieceData) → NamesAll job pieces → (number : ℕ) → ArePassedBelow pieces number → (kept : List Rows) × IsPrefix job number kept
 prefix_of job pieces names zero below = ([], IsPrefix-start job)
 prefix_of job pieces names (suc k) below =
-    let (frames, begun) = prefix_of job pieces names k (λ j less. below j (omega arith)) in
-    let (i, (p, at, is, passed, lawful)) = below k (omega arith) in
-    let (more, judged) = passed_frames p.outcome passed in
+    let (kept, begun) = prefix_of job pieces names k (λ j less. below j (omega arith)) in
+    let (i, (p, at, is, good, lawful)) = below k (omega arith) in
+    let (more, judged) = passed_pictures p.outcome good in
     let of = of_job job pieces i p k (Genuine more) names at is judged lawful in
-    (frames ++ more, subst (λ (n : ℕ). IsPrefix job n (frames ++ more)) (add-one k) (IsPrefix-next job k frames more of.0 of.1 begun of.2))
+    (kept ++ more, subst (λ (n : ℕ). IsPrefix job n (kept ++ more)) (add-one k) (IsPrefix-next job k kept more of.0 of.1 begun of.2))
 
 pub PassedBelow-found : (pieces : List PieceData) (n : ℕ) → ArePassedBelow pieces n → PassedBelow pieces n
-PassedBelow-found pieces n below k less = let (i, (p, at, is, passed, lawful)) = below k less in (i, p, at, is, passed)
+PassedBelow-found pieces n below k less = let (i, (p, at, is, good, lawful)) = below k less in (i, p, at, is, good)
 
 missing_none : (pieces : List PieceData) (k : ℕ) → IsMissing pieces k → HasPassed pieces k → ⊥
-missing_none pieces k missing (i, p, at, is, passed) = missing i p at is
+missing_none pieces k missing (i, p, at, is, good) = missing i p at is
 
 refused_none : (pieces : List PieceData) (k : ℕ) → AllRefused pieces k → HasPassed pieces k → ⊥
-refused_none pieces k refused (i, p, at, is, passed) = subst (λ (o : Outcome). IsPassed o) (refused i p at is) passed
+refused_none pieces k refused (i, p, at, is, good) = let none = refused i p at is in absurd cc
 
 -- Where each number has a piece that passed, none is missing and none is without memory.
 module _ (pieces : List PieceData) (n : ℕ) (all : PassedBelow pieces n) where
@@ -54,13 +55,13 @@ module _ (pieces : List PieceData) (n : ℕ) (all : PassedBelow pieces n) where
   none_refused k (less, has, refused, _) = refused_none pieces k refused (all k less)
 
 module _ (pieces : List PieceData) (n number : ℕ) (first : IsFirstUnpassed pieces n number) where
-  passed : PassedBelow pieces number
-  passed = PassedBelow-found pieces number first.below
+  passed_below : PassedBelow pieces number
+  passed_below = PassedBelow-found pieces number first.below
 
   same_first : (k : ℕ) → (HasPassed pieces k → ⊥) → PassedBelow pieces k → k ≡ number
   same_first k none below =
       elim (cases_lt k number) [
-        | inl less ↦ absurd (none (passed k less))
+        | inl less ↦ absurd (none (passed_below k less))
         | inr ge ↦ elim (cases_lt number k) [ inl less ↦ absurd (first.none (below number less)) | inr le ↦ omega arith ]
       ]
 
@@ -76,9 +77,9 @@ module _ (pieces : List PieceData) (n number : ℕ) (first : IsFirstUnpassed pie
   pub verdict-answer : (r : Result Verdict GatherError) → IsAnswer pieces number r
       → IfOk r (λ v. (job : Job) → NamesAll job pieces → n ≡ segments_of job → IsVerdict job.movie job.keep v)
   verdict-answer (Ok v) (i, p, at, is, judged, bad, lawful) = λ job names whole.
-      let (frames, begun) = prefix_of job pieces names number first.below in
+      let (kept, begun) = prefix_of job pieces names number first.below in
       let of = of_job job pieces i p number v names at is judged lawful in
-      IsVerdict-bad job number frames v of.0 of.1 begun of.2 bad
+      IsVerdict-bad job number kept v of.0 of.1 begun of.2 (subst (λ (o : Outcome). IsFalse (passed o)) judged bad)
   verdict-answer (Err e) answer = tt
 
   pub missing-answer : (r : Result Verdict GatherError) → IsAnswer pieces number r → (k : ℕ) → (r ≡ Err (Missing k)) ↔ IsFirstMissing pieces n k
@@ -86,7 +87,7 @@ module _ (pieces : List PieceData) (n number : ℕ) (first : IsFirstUnpassed pie
   missing-answer (Err (Missing j)) (here, missing) k = (
     λ e.
         let same : number ≡ k = cc in
-        subst (λ (x : ℕ). IsFirstMissing pieces n x) same (first.within, missing, passed),
+        subst (λ (x : ℕ). IsFirstMissing pieces n x) same (first.within, missing, passed_below),
     λ other. let same = (missing_here k other).1 in ap (λ (x : ℕ). Err (Missing x)) (here ∙ sym same),
   )
   missing-answer (Err NoMemory) ((i, p, at, is), refused) k = (λ e. absurd cc, λ missing. absurd ((missing_here k missing).0 i p at is))
@@ -101,4 +102,4 @@ module _ (pieces : List PieceData) (n number : ℕ) (first : IsFirstUnpassed pie
       → ((k : ℕ) × IsFirstRefused pieces n k) ⊎ (PassedBelow pieces n × (0 < picture_count pieces))
   memory-answer (Ok v) answer e = absurd cc
   memory-answer (Err (Missing j)) answer e = absurd cc
-  memory-answer (Err NoMemory) (has, refused) e = inl (number, (first.within, has, refused, passed))
+  memory-answer (Err NoMemory) (has, refused) e = inl (number, (first.within, has, refused, passed_below))

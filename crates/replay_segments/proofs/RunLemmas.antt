@@ -27,21 +27,21 @@ module _ (m : MovieData) (start : StateFields) (from k : ℕ) (state new : State
   AllSound-next : AllSound m start from k → ClaimsHold m (from + k + 1) new → AllSound m start from (k + 1)
   AllSound-next sound claims = below_more (λ (i : ℕ). IsSound m start from i) k sound (new, run-next, claims)
 
-pub SoFar-next : (m : MovieData) (keep : Keep) (start : StateFields) (from k : ℕ) (state new : StateFields) (rows : Rows) (frames out : List Rows)
-    → SoFar m keep start from k state frames → frame_after m (from + k) state ≡ Some (Played new rows) → ClaimsHold m (from + k + 1) new
-    → out ≡ frames ++ (if is_kept keep (from + k + 1) then rows ∷ [] else []) → SoFar m keep start from (k + 1) new out
-SoFar-next m keep start from k state new rows frames out far ends claims is = record {
+pub SoFar-next : (m : MovieData) (keep : Keep) (start : StateFields) (from k : ℕ) (state new : StateFields) (rows : Rows) (kept out : List Rows)
+    → SoFar m keep start from k state kept → frame_after m (from + k) state ≡ Some (Played new rows) → ClaimsHold m (from + k + 1) new
+    → out ≡ kept ++ (if is_kept keep (from + k + 1) then rows ∷ [] else []) → SoFar m keep start from (k + 1) new out
+SoFar-next m keep start from k state new rows kept out far ends claims is = record {
   state_is = run-next m start from k state new rows far.state_is ends;
   sound = AllSound-next m start from k state new rows far.state_is ends far.sound claims;
-  frames_are = is ∙ (ap (λ (xs : List Rows). xs ++ (if is_kept keep (from + k + 1) then rows ∷ [] else [])) far.frames_are
+  kept_are = is ∙ (ap (λ (xs : List Rows). xs ++ (if is_kept keep (from + k + 1) then rows ∷ [] else [])) far.kept_are
       ∙ sym (pictures-next m start from k state new rows far.state_is ends keep));
 }
 
 -- A frame that ends, and after which a checkpoint is false, is the first that is not sound.
-pub IsJudged-false : (m : MovieData) (keep : Keep) (start : StateFields) (from k len : ℕ) (state new : StateFields) (next : ℕ) (rows : Rows) (frames : List Rows)
-    → SoFar m keep start from k state frames → frame_after m (from + k) state ≡ Some (Played new rows) → k < len
+pub IsJudged-false : (m : MovieData) (keep : Keep) (start : StateFields) (from k len : ℕ) (state new : StateFields) (next : ℕ) (rows : Rows) (kept : List Rows)
+    → SoFar m keep start from k state kept → frame_after m (from + k) state ≡ Some (Played new rows) → k < len
     → IsClaim m next (from + k + 1) new None → IsJudged m keep start from len (FalseCheckpoint (next + 1) (from + k + 1))
-IsJudged-false m keep start from k len state new next rows frames far ends less claim = (
+IsJudged-false m keep start from k len state new next rows kept far ends less claim = (
   k,
   less,
   refl,

@@ -12,7 +12,7 @@ use Rattle.replay_segments.specs.declared.verdict.Verdict.TheVariants.{Genuine}
 use Rattle.replay_segments.specs.Private.Finding.{IsPassedAt, IsTaken}
 use Rattle.replay_segments.specs.Gathering.{NamesAll, HasPassed}
 use Rattle.replay_segments.specs.Pieces.{PieceData, IsPiece, IsOutcome, Job, IsJob, segments_of}
-use Rattle.replay_segments.specs.Pieces.{frames_in}
+use Rattle.replay_segments.specs.Pieces.{outcome_pictures}
 use Rattle.replay_segments.specs.Segments.{IsSegment}
 use Rattle.replay_segments.proofs.ListLemmas.{same_at, All-at, slice_get-set_other}
 
@@ -27,19 +27,19 @@ of_job job pieces i p number v names at is judged lawful =
     let four : number < segments_of job = subst (λ (j : Job). number < segments_of j) same (subst (λ (n : ℕ). n < segments_of p.job) is lawful.number) in
     (subst (λ (j : Job). IsJob j) same lawful.job, four, three)
 
-pub IsTaken-set : (old : List PieceData) (number i : ℕ) (q x : PieceData) (frames : List Rows) → IsPassedAt old number i → slice_get old i ≡ Some q
-    → q.outcome ≡ Judged (Genuine frames) → x ≡ record { number = q.number; outcome = NoMemory; job = q.job } → IsPiece q
-    → IsTaken old number frames (slice_set old i x)
-IsTaken-set old number i q x frames (p, at, is, passed, _) here genuine new lawful =
+pub IsTaken-set : (old : List PieceData) (number i : ℕ) (q x : PieceData) (kept : List Rows) → IsPassedAt old number i → slice_get old i ≡ Some q
+    → q.outcome ≡ Judged (Genuine kept) → x ≡ record { number = q.number; outcome = NoMemory; job = q.job } → IsPiece q
+    → IsTaken old number kept (slice_set old i x)
+IsTaken-set old number i q x kept (p, at, is, passed, _) here genuine new lawful =
     let same = same_at old i i q p refl here at in
     let number_is : q.number ≡ number = ap (λ (y : PieceData). y.number) same ∙ is in
     let within = slice_get_within old i q here in
-    let sums = sum_by-set (λ (y : PieceData). frames_in y.outcome) old i x q within in
+    let sums = sum_by-set (λ (y : PieceData). outcome_pictures y.outcome) old i x q within in
     let there = get_or_from_slice_get old i q q here in
-    let had : frames_in (get_or old i q).outcome ≡ length frames = ap (λ (y : PieceData). frames_in y.outcome) there ∙ ap frames_in genuine in
-    let has : frames_in x.outcome ≡ 0 = ap (λ (y : PieceData). frames_in y.outcome) new in
+    let had : outcome_pictures (get_or old i q).outcome ≡ length kept = ap (λ (y : PieceData). outcome_pictures y.outcome) there ∙ ap outcome_pictures genuine in
+    let has : outcome_pictures x.outcome ≡ 0 = ap (λ (y : PieceData). outcome_pictures y.outcome) new in
     record {
-      of = λ job names. of_job job old i q number (Genuine frames) names here number_is genuine lawful;
+      of = λ job names. of_job job old i q number (Genuine kept) names here number_is genuine lawful;
       names = λ job names.
           let q_is : q.job ≡ job = All-at (λ (y : PieceData). y.job ≡ job) old i q here names in
           All-set (λ (y : PieceData). y.job ≡ job) old i x (ap (λ (y : PieceData). y.job) new ∙ q_is) names;

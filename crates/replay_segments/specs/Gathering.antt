@@ -1,8 +1,8 @@
 -- What is said of pieces that are gathered, in any order of arrival and with repeats. This
 -- project's own.
-use Rattle.std.specs.Prelude.{ℕ, ◌<◌, ◌≡◌, ◌≢◌, List, All, Some, slice_get, sum_by}
+use Rattle.std.specs.Prelude.{ℕ, ◌<◌, ◌≡◌, ◌≢◌, IsTrue, List, All, Some, slice_get, sum_by}
 use Rattle.replay_segments.specs.declared.outcome.Outcome.TheVariants.{NoMemory}
-use Rattle.replay_segments.specs.Pieces.{PieceData, Job, IsPassed, frames_in}
+use Rattle.replay_segments.specs.Pieces.{PieceData, Job, passed, outcome_pictures}
 
 -- All pieces are of one movie, with the same cuts, and keep the same frames.
 abbrev pub NamesAll : Job → List PieceData → Type 0
@@ -16,7 +16,7 @@ HasNumber pieces number =
 -- There is one of this number that passed.
 abbrev pub HasPassed : List PieceData → ℕ → Type 0
 HasPassed pieces number =
-    (i : ℕ) × (p : PieceData) × (slice_get pieces i ≡ Some p) × (p.number ≡ number) × IsPassed p.outcome
+    (i : ℕ) × (p : PieceData) × (slice_get pieces i ≡ Some p) × (p.number ≡ number) × IsTrue (passed p.outcome)
 
 -- Each smaller number has one that passed.
 abbrev pub PassedBelow : List PieceData → ℕ → Type 0
@@ -42,4 +42,4 @@ IsFirstRefused pieces n k = (k < n) × HasNumber pieces k × AllRefused pieces k
 
 -- How many pictures the pieces have.
 abbrev pub picture_count : List PieceData → ℕ
-picture_count pieces = sum_by (λ (p : PieceData). frames_in p.outcome) pieces
+picture_count pieces = sum_by (λ (p : PieceData). outcome_pictures p.outcome) pieces

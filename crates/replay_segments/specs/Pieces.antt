@@ -1,5 +1,5 @@
 -- What a piece is to contracts. This project's own.
-use Rattle.std.specs.Prelude.{ℕ, ◌+◌, ◌<◌, ◌≤◌, ◌≡◌, true, List, length}
+use Rattle.std.specs.Prelude.{ℕ, ◌+◌, ◌<◌, ◌≤◌, ◌≡◌, Bool, true, false, List, length}
 use Rattle.movie_file.specs.Movie.{MovieData, IsMovie}
 use Rattle.replay_plan.specs.declared.keep.Keep.{Keep}
 use Rattle.replay_segments.specs.declared.outcome.Outcome.{Outcome}
@@ -43,12 +43,12 @@ pub record IsPiece (p : PieceData) : Type 0 where
   pub number : p.number < segments_of p.job
   pub outcome : IsOutcome p.job p.number p.outcome
 
--- The segment passed.
-abbrev pub IsPassed : Outcome → Type 0
-IsPassed (Judged (Genuine frames)) = Unit {0}
-IsPassed (Judged (FalseCheckpoint number frame)) = ⊥
-IsPassed (Judged (Fault frame kind)) = ⊥
-IsPassed NoMemory = ⊥
+-- Whether the segment passed: its verdict is genuine.
+abbrev pub passed : Outcome → Bool
+passed (Judged (Genuine kept)) = true
+passed (Judged (FalseCheckpoint number frame)) = false
+passed (Judged (Fault frame kind)) = false
+passed NoMemory = false
 
 -- Some frame of the segment is kept.
 abbrev pub HasKept : Job → ℕ → Type 0
@@ -57,8 +57,8 @@ HasKept job number =
     × (is_kept job.keep frame ≡ true)
 
 -- How many pictures an outcome has.
-abbrev pub frames_in : Outcome → ℕ
-frames_in (Judged (Genuine frames)) = length frames
-frames_in (Judged (FalseCheckpoint number frame)) = 0
-frames_in (Judged (Fault frame kind)) = 0
-frames_in NoMemory = 0
+abbrev pub outcome_pictures : Outcome → ℕ
+outcome_pictures (Judged (Genuine kept)) = length kept
+outcome_pictures (Judged (FalseCheckpoint number frame)) = 0
+outcome_pictures (Judged (Fault frame kind)) = 0
+outcome_pictures NoMemory = 0

@@ -3,7 +3,7 @@ use Rattle.std.specs.Prelude.{ℕ, ◌+◌, ◌-◌, ◌/◌, [], Option, slice_
 use Rattle.std.specs.Option.{option_map}
 use Rattle.vcs_machine.specs.Consoles.{console_rules, with_pixel_logged}
 use Rattle.vcs_machine.specs.Frame.{machine_at, stop_of}
-use Rattle.vcs_machine.specs.Inputs.{Controls}
+use Rattle.vcs_machine.specs.Inputs.{InputData}
 use Rattle.vcs_machine.specs.Outcomes.{machine_of, state_left}
 use Rattle.vcs_machine.specs.States.{line_cycle_of}
 use Rattle.vcs_machine.specs.declared.fields.StateFields.{StateFields}
@@ -13,7 +13,7 @@ use Rattle.replay_segments.specs.declared.run_states.LeftState.{LeftState}
 
 -- What a frame leaves from a state with an input: the state in which it stops, and the scanline of
 -- the beam there, counted from the one in which it began. A scanline has 76 cycles.
-abbrev pub left_by_frame : MovieData → StateFields → Controls → LeftState
+abbrev pub left_by_frame : MovieData → StateFields → InputData → LeftState
 left_by_frame m state input =
     let here = machine_at (stop_of (console_rules with_pixel_logged) (machine_of m.cart state input [])) in
     record { state = state_left here; scanline = (line_cycle_of state + here.cycles) / 76 }

@@ -14,8 +14,8 @@ use Rattle.replay_segments.specs.KeptPictures.{pictures}
 -- fault, since a frame that faults has no state after it. Where there is no such frame they are
 -- genuine, with the kept pictures.
 abbrev pub IsJudged : MovieData → Keep → StateFields → ℕ → ℕ → Verdict → Type 0
-IsJudged m keep start from len (Genuine frames) =
-    AllSound m start from len × (frames ≡ pictures m keep start from len)
+IsJudged m keep start from len (Genuine kept) =
+    AllSound m start from len × (kept ≡ pictures m keep start from len)
 IsJudged m keep start from len (FalseCheckpoint number frame) =
     (k : ℕ) × (k < len) × (frame ≡ from + k + 1) × AllSound m start from k × IsFalseAt m start from k number
 IsJudged m keep start from len (Fault frame kind) =

@@ -43,7 +43,7 @@ pub fn gather(alloc: Global, pieces: Vec<Piece>, n: u32) -> Result<Verdict, Gath
         return answer_of(arrived, number);
     }
     match all_pictures(alloc, pieces, n) {
-        Ok(frames) => Ok(Verdict::Genuine { frames }),
+        Ok(pictures) => Ok(Verdict::Genuine { pictures }),
         Err(AllocError) => Err(GatherError::NoMemory),
     }
 }

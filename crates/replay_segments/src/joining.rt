@@ -20,7 +20,7 @@ fn take_passed(pieces: &mut Vec<Piece>, number: u32) -> Pictures
         unreachable!()
     };
     let piece = &mut pieces[i];
-    piece.take_frames()
+    piece.take_pictures()
 }
 
 /// How many pictures the pieces have, or None for more than can be counted.
@@ -30,7 +30,7 @@ fn pictures_in(pieces: &[Piece]) -> Option<usize>
 {
     let mut n = 0usize;
     for piece in pieces {
-        n = n.checked_add(piece.frames_len())?;
+        n = n.checked_add(piece.pictures_len())?;
     }
     Some(n)
 }
@@ -42,8 +42,8 @@ pub(crate) fn all_pictures(
     n: u32,
 ) -> Result<Pictures, AllocError>
     requires { PassedBelow pieces.items n }
-    ensures frames { IfOk result (λ frames. (job : Job) → NamesAll job pieces.items
-        → n ≡ segments_of job → IsVerdict job.movie job.keep (Verdict.Genuine frames)) }
+    ensures pictures { IfOk result (λ kept. (job : Job) → NamesAll job pieces.items
+        → n ≡ segments_of job → IsVerdict job.movie job.keep (Verdict.Genuine kept)) }
     ensures refused { OnErr result (0 < picture_count pieces.items) }
 {
     let Some(room) = pictures_in(pieces.as_slice()) else {

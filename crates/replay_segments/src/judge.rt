@@ -114,7 +114,7 @@ pub(crate) fn judge_frames(
         next = after;
     }
     Ok(Verdict::Genuine {
-        frames: Pictures::new(pictures),
+        pictures: Pictures::new(pictures),
     })
 }
 

@@ -1,5 +1,5 @@
 //! Pieces: segments with their outcomes.
-ghost use Rattle.std.specs.Prelude.{◌≡◌, ◌↔◌, IsTrue, IfSome, IfNone};
+ghost use Rattle.std.specs.Prelude.{◌≡◌, IsTrue, IsFalse, IfSome, IfNone};
 
 use crate::cuts::Cuts;
 use crate::outcome::Outcome;
@@ -42,8 +42,7 @@ impl Model for Piece {
 }
 
 impl Piece {
-    ghost use Rattle.replay_segments.specs.Pieces.{IsPiece, IsPassed, frames_in};
-    ghost use Rattle.replay_segments.specs.Private.Finding.{IsBad, MayPass};
+    ghost use Rattle.replay_segments.specs.Pieces.{IsPiece, passed, outcome_pictures};
 
     /// The number of its segment, from 0.
     pub fn number(&self) -> u32
@@ -55,15 +54,15 @@ impl Piece {
 
     /// Whether the segment passed.
     pub fn passed(&self) -> bool
-        ensures { IsTrue result ↔ IsPassed self.now.outcome }
+        ensures { result ≡ passed self.now.outcome }
     {
         matches!(self.outcome, Outcome::Judged(Verdict::Genuine { .. }))
     }
 
     /// The verdict of a segment that did not pass.
     pub(crate) fn bad(&self) -> Option<Verdict>
-        ensures bad { IfSome result (λ v. (self.now.outcome ≡ Outcome.Judged v) × IsBad v) }
-        ensures good { IfNone result (MayPass self.now.outcome) }
+        ensures bad { IfSome result (λ v. (self.now.outcome ≡ Outcome.Judged v) × IsFalse (passed self.now.outcome)) }
+        ensures good { IfNone result (IsFalse (passed self.now.outcome) → self.now.outcome ≡ Outcome.NoMemory) }
         ensures lawful { IsPiece self.now }
     {
         match &self.outcome {
@@ -83,24 +82,24 @@ impl Piece {
     }
 
     /// How many pictures it has.
-    pub(crate) fn frames_len(&self) -> usize
-        ensures { result ≡ frames_in self.now.outcome }
+    pub(crate) fn pictures_len(&self) -> usize
+        ensures { result ≡ outcome_pictures self.now.outcome }
     {
         match &self.outcome {
-            Outcome::Judged(Verdict::Genuine { frames }) => frames.len(),
+            Outcome::Judged(Verdict::Genuine { pictures }) => pictures.len(),
             _ => 0,
         }
     }
 
     /// Takes the pictures of a segment that passed.
-    pub(crate) fn take_frames(&mut self) -> Pictures
-        requires { IsPassed self.old.outcome }
-        ensures frames { self.old.outcome ≡ Outcome.Judged (Verdict.Genuine result) }
+    pub(crate) fn take_pictures(&mut self) -> Pictures
+        requires { IsTrue (passed self.old.outcome) }
+        ensures pictures { self.old.outcome ≡ Outcome.Judged (Verdict.Genuine result) }
         ensures rest { self.new ≡ record self.old { outcome = Outcome.NoMemory } }
         ensures lawful { IsPiece self.old }
     {
         match mem::replace(&mut self.outcome, Outcome::NoMemory) {
-            Outcome::Judged(Verdict::Genuine { frames }) => frames,
+            Outcome::Judged(Verdict::Genuine { pictures }) => pictures,
             _ => unreachable!(),
         }
     }

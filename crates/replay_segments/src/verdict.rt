@@ -7,7 +7,7 @@ use vcs_machine::{FaultKind, Pictures};
 #[derive(Drop)]
 pub enum Verdict {
     /// Its one unbroken run reaches its end through every checkpoint; these are the kept pictures.
-    Genuine { frames: Pictures },
+    Genuine { pictures: Pictures },
     /// The checkpoint of this number, from 1, claims another state than that after the frame.
     FalseCheckpoint { number: u16, frame: u32 },
     /// The frame of this number, from 1, faults.
@@ -20,9 +20,8 @@ impl Verdict {
         ensures { IsTrue result ↔ (self.now ≡ other.now) }
     {
         match (self, other) {
-            (Verdict::Genuine { frames }, Verdict::Genuine { frames: others }) => frames.equals(
-                others,
-            ),
+            (Verdict::Genuine { pictures }, Verdict::Genuine { pictures: others }) =>
+                pictures.equals(others),
             (
                 Verdict::FalseCheckpoint { number, frame },
                 Verdict::FalseCheckpoint {

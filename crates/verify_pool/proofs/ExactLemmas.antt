@@ -1,17 +1,14 @@
 -- What the steps of a worker do to its pieces, beside its ticket's part.
 use Rattle.std.proofs.Common.{◌≡◌, ℕ, ◌+◌, ◌-◌, ◌<◌, ◌≤◌, if◌then◌else◌, nat_lt, List, [], ◌∷◌}
 use Rattle.std.proofs.Common.{◌++◌, refl, sym, ap, ◌∙◌, subst, arith, lt_of_not-le, Option, Some}
-use Rattle.std.proofs.Common.{None}
+use Rattle.std.proofs.Common.{None, Bool, true, false}
 use Rattle.std.proofs.lemmas.List.{map-append}
 use Rattle.std.proofs.lemmas.List.Elements.{All-push, All-append}
 use Rattle.std.proofs.lemmas.Grind.{flat_map-append}
 use mathlib.Core.Logic.{dite}
 use native.Mathlib.Decide.{dec_le}
-use Rattle.replay_segments.specs.declared.outcome.Outcome.{Outcome}
-use Rattle.replay_segments.specs.declared.outcome.Outcome.TheVariants.{Judged, NoMemory}
-use Rattle.replay_segments.specs.declared.verdict.Verdict.TheVariants.{Genuine, FalseCheckpoint}
-use Rattle.replay_segments.specs.declared.verdict.Verdict.TheVariants.{Fault}
-use Rattle.replay_segments.specs.Pieces.{PieceData, Job, IsPassed, HasKept}
+use Rattle.replay_segments.specs.declared.outcome.Outcome.TheVariants.{NoMemory}
+use Rattle.replay_segments.specs.Pieces.{PieceData, Job, passed, HasKept}
 use Rattle.segment_desk.specs.declared.part.Part.{Part}
 use Rattle.segment_desk.specs.Desk.{times, with_number, with_drawn, at_end, look_at, report_at}
 use Rattle.segment_desk.specs.Desk.{with_handed_in}
@@ -34,31 +31,15 @@ added : (k : ℕ) (xs : List ℕ) → times k xs ≡ 0 → with_number k xs ≡ 
 added k xs none = tested (λ (ys : List ℕ). ys ≡ xs ++ k ∷ []) 0 (times k xs) xs (xs ++ k ∷ []) (λ some. absurd (omega arith)) (λ _. refl)
 
 -- What a replay reports of its own number, beside what was reported before.
-reports : (o : Outcome) (k : ℕ) (old new : Part) → times k old.reported ≡ 0 → IsReplayed o k old new
-    → (j : ℕ) → times j new.reported ≡ times j old.reported + times j (if_bad k o)
-reports (Judged (Genuine frames)) k old new none is j = omega (arith, ap (λ (v : Part). times j v.reported) is)
-reports (Judged (FalseCheckpoint n frame)) k old new none is j = omega (arith, ap (λ (v : Part). times j v.reported) is.1, ap (times j) (added k old.reported none), times-append j old.reported (k ∷ []))
-reports (Judged (Fault frame kind)) k old new none is j = omega (arith, ap (λ (v : Part). times j v.reported) is.1, ap (times j) (added k old.reported none), times-append j old.reported (k ∷ []))
-reports NoMemory k old new none is j = omega (arith, ap (λ (v : Part). times j v.reported) is.1, ap (times j) (added k old.reported none), times-append j old.reported (k ∷ []))
+reports : (good : Bool) (k : ℕ) (old new : Part) → times k old.reported ≡ 0 → IsReplayed good k old new
+    → (j : ℕ) → times j new.reported ≡ times j old.reported + times j (if good then [] else k ∷ [])
+reports true k old new none is j = omega (arith, ap (λ (v : Part). times j v.reported) is)
+reports false k old new none is j = omega (arith, ap (λ (v : Part). times j v.reported) is.1, ap (times j) (added k old.reported none), times-append j old.reported (k ∷ []))
 
 -- It changes nothing that is said of other fields.
-pub replay_keeps : {A : Type 0} (f : Part → A) → ((x k : ℕ) (v : Part) → f (report_at x k v) ≡ f v) → (o : Outcome) (k : ℕ) (old new : Part) → IsReplayed o k old new → f new ≡ f old
-replay_keeps f same (Judged (Genuine frames)) k old new is = ap f is
-replay_keeps f same (Judged (FalseCheckpoint n frame)) k old new is = ap f is.1 ∙ same is.0 k old
-replay_keeps f same (Judged (Fault frame kind)) k old new is = ap f is.1 ∙ same is.0 k old
-replay_keeps f same NoMemory k old new is = ap f is.1 ∙ same is.0 k old
-
-pub replayed_passed : (o : Outcome) (k : ℕ) (old new : Part) → IsPassed o → new ≡ old → IsReplayed o k old new
-replayed_passed (Judged (Genuine frames)) k old new good is = is
-replayed_passed (Judged (FalseCheckpoint n frame)) k old new good is = absurd good
-replayed_passed (Judged (Fault frame kind)) k old new good is = absurd good
-replayed_passed NoMemory k old new good is = absurd good
-
-pub replayed_bad : (o : Outcome) (k x : ℕ) (old new : Part) → (IsPassed o → ⊥) → new ≡ report_at x k old → IsReplayed o k old new
-replayed_bad (Judged (Genuine frames)) k x old new bad is = absurd (bad tt)
-replayed_bad (Judged (FalseCheckpoint n frame)) k x old new bad is = (x, is)
-replayed_bad (Judged (Fault frame kind)) k x old new bad is = (x, is)
-replayed_bad NoMemory k x old new bad is = (x, is)
+pub replay_keeps : {A : Type 0} (f : Part → A) → ((x k : ℕ) (v : Part) → f (report_at x k v) ≡ f v) → (good : Bool) (k : ℕ) (old new : Part) → IsReplayed good k old new → f new ≡ f old
+replay_keeps f same true k old new is = ap f is
+replay_keeps f same false k old new is = ap f is.1 ∙ same is.0 k old
 
 -- A worker draws k, which is above all that its ticket drew before.
 module _ (job : Job) (pieces : List PieceData) (v : Part) (k : ℕ) (exact : IsExact job v pieces) (known : IsKnown v) (above : (j : ℕ) → 0 < times j v.drawn → j < k) where
@@ -79,16 +60,16 @@ module _ (job : Job) (pieces : List PieceData) (v : Part) (k : ℕ) (exact : IsE
 
   -- Else it gets a piece.
   pub exact_more : (x : ℕ) (old new : Part) (p : PieceData) → k ≤ x → old ≡ look_at x (with_drawn k v) → p.number ≡ k → p.job ≡ job → (p.outcome ≡ NoMemory → HasKept job k)
-      → IsReplayed p.outcome k old new → IsExact job new (pieces ++ p ∷ [])
+      → IsReplayed (passed p.outcome) k old new → IsExact job new (pieces ++ p ∷ [])
   exact_more x old new p le is number of wants replayed = let unreported : times k v.reported ≡ 0 = omega (arith, known.reports k, undrawn) in
       let stays : (if nat_lt x k then with_number k v.passed_over else v.passed_over) ≡ v.passed_over =
       tested (λ (ys : List ℕ). ys ≡ v.passed_over) x k (with_number k v.passed_over) v.passed_over (λ lt. absurd (omega arith)) (λ _. refl) in
-      let passed : new.passed_over ≡ v.passed_over = replay_keeps (λ (u : Part). u.passed_over) (λ _ _ _. refl) p.outcome k old new replayed ∙ (ap (λ (u : Part). u.passed_over) is ∙ stays) in
-      let drawn : new.drawn ≡ v.drawn ++ k ∷ [] = replay_keeps (λ (u : Part). u.drawn) (λ _ _ _. refl) p.outcome k old new replayed ∙ ap (λ (u : Part). u.drawn) is in
+      let over : new.passed_over ≡ v.passed_over = replay_keeps (λ (u : Part). u.passed_over) (λ _ _ _. refl) (passed p.outcome) k old new replayed ∙ (ap (λ (u : Part). u.passed_over) is ∙ stays) in
+      let drawn : new.drawn ≡ v.drawn ++ k ∷ [] = replay_keeps (λ (u : Part). u.drawn) (λ _ _ _. refl) (passed p.outcome) k old new replayed ∙ ap (λ (u : Part). u.drawn) is in
       let before : old.reported ≡ v.reported = ap (λ (u : Part). u.reported) is in
-      let told = reports p.outcome k old new (ap (times k) before ∙ unreported) replayed in record {
+      let told = reports (passed p.outcome) k old new (ap (times k) before ∙ unreported) replayed in record {
         names = All-push (λ (q : PieceData). q.job ≡ job) pieces p exact.names of;
-        pieces_of = λ j. omega (arith, exact.pieces_of j, times-numbers j pieces (p ∷ []), ap (λ (n : ℕ). times j (n ∷ [])) number, ap (times j) passed, ap (times j) drawn, times-append j v.drawn (k ∷ []));
+        pieces_of = λ j. omega (arith, exact.pieces_of j, times-numbers j pieces (p ∷ []), ap (λ (n : ℕ). times j (n ∷ [])) number, ap (times j) over, ap (times j) drawn, times-append j v.drawn (k ∷ []));
         reports_of = λ j. omega (arith, exact.reports_of j, times-bad j pieces (p ∷ []), times-append j (if_bad p.number p.outcome) [], ap (λ (n : ℕ). times j (if_bad n p.outcome)) number, told j, ap (times j) before);
         memory = All-push WantsMemoryForPictures pieces p exact.memory (λ none. subst (λ (j : Job). HasKept j p.number) (sym of) (subst (HasKept job) (sym number) (wants none)));
       }

@@ -1,13 +1,11 @@
 -- The pieces of a hand that stands for all tickets and has ended miss no number up to the first bad
 -- one.
 use Rattle.std.proofs.Common.{◌≡◌, ℕ, zero, suc, ◌+◌, ◌<◌, ◌≤◌, List, [], ◌∷◌, Some, slice_get}
-use Rattle.std.proofs.Common.{refl, ap, sym, ◌∙◌, arith}
+use Rattle.std.proofs.Common.{refl, ap, sym, ◌∙◌, arith, Bool, true, false, if◌then◌else◌}
+use Rattle.std.proofs.Common.{IsTrue}
 use Rattle.replay_segments.specs.declared.outcome.Outcome.{Outcome}
-use Rattle.replay_segments.specs.declared.outcome.Outcome.TheVariants.{Judged, NoMemory}
-use Rattle.replay_segments.specs.declared.verdict.Verdict.TheVariants.{Genuine, FalseCheckpoint}
-use Rattle.replay_segments.specs.declared.verdict.Verdict.TheVariants.{Fault}
 use Rattle.replay_segments.specs.Gathering.{IsMissing, IsFirstMissing}
-use Rattle.replay_segments.specs.Pieces.{PieceData, Job, IsPassed}
+use Rattle.replay_segments.specs.Pieces.{PieceData, Job, passed}
 use Rattle.verify_pool.specs.declared.hand.Hand.{Hand}
 use Rattle.verify_pool.specs.Crew.{IsWorked}
 use Rattle.segment_desk.specs.Desk.{times}
@@ -24,23 +22,21 @@ missing-none k [] missing = refl
 missing-none k (p ∷ ps) missing = omega (arith, times-numbers-cons k p ps, times-other k p.number (missing 0 p refl), missing-none k ps (λ i q at. missing (suc i) q at))
 
 bad_one : (k number : ℕ) (o : Outcome) → times k (if_bad number o) ≤ times k (number ∷ [])
-bad_one k number (Judged (Genuine frames)) = omega arith
-bad_one k number (Judged (FalseCheckpoint n frame)) = omega arith
-bad_one k number (Judged (Fault frame kind)) = omega arith
-bad_one k number NoMemory = omega arith
+bad_one k number o = of (passed o)
+  where
+    of : (good : Bool) → times k (if good then [] else number ∷ []) ≤ times k (number ∷ [])
+    of true = omega arith
+    of false = omega arith
 
-passed_one : (k number : ℕ) (o : Outcome) → IsPassed o → times k (if_bad number o) ≡ 0
-passed_one k number (Judged (Genuine frames)) good = refl
-passed_one k number (Judged (FalseCheckpoint n frame)) good = absurd good
-passed_one k number (Judged (Fault frame kind)) good = absurd good
-passed_one k number NoMemory good = absurd good
+passed_one : (k number : ℕ) (o : Outcome) → IsTrue (passed o) → times k (if_bad number o) ≡ 0
+passed_one k number o good = ap (λ (b : Bool). times k (if b then [] else number ∷ [])) good
 
 bad-le : (k : ℕ) (ps : List PieceData) → times k (bad_numbers ps) ≤ times k (piece_numbers ps)
 bad-le k [] = omega arith
 bad-le k (p ∷ ps) = omega (arith, bad-le k ps, bad_one k p.number p.outcome, times-numbers-cons k p ps, times-append k (if_bad p.number p.outcome) (bad_numbers ps))
 
 -- A number with a piece that passed has fewer bad pieces than pieces.
-passed-less : (k : ℕ) (ps : List PieceData) (i : ℕ) (p : PieceData) → slice_get ps i ≡ Some p → p.number ≡ k → IsPassed p.outcome → times k (bad_numbers ps) < times k (piece_numbers ps)
+passed-less : (k : ℕ) (ps : List PieceData) (i : ℕ) (p : PieceData) → slice_get ps i ≡ Some p → p.number ≡ k → IsTrue (passed p.outcome) → times k (bad_numbers ps) < times k (piece_numbers ps)
 passed-less k [] i p at is good = absurd cc
 passed-less k (q ∷ ps) zero p at is good = let same : q ≡ p = cc in
     let here : times k (q.number ∷ []) ≡ 1 = ap (λ (n : ℕ). times k (n ∷ [])) (ap (λ (x : PieceData). x.number) same ∙ is) ∙ times-same k k refl in

@@ -1,12 +1,10 @@
 -- The pieces of a worker, beside what its ticket drew, passed over and reported. This project's
 -- own.
-use Rattle.std.specs.Prelude.{ℕ, ◌+◌, ◌≡◌, List, [], ◌∷◌, map, flat_map, All}
+use Rattle.std.specs.Prelude.{ℕ, ◌+◌, ◌≡◌, if◌then◌else◌, List, [], ◌∷◌, map, flat_map, All}
 use Rattle.replay_segments.specs.declared.outcome.Outcome.{Outcome}
-use Rattle.replay_segments.specs.declared.outcome.Outcome.TheVariants.{Judged, NoMemory}
-use Rattle.replay_segments.specs.declared.verdict.Verdict.TheVariants.{Genuine, FalseCheckpoint}
-use Rattle.replay_segments.specs.declared.verdict.Verdict.TheVariants.{Fault}
+use Rattle.replay_segments.specs.declared.outcome.Outcome.TheVariants.{NoMemory}
 use Rattle.replay_segments.specs.Gathering.{NamesAll}
-use Rattle.replay_segments.specs.Pieces.{PieceData, Job, HasKept}
+use Rattle.replay_segments.specs.Pieces.{PieceData, Job, passed, HasKept}
 use Rattle.segment_desk.specs.declared.part.Part.{Part}
 use Rattle.segment_desk.specs.Desk.{times}
 
@@ -16,10 +14,7 @@ piece_numbers pieces = map (λ (p : PieceData). p.number) pieces
 
 -- A number is bad unless its segment passed: refused memory is bad too.
 abbrev pub if_bad : ℕ → Outcome → List ℕ
-if_bad number (Judged (Genuine frames)) = []
-if_bad number (Judged (FalseCheckpoint checkpoint frame)) = number ∷ []
-if_bad number (Judged (Fault frame kind)) = number ∷ []
-if_bad number NoMemory = number ∷ []
+if_bad number outcome = if passed outcome then [] else number ∷ []
 
 -- The numbers of the pieces that did not pass.
 abbrev pub bad_numbers : List PieceData → List ℕ

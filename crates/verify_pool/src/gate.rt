@@ -19,8 +19,8 @@ use segment_desk::Ticket;
 /// A gate can't change a verdict. It sees the ticket and the piece and can change neither, and it
 /// returns nothing. Where it takes memory that a replay then lacks, there may be no verdict.
 pub trait Gate {
-    ghost use Rattle.std.specs.Prelude.{◌≡◌, ◌⊎◌, ◌<◌, Some};
-    ghost use Rattle.replay_segments.specs.Pieces.{IsPassed};
+    ghost use Rattle.std.specs.Prelude.{◌≡◌, ◌⊎◌, ◌<◌, IsTrue, Some};
+    ghost use Rattle.replay_segments.specs.Pieces.{passed};
     ghost use Rattle.segment_desk.specs.Desk.{times};
 
     /// The worker has drawn this segment, has looked, does not pass it over, and replays it next.
@@ -32,7 +32,7 @@ pub trait Gate {
     /// reported it unless it passed. It draws again next.
     fn leave(&self, ticket: &Ticket, piece: &Piece)
         requires drawn { ticket.now.part.last ≡ Some piece.now.number }
-        requires reported { IsPassed piece.now.outcome ⊎ (0 < times piece.now.number ticket.now.part.reported) };
+        requires reported { IsTrue (passed piece.now.outcome) ⊎ (0 < times piece.now.number ticket.now.part.reported) };
 }
 
 /// A gate that does nothing.

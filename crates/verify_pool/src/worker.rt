@@ -1,8 +1,8 @@
 //! What workers share, and one worker, which draws segments and replays them.
 ghost use Rattle.std.specs.Prelude.{◌≡◌, ◌+◌, ◌<◌, ◌≤◌, ◌⊎◌, length, true, false, Some, vec_len};
-ghost use Rattle.std.specs.Prelude.{vec_capacity};
+ghost use Rattle.std.specs.Prelude.{vec_capacity, IsTrue};
 ghost use Rattle.replay_segments.specs.Cuts.{Fits};
-ghost use Rattle.replay_segments.specs.Pieces.{job_of, HasKept, IsPassed};
+ghost use Rattle.replay_segments.specs.Pieces.{job_of, HasKept, passed};
 ghost use Rattle.replay_segments.specs.declared.outcome.Outcome.{Outcome};
 ghost use Rattle.verify_pool.specs.Crew.{IsReady, IsWorked};
 ghost use Rattle.segment_desk.specs.Desk.{times};
@@ -47,8 +47,8 @@ fn report_unless_passed(desk: &Desk, ticket: &mut Ticket, piece: &Piece)
     ensures own { IsOf desk.now ticket.new }
     ensures last { ticket.new.part.last ≡ ticket.old.part.last }
     ensures known { IsKnown ticket.old.part → IsKnown ticket.new.part }
-    ensures replayed { IsReplayed piece.now.outcome piece.now.number ticket.old.part ticket.new.part }
-    ensures reported { IsPassed piece.now.outcome ⊎ (0 < times piece.now.number ticket.new.part.reported) }
+    ensures replayed { IsReplayed (passed piece.now.outcome) piece.now.number ticket.old.part ticket.new.part }
+    ensures reported { IsTrue (passed piece.now.outcome) ⊎ (0 < times piece.now.number ticket.new.part.reported) }
 {
     let number = piece.number();
     if !piece.passed() {
@@ -67,7 +67,7 @@ impl<'s, G: Gate> Shared<'s, G> {
         ensures number { result.number ≡ number }
         ensures job { result.job ≡ job_of self.now.movie.now self.now.cuts.now self.now.keep }
         ensures memory { result.outcome ≡ Outcome.NoMemory → HasKept (job_of self.now.movie.now self.now.cuts.now self.now.keep) number }
-        ensures replayed { IsReplayed result.outcome number ticket.old.part ticket.new.part }
+        ensures replayed { IsReplayed (passed result.outcome) number ticket.old.part ticket.new.part }
     {
         self.gate.enter(ticket, number);
         let piece = replay(self.alloc, self.movie, self.cuts, self.keep, number);

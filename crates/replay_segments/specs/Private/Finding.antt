@@ -1,36 +1,21 @@
 -- Pieces that are looked for by number, and whose pictures are taken. This project's own.
-use Rattle.std.specs.Prelude.{ℕ, ◌+◌, ◌<◌, ◌≡◌, ◌≢◌, List, length, Some, Result, Ok, Err, slice_get}
+use Rattle.std.specs.Prelude.{ℕ, ◌+◌, ◌<◌, ◌≡◌, ◌≢◌, IsTrue, IsFalse, List, length, Some, Result}
+use Rattle.std.specs.Prelude.{Ok, Err, slice_get}
 use Rattle.vcs_machine.specs.Pictures.{Rows}
 use Rattle.replay_segments.specs.declared.gathering.GatherError.{GatherError}
 use Rattle.replay_segments.specs.declared.gathering.GatherError.TheVariants.{Missing, NoMemory}
-use Rattle.replay_segments.specs.declared.outcome.Outcome.{Outcome}
 use Rattle.replay_segments.specs.declared.outcome.Outcome.TheVariants.{Judged}
-use Rattle.replay_segments.specs.declared.outcome.Outcome.TheVariants.{NoMemory as NoMemoryOutcome}
 use Rattle.replay_segments.specs.declared.verdict.Verdict.{Verdict}
-use Rattle.replay_segments.specs.declared.verdict.Verdict.TheVariants.{Genuine, FalseCheckpoint}
-use Rattle.replay_segments.specs.declared.verdict.Verdict.TheVariants.{Fault}
+use Rattle.replay_segments.specs.declared.verdict.Verdict.TheVariants.{Genuine}
 use Rattle.replay_segments.specs.Gathering.{NamesAll, HasNumber, HasPassed, IsMissing, AllRefused}
 use Rattle.replay_segments.specs.Gathering.{picture_count}
-use Rattle.replay_segments.specs.Pieces.{PieceData, IsPiece, Job, IsJob, IsPassed, segments_of}
+use Rattle.replay_segments.specs.Pieces.{PieceData, IsPiece, Job, IsJob, passed, segments_of}
 use Rattle.replay_segments.specs.Segments.{IsSegment}
-
--- The segment passed, or memory was wanted.
-abbrev pub MayPass : Outcome → Type 0
-MayPass (Judged (Genuine frames)) = Unit {0}
-MayPass (Judged (FalseCheckpoint number frame)) = ⊥
-MayPass (Judged (Fault frame kind)) = ⊥
-MayPass NoMemoryOutcome = Unit {0}
-
--- A verdict that is not genuine.
-abbrev pub IsBad : Verdict → Type 0
-IsBad (Genuine frames) = ⊥
-IsBad (FalseCheckpoint number frame) = Unit {0}
-IsBad (Fault frame kind) = Unit {0}
 
 -- At an index stands a piece of this number that passed.
 abbrev pub IsPassedAt : List PieceData → ℕ → ℕ → Type 0
 IsPassedAt pieces number i =
-    (p : PieceData) × (slice_get pieces i ≡ Some p) × (p.number ≡ number) × IsPassed p.outcome × IsPiece p
+    (p : PieceData) × (slice_get pieces i ≡ Some p) × (p.number ≡ number) × IsTrue (passed p.outcome) × IsPiece p
 
 -- Each smaller number has a piece that passed.
 abbrev pub ArePassedBelow : List PieceData → ℕ → Type 0
@@ -46,14 +31,14 @@ pub record IsFirstUnpassed (pieces : List PieceData) (n number : ℕ) : Type 0 w
 -- else why there is none.
 abbrev pub IsAnswer : List PieceData → ℕ → Result Verdict GatherError → Type 0
 IsAnswer pieces number (Ok v) =
-    (i : ℕ) × (p : PieceData) × (slice_get pieces i ≡ Some p) × (p.number ≡ number) × (p.outcome ≡ Judged v) × IsBad v × IsPiece p
+    (i : ℕ) × (p : PieceData) × (slice_get pieces i ≡ Some p) × (p.number ≡ number) × (p.outcome ≡ Judged v) × IsFalse (passed p.outcome) × IsPiece p
 IsAnswer pieces number (Err (Missing k)) = (k ≡ number) × IsMissing pieces number
 IsAnswer pieces number (Err NoMemory) = HasNumber pieces number × AllRefused pieces number
 
 -- The pictures of a piece of this number that passed were taken, and it is without memory now.
-pub record IsTaken (old : List PieceData) (number : ℕ) (frames : List Rows) (new : List PieceData) : Type 0 where
+pub record IsTaken (old : List PieceData) (number : ℕ) (kept : List Rows) (new : List PieceData) : Type 0 where
   pub of : (job : Job) → NamesAll job old
-      → IsJob job × (number < segments_of job) × IsSegment job.movie job.cuts job.keep number (Genuine frames)
+      → IsJob job × (number < segments_of job) × IsSegment job.movie job.cuts job.keep number (Genuine kept)
   pub names : (job : Job) → NamesAll job old → NamesAll job new
   pub others : (k : ℕ) → k ≢ number → HasPassed old k → HasPassed new k
-  pub rest : picture_count new + length frames ≡ picture_count old
+  pub rest : picture_count new + length kept ≡ picture_count old

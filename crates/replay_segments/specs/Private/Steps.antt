@@ -46,7 +46,7 @@ IsClaim m next frame state (Some after) = IsNext m after (frame + 1) × ClaimsHo
 IsClaim m next frame state None = (c : Checkpoint) × (slice_get m.checkpoints next ≡ Some c) × (c.frame ≡ frame) × (c.state ≢ state)
 
 -- k frames from a state were sound, and left this state and these pictures.
-pub record SoFar (m : MovieData) (keep : Keep) (start : StateFields) (from k : ℕ) (state : StateFields) (frames : List Rows) : Type 0 where
+pub record SoFar (m : MovieData) (keep : Keep) (start : StateFields) (from k : ℕ) (state : StateFields) (kept : List Rows) : Type 0 where
   pub state_is : run m start from k ≡ Some state
   pub sound : AllSound m start from k
-  pub frames_are : frames ≡ pictures m keep start from k
+  pub kept_are : kept ≡ pictures m keep start from k

@@ -39,8 +39,8 @@ loop-number-preserved c =
           omega (arith, part, rest, len, grown);
     }
 
-pub returns-clause-frames : goal.returns-clause-frames
-returns-clause-frames c = λ job names whole.
+pub returns-clause-pictures : goal.returns-clause-pictures
+returns-clause-pictures c = λ job names whole.
     let same : c.loop-number.number ≡ c.args.n = omega arith in
     let begun = c.loop-number.invariant.prefix job names whole in
     rw (← c.new.ensures) at (IsVerdict-genuine job c.loop-number.number c.loop-number.all.items (same ∙ whole) begun)

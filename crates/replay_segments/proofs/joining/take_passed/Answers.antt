@@ -1,8 +1,8 @@
-use Rattle.std.proofs.Common.{refl, rules, subst, sym, List}
+use Rattle.std.proofs.Common.{refl, rules, subst, sym, IsTrue, List}
 use Rattle.std.proofs.lemmas.Option.{slice_get_read, slice_get_within}
 use Rattle.replay_segments.specs.Private.Finding.{IsPassedAt}
 use Rattle.replay_segments.specs.Gathering.{HasPassed}
-use Rattle.replay_segments.specs.Pieces.{PieceData, IsPassed}
+use Rattle.replay_segments.specs.Pieces.{PieceData, passed}
 use Rattle.replay_segments.proofs.ListLemmas.{same_at}
 use Rattle.replay_segments.proofs.TakeLemmas.{IsTaken-set}
 use Rattle.replay_segments.proofs.joining.take_passed.Goals as goal
@@ -16,17 +16,17 @@ index_mut-piece-requires c =
     let found = subst (λ (xs : List PieceData). IsPassedAt xs c.args.number c.in-Some.i) c.as_slice.ensures.value c.in-Some.ensures.some in
     let within = slice_get_within c.args.pieces.now.items c.in-Some.i found.0 found.1 in search rules
 
-pub take_frames-requires : goal.take_frames-requires
-take_frames-requires c =
+pub take_pictures-requires : goal.take_pictures-requires
+take_pictures-requires c =
     let found = subst (λ (xs : List PieceData). IsPassedAt xs c.args.number c.in-Some.i) c.as_slice.ensures.value c.in-Some.ensures.some in
     let within = slice_get_within c.args.pieces.now.items c.in-Some.i found.0 found.1 in
     let at = slice_get_read c.args.pieces.now.items _ c.in-Some.i c.index_mut-piece.result.now refl within c.index_mut-piece.ensures.value in
-    subst (λ (p : PieceData). IsPassed p.outcome) (same_at c.args.pieces.now.items _ _ found.0 c.index_mut-piece.result.now refl found.1 at) found.3
+    subst (λ (p : PieceData). IsTrue (passed p.outcome)) (same_at c.args.pieces.now.items _ _ found.0 c.index_mut-piece.result.now refl found.1 at) found.3
 
 pub returns : goal.returns
 returns c =
     let found = subst (λ (xs : List PieceData). IsPassedAt xs c.args.number c.in-Some.i) c.as_slice.ensures.value c.in-Some.ensures.some in
     let within = slice_get_within c.args.pieces.now.items c.in-Some.i found.0 found.1 in
     let at = slice_get_read c.args.pieces.now.items _ c.in-Some.i c.index_mut-piece.result.now refl within c.index_mut-piece.ensures.value in
-    IsTaken-set c.args.pieces.now.items c.args.number c.in-Some.i c.index_mut-piece.result.now c.take_frames.new.self c.take_frames.result found at
-    c.take_frames.ensures.frames c.take_frames.ensures.rest c.take_frames.ensures.lawful
+    IsTaken-set c.args.pieces.now.items c.args.number c.in-Some.i c.index_mut-piece.result.now c.take_pictures.new.self c.take_pictures.result found at
+    c.take_pictures.ensures.pictures c.take_pictures.ensures.rest c.take_pictures.ensures.lawful

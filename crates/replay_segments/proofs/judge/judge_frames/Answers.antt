@@ -24,7 +24,7 @@ loop-k-preserved c =
 
 pub loop-k-init : goal.loop-k-init
 loop-k-init c = record {
-  far = rw (c.copy-state.ensures, c.in-Ok.ensures.items) (record { state_is = refl; sound = λ i less. absurd (omega arith); frames_are = refl });
+  far = rw (c.copy-state.ensures, c.in-Ok.ensures.items) (record { state_is = refl; sound = λ i less. absurd (omega arith); kept_are = refl });
   count = let none = kept_count-zero c.args.keep c.args.from in let empty = c.in-Ok.ensures.len in omega arith;
   room = let more = c.in-Ok.ensures.capacity in let room = c.count-room.ensures in omega arith;
   next = let e : c.args.from + 1 ≡ c.args.from + 0 + 1 = omega arith in subst (λ (f : ℕ). IsNext c.args.movie.now c.args.first f) e c.requires.next;
@@ -34,4 +34,4 @@ pub returns-clause-judged : goal.returns-clause-judged
 returns-clause-judged c =
     let all : c.loop-k.k ≡ c.args.len = omega arith in
     let far = subst (λ (k : ℕ). SoFar c.args.movie.now c.args.keep c.args.start.now c.args.from k c.loop-k.state c.loop-k.pictures.items) all c.loop-k.invariant.far in
-    (far.sound, c.new.ensures ∙ far.frames_are)
+    (far.sound, c.new.ensures ∙ far.kept_are)
