@@ -11,11 +11,12 @@ use Rattle.movie_file.specs.Reading.{movie_at}
 use Rattle.replay_plan.specs.declared.keep.Keep.{Keep}
 use Rattle.vcs_check.specs.declared.commands.Failure.{Failure}
 use Rattle.vcs_check.specs.declared.commands.Failure.TheVariants.{Run}
-use Rattle.vcs_engine.specs.Conversions.{converted_of}
+use Rattle.vcs_engine.specs.Answers.{Answer, Shows}
+use Rattle.vcs_engine.specs.Conversions.{conversion_of}
 use Rattle.vcs_engine.specs.Information.{information_of}
 use Rattle.vcs_engine.specs.Listings.{Lists}
-use Rattle.vcs_engine.specs.Makings.{Made, Makes}
-use Rattle.vcs_engine.specs.Outputs.{Told, Tells}
+use Rattle.vcs_engine.specs.Makings.{Makes}
+use Rattle.vcs_engine.specs.Outputs.{Tells}
 use Rattle.vcs_engine.specs.Reports.{Reports}
 use Rattle.vcs_engine.specs.Streams.{ReadsAll}
 use Rattle.vcs_engine.specs.declared.making.InputForm.{InputForm}
@@ -25,30 +26,28 @@ use Rattle.vcs_engine.specs.declared.status.Status.{Status}
 
 -- With a status, a line was written of which this holds, and nothing else.
 abbrev pub Writes : Option (List ℕ) → Option (List ℕ) → (Status → List ℕ → Type 0) → Result Status Failure → Type 0
-Writes old new Says answer = IfOk answer (λ status. (line : List ℕ) × Says status line × Appends old new line)
+Writes old new Says result = IfOk result (λ status. (line : List ℕ) × Says status line × Appends old new line)
 
 -- After an error other than a failed write, nothing was written.
 abbrev pub IsQuiet : Option (List ℕ) → Option (List ℕ) → Result Status Failure → Type 0
-IsQuiet old new answer = OnErr answer (answer ≢ Err (Run WriteFault) → Keeps old new)
+IsQuiet old new result = OnErr result (result ≢ Err (Run WriteFault) → Keeps old new)
 
 -- The line of these bytes' verdict, with these pictures kept.
 abbrev pub IsVerified : Keep → List ℕ → Status → List ℕ → Type 0
-IsVerified keep input status line = (told : Told) × Tells keep input told × (status ≡ told.status) × (line ≡ told.line)
+IsVerified keep input status line = (answer : Answer) × Tells keep input answer × Shows answer status line
 
 -- The line of a movie that was made of some bytes, or of why there is none.
 abbrev pub IsMade : InputForm → ℕ → Status → List ℕ → Type 0
 IsMade form every status line =
-    (rom : List ℕ) × (old new : Option (List ℕ)) × (made : Made) × Makes form rom old new every made × (status ≡ made.status) × (line ≡ made.line)
+    (rom : List ℕ) × (old new : Option (List ℕ)) × (answer : Answer) × Makes form rom old new every answer × Shows answer status line
 
 -- The line about these bytes.
 abbrev pub IsInformation : List ℕ → Status → List ℕ → Type 0
-IsInformation input status line =
-    (status ≡ (information_of (movie_at input)).status) × (line ≡ (information_of (movie_at input)).line)
+IsInformation input status line = Shows (information_of (movie_at input)) status line
 
 -- The line of a conversion of some bytes.
 abbrev pub IsConverted : Status → List ℕ → Type 0
-IsConverted status line =
-    (input : List ℕ) × (status ≡ (converted_of (movie_at input)).status) × (line ≡ (converted_of (movie_at input)).line)
+IsConverted status line = (input : List ℕ) × Shows (conversion_of (movie_at input)) status line
 
 -- How the inputs of a command that makes a movie are written.
 abbrev pub form_of : Bool → InputForm
@@ -61,16 +60,16 @@ ReadsFile name old new input = (name ≡ codes "-" → ReadsAll old new input) �
 
 -- What a command answers, where standard input has the bytes `old` before it and `new` after it.
 -- Without arguments standard input is judged, and no picture is kept.
-abbrev pub Answers : Command → Option (List ℕ) → Option (List ℕ) → Status → List ℕ → Type 0
-Answers Stdin old new status line =
+abbrev pub IsAnswered : Command → Option (List ℕ) → Option (List ℕ) → Status → List ℕ → Type 0
+IsAnswered Stdin old new status line =
     (input : List ℕ) × ReadsAll old new input × ((keep : Keep) × (keep.count ≡ 0) × IsVerified keep input status line)
-Answers (Verify file plan pictures) old new status line =
+IsAnswered (Verify file plan pictures) old new status line =
     (input : List ℕ) × ReadsFile (string_bytes file) old new input × IsVerified plan.keep input status line
-Answers (Report file workers) old new status line = (input : List ℕ) × ReadsFile (string_bytes file) old new input × Reports input status line
-Answers (Make rom inputs text every out) old new status line = Keeps old new × IsMade (form_of text) (non_zero_u32_get every) status line
-Answers (Info file) old new status line = (input : List ℕ) × ReadsFile (string_bytes file) old new input × IsInformation input status line
-Answers (Inputs file) old new status line = (input : List ℕ) × ReadsFile (string_bytes file) old new input × Lists (movie_at input) status line
-Answers (Convert older newer) old new status line = Keeps old new × IsConverted status line
+IsAnswered (Report file workers) old new status line = (input : List ℕ) × ReadsFile (string_bytes file) old new input × Reports input status line
+IsAnswered (Make rom inputs text every out) old new status line = Keeps old new × IsMade (form_of text) (non_zero_u32_get every) status line
+IsAnswered (Info file) old new status line = (input : List ℕ) × ReadsFile (string_bytes file) old new input × IsInformation input status line
+IsAnswered (Inputs file) old new status line = (input : List ℕ) × ReadsFile (string_bytes file) old new input × Lists (movie_at input) status line
+IsAnswered (Convert older newer) old new status line = Keeps old new × IsConverted status line
 
 -- More than one worker judges: only `verify` and `report` with more than one start threads.
 abbrev pub StartsThreads : Command → Type 0

@@ -14,7 +14,7 @@ mod named;
 mod progress;
 
 ghost use Rattle.std.specs.Prelude.{◌≡◌, Err, IsSome};
-ghost use Rattle.vcs_check.specs.Commands.{Answers, IsQuiet, StartsThreads, Writes};
+ghost use Rattle.vcs_check.specs.Commands.{IsAnswered, IsQuiet, StartsThreads, Writes};
 ghost use Rattle.vcs_engine.specs.declared.run_error.RunError.TheVariants.{NoThread};
 
 use command_line::{Command, LineFault, parse_line};
@@ -59,7 +59,7 @@ fn answer_command<
     fault: &mut Option<FileFault<'a>>,
     gate: &G,
 ) -> Result<Status, Failure>
-    ensures ok { Writes (W.contents line.old) (W.contents line.new) (Answers command.now (I.remaining input.old) (I.remaining input.new)) result }
+    ensures ok { Writes (W.contents line.old) (W.contents line.new) (IsAnswered command.now (I.remaining input.old) (I.remaining input.new)) result }
     ensures quiet { IsQuiet (W.contents line.old) (W.contents line.new) result }
     ensures no_thread { result ≡ Err (Failure.Run NoThread) → StartsThreads command.now }
     ensures named { result ≡ Err Failure.Open → IsSome fault.new }

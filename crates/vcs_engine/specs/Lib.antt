@@ -1,3 +1,4 @@
+pub mod Answers
 pub mod Conversions
 pub mod Information
 pub mod Lines

@@ -2,8 +2,7 @@
 ghost use Rattle.std.specs.Prelude.{◌≡◌, ◌≢◌, List, ℕ, IfOk, OnErr};
 ghost use Rattle.std.specs.Io.KnownBytes.{Appends, Keeps};
 ghost use Rattle.movie_file.specs.Reading.{movie_at};
-ghost use Rattle.vcs_engine.specs.Conversions.{converted_of};
-ghost use Rattle.vcs_engine.specs.Private.MakingViews.{made_by};
+ghost use Rattle.vcs_engine.specs.Conversions.{conversion_of};
 ghost use Rattle.vcs_engine.specs.Streams.{ReadsAll, WritesPart, IsTooLong};
 
 use crate::line::Line;
@@ -17,7 +16,7 @@ use std::io::{Read, Write};
 
 /// What is written of the bytes of a movie.
 fn of_bytes(alloc: Global, bytes: &[u8]) -> Result<Making, AllocError>
-    ensures { IfOk result (λ making. made_by making ≡ converted_of (movie_at bytes.now)) }
+    ensures { IfOk result (λ making. making ≡ conversion_of (movie_at bytes.now)) }
 {
     let movie = match read_movie(alloc, bytes) {
         Ok(movie) => movie,
@@ -53,11 +52,11 @@ pub fn run_convert<R: Read, W: Write, L: Write>(
 ) -> Result<Status, RunError>
     // The output is that of the bytes read, and nothing else.
     ensures ok { IfOk result (λ status. (input : List ℕ) × ReadsAll (R.remaining movie.old) (R.remaining movie.new) input
-        × (status ≡ (converted_of (movie_at input)).status) × Appends (W.contents new.old) (W.contents new.new) (converted_of (movie_at input)).movie
-        × Appends (L.contents line.old) (L.contents line.new) (converted_of (movie_at input)).line) }
+        × (status ≡ (conversion_of (movie_at input)).status) × Appends (W.contents new.old) (W.contents new.new) (conversion_of (movie_at input)).movie
+        × Appends (L.contents line.old) (L.contents line.new) (conversion_of (movie_at input)).line) }
     ensures write_fault { result ≡ Err RunError.WriteFault → (input : List ℕ) × ReadsAll (R.remaining movie.old) (R.remaining movie.new) input
-        × WritesPart (W.contents new.old) (W.contents new.new) (converted_of (movie_at input)).movie
-        (L.contents line.old) (L.contents line.new) (converted_of (movie_at input)).line }
+        × WritesPart (W.contents new.old) (W.contents new.new) (conversion_of (movie_at input)).movie
+        (L.contents line.old) (L.contents line.new) (conversion_of (movie_at input)).line }
 
     // What was written after the other errors.
     ensures quiet { OnErr result (result ≢ Err RunError.WriteFault

@@ -2,7 +2,8 @@
 ghost use Rattle.std.specs.Prelude.{◌≡◌, ◌≢◌, ◌≤◌, List, ℕ, IfOk, OnErr};
 ghost use Rattle.std.specs.Io.KnownBytes.{Appends, Keeps};
 ghost use Rattle.picture_file.specs.PictureBytes.{pictures_bytes};
-ghost use Rattle.vcs_engine.specs.Outputs.{Told, Tells};
+ghost use Rattle.vcs_engine.specs.Answers.{Answer};
+ghost use Rattle.vcs_engine.specs.Outputs.{Tells};
 ghost use Rattle.vcs_engine.specs.Streams.{ReadsAll, IsTooLong, WritesPart};
 
 use crate::counted_gate::CountedGate;
@@ -36,12 +37,12 @@ pub fn run<T: Threads + Wait + Sync, R: Read, W: Write, P: Write, G: CountedGate
     gate: &G,
 ) -> Result<Status, RunError>
     // The output is that of the bytes read, and nothing else.
-    ensures ok { IfOk result (λ status. (input : List ℕ) × (told : Told) × ReadsAll (R.remaining movie.old) (R.remaining movie.new) input
-        × Tells plan.now.keep input told × (status ≡ told.status) × Appends (W.contents verdict.old) (W.contents verdict.new) told.line
-        × Appends (P.contents pictures.old) (P.contents pictures.new) (pictures_bytes told.pictures)) }
-    ensures write_fault { result ≡ Err RunError.WriteFault → (input : List ℕ) × (told : Told) × ReadsAll (R.remaining movie.old) (R.remaining movie.new) input
-        × Tells plan.now.keep input told × WritesPart (W.contents verdict.old) (W.contents verdict.new) told.line
-        (P.contents pictures.old) (P.contents pictures.new) (pictures_bytes told.pictures) }
+    ensures ok { IfOk result (λ status. (input : List ℕ) × (answer : Answer) × ReadsAll (R.remaining movie.old) (R.remaining movie.new) input
+        × Tells plan.now.keep input answer × (status ≡ answer.status) × Appends (W.contents verdict.old) (W.contents verdict.new) answer.line
+        × Appends (P.contents pictures.old) (P.contents pictures.new) (pictures_bytes answer.pictures)) }
+    ensures write_fault { result ≡ Err RunError.WriteFault → (input : List ℕ) × (answer : Answer) × ReadsAll (R.remaining movie.old) (R.remaining movie.new) input
+        × Tells plan.now.keep input answer × WritesPart (W.contents verdict.old) (W.contents verdict.new) answer.line
+        (P.contents pictures.old) (P.contents pictures.new) (pictures_bytes answer.pictures) }
 
     // What was written after the other errors.
     ensures quiet_line { OnErr result (result ≢ Err RunError.WriteFault → Keeps (W.contents verdict.old) (W.contents verdict.new)) }

@@ -1,5 +1,5 @@
 //! From the bytes of a movie to what is in it.
-ghost use Rattle.std.specs.Prelude.{◌≡◌, ◌≢◌, List, ℕ, IfOk, OnErr, string_bytes};
+ghost use Rattle.std.specs.Prelude.{◌≡◌, ◌≢◌, List, [], ℕ, IfOk, OnErr, string_bytes};
 ghost use Rattle.std.specs.Io.KnownBytes.{Appends, Keeps};
 ghost use Rattle.movie_file.specs.Reading.{movie_at};
 ghost use Rattle.picture_file.specs.Prefixes.{AppendsPrefix};
@@ -17,7 +17,8 @@ use std::io::{Read, Write};
 
 /// A status, and the line about the bytes of an input, with its end.
 fn told(alloc: Global, bytes: &[u8]) -> Result<(Status, String), AllocError>
-    ensures { IfOk result (λ told. information_of (movie_at bytes.now) ≡ record { status = told.0; line = string_bytes told.1 }) }
+    ensures { IfOk result (λ told. information_of (movie_at bytes.now)
+        ≡ record { status = told.0; line = string_bytes told.1; movie = []; pictures = [] }) }
 {
     let (status, line) = match read_movie(alloc, bytes) {
         Ok(movie) => {

@@ -1,8 +1,8 @@
 //! From the bytes of a ROM and of inputs to a movie.
 ghost use Rattle.std.specs.Prelude.{◌≡◌, ◌≢◌, ◌⊎◌, List, ℕ, IfOk, OnErr};
 ghost use Rattle.std.specs.Io.KnownBytes.{Appends, Keeps};
-ghost use Rattle.vcs_engine.specs.Makings.{Made, Makes, MakesFrom, MakesOf};
-ghost use Rattle.vcs_engine.specs.Private.MakingViews.{made_by};
+ghost use Rattle.vcs_engine.specs.Answers.{Answer};
+ghost use Rattle.vcs_engine.specs.Makings.{Makes, MakesFrom, MakesOf};
 ghost use Rattle.vcs_engine.specs.Streams.{ReadsAll, WritesPart, IsTooLong};
 
 use crate::line::Line;
@@ -15,6 +15,7 @@ use picture_file::{WriteFault, write_bytes};
 use riot_map::Cart;
 use std::alloc::{AllocError, Global};
 use std::io::{Read, Write};
+use std::marker::Model;
 use vcs_machine::Input;
 
 /// How a file has the inputs of frames.
@@ -26,7 +27,7 @@ pub enum InputForm {
     Text,
 }
 
-/// A status, the bytes of a movie, and a line with its end.
+/// A status, the bytes of a movie, and a line with its end, which contracts see as an answer.
 #[derive(Drop)]
 pub(crate) struct Making {
     status: Status,
@@ -34,11 +35,22 @@ pub(crate) struct Making {
     line: String,
 }
 
+impl Model for Making {
+    ghost use Rattle.std.specs.Prelude.{[], string_bytes};
+    ghost use Rattle.vcs_engine.specs.Answers.{Answer};
+
+    ghost Value = { Answer };
+
+    ghost view = { λ m. record { status = m.status; line = string_bytes m.line; movie = m.movie.items; pictures = [] } };
+}
+
 impl Making {
+    ghost use Rattle.std.specs.Prelude.{[]};
     ghost use Rattle.movie_file.specs.Spelling.{spelling};
+    ghost use Rattle.vcs_engine.specs.Answers.{line_answer};
     ghost use Rattle.vcs_engine.specs.Lines.{line_bytes};
-    ghost use Rattle.vcs_engine.specs.Makings.{inputs_by, made_with_line};
-    ghost use Rattle.vcs_engine.specs.declared.status.Status.TheVariants.{Done};
+    ghost use Rattle.vcs_engine.specs.Makings.{inputs_by};
+    ghost use Rattle.vcs_engine.specs.declared.status.Status.TheVariants.{Done, Refused};
 
     /// What is written of these bytes of a movie.
     pub(crate) fn new(
@@ -47,8 +59,8 @@ impl Making {
         movie: Vec<u8>,
         line: Line,
     ) -> Result<Making, AllocError>
-        ensures { IfOk result (λ making. made_by making
-            ≡ record { status = status; movie = movie.items; line = line_bytes line }) }
+        ensures { IfOk result (λ making. making
+            ≡ record { status = status; line = line_bytes line; movie = movie.items; pictures = [] }) }
     {
         let line = line.text(alloc)?;
         Ok(Making {
@@ -60,15 +72,15 @@ impl Making {
 
     /// What is written of what is refused.
     pub(crate) fn refused(alloc: Global, line: Line) -> Result<Making, AllocError>
-        ensures { IfOk result (λ making. made_by making ≡ made_with_line line) }
+        ensures { IfOk result (λ making. making ≡ line_answer Refused line) }
     {
         Making::new(alloc, Status::Refused, Vec::new(alloc), line)
     }
 
     /// What is written of a movie, with this line.
     pub(crate) fn of_movie(alloc: Global, movie: &Movie, line: Line) -> Result<Making, AllocError>
-        ensures { IfOk result (λ making. made_by making
-            ≡ record { status = Done; movie = spelling movie.now; line = line_bytes line }) }
+        ensures { IfOk result (λ making. making
+            ≡ record { status = Done; line = line_bytes line; movie = spelling movie.now; pictures = [] }) }
     {
         let mut bytes = Vec::new(alloc);
         if write_movie(movie, &mut bytes).is_err() {
@@ -84,7 +96,7 @@ impl Making {
         inputs: Vec<Input>,
         every: u32,
     ) -> Result<Making, AllocError>
-        ensures { IfOk result (λ making. MakesOf cart inputs.items every (made_by making)) }
+        ensures { IfOk result (λ making. MakesOf cart inputs.items every making) }
     {
         match make_movie(alloc, cart, inputs, every) {
             Ok(movie) => {
@@ -115,7 +127,7 @@ impl Making {
         inputs: &[u8],
         every: u32,
     ) -> Result<Making, AllocError>
-        ensures { IfOk result (λ making. MakesFrom cart (inputs_by form inputs.now) every (made_by making)) }
+        ensures { IfOk result (λ making. MakesFrom cart (inputs_by form inputs.now) every making) }
     {
         match form {
             InputForm::Bytes => match read_inputs(alloc, inputs) {
@@ -140,7 +152,7 @@ impl Making {
         inputs: &mut S,
         every: u32,
     ) -> Result<Making, ReadError>
-        ensures makes { IfOk result (λ making. Makes form rom.items (S.remaining inputs.old) (S.remaining inputs.new) every (made_by making)) }
+        ensures makes { IfOk result (λ making. Makes form rom.items (S.remaining inputs.old) (S.remaining inputs.new) every making) }
         ensures too_long { result ≡ Err ReadError.TooLong → IsTooLong (S.remaining inputs.old) }
     {
         let Ok(cart) = Cart::new(rom) else {
@@ -156,10 +168,10 @@ impl Making {
         movie: &mut W,
         line: &mut L,
     ) -> Result<Status, WriteFault>
-        ensures ok { IfOk result (λ status. (status ≡ self.now.status) × Appends (W.contents movie.old) (W.contents movie.new) (made_by self.now).movie
-            × Appends (L.contents line.old) (L.contents line.new) (made_by self.now).line) }
-        ensures fault { OnErr result (WritesPart (W.contents movie.old) (W.contents movie.new) (made_by self.now).movie
-            (L.contents line.old) (L.contents line.new) (made_by self.now).line) }
+        ensures ok { IfOk result (λ status. (status ≡ self.now.status) × Appends (W.contents movie.old) (W.contents movie.new) self.now.movie
+            × Appends (L.contents line.old) (L.contents line.new) self.now.line) }
+        ensures fault { OnErr result (WritesPart (W.contents movie.old) (W.contents movie.new) self.now.movie
+            (L.contents line.old) (L.contents line.new) self.now.line) }
     {
         write_bytes(&self.movie, movie)?;
         write_bytes(self.line.as_bytes(), line)?;
@@ -185,12 +197,12 @@ pub fn run_make<R: Read, S: Read, W: Write, L: Write>(
     line: &mut L,
 ) -> Result<Status, RunError>
     // The output is that of the bytes read, and nothing else.
-    ensures ok { IfOk result (λ status. (read : List ℕ) × (made : Made) × ReadsAll (R.remaining rom.old) (R.remaining rom.new) read
-        × Makes form read (S.remaining inputs.old) (S.remaining inputs.new) every made × (status ≡ made.status)
-        × Appends (W.contents movie.old) (W.contents movie.new) made.movie × Appends (L.contents line.old) (L.contents line.new) made.line) }
-    ensures write_fault { result ≡ Err RunError.WriteFault → (read : List ℕ) × (made : Made) × ReadsAll (R.remaining rom.old) (R.remaining rom.new) read
-        × Makes form read (S.remaining inputs.old) (S.remaining inputs.new) every made
-        × WritesPart (W.contents movie.old) (W.contents movie.new) made.movie (L.contents line.old) (L.contents line.new) made.line }
+    ensures ok { IfOk result (λ status. (read : List ℕ) × (answer : Answer) × ReadsAll (R.remaining rom.old) (R.remaining rom.new) read
+        × Makes form read (S.remaining inputs.old) (S.remaining inputs.new) every answer × (status ≡ answer.status)
+        × Appends (W.contents movie.old) (W.contents movie.new) answer.movie × Appends (L.contents line.old) (L.contents line.new) answer.line) }
+    ensures write_fault { result ≡ Err RunError.WriteFault → (read : List ℕ) × (answer : Answer) × ReadsAll (R.remaining rom.old) (R.remaining rom.new) read
+        × Makes form read (S.remaining inputs.old) (S.remaining inputs.new) every answer
+        × WritesPart (W.contents movie.old) (W.contents movie.new) answer.movie (L.contents line.old) (L.contents line.new) answer.line }
 
     // What was written after the other errors.
     ensures quiet { OnErr result (result ≢ Err RunError.WriteFault

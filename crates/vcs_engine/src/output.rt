@@ -1,10 +1,10 @@
 //! What a run writes for the bytes of a movie.
-ghost use Rattle.std.specs.Prelude.{◌≡◌, ◌≤◌, Err, IfOk, OnErr, string_bytes};
+ghost use Rattle.std.specs.Prelude.{◌≡◌, ◌≤◌, Err, IfOk, OnErr};
 ghost use Rattle.std.specs.Io.KnownBytes.{Appends};
 ghost use Rattle.picture_file.specs.PictureBytes.{pictures_bytes};
+ghost use Rattle.vcs_engine.specs.Answers.{refusal};
 ghost use Rattle.vcs_engine.specs.Lines.{line_bytes};
-ghost use Rattle.vcs_engine.specs.Private.OutputViews.{pictures_in, told_by};
-ghost use Rattle.vcs_engine.specs.Outputs.{Tells, told_of, told_refused};
+ghost use Rattle.vcs_engine.specs.Outputs.{Tells, verdict_answer};
 ghost use Rattle.vcs_engine.specs.Streams.{WritesPart};
 ghost use Rattle.replay_segments.specs.Verdicts.{IsVerdict};
 
@@ -18,6 +18,7 @@ use replay_plan::Plan;
 use replay_segments::{Cuts, Verdict};
 use std::alloc::{AllocError, Global};
 use std::io::Write;
+use std::marker::Model;
 use std::sync::Wait;
 use std::thread::Threads;
 use vcs_machine::Pictures;
@@ -25,8 +26,8 @@ use verify_pool::{VerifyError, verify};
 
 /// The status and the line of a movie with this verdict.
 pub(crate) fn line_of(movie: &Movie, verdict: &Verdict) -> (Status, Line)
-    ensures status { result.0 ≡ (told_of movie.now verdict.now).status }
-    ensures line { line_bytes result.1 ≡ (told_of movie.now verdict.now).line }
+    ensures status { result.0 ≡ (verdict_answer movie.now verdict.now).status }
+    ensures line { line_bytes result.1 ≡ (verdict_answer movie.now verdict.now).line }
 {
     match verdict {
         Verdict::Genuine { .. } => {
@@ -73,7 +74,8 @@ pub(crate) fn verdict_of<T: Threads + Wait + Sync, G: CountedGate + Sync>(
     }
 }
 
-/// A status, a line with its end, and the kept pictures of a genuine movie.
+/// A status, a line with its end, and the kept pictures of a genuine movie, which contracts see as
+/// an answer.
 #[derive(Drop)]
 pub(crate) struct Output {
     status: Status,
@@ -81,15 +83,26 @@ pub(crate) struct Output {
     pictures: Option<Pictures>,
 }
 
+impl Model for Output {
+    ghost use Rattle.std.specs.Prelude.{[], string_bytes, unwrap_or};
+    ghost use Rattle.vcs_engine.specs.Answers.{Answer};
+
+    ghost Value = { Answer };
+
+    ghost view = { λ o. record { status = o.status; line = string_bytes o.line; movie = []; pictures = unwrap_or o.pictures [] } };
+}
+
 impl Output {
+    ghost use Rattle.std.specs.Prelude.{[], unwrap_or};
+
     fn new(
         alloc: Global,
         status: Status,
         line: Line,
         pictures: Option<Pictures>,
     ) -> Result<Output, AllocError>
-        ensures { IfOk result (λ output. told_by output
-            ≡ record { status = status; line = line_bytes line; pictures = pictures_in pictures }) }
+        ensures { IfOk result (λ output. output
+            ≡ record { status = status; line = line_bytes line; movie = []; pictures = unwrap_or pictures [] }) }
     {
         let line = line.text(alloc)?;
         Ok(Output {
@@ -101,18 +114,18 @@ impl Output {
 
     /// The status and line of bytes that are no movie.
     fn refused(alloc: Global, error: MovieError) -> Result<Output, AllocError>
-        ensures { IfOk result (λ output. told_by output ≡ told_refused error) }
+        ensures { IfOk result (λ output. output ≡ refusal error) }
     {
         Output::new(alloc, Status::Refused, Line::Refused(error), None)
     }
 
     /// The status, line and pictures of a movie with this verdict.
     fn of_verdict(alloc: Global, movie: &Movie, verdict: Verdict) -> Result<Output, AllocError>
-        ensures { IfOk result (λ output. told_by output ≡ told_of movie.now verdict) }
+        ensures { IfOk result (λ output. output ≡ verdict_answer movie.now verdict) }
     {
         let (status, line) = line_of(movie, &verdict);
         match verdict {
-            Verdict::Genuine { frames } => Output::new(alloc, status, line, Some(frames)),
+            Verdict::Genuine { pictures } => Output::new(alloc, status, line, Some(pictures)),
             _ => Output::new(alloc, status, line, None),
         }
     }
@@ -125,7 +138,7 @@ impl Output {
         plan: &Plan,
         gate: &G,
     ) -> Result<Output, JudgeError>
-        ensures told { IfOk result (λ output. Tells plan.now.keep bytes.now (told_by output)) }
+        ensures told { IfOk result (λ output. Tells plan.now.keep bytes.now output) }
         ensures no_thread { result ≡ Err JudgeError.NoThread → 2 ≤ plan.now.workers.number }
     {
         let movie = match read_movie(alloc, bytes) {
@@ -143,14 +156,14 @@ impl Output {
         verdict: &mut W,
         pictures: &mut P,
     ) -> Result<Status, WriteFault>
-        ensures ok { IfOk result (λ status. (status ≡ self.now.status) × Appends (W.contents verdict.old) (W.contents verdict.new) (told_by self.now).line
-            × Appends (P.contents pictures.old) (P.contents pictures.new) (pictures_bytes (told_by self.now).pictures)) }
-        ensures fault { OnErr result (WritesPart (W.contents verdict.old) (W.contents verdict.new) (told_by self.now).line
-            (P.contents pictures.old) (P.contents pictures.new) (pictures_bytes (told_by self.now).pictures)) }
+        ensures ok { IfOk result (λ status. (status ≡ self.now.status) × Appends (W.contents verdict.old) (W.contents verdict.new) self.now.line
+            × Appends (P.contents pictures.old) (P.contents pictures.new) (pictures_bytes self.now.pictures)) }
+        ensures fault { OnErr result (WritesPart (W.contents verdict.old) (W.contents verdict.new) self.now.line
+            (P.contents pictures.old) (P.contents pictures.new) (pictures_bytes self.now.pictures)) }
     {
         write_bytes(self.line.as_bytes(), verdict)?;
-        if let Some(frames) = &self.pictures {
-            write_pictures(frames, pictures)?;
+        if let Some(kept) = &self.pictures {
+            write_pictures(kept, pictures)?;
         }
         Ok(self.status)
     }
