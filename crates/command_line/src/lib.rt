@@ -7,6 +7,3 @@ mod parser;
 
 pub use command::{Command, LineFault};
 pub use line::parse_line;
-
-#[cfg(test)]
-mod tests;

@@ -14,7 +14,7 @@ use Rattle.std.proofs.lemmas.List.Folds.{list_all-append}
 use Rattle.std.proofs.lemmas.List.FromFn.{get_or-range_with_len, length-range_with_len}
 use Rattle.std.proofs.lemmas.List.Recursion.{found_at, found_nowhere}
 use Rattle.std.proofs.lemmas.List.Sums.{sum_by-append}
-use Rattle.vcs_machine.specs.Inputs.{Controls}
+use Rattle.vcs_machine.specs.Inputs.{InputData}
 use Rattle.input_text.specs.Words.{lines_of, words_of}
 use Rattle.input_text.specs.Texts.{most_frames, is_readable, frames_of, input_of, inputs_of}
 use Rattle.input_text.specs.Texts.{are_good, first_bad, unless_bad, inputs_in, SaysFrames}
@@ -101,7 +101,7 @@ first_bad-at done line more good bad =
     ∙ ap (λ (n : ℕ). Some n) (at ∙ sym (add-one (length done)))
 
 -- So many lines of a text are read, these are their inputs, and this is left of the text.
-pub record ReadSoFar (text : List ℕ) (number : ℕ) (inputs : List Controls) (rest : List ℕ) : Type 0 where
+pub record ReadSoFar (text : List ℕ) (number : ℕ) (inputs : List InputData) (rest : List ℕ) : Type 0 where
   pub done : List (List ℕ)
   pub count : number ≡ length done
   pub good : are_good done ≡ true
@@ -125,7 +125,7 @@ lines_more : (text : List ℕ) (done : List (List ℕ)) (line rest after : List 
 lines_more text done line rest after e (inl f) = inl (e ∙ ap (λ (ls : List (List ℕ)). done ++ ls) f ∙ sym (append_assoc done (line ∷ []) (lines_of after)))
 lines_more text done line rest after e (inr f) = inr (e ∙ ap (λ (ls : List (List ℕ)). done ++ ls) f.0, f.1)
 
-pub read_more : (text : List ℕ) (number : ℕ) (inputs : List Controls) (rest line after : List ℕ) (count : ℕ) (input : Controls) → 0 < length rest
+pub read_more : (text : List ℕ) (number : ℕ) (inputs : List InputData) (rest line after : List ℕ) (count : ℕ) (input : InputData) → 0 < length rest
     → (lines_of rest ≡ line ∷ lines_of after) ⊎ ((lines_of rest ≡ line ∷ []) × (after ≡ [])) → length after < length rest
     → is_readable (words_of line) ≡ true → count ≡ frames_of (words_of line) → input ≡ input_of (words_of line) → length inputs + count ≤ 262143
     → ReadSoFar text number inputs rest → ReadSoFar text (number + 1) (inputs ++ replicate count input) after
@@ -136,8 +136,8 @@ read_more text number inputs rest line after count input some split shorter read
       count = omega (arith, so.count, length-append so.done (line ∷ []));
       good = good_more so.done line so.good reads (omega arith);
       inputs_are =
-          ap (λ (is : List Controls). is ++ replicate count input) so.inputs_are
-          ∙ ap (λ (is : List Controls). flat_map inputs_of so.done ++ is) (rw (frames, is) (sym (append-nil (inputs_of line))))
+          ap (λ (is : List InputData). is ++ replicate count input) so.inputs_are
+          ∙ ap (λ (is : List InputData). flat_map inputs_of so.done ++ is) (rw (frames, is) (sym (append-nil (inputs_of line))))
           ∙ sym (flat_map-append inputs_of so.done (line ∷ []));
       few = omega (arith, length-append inputs (replicate count input), length-replicate count input);
       lines = lines_more text so.done line rest after (lines_left text rest so.done some so.lines) split;
@@ -145,7 +145,7 @@ read_more text number inputs rest line after count input some split shorter read
     }
 
 -- memory is refused only for a line that says frames
-pub frames_said : (text : List ℕ) (number : ℕ) (inputs : List Controls) (rest line after : List ℕ) → 0 < length rest
+pub frames_said : (text : List ℕ) (number : ℕ) (inputs : List InputData) (rest line after : List ℕ) → 0 < length rest
     → (lines_of rest ≡ line ∷ lines_of after) ⊎ ((lines_of rest ≡ line ∷ []) × (after ≡ []))
     → is_readable (words_of line) ≡ true → 0 < frames_of (words_of line) → length inputs + frames_of (words_of line) ≤ 262143
     → ReadSoFar text number inputs rest → SaysFrames text
@@ -162,7 +162,7 @@ frames_said text number inputs rest line after some split reads frames few so =
     )
 
 -- a line is bad, and those before it are good
-pub read_bad : (text : List ℕ) (number : ℕ) (inputs : List Controls) (rest line after : List ℕ) → 0 < length rest
+pub read_bad : (text : List ℕ) (number : ℕ) (inputs : List InputData) (rest line after : List ℕ) → 0 < length rest
     → (lines_of rest ≡ line ∷ lines_of after) ⊎ ((lines_of rest ≡ line ∷ []) × (after ≡ []))
     → (is_readable (words_of line) ≡ false) ⊎ (262143 < length inputs + frames_of (words_of line))
     → ReadSoFar text number inputs rest → inputs_in text ≡ Err (number + 1)
@@ -183,19 +183,19 @@ empty_from_length [] e = refl
 empty_from_length (b ∷ bytes) e = absurd (omega arith)
 
 -- nothing is left: an empty line at the end says nothing
-pub read_all : (text : List ℕ) (number : ℕ) (inputs : List Controls) (rest : List ℕ) → length rest ≡ 0 → ReadSoFar text number inputs rest
+pub read_all : (text : List ℕ) (number : ℕ) (inputs : List InputData) (rest : List ℕ) → length rest ≡ 0 → ReadSoFar text number inputs rest
     → inputs_in text ≡ Ok inputs
 read_all text number inputs rest end so =
     elim so.lines [
       | inl e ↦
           said text (so.done ++ [] ∷ []) (e ∙ ap (λ (bytes : List ℕ). so.done ++ lines_of bytes) (empty_from_length rest end))
           (good_more so.done [] so.good refl (omega (arith, few_frames so.done so.good)))
-          ∙ ap (λ (is : List Controls). Ok is) (flat_map-append inputs_of so.done ([] ∷ []) ∙ append-nil (flat_map inputs_of so.done) ∙ sym so.inputs_are)
-      | inr e ↦ said text so.done e.0 so.good ∙ ap (λ (is : List Controls). Ok is) (sym so.inputs_are)
+          ∙ ap (λ (is : List InputData). Ok is) (flat_map-append inputs_of so.done ([] ∷ []) ∙ append-nil (flat_map inputs_of so.done) ∙ sym so.inputs_are)
+      | inr e ↦ said text so.done e.0 so.good ∙ ap (λ (is : List InputData). Ok is) (sym so.inputs_are)
     ]
 
 -- a list after a `resize`
-pub resized : (xs : List Controls) (len n count : ℕ) (x : Controls) → len ≡ length xs → n ≡ len + count
+pub resized : (xs : List InputData) (len n count : ℕ) (x : InputData) → len ≡ length xs → n ≡ len + count
     → take n xs ++ replicate (n - len) x ≡ xs ++ replicate count x
 resized xs len n count x e f =
     let whole : take n xs ≡ xs = take_all n xs (omega arith) in

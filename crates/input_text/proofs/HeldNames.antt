@@ -5,7 +5,7 @@ use Rattle.std.specs.Prelude.{not, ◌&&◌, ◌||◌, nat_eq, nat_lt, filter, f
 use Rattle.std.specs.Int.{bit_at}
 use Rattle.std.specs.Int.Bits.{or_zero_r}
 use Rattle.std.proofs.lemmas.Bool.{and_parts, eqb-true, eq-eqb, lt-ltb, ltb-true}
-use Rattle.vcs_machine.specs.Inputs.{Controls}
+use Rattle.vcs_machine.specs.Inputs.{InputData}
 use Rattle.input_text.specs.declared.name.Name.{Name}
 use Rattle.input_text.specs.declared.name.Port.{Port}
 use Rattle.input_text.specs.declared.name.Port.TheVariants.{Swcha, Swchb, Buttons}
@@ -42,7 +42,7 @@ neither true bits = or_zero_r bits
 neither false bits = refl
 
 -- whose bit stands in another byte leaves this one
-own_byte : (port own : Port) (c : Controls) (bit bits : ℕ)
+own_byte : (port own : Port) (c : InputData) (bit bits : ℕ)
     → cond (not (nat_eq (bit_at (port_byte own c) bit) (bit_at (port_byte own idle) bit))) (bit_or bits (cond (is_same_port port own) (2 ^ bit) 0)) bits
     ≡ cond (is_same_port port own && not (nat_eq (bit_at (port_byte port c) bit) (bit_at (port_byte port idle) bit))) (bit_or bits (2 ^ bit)) bits
 own_byte Swcha Swcha c bit bits = refl
@@ -55,7 +55,7 @@ own_byte Buttons Swcha c bit bits = neither _ bits
 own_byte Buttons Swchb c bit bits = neither _ bits
 own_byte Buttons Buttons c bit bits = refl
 
-bits_in-held : (port : Port) (c : Controls) → bits_in port (names_in c) ≡ bits_of_byte port (port_byte port c)
+bits_in-held : (port : Port) (c : InputData) → bits_in port (names_in c) ≡ bits_of_byte port (port_byte port c)
 bits_in-held port c =
     fold-filter port (is_held c) names 0
     ∙ fold-same _ (bit_if port (port_byte port c)) (λ bits name. own_byte port (bit_of_name name).port c (bit_of_name name).bit bits) names 0
@@ -71,7 +71,7 @@ button_bits : (n : ℕ) → n < 4 → bit_xor 0 (bits_of_byte Buttons n) ≡ n
 button_bits n h =
     eqb-true _ _ (follows_if _ _ (every_byte (λ n. not (nat_lt n 4) || nat_eq (bit_xor 0 (bits_of_byte Buttons n)) n) refl n (omega arith)) (lt-ltb _ _ h))
 
-pub holding-held : (c : Controls) → IsInputOfBytes c → input_with (names_in c) ≡ c
+pub holding-held : (c : InputData) → IsInputOfBytes c → input_with (names_in c) ≡ c
 holding-held c lawful =
     let parts = and_parts (nat_eq (bit_and c.swchb 52) 52) (nat_lt c.buttons 4) lawful.input in
     let a : bit_xor idle.swcha (bits_in Swcha (names_in c)) ≡ c.swcha = ap (bit_xor 255) (bits_in-held Swcha c) ∙ swcha_bits c.swcha lawful.swcha in

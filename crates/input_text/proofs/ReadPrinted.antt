@@ -8,7 +8,7 @@ use Rattle.std.proofs.lemmas.Bool.{and_from, le-leb}
 use Rattle.std.proofs.lemmas.List.{append-nil, length-replicate}
 use Rattle.std.proofs.lemmas.List.Concat.{flat_map-append}
 use Rattle.std.proofs.lemmas.List.Splits.{slice_split_at}
-use Rattle.vcs_machine.specs.Inputs.{Controls}
+use Rattle.vcs_machine.specs.Inputs.{InputData}
 use Rattle.input_text.specs.declared.stretch.Stretch.{Stretch}
 use Rattle.input_text.specs.Names.{names_in, input_with, IsInputOfBytes}
 use Rattle.input_text.specs.Stretches.{IsPrinted, inputs_along, line_of}
@@ -26,11 +26,11 @@ record IsPrintable (s : Stretch) : Type 0 where
   small : s.count < 2 ^ 64
   lawful : IsInputOfBytes s.input
 
-lawful_first : (n : ℕ) (input : Controls) (others : List Controls) → 1 ≤ n → AllByRecursion IsInputOfBytes (replicate n input ++ others) → IsInputOfBytes input
+lawful_first : (n : ℕ) (input : InputData) (others : List InputData) → 1 ≤ n → AllByRecursion IsInputOfBytes (replicate n input ++ others) → IsInputOfBytes input
 lawful_first zero input others h lawful = absurd (omega arith)
 lawful_first (suc n) input others h lawful = lawful.0
 
-lawful_after : (inputs others : List Controls) → AllByRecursion IsInputOfBytes (inputs ++ others) → AllByRecursion IsInputOfBytes others
+lawful_after : (inputs others : List InputData) → AllByRecursion IsInputOfBytes (inputs ++ others) → AllByRecursion IsInputOfBytes others
 lawful_after [] others lawful = lawful
 lawful_after (input ∷ inputs) others lawful = lawful_after inputs others lawful.1
 
@@ -38,7 +38,7 @@ printable : (stretches : List Stretch) → AllByRecursion (λ s. 1 ≤ s.count) 
     → length (flat_map inputs_along stretches) ≤ 262143 → AllByRecursion IsPrintable stretches
 printable [] counts lawful few = tt
 printable (s ∷ stretches) counts lawful few =
-    let others : List Controls = flat_map inputs_along stretches in
+    let others : List InputData = flat_map inputs_along stretches in
     let total : length (inputs_along s ++ others) ≤ 262143 = few in
     let own : s.count ≤ 262143 = omega (arith, length-append (inputs_along s) others, length-replicate s.count s.input) in (
       record { some = counts.0; small = omega arith; lawful = lawful_first s.count s.input others counts.0 lawful },
@@ -81,12 +81,12 @@ read_lines stretches so few =
     let total : frames_in lines ≡ length (flat_map inputs_along stretches) = sym (length-inputs lines) ∙ ap length same in
     let good : are_good lines ≡ true = and_from _ _ (lines_readable stretches so) (le-leb (frames_in lines) 262143 (omega arith)) in
     said (flat_map line_of stretches) (lines ++ [] ∷ []) (lines_of-printed stretches so) (good_more lines [] good refl (omega arith))
-    ∙ ap (λ (is : List Controls). Ok is) (flat_map-append inputs_of lines ([] ∷ []) ∙ append-nil (flat_map inputs_of lines) ∙ same)
+    ∙ ap (λ (is : List InputData). Ok is) (flat_map-append inputs_of lines ([] ∷ []) ∙ append-nil (flat_map inputs_of lines) ∙ same)
 
-pub read_printed : (inputs : List Controls) (text : List ℕ) → AllByRecursion IsInputOfBytes inputs → length inputs ≤ 262143 → IsPrinted inputs text
+pub read_printed : (inputs : List InputData) (text : List ℕ) → AllByRecursion IsInputOfBytes inputs → length inputs ≤ 262143 → IsPrinted inputs text
     → inputs_in text ≡ Ok inputs
 read_printed inputs text lawful few so =
     let few : length (flat_map inputs_along so.stretches) ≤ 262143 = omega (arith, ap length so.inputs_are) in
     let lawful : AllByRecursion IsInputOfBytes (flat_map inputs_along so.stretches) = rw (← so.inputs_are) lawful in
     ap inputs_in so.text_is ∙ read_lines so.stretches (printable so.stretches so.counts lawful few) few
-    ∙ ap (λ (is : List Controls). Ok is) (sym so.inputs_are)
+    ∙ ap (λ (is : List InputData). Ok is) (sym so.inputs_are)

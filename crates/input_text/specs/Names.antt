@@ -3,7 +3,7 @@
 use Rattle.std.specs.Prelude.{ℕ, ◌^◌, ◌<◌, Bool, true, false, not, ◌==◌, List, [], ◌∷◌, codes}
 use Rattle.std.specs.Prelude.{bit_or, bit_xor, filter, fold, IsTrue, if◌then◌else◌}
 use Rattle.std.specs.Int.{bit_at}
-use Rattle.vcs_machine.specs.Inputs.{Controls, is_input}
+use Rattle.vcs_machine.specs.Inputs.{InputData, is_input}
 use Rattle.input_text.specs.declared.name.Port.{Port}
 use Rattle.input_text.specs.declared.name.Port.TheVariants.{Swcha, Swchb, Buttons}
 use Rattle.input_text.specs.declared.name.Name.{Name}
@@ -51,7 +51,7 @@ is_same_port Buttons Buttons = true
 is_same_port _ _ = false
 
 -- an input in which nothing is held
-abbrev pub idle : Controls
+abbrev pub idle : InputData
 idle = record { swcha = 0xFF; swchb = 0x3F; buttons = 0 }
 
 -- the bit of a name in the byte of a port: none where another port has it
@@ -63,7 +63,7 @@ abbrev pub bits_in : Port → List Name → ℕ
 bits_in port held = fold (λ bits name. bit_or bits (bit_in port name)) 0 held
 
 -- the input in which these names are held: an idle one whose bits of the names are turned over
-abbrev pub input_with : List Name → Controls
+abbrev pub input_with : List Name → InputData
 input_with held = record {
   swcha = bit_xor idle.swcha (bits_in Swcha held);
   swchb = bit_xor idle.swchb (bits_in Swchb held);
@@ -71,23 +71,23 @@ input_with held = record {
 }
 
 -- the byte of a port
-abbrev pub port_byte : Port → Controls → ℕ
+abbrev pub port_byte : Port → InputData → ℕ
 port_byte Swcha c = c.swcha
 port_byte Swchb c = c.swchb
 port_byte Buttons c = c.buttons
 
 -- whether a name is held in an input: its bit is another than in an idle one
-abbrev pub is_held : Controls → Name → Bool
+abbrev pub is_held : InputData → Name → Bool
 is_held c name =
     let port = (bit_of_name name).port in let bit = (bit_of_name name).bit in
     not (bit_at (port_byte port c) bit == bit_at (port_byte port idle) bit)
 
 -- the names that are held in an input, in their order
-abbrev pub names_in : Controls → List Name
+abbrev pub names_in : InputData → List Name
 names_in c = filter (is_held c) names
 
 -- an input as a movie has it: its numbers are bytes, and meet the conditions of an input
-pub record IsInputOfBytes (c : Controls) : Type 0 where
+pub record IsInputOfBytes (c : InputData) : Type 0 where
   pub swcha : c.swcha < 2 ^ 8
   pub swchb : c.swchb < 2 ^ 8
   pub input : IsTrue (is_input c)

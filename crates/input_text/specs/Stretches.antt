@@ -2,13 +2,13 @@
 use Rattle.std.specs.Prelude.{◌≡◌, ◌≢◌, ℕ, ◌≤◌, List, [], ◌∷◌, ◌++◌, replicate}
 use Rattle.std.specs.Fmt.{decimal}
 use Rattle.std.specs.List.{AllByRecursion, flat_map}
-use Rattle.vcs_machine.specs.Inputs.{Controls}
+use Rattle.vcs_machine.specs.Inputs.{InputData}
 use Rattle.input_text.specs.declared.name.Name.{Name}
 use Rattle.input_text.specs.declared.stretch.Stretch.{Stretch}
 use Rattle.input_text.specs.Names.{bit_of_name, names_in}
 
 -- the inputs of a stretch of frames
-abbrev pub inputs_along : Stretch → List Controls
+abbrev pub inputs_along : Stretch → List InputData
 inputs_along s = replicate s.count s.input
 
 -- each is another input than the one before it
@@ -27,7 +27,7 @@ line_of s = decimal s.count ++ flat_map name_after_space (names_in s.input) ++ 1
 
 -- The text is the lines of stretches that make up the inputs, none of them empty, and each as long
 -- as it can be.
-pub record IsPrinted (inputs : List Controls) (text : List ℕ) : Type 0 where
+pub record IsPrinted (inputs : List InputData) (text : List ℕ) : Type 0 where
   pub stretches : List Stretch
   pub inputs_are : inputs ≡ flat_map inputs_along stretches
   pub counts : AllByRecursion (λ s. 1 ≤ s.count) stretches

@@ -5,7 +5,7 @@ use Rattle.std.specs.Prelude.{[], ◌∷◌, length, take, replicate, find, fold
 use Rattle.std.specs.Prelude.{None, is_some, Result, Ok, Err}
 use Rattle.std.specs.List.{list_all, filter_map, flat_map, range_with_len}
 use Rattle.std.specs.Str.{all_ascii_digits, bytes_eq}
-use Rattle.vcs_machine.specs.Inputs.{Controls}
+use Rattle.vcs_machine.specs.Inputs.{InputData}
 use Rattle.input_text.specs.declared.name.Name.{Name}
 use Rattle.input_text.specs.Names.{bit_of_name, names, input_with}
 use Rattle.input_text.specs.Words.{lines_of, words_of}
@@ -37,12 +37,12 @@ frames_of [] = 0
 frames_of (count ∷ held) = number_of count
 
 -- and with which input
-abbrev pub input_of : List (List ℕ) → Controls
+abbrev pub input_of : List (List ℕ) → InputData
 input_of [] = input_with []
 input_of (count ∷ held) = input_with (filter_map name_of held)
 
 -- the inputs of a line
-abbrev pub inputs_of : List ℕ → List Controls
+abbrev pub inputs_of : List ℕ → List InputData
 inputs_of line = replicate (frames_of (words_of line)) (input_of (words_of line))
 
 -- lines that can be read, with no more frames in all than a movie can have
@@ -61,10 +61,10 @@ SaysFrames text =
 abbrev pub first_bad : List (List ℕ) → Option ℕ
 first_bad lines = find (λ number. not (are_good (take number lines))) (range_with_len 1 (length lines))
 
-abbrev pub unless_bad : Option ℕ → List Controls → Result (List Controls) ℕ
+abbrev pub unless_bad : Option ℕ → List InputData → Result (List InputData) ℕ
 unless_bad None inputs = Ok inputs
 unless_bad (Some number) inputs = Err number
 
 -- the inputs that a text says, or the number of its first bad line
-abbrev pub inputs_in : List ℕ → Result (List Controls) ℕ
+abbrev pub inputs_in : List ℕ → Result (List InputData) ℕ
 inputs_in text = unless_bad (first_bad (lines_of text)) (flat_map inputs_of (lines_of text))

@@ -18,6 +18,3 @@ pub use error::TextError;
 pub use laws::{law_of_held_names, law_of_one_text, law_of_printed_inputs};
 pub use reading::read_text;
 pub use writing::write_text;
-
-#[cfg(test)]
-mod tests;

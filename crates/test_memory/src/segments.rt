@@ -10,7 +10,7 @@ use std::num::NonZeroU16;
 /// Right for a genuine verdict with so many pictures.
 pub(crate) fn is_genuine(verdict: &Verdict, pictures: usize) -> Result<(), Failure> {
     match verdict {
-        Verdict::Genuine { frames } => right(frames.len() == pictures),
+        Verdict::Genuine { pictures: kept } => right(kept.len() == pictures),
         _ => Err(Failure::Wrong),
     }
 }

@@ -1,6 +1,8 @@
-//! Worked examples of movie files and of made movies. They stand apart from `movie_file`, since a
-//! crate with tests is proved twice, and much else waits for that one.
+//! Worked examples of movie files, of made movies and of inputs as text. They stand apart from
+//! `movie_file` and `input_text`, since a crate with tests is proved twice.
 #![tactic(auto)]
 
 #[cfg(test)]
-mod tests;
+mod movies;
+#[cfg(test)]
+mod texts;

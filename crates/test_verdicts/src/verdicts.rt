@@ -18,16 +18,16 @@ pub(crate) const FIRST_FALSE: Verdict = Verdict::FalseCheckpoint {
 /// How many pictures a genuine movie has kept.
 pub(crate) fn kept(verdict: &Verdict) -> Option<usize> {
     match verdict {
-        Verdict::Genuine { frames } => Some(frames.len()),
+        Verdict::Genuine { pictures } => Some(pictures.len()),
         _ => None,
     }
 }
 
 /// Whether each kept picture has one row of zeros.
 pub(crate) fn are_rows_of_zeros(verdict: &Verdict) -> bool {
-    if let Verdict::Genuine { frames } = verdict {
-        for i in 0..frames.len() {
-            let picture = frames.at(i);
+    if let Verdict::Genuine { pictures } = verdict {
+        for i in 0..pictures.len() {
+            let picture = pictures.at(i);
             if picture.rows() != 1 || *picture.row(0) != [0; 160] {
                 return false;
             }
@@ -39,9 +39,9 @@ pub(crate) fn are_rows_of_zeros(verdict: &Verdict) -> bool {
 /// The colours of line 0 of each kept picture, where that has one colour.
 pub(crate) fn colours(alloc: Global, verdict: &Verdict) -> Result<Vec<u8>, Fail> {
     let mut colours = Vec::new(alloc);
-    if let Verdict::Genuine { frames } = verdict {
-        for i in 0..frames.len() {
-            let picture = frames.at(i);
+    if let Verdict::Genuine { pictures } = verdict {
+        for i in 0..pictures.len() {
+            let picture = pictures.at(i);
             if picture.rows() > 0 && *picture.row(0) == [picture.at(0, 0); 160] {
                 colours.push(picture.at(0, 0))?;
             }
@@ -56,7 +56,7 @@ fn kept_pictures_have_one_row_of_zeros(rt: HostRuntime) -> Result<(), Fail> {
     let verdict = verify_one(rt.alloc(), &genuine, Keep::new(1, 2)?)?;
     assert_eq!(rt; kept(&verdict), Some(2));
     assert!(rt; are_rows_of_zeros(&verdict));
-    assert!(rt; matches!(&verdict, Verdict::Genuine { frames } if !frames.is_empty()));
+    assert!(rt; matches!(&verdict, Verdict::Genuine { pictures } if !pictures.is_empty()));
     Ok(())
 }
 

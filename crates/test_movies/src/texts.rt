@@ -1,6 +1,7 @@
-//! Worked rows: texts with their inputs, by hand from the rule that `specs/Names` and
-//! `specs/Texts` say.
-use crate::{TextError, read_text, write_text};
+//! Worked rows: texts with their inputs, by hand from the rule that `Names` and `Texts` in the
+//! definitions of `input_text` say.
+
+use input_text::{TextError, read_text, write_text};
 use std::alloc::{AllocError, Global};
 use std::test::Fail;
 use vcs_machine::Input;

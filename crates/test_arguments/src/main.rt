@@ -1,6 +1,7 @@
-//! A program that reads the arguments of a command line: with memory enough, or with one growth of
-//! memory refused. It stands apart from `test_memory`, since `clap` takes as long to compile as all
-//! the rest.
+//! A program that reads the arguments of a command line, with memory enough or with one growth of
+//! memory refused, and worked command lines as tests. They stand apart from `command_line`, since a
+//! crate with tests is proved twice, and from `test_memory`, since `clap` takes as long to compile
+//! as all the rest.
 //!
 //! It is asked and answers as `test_memory` does: each line of standard input names some arguments,
 //! and `NAME N` is for a process whose thousandth growth is refused, so that it is the N-th one of
@@ -12,6 +13,9 @@ use replay_plan::Keep;
 use std::alloc::Global;
 use std::io::{self, Print, Read};
 use std::process::ExitCode;
+
+#[cfg(test)]
+mod tests;
 
 /// The number of the growth that is refused.
 const REFUSED: usize = 1000;

@@ -1,4 +1,6 @@
-use crate::{Command, LineFault, parse_line};
+//! Worked command lines, with the commands that they are.
+
+use command_line::{Command, LineFault, parse_line};
 use replay_plan::{Keep, Plan, Workers};
 use std::num::NonZeroU16;
 use std::test::Fail;

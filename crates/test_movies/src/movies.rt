@@ -1,8 +1,8 @@
 //! Worked movie files, records and inputs, and movies that are made.
 
 use movie_file::{
-    ConvertError, MakeError, MovieError, convert, make_movie, read_inputs, read_movie, read_state,
-    write_movie, write_state,
+    ConvertError, MakeError, Movie, MovieError, convert, make_movie, read_inputs, read_movie,
+    read_state, write_movie, write_state,
 };
 use riot_map::Cart;
 use std::alloc::Global;
@@ -128,6 +128,27 @@ fn file(alloc: Global) -> Result<Vec<u8>, Fail> {
     Ok(bytes)
 }
 
+/// The same movie in version 2: another version, and bank 0 after each of its two records.
+fn file_in_version_2(alloc: Global) -> Result<Vec<u8>, Fail> {
+    let old = file(alloc)?;
+    let start = old.get(6..2249).ok_or("a start state")?;
+    let checkpoint = old.get(2249..).ok_or("a checkpoint")?;
+    let mut bytes = Vec::new(alloc);
+    bytes.extend_from_slice(b"A26M\x00\x02")?;
+    bytes.extend_from_slice(start)?;
+    bytes.push(0)?;
+    bytes.extend_from_slice(checkpoint)?;
+    bytes.push(0)?;
+    Ok(bytes)
+}
+
+/// What is written of a movie.
+fn written(alloc: Global, movie: &Movie) -> Result<Vec<u8>, Fail> {
+    let mut bytes = Vec::new(alloc);
+    write_movie(movie, &mut bytes)?;
+    Ok(bytes)
+}
+
 /// A copy of a file with other bytes from a place on.
 fn changed(alloc: Global, bytes: &[u8], at: u16, new: &[u8]) -> Result<Vec<u8>, Fail> {
     let at = at as usize;
@@ -147,22 +168,18 @@ fn refusal(alloc: Global, bytes: &[u8]) -> Option<MovieError> {
 fn movie_is_written_as_it_was_read(rt: HostRuntime) -> Result<(), Fail> {
     let bytes = file(rt.alloc())?;
     assert_eq!(rt; bytes.len(), 2446);
-    let movie = read_movie(rt.alloc(), &bytes).ok().ok_or("a movie")?;
-    let mut written = Vec::new(rt.alloc());
-    written.push(0x99)?;
-    write_movie(&movie, &mut written).ok().ok_or("written")?;
-    let (first, rest) = written.split_first().ok_or("bytes")?;
-    assert_eq!(rt; *first, 0x99);
-    assert!(rt; rest == bytes.as_slice());
+    let movie = read_movie(rt.alloc(), &bytes)?;
+    let mut output = Vec::from_slice(rt.alloc(), &[0x99])?;
+    write_movie(&movie, &mut output)?;
+    assert!(rt; output.split_first() == Some((&0x99, bytes.as_slice())));
     Ok(())
 }
 
 #[test]
 fn readers_name_the_parts(rt: HostRuntime) -> Result<(), Fail> {
-    let bytes = file(rt.alloc())?;
-    let movie = read_movie(rt.alloc(), &bytes).ok().ok_or("a movie")?;
-    assert_eq!(rt; movie.version(), 1);
-    assert_eq!(rt; movie.cart().len(), 2048);
+    let movie = read_movie(rt.alloc(), &file(rt.alloc())?)?;
+    let version = movie.version();
+    assert_eq!(rt; (version, movie.cart().len()), (1, 2048));
     assert_eq!(rt; movie.start().fields().cpu.pc, 0xF000);
     let frames = movie.frames();
     assert_eq!(rt; frames, 2);
@@ -291,9 +308,7 @@ fn movie_of_two_banks_is_written_as_it_was_read(rt: HostRuntime) -> Result<(), F
     assert_eq!(rt; movie.version(), 2);
     assert_eq!(rt; movie.cart().len(), 8192);
     assert_eq!(rt; movie.start().fields().bank, 1);
-    let mut written = Vec::new(rt.alloc());
-    write_movie(&movie, &mut written)?;
-    assert!(rt; written == bytes);
+    assert!(rt; written(rt.alloc(), &movie)? == bytes);
     Ok(())
 }
 
@@ -348,21 +363,12 @@ fn bank_1_is_refused_without_banks(rt: HostRuntime) -> Result<(), Fail> {
 
 #[test]
 fn movie_is_converted_once(rt: HostRuntime) -> Result<(), Fail> {
-    let old = file(rt.alloc())?;
-    let new = convert(read_movie(rt.alloc(), &old)?)?;
-    assert_eq!(rt; new.version(), 2);
-    // Another version, and bank 0 after each of the two records.
-    let mut wanted = Vec::new(rt.alloc());
-    wanted.extend_from_slice(b"A26M\x00\x02")?;
-    wanted.extend_from_slice(old.get(6..2249).ok_or("a start state")?)?;
-    wanted.push(0)?;
-    wanted.extend_from_slice(old.get(2249..).ok_or("a checkpoint")?)?;
-    wanted.push(0)?;
-    let mut written = Vec::new(rt.alloc());
-    write_movie(&new, &mut written)?;
-    assert_eq!(rt; written.len(), 2448);
-    assert!(rt; written == wanted);
-    match convert(new) {
+    let wanted = file_in_version_2(rt.alloc())?;
+    assert_eq!(rt; wanted.len(), 2448);
+    let movie = convert(read_movie(rt.alloc(), &file(rt.alloc())?)?)?;
+    assert_eq!(rt; movie.version(), 2);
+    assert!(rt; written(rt.alloc(), &movie)? == wanted);
+    match convert(movie) {
         Ok(_) => Err("converted twice".into()),
         Err(ConvertError::AlreadyTwo(movie)) => {
             assert_eq!(rt; movie.frames(), 2);
@@ -377,10 +383,9 @@ fn movie_is_made_of_two_banks(rt: HostRuntime) -> Result<(), Fail> {
     let cart = Cart::new(Vec::from_slice(rt.alloc(), &banked_bytes())?)?;
     let movie = make_movie(rt.alloc(), cart, inputs, 1)?;
     assert_eq!(rt; movie.version(), 2);
-    let mut written = Vec::new(rt.alloc());
-    write_movie(&movie, &mut written)?;
-    assert_eq!(rt; written.len(), 8784);
-    assert!(rt; written.get(8404..8592) == Some(banked_state_after_frame_1().as_slice()));
+    let bytes = written(rt.alloc(), &movie)?;
+    assert_eq!(rt; bytes.len(), 8784);
+    assert!(rt; bytes.get(8404..8592) == Some(banked_state_after_frame_1().as_slice()));
     Ok(())
 }
 
@@ -404,12 +409,10 @@ fn inputs_are_read_or_refused(rt: HostRuntime) -> Result<(), Fail> {
 fn movie_is_made_of_a_run(rt: HostRuntime) -> Result<(), Fail> {
     let inputs = read_inputs(rt.alloc(), &[0xFF, 0x3F, 0x00, 0xFF, 0x3F, 0x00])?;
     let movie = make_movie(rt.alloc(), cart(rt.alloc(), &PROGRAM)?, inputs, 2)?;
-    let mut wanted = changed(rt.alloc(), &file(rt.alloc())?, 2258, &[2])?;
-    wanted = changed(rt.alloc(), &wanted, 2259, &state_after_frame_2())?;
-    let mut written = Vec::new(rt.alloc());
-    write_movie(&movie, &mut written)?;
-    assert_eq!(rt; written.len(), 2446);
-    assert!(rt; written == wanted);
+    let later = changed(rt.alloc(), &file(rt.alloc())?, 2258, &[2])?;
+    let wanted = changed(rt.alloc(), &later, 2259, &state_after_frame_2())?;
+    assert_eq!(rt; wanted.len(), 2446);
+    assert!(rt; written(rt.alloc(), &movie)? == wanted);
     Ok(())
 }
 
