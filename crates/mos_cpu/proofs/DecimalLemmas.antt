@@ -7,8 +7,8 @@ use Rattle.std.proofs.lemmas.Bool.{lt-ltb, le-ltb}
 use Rattle.std.proofs.lemmas.Bool.Decides.{nat_tests}
 use Rattle.mos_cpu.proofs.SumLemmas.{modulo_is, negative_is, top_bits-overflow, signed_sum-modulo}
 use Rattle.mos_cpu.specs.Numbers.{overflows, modulo}
-use Rattle.mos_cpu.specs.Decimal.{high_digit, low_sum, decimal_sum_of, signed_sum_of, low_borrowed}
-use Rattle.mos_cpu.specs.Decimal.{high_borrowed}
+use Rattle.mos_cpu.specs.Decimal.{high_digit, low_sum, decimal_sum_of, signed_sum_of, low_with_borrow}
+use Rattle.mos_cpu.specs.Decimal.{high_with_borrow}
 
 pub low_sum-lt : (a m p : ℕ) → low_sum a m p < 32
 low_sum-lt a m p = grind (arith, nat_tests)
@@ -45,7 +45,7 @@ digit_modulo have taken h =
 
 pub low_lacks : (x y c digit : ℕ) → x + c < y + 1
     → digit ≡ modulo (pos (x + c) -ℤ pos (y + 1) -ℤ pos 6) 16
-    → pos digit -ℤ pos 16 ≡ low_borrowed (pos x -ℤ pos y +ℤ pos c -ℤ pos 1)
+    → pos digit -ℤ pos 16 ≡ low_with_borrow (pos x -ℤ pos y +ℤ pos c -ℤ pos 1)
 low_lacks x y c digit less e =
     let l = pos x -ℤ pos y +ℤ pos c -ℤ pos 1 in
     let test : int_lt l (pos 0) ≡ true =
@@ -55,7 +55,7 @@ low_lacks x y c digit less e =
 
 -- A low digit that has it.
 pub low_suffices : (x y c : ℕ) → y + 1 ≤ x + c
-    → pos (x + c - (y + 1)) -ℤ pos 0 ≡ low_borrowed (pos x -ℤ pos y +ℤ pos c -ℤ pos 1)
+    → pos (x + c - (y + 1)) -ℤ pos 0 ≡ low_with_borrow (pos x -ℤ pos y +ℤ pos c -ℤ pos 1)
 low_suffices x y c more =
     let l = pos x -ℤ pos y +ℤ pos c -ℤ pos 1 in
     let test : int_lt l (pos 0) ≡ false = negative_is l (x + c) (y + 1) (omega (arith, ints)) ∙ le-ltb (x + c) (y + 1) more in
@@ -64,7 +64,7 @@ low_suffices x y c more =
 -- Both digits, where they lack what is taken from them.
 pub high_lacks : (h k digit borrowed : ℕ) (l : ℤ) → pos digit -ℤ pos borrowed ≡ l
     → k + borrowed < 257 → h + digit < k + borrowed
-    → (h + digit + 416 - (k + borrowed)) % 256 ≡ modulo (high_borrowed (pos h -ℤ pos k +ℤ l)) 256
+    → (h + digit + 416 - (k + borrowed)) % 256 ≡ modulo (high_with_borrow (pos h -ℤ pos k +ℤ l)) 256
 high_lacks h k digit borrowed l e small less =
     let s = pos h -ℤ pos k +ℤ l in
     let test : int_lt s (pos 0) ≡ true = negative_is s (h + digit) (k + borrowed) (omega (arith, ints, e)) ∙ lt-ltb (h + digit) (k + borrowed) less in
@@ -75,7 +75,7 @@ high_lacks h k digit borrowed l e small less =
 -- Both digits, where they have it.
 pub high_suffices : (h k digit borrowed : ℕ) (l : ℤ) → pos digit -ℤ pos borrowed ≡ l
     → h + digit < 256 → k + borrowed ≤ h + digit
-    → h + digit - (k + borrowed) ≡ modulo (high_borrowed (pos h -ℤ pos k +ℤ l)) 256
+    → h + digit - (k + borrowed) ≡ modulo (high_with_borrow (pos h -ℤ pos k +ℤ l)) 256
 high_suffices h k digit borrowed l e small more =
     let s = pos h -ℤ pos k +ℤ l in
     let test : int_lt s (pos 0) ≡ false = negative_is s (h + digit) (k + borrowed) (omega (arith, ints, e)) ∙ le-ltb (h + digit) (k + borrowed) more in

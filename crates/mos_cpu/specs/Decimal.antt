@@ -51,21 +51,21 @@ abbrev pub adc_of : ℕ → ℕ → ℕ → Alu
 adc_of a m p = if has_flag Decimal p then decimal_adc_of a m p else binary_adc_of a m p
 
 -- A difference of low digits. Where it is negative it is 6 less modulo 16, and borrows 16.
-abbrev pub low_borrowed : ℤ → ℤ
-low_borrowed l = if int_lt l (pos 0) then pos (modulo (l -ℤ pos 6) 16) -ℤ pos 16 else l
+abbrev pub low_with_borrow : ℤ → ℤ
+low_with_borrow l = if int_lt l (pos 0) then pos (modulo (l -ℤ pos 6) 16) -ℤ pos 16 else l
 
 -- The difference of the low digits with borrow.
 abbrev pub low_difference_of : ℕ → ℕ → ℕ → ℤ
-low_difference_of a m p = low_borrowed (less_borrow (pos (low_digit a)) (pos (low_digit m)) p)
+low_difference_of a m p = low_with_borrow (less_borrow (pos (low_digit a)) (pos (low_digit m)) p)
 
 -- A difference of both digits. Where it is negative it is 96 less.
-abbrev pub high_borrowed : ℤ → ℤ
-high_borrowed s = if int_lt s (pos 0) then s -ℤ pos 96 else s
+abbrev pub high_with_borrow : ℤ → ℤ
+high_with_borrow s = if int_lt s (pos 0) then s -ℤ pos 96 else s
 
 -- The decimal difference with borrow.
 abbrev pub decimal_difference : ℕ → ℕ → ℕ → ℕ
 decimal_difference a m p =
-    modulo (high_borrowed (pos (high_digit a) -ℤ pos (high_digit m) +ℤ low_difference_of a m p)) 256
+    modulo (high_with_borrow (pos (high_digit a) -ℤ pos (high_digit m) +ℤ low_difference_of a m p)) 256
 
 -- The difference with borrow. All its flags are those of the binary difference.
 abbrev pub sbc_of : ℕ → ℕ → ℕ → Alu

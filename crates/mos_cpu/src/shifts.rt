@@ -1,7 +1,7 @@
 //! Shifts and rotations.
 
 ghost use Rattle.std.specs.Prelude.{◌≡◌, ◌/◌, ◌%◌};
-ghost use Rattle.mos_cpu.specs.Arithmetic.{shifted, asl_of, lsr_of, rol_of, ror_of};
+ghost use Rattle.mos_cpu.specs.Arithmetic.{shift_of, asl_of, lsr_of, rol_of, ror_of};
 
 use crate::arithmetic::Alu;
 use crate::status::{Flag, has, with_flag, with_sign};
@@ -9,7 +9,7 @@ use crate::status::{Flag, has, with_flag, with_sign};
 /// A shifted value, with N and Z, and in C the bit that fell out.
 #[inline(always)]
 const fn shift_to(value: u8, out: bool, p: u8) -> Alu
-    ensures result { result ≡ shifted value out p }
+    ensures result { result ≡ shift_of value out p }
     ensures status { result.p / 16 % 4 ≡ p / 16 % 4 }
 {
     Alu {

@@ -1,6 +1,6 @@
 //! Conversion of movies to version 2.
 ghost use Rattle.std.specs.Prelude.{◌≡◌, IfOk, IfErr};
-ghost use Rattle.movie_file.specs.Conversion.{converted};
+ghost use Rattle.movie_file.specs.Conversion.{in_version_2};
 ghost use Rattle.movie_file.specs.declared.converting.ConvertError.TheVariants.{AlreadyTwo};
 
 use crate::movie::Movie;
@@ -17,7 +17,7 @@ pub enum ConvertError {
 ///
 /// Takes no memory. `AlreadyTwo` comes for every movie of version 2, whatever its cartridge.
 pub fn convert(movie: Movie) -> Result<Movie, ConvertError>
-    ensures converted { IfOk result (λ new. (movie.version ≡ 1) × (new ≡ converted movie)) }
+    ensures converted { IfOk result (λ new. (movie.version ≡ 1) × (new ≡ in_version_2 movie)) }
     ensures refused { IfErr result (λ error. (movie.version ≡ 2) × (error ≡ AlreadyTwo movie)) }
 {
     if movie.version() == 2 {

@@ -1,7 +1,7 @@
 //! Laws about the definitions.
 ghost use Rattle.std.specs.Prelude.{◌≡◌, ◌+◌, ◌<◌, ◌≤◌, List, ℕ, length, Ok, Some, get_or};
 ghost use Rattle.std.specs.Prelude.{slice_get};
-ghost use Rattle.movie_file.specs.Conversion.{converted};
+ghost use Rattle.movie_file.specs.Conversion.{in_version_2};
 ghost use Rattle.movie_file.specs.InputLists.{SpellsInputs, all_inputs_at};
 ghost use Rattle.movie_file.specs.Judgement.{IsSound, FaultsAt, IsFalseAt, IsGenuine};
 ghost use Rattle.movie_file.specs.Making.{IsFirstFault, IsMadeOf};
@@ -96,7 +96,7 @@ pub const fn law_of_judgements()
 
 /// A law: a movie in version 2 is a movie, whose run is that of the movie.
 pub const fn law_of_conversion()
-    ensures lawful { (m : MovieData) → IsMovie m → IsMovie (converted m) }
+    ensures lawful { (m : MovieData) → IsMovie m → IsMovie (in_version_2 m) }
     ensures run { (m : MovieData) (s : StateFields) (from k : ℕ)
-        → run (converted m) s from k ≡ run m s from k }
+        → run (in_version_2 m) s from k ≡ run m s from k }
 {}

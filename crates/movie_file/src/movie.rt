@@ -42,7 +42,7 @@ impl Model for Movie {
 
 impl Movie {
     ghost use Rattle.movie_file.specs.Movie.{MovieData, IsMovie};
-    ghost use Rattle.movie_file.specs.Conversion.{converted};
+    ghost use Rattle.movie_file.specs.Conversion.{in_version_2};
     ghost use Rattle.movie_file.specs.Private.MovieParts.{data_of};
 
     /// The movie of these parts.
@@ -132,7 +132,7 @@ impl Movie {
 
     /// The same movie in version 2.
     pub(crate) fn in_version_2(self) -> Movie
-        ensures { result ≡ converted self }
+        ensures { result ≡ in_version_2 self }
     {
         let mut movie = self;
         movie.version = 2;

@@ -57,7 +57,7 @@ impl Room {
 
     /// What follows a header: the cartridge, whose bytes are in this room, and the rest.
     #[tactic(auto, unfolding(crate::specs::Reading::body_at))]
-    fn filled(self, sizes: Sizes, bytes: &[u8]) -> Result<MovieParts, MovieError>
+    fn fill(self, sizes: Sizes, bytes: &[u8]) -> Result<MovieParts, MovieError>
         requires takes { IsTrue (takes_cart sizes.version sizes.cart) }
         requires frames { sizes.frames ≤ most_frames sizes.version }
         requires checkpoints { sizes.checkpoints ≤ most_checkpoints }
@@ -101,7 +101,7 @@ fn parts_in(alloc: Global, bytes: &[u8]) -> Result<MovieParts, MovieError>
 {
     let (sizes, rest) = sizes_in(bytes)?;
     let room = Room::new(alloc, &rest[..sizes.cart as usize], sizes)?;
-    room.filled(sizes, rest)
+    room.fill(sizes, rest)
 }
 
 /// The movie that the bytes spell, all of the bytes; else the first refusal in the order of the

@@ -1,6 +1,6 @@
 //! Laws about verdicts.
 ghost use Rattle.std.specs.Prelude.{◌≡◌, ◌↔◌, List, ℕ};
-ghost use Rattle.movie_file.specs.Conversion.{converted};
+ghost use Rattle.movie_file.specs.Conversion.{in_version_2};
 ghost use Rattle.movie_file.specs.Movie.{MovieData, IsMovie};
 ghost use Rattle.replay_plan.specs.declared.keep.Keep.{Keep};
 ghost use Rattle.replay_segments.specs.declared.verdict.Verdict.{Verdict};
@@ -20,5 +20,5 @@ pub const fn law_of_one_outcome()
 
 /// A law: a movie in version 2 has the verdict of the movie, whichever frames are kept.
 pub const fn law_of_converted_verdicts()
-    ensures { (m : MovieData) (keep : Keep) (v : Verdict) → IsVerdict m keep v ↔ IsVerdict (converted m) keep v }
+    ensures { (m : MovieData) (keep : Keep) (v : Verdict) → IsVerdict m keep v ↔ IsVerdict (in_version_2 m) keep v }
 {}

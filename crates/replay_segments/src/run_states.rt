@@ -46,7 +46,7 @@ fn state_after(alloc: Global, movie: &Movie, start: &State, from: u32, len: u32)
 
 /// The state of the run after a frame, replayed from the checkpoint before index `next`, or from
 /// the start where there is none.
-fn resumed(alloc: Global, movie: &Movie, next: u16, frame: u32) -> State
+fn resume(alloc: Global, movie: &Movie, next: u16, frame: u32) -> State
     requires { IsResumable movie.now next frame }
     ensures { run movie.now movie.now.start 0 frame ≡ Some result }
 {
@@ -67,7 +67,7 @@ pub fn found_state(alloc: Global, movie: &Movie, number: u16, frame: u32) -> Sta
     ensures { run movie.now movie.now.start 0 frame ≡ Some result }
 {
     let _ = movie.frames();
-    resumed(alloc, movie, number - 1, frame)
+    resume(alloc, movie, number - 1, frame)
 }
 
 /// How many checkpoints stand before a frame.
@@ -94,7 +94,7 @@ pub fn left_state(alloc: Global, movie: &Movie, frame: u32, kind: FaultKind) -> 
 {
     let _ = movie.frames();
     let next = checkpoints_before(movie, frame);
-    let mut state = resumed(alloc, movie, next, frame - 1);
+    let mut state = resume(alloc, movie, next, frame - 1);
     let begun = state.line_cycle();
     let Some(halt) = halt(movie.cart(), &mut state, movie.input(frame)) else {
         unreachable!()

@@ -33,7 +33,7 @@ fn grow(alloc: Global, count: usize) -> bool {
 }
 
 /// The answer to some words. A refused growth may give no other than `out of memory`.
-fn tried(alloc: Global, name: &str) -> &'static str {
+fn outcome_of(alloc: Global, name: &str) -> &'static str {
     let words = match name {
         "command" => ["vcs_check", "verify", "m", "--pictures", "p"].as_slice(),
         "usage" => ["vcs_check", "verify", "m", "--workers", "65"].as_slice(),
@@ -64,7 +64,7 @@ fn answer(rt: &impl Print, alloc: Global, line: &str) -> io::Result<()> {
     if let Some(number) = number {
         grow(alloc, REFUSED.saturating_sub(number));
     }
-    let outcome = tried(alloc, name);
+    let outcome = outcome_of(alloc, name);
     // The refused growth is still to come.
     if number.is_some() && !grow(alloc, REFUSED) {
         println!(rt; "{line}: {outcome}, in fewer growths")

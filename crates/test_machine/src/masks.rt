@@ -30,7 +30,7 @@ fn row_of(mask: &Mask) -> [bool; 160] {
 }
 
 /// The row with these stretches covered, each from a pixel up to another.
-fn covered(stretches: &[(u8, u8)]) -> [bool; 160] {
+fn covered_pixels(stretches: &[(u8, u8)]) -> [bool; 160] {
     let mut row = [false; 160];
     for x in 0..160u8 {
         row[x as usize] = stretches.iter().any(|(from, to)| *from <= x && x < *to);
@@ -76,7 +76,7 @@ fn player(mode: u8, reflected: bool, graphic: u8, position: u8) -> [bool; 160] {
 }
 
 /// A TIA with these numbers.
-fn made(fields: TiaFields) -> Result<Tia, Fail> {
+fn tia_of(fields: TiaFields) -> Result<Tia, Fail> {
     Ok(Tia::from_fields(fields).ok_or("these numbers are lawful")?)
 }
 
@@ -86,18 +86,18 @@ fn copies_wrap(rt: HostRuntime) -> Result<(), Fail> {
     fields.position_p0 = 100;
     fields.nusiz0 = 6;
     fields.grp0_new = 0x80;
-    let row = covered(&[(100, 101), (132, 133), (4, 5)]);
-    assert!(rt; row_of(&made(fields)?.mask(0)) == row);
+    let row = covered_pixels(&[(100, 101), (132, 133), (4, 5)]);
+    assert!(rt; row_of(&tia_of(fields)?.mask(0)) == row);
     fields.position_p0 = 150;
     fields.nusiz0 = 7;
     fields.grp0_new = 0x81;
-    let row = covered(&[(150, 154), (18, 22)]);
-    assert!(rt; row_of(&made(fields)?.mask(0)) == row);
+    let row = covered_pixels(&[(150, 154), (18, 22)]);
+    assert!(rt; row_of(&tia_of(fields)?.mask(0)) == row);
     fields.position_m0 = 155;
     fields.nusiz0 = 0x30;
     fields.enam0 = 0x02;
-    let row = covered(&[(155, 160), (0, 3)]);
-    assert!(rt; row_of(&made(fields)?.mask(2)) == row);
+    let row = covered_pixels(&[(155, 160), (0, 3)]);
+    assert!(rt; row_of(&tia_of(fields)?.mask(2)) == row);
     Ok(())
 }
 
@@ -114,7 +114,7 @@ fn players_are_their_bits(rt: HostRuntime) -> Result<(), Fail> {
                     fields.refp1 = if reflected { 0x08 } else { 0x00 };
                     let row = player(mode, reflected, graphic, position);
                     assert!(rt;
-                        row_of(&made(fields)?.mask(1)) == row,
+                        row_of(&tia_of(fields)?.mask(1)) == row,
                         "{mode} {position} {graphic}"
                     );
                 }
@@ -134,8 +134,8 @@ fn one_call_is_as_many(rt: HostRuntime) -> Result<(), Fail> {
     fields.pf0 = 0x10;
     for ctrlpf in [0x00, 0x01, 0x04] {
         fields.ctrlpf = ctrlpf;
-        let mut one = made(fields)?;
-        let mut many = made(fields)?;
+        let mut one = tia_of(fields)?;
+        let mut many = tia_of(fields)?;
         let mut row = Row {
             pixels: [0xFF; 160],
         };

@@ -42,7 +42,7 @@ impl Paint for Row {
 }
 
 /// The pixels of `n` clocks, over a row of FF.
-fn drawn(tia: &mut Tia, n: u8) -> [u8; 160] {
+fn draw(tia: &mut Tia, n: u8) -> [u8; 160] {
     let mut row = Row {
         pixels: [0xFF; 160],
     };
@@ -81,7 +81,7 @@ fn playfield_and_player_by_priority(rt: HostRuntime) {
         tia.write(GRP0, 0xFF);
         tia.write(PF0, 0x10);
         tia.write(CTRLPF, ctrlpf);
-        assert!(rt; drawn(&mut tia, 228) == pixels, "with {ctrlpf}");
+        assert!(rt; draw(&mut tia, 228) == pixels, "with {ctrlpf}");
         assert_eq!(rt; tia.read(CXP0FB), 0x80);
         tia.write(CXCLR, 0);
         assert_eq!(rt; tia.read(CXP0FB), 0);
@@ -92,12 +92,12 @@ fn playfield_and_player_by_priority(rt: HostRuntime) {
 fn comb_hides_eight_pixels_of_one_line(rt: HostRuntime) {
     let mut tia = Tia::power_on();
     tia.write(COLUBK, 0x0E);
-    drawn(&mut tia, 3);
+    draw(&mut tia, 3);
     assert!(rt; tia.write(HMOVE, 0) != Effect::Sync);
-    assert!(rt; drawn(&mut tia, 225) == row_of(0x0E, &[(0, 8, 0)]));
+    assert!(rt; draw(&mut tia, 225) == row_of(0x0E, &[(0, 8, 0)]));
     assert_eq!(rt; tia.line(), 1);
     assert_eq!(rt; tia.beam(), 0);
-    assert!(rt; drawn(&mut tia, 228) == row_of(0x0E, &[]));
+    assert!(rt; draw(&mut tia, 228) == row_of(0x0E, &[]));
     assert_eq!(rt; tia.line(), 2);
 }
 
@@ -111,7 +111,7 @@ fn buttons_are_latched(rt: HostRuntime) {
     tia.write(VBLANK, 0x00);
     assert_eq!(rt; tia.read(INPT4), 0x80);
     tia.write(VBLANK, 0x40);
-    drawn(&mut tia, 228);
+    draw(&mut tia, 228);
     tia.set_fire(true, false);
     tia.new_frame();
     tia.set_fire(false, false);

@@ -1,7 +1,7 @@
 //! What the program's commands do, over bytes in place of files.
 
 use crate::failure::{Failure, right};
-use crate::movies::{CONVERTED_LENGTH, LENGTH, converted, two_frames, two_frames_to_the_end};
+use crate::movies::{CONVERTED_LENGTH, LENGTH, conversion, two_frames, two_frames_to_the_end};
 use replay_plan::{Keep, Plan, Workers};
 use std::alloc::Global;
 use std::sync::Wait;
@@ -18,7 +18,7 @@ const ROOM: usize = 64;
 const PICTURES: usize = 2 * (13 + 480);
 
 /// The failure after an error. But for a failed write, nothing may be written.
-fn failed(error: RunError, is_untouched: bool) -> Failure {
+fn failure(error: RunError, is_untouched: bool) -> Failure {
     if is_untouched || error == RunError::WriteFault {
         Failure::Run(error)
     } else {
@@ -58,7 +58,7 @@ pub(crate) fn is_judged<R: Threads + Wait + Sync>(
                 && is_whole
                 && line.starts_with(b"genuine: 2 frames, 1 checkpoints\n"),
         ),
-        Err(error) => Err(failed(error, is_untouched)),
+        Err(error) => Err(failure(error, is_untouched)),
     }
 }
 
@@ -91,7 +91,7 @@ pub(crate) fn is_made(alloc: Global, form: InputForm) -> Result<(), Failure> {
                 && movie == wanted
                 && line.starts_with(b"made: 2 frames, 1 checkpoints\n"),
         ),
-        Err(error) => Err(failed(error, is_untouched)),
+        Err(error) => Err(failure(error, is_untouched)),
     }
 }
 
@@ -107,7 +107,7 @@ pub(crate) fn is_told(alloc: Global) -> Result<(), Failure> {
                 && is_whole
                 && line.starts_with(b"movie: version 1, cartridge 2048, 2 frames, 1 checkpoints\n"),
         ),
-        Err(error) => Err(failed(error, is_untouched)),
+        Err(error) => Err(failure(error, is_untouched)),
     }
 }
 
@@ -120,7 +120,7 @@ pub(crate) fn is_listed(alloc: Global) -> Result<(), Failure> {
     let is_whole = left.len() == ROOM - 2;
     match answer {
         Ok(status) => right(status == Status::Done && is_whole && text.starts_with(b"2\n")),
-        Err(error) => Err(failed(error, is_untouched)),
+        Err(error) => Err(failure(error, is_untouched)),
     }
 }
 
@@ -156,7 +156,7 @@ pub(crate) fn is_reported<R: Threads + Wait + Sync>(
                     b"genuine: 2 frames, 1 checkpoints\ncartridge: 2048 bytes\nmd5: 2062825b",
                 ),
         ),
-        Err(error) => Err(failed(error, is_untouched)),
+        Err(error) => Err(failure(error, is_untouched)),
     }
 }
 
@@ -178,9 +178,9 @@ pub(crate) fn is_converted(alloc: Global) -> Result<(), Failure> {
         Ok(status) => right(
             status == Status::Done
                 && is_whole
-                && movie == converted()
+                && movie == conversion()
                 && line.starts_with(b"converted: 2 frames, 1 checkpoints\n"),
         ),
-        Err(error) => Err(failed(error, is_untouched)),
+        Err(error) => Err(failure(error, is_untouched)),
     }
 }

@@ -30,7 +30,7 @@ use std::thread::Threads;
 use vcs_engine::InputForm;
 
 /// Tries a call; none has another name.
-fn tried<R: Threads + Wait + Sync>(
+fn outcome_of<R: Threads + Wait + Sync>(
     rt: &R,
     alloc: Global,
     call: &str,
@@ -74,7 +74,7 @@ fn answer<R: Threads + Wait + Sync + Print>(rt: &R, alloc: Global, line: &str) -
     if let Some(number) = number {
         grow(alloc, REFUSED.saturating_sub(number));
     }
-    let outcome = tried(rt, alloc, call);
+    let outcome = outcome_of(rt, alloc, call);
     // The refused growth is still to come.
     let later = if number.is_some() && !grow(alloc, REFUSED) {
         ", in fewer growths"

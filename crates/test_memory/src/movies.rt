@@ -60,7 +60,7 @@ pub(crate) fn two_frames_to_the_end() -> [u8; LENGTH] {
 
 /// The movie of two frames in version 2: another version, and a last byte of each state, the bank,
 /// which is 0.
-pub(crate) fn converted() -> [u8; CONVERTED_LENGTH] {
+pub(crate) fn conversion() -> [u8; CONVERTED_LENGTH] {
     let old = two_frames();
     let (to_the_start, rest) = old.split_at(2249);
     let mut bytes = [0; CONVERTED_LENGTH];
@@ -86,7 +86,7 @@ fn cartridge(alloc: Global) -> Result<Cart, Failure> {
 }
 
 /// A movie of so many frames of that cartridge, with a checkpoint at every so many.
-pub(crate) fn made(alloc: Global, frames: usize, every: u32) -> Result<Movie, Failure> {
+pub(crate) fn make(alloc: Global, frames: usize, every: u32) -> Result<Movie, Failure> {
     let Some(idle) = Input::new(0xFF, 0x3F, 0) else {
         return Err(Failure::Wrong);
     };
@@ -118,6 +118,6 @@ pub(crate) fn is_written(alloc: Global) -> Result<(), Failure> {
 }
 
 pub(crate) fn is_made(alloc: Global) -> Result<(), Failure> {
-    let movie = made(alloc, 5, 2)?;
+    let movie = make(alloc, 5, 2)?;
     right(movie.frames() == 5 && movie.checkpoints() == 2)
 }

@@ -2,7 +2,7 @@
 
 use crate::failure::{Failure, OUT_OF_MEMORY, right};
 use crate::growths::TakesRefused;
-use crate::movies::{made, movie};
+use crate::movies::{make, movie};
 use crate::segments::is_genuine;
 use movie_file::Movie;
 use replay_plan::{Keep, Workers};
@@ -73,7 +73,7 @@ fn judged_with<G: Gate + Sync, R: Threads + Wait + Sync>(
 }
 
 /// The same with a gate that does nothing.
-fn judged<R: Threads + Wait + Sync>(
+fn judge<R: Threads + Wait + Sync>(
     rt: &R,
     alloc: Global,
     movie: &Movie,
@@ -106,7 +106,7 @@ pub(crate) fn is_judged_by_two<R: Threads + Wait + Sync>(
     rt: &R,
     alloc: Global,
 ) -> Result<(), Failure> {
-    judged(rt, alloc, &movie(alloc)?, 2)
+    judge(rt, alloc, &movie(alloc)?, 2)
 }
 
 /// Ten segments, of which each but the last has two frames.
@@ -114,7 +114,7 @@ pub(crate) fn is_judged_by_eight<R: Threads + Wait + Sync>(
     rt: &R,
     alloc: Global,
 ) -> Result<(), Failure> {
-    judged(rt, alloc, &made(alloc, 19, 2)?, 8)
+    judge(rt, alloc, &make(alloc, 19, 2)?, 8)
 }
 
 /// Two segments of 300 frames each, and an empty one: a growth for each picture, and few besides. A
@@ -123,5 +123,5 @@ pub(crate) fn is_judged_once<R: Threads + Wait + Sync>(
     rt: &R,
     alloc: Global,
 ) -> Result<(), Failure> {
-    judged(rt, alloc, &made(alloc, 600, 300)?, 2)
+    judge(rt, alloc, &make(alloc, 600, 300)?, 2)
 }

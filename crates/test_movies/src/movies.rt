@@ -143,14 +143,14 @@ fn file_in_version_2(alloc: Global) -> Result<Vec<u8>, Fail> {
 }
 
 /// What is written of a movie.
-fn written(alloc: Global, movie: &Movie) -> Result<Vec<u8>, Fail> {
+fn file_of(alloc: Global, movie: &Movie) -> Result<Vec<u8>, Fail> {
     let mut bytes = Vec::new(alloc);
     write_movie(movie, &mut bytes)?;
     Ok(bytes)
 }
 
 /// A copy of a file with other bytes from a place on.
-fn changed(alloc: Global, bytes: &[u8], at: u16, new: &[u8]) -> Result<Vec<u8>, Fail> {
+fn with_bytes_at(alloc: Global, bytes: &[u8], at: u16, new: &[u8]) -> Result<Vec<u8>, Fail> {
     let at = at as usize;
     let mut copy = Vec::new(alloc);
     copy.extend_from_slice(bytes.get(..at).ok_or("a place in the file")?)?;
@@ -212,11 +212,11 @@ fn headers_are_judged(rt: HostRuntime) -> Result<(), Fail> {
         (7, 1, MovieError::BadCartSize),
         (11, 0, MovieError::BadCounts),
     ] {
-        let bad = changed(rt.alloc(), &bytes, at, &[byte])?;
+        let bad = with_bytes_at(rt.alloc(), &bytes, at, &[byte])?;
         assert_eq!(rt; refusal(rt.alloc(), &bad), Some(want));
     }
     for (checkpoints, want) in [(4096u16, MovieError::BadCounts), (4095, MovieError::Short)] {
-        let bad = changed(rt.alloc(), &bytes, 12, &checkpoints.to_be_bytes())?;
+        let bad = with_bytes_at(rt.alloc(), &bytes, 12, &checkpoints.to_be_bytes())?;
         assert_eq!(rt; refusal(rt.alloc(), &bad), Some(want));
     }
     Ok(())
@@ -233,7 +233,7 @@ fn states_and_inputs_are_judged(rt: HostRuntime) -> Result<(), Fail> {
         (2258, 3, MovieError::BadOrder(1)),
         (2263, 0x34, MovieError::BadState(1)),
     ] {
-        let bad = changed(rt.alloc(), &bytes, at, &[byte])?;
+        let bad = with_bytes_at(rt.alloc(), &bytes, at, &[byte])?;
         assert_eq!(rt; refusal(rt.alloc(), &bad), Some(want));
     }
     Ok(())
@@ -242,11 +242,11 @@ fn states_and_inputs_are_judged(rt: HostRuntime) -> Result<(), Fail> {
 #[test]
 fn checkpoints_rise(rt: HostRuntime) -> Result<(), Fail> {
     let bytes = file(rt.alloc())?;
-    let mut two = changed(rt.alloc(), &bytes, 13, &[2])?;
+    let mut two = with_bytes_at(rt.alloc(), &bytes, 13, &[2])?;
     two.extend_from_slice(&[0, 0, 0, 1])?;
     two.extend_from_slice(&state_after_frame_1())?;
     assert_eq!(rt; refusal(rt.alloc(), &two), Some(MovieError::BadOrder(2)));
-    let risen = changed(rt.alloc(), &two, 2449, &[2])?;
+    let risen = with_bytes_at(rt.alloc(), &two, 2449, &[2])?;
     assert_eq!(rt; refusal(rt.alloc(), &risen), None);
     Ok(())
 }
@@ -255,7 +255,7 @@ fn checkpoints_rise(rt: HostRuntime) -> Result<(), Fail> {
 fn first_refusal_is_named(rt: HostRuntime) -> Result<(), Fail> {
     let mut bytes = file(rt.alloc())?;
     for (at, byte) in [(2239u16, 0xA0), (2254, 0x04), (2258, 3), (2263, 0x34)] {
-        bytes = changed(rt.alloc(), &bytes, at, &[byte])?;
+        bytes = with_bytes_at(rt.alloc(), &bytes, at, &[byte])?;
     }
     bytes.push(0)?;
     for (at, byte, want) in [
@@ -265,7 +265,7 @@ fn first_refusal_is_named(rt: HostRuntime) -> Result<(), Fail> {
         (2263, 0x06, MovieError::BadState(1)),
     ] {
         assert_eq!(rt; refusal(rt.alloc(), &bytes), Some(want));
-        bytes = changed(rt.alloc(), &bytes, at, &[byte])?;
+        bytes = with_bytes_at(rt.alloc(), &bytes, at, &[byte])?;
     }
     assert_eq!(rt; refusal(rt.alloc(), &bytes), Some(MovieError::Trailing));
     Ok(())
@@ -308,7 +308,7 @@ fn movie_of_two_banks_is_written_as_it_was_read(rt: HostRuntime) -> Result<(), F
     assert_eq!(rt; movie.version(), 2);
     assert_eq!(rt; movie.cart().len(), 8192);
     assert_eq!(rt; movie.start().fields().bank, 1);
-    assert!(rt; written(rt.alloc(), &movie)? == bytes);
+    assert!(rt; file_of(rt.alloc(), &movie)? == bytes);
     Ok(())
 }
 
@@ -322,7 +322,7 @@ fn refusals_of_version_2(rt: HostRuntime) -> Result<(), Fail> {
         (8395, [0x3F, 0x04], MovieError::BadInput(1)),
         (8590, [0x00, 0x02], MovieError::BadState(1)),
     ] {
-        let copy = changed(rt.alloc(), &bytes, at, &new)?;
+        let copy = with_bytes_at(rt.alloc(), &bytes, at, &new)?;
         assert_eq!(rt; refusal(rt.alloc(), &copy), Some(wanted));
     }
     Ok(())
@@ -338,7 +338,7 @@ fn each_version_has_its_most_frames(rt: HostRuntime) -> Result<(), Fail> {
         (&new, 262_143, MovieError::Short),
         (&new, 262_144, MovieError::BadCounts),
     ] {
-        let copy = changed(rt.alloc(), bytes, 8, &frames.to_be_bytes())?;
+        let copy = with_bytes_at(rt.alloc(), bytes, 8, &frames.to_be_bytes())?;
         assert_eq!(rt; refusal(rt.alloc(), &copy), Some(wanted));
     }
     Ok(())
@@ -354,9 +354,9 @@ fn bank_1_is_refused_without_banks(rt: HostRuntime) -> Result<(), Fail> {
     )?;
     bytes.extend_from_slice(&with_bank(&state_at_power_on(), 1))?;
     bytes.extend_from_slice(&[0xFF, 0x3F, 0x00])?;
-    let bytes = changed(rt.alloc(), &bytes, 4, &[0, 2, 8, 0, 0, 0, 0, 1, 0, 0])?;
+    let bytes = with_bytes_at(rt.alloc(), &bytes, 4, &[0, 2, 8, 0, 0, 0, 0, 1, 0, 0])?;
     assert_eq!(rt; refusal(rt.alloc(), &bytes), Some(MovieError::BadState(0)));
-    let bytes = changed(rt.alloc(), &bytes, 2249, &[0])?;
+    let bytes = with_bytes_at(rt.alloc(), &bytes, 2249, &[0])?;
     assert_eq!(rt; refusal(rt.alloc(), &bytes), None);
     Ok(())
 }
@@ -367,7 +367,7 @@ fn movie_is_converted_once(rt: HostRuntime) -> Result<(), Fail> {
     assert_eq!(rt; wanted.len(), 2448);
     let movie = convert(read_movie(rt.alloc(), &file(rt.alloc())?)?)?;
     assert_eq!(rt; movie.version(), 2);
-    assert!(rt; written(rt.alloc(), &movie)? == wanted);
+    assert!(rt; file_of(rt.alloc(), &movie)? == wanted);
     match convert(movie) {
         Ok(_) => Err("converted twice".into()),
         Err(ConvertError::AlreadyTwo(movie)) => {
@@ -383,7 +383,7 @@ fn movie_is_made_of_two_banks(rt: HostRuntime) -> Result<(), Fail> {
     let cart = Cart::new(Vec::from_slice(rt.alloc(), &banked_bytes())?)?;
     let movie = make_movie(rt.alloc(), cart, inputs, 1)?;
     assert_eq!(rt; movie.version(), 2);
-    let bytes = written(rt.alloc(), &movie)?;
+    let bytes = file_of(rt.alloc(), &movie)?;
     assert_eq!(rt; bytes.len(), 8784);
     assert!(rt; bytes.get(8404..8592) == Some(banked_state_after_frame_1().as_slice()));
     Ok(())
@@ -409,10 +409,10 @@ fn inputs_are_read_or_refused(rt: HostRuntime) -> Result<(), Fail> {
 fn movie_is_made_of_a_run(rt: HostRuntime) -> Result<(), Fail> {
     let inputs = read_inputs(rt.alloc(), &[0xFF, 0x3F, 0x00, 0xFF, 0x3F, 0x00])?;
     let movie = make_movie(rt.alloc(), cart(rt.alloc(), &PROGRAM)?, inputs, 2)?;
-    let later = changed(rt.alloc(), &file(rt.alloc())?, 2258, &[2])?;
-    let wanted = changed(rt.alloc(), &later, 2259, &state_after_frame_2())?;
+    let later = with_bytes_at(rt.alloc(), &file(rt.alloc())?, 2258, &[2])?;
+    let wanted = with_bytes_at(rt.alloc(), &later, 2259, &state_after_frame_2())?;
     assert_eq!(rt; wanted.len(), 2446);
-    assert!(rt; written(rt.alloc(), &movie)? == wanted);
+    assert!(rt; file_of(rt.alloc(), &movie)? == wanted);
     Ok(())
 }
 

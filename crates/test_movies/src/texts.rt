@@ -98,7 +98,7 @@ const PRINTED: &[(&[(usize, [u8; 3])], &str)] = &[
     ),
 ];
 
-fn spelled(alloc: Global, stretches: &[(usize, [u8; 3])]) -> Result<Vec<Input>, AllocError> {
+fn inputs_of(alloc: Global, stretches: &[(usize, [u8; 3])]) -> Result<Vec<Input>, AllocError> {
     let mut inputs = Vec::new(alloc);
     for (count, bytes) in stretches {
         if let Some(input) = Input::new(bytes[0], bytes[1], bytes[2]) {
@@ -112,7 +112,7 @@ fn spelled(alloc: Global, stretches: &[(usize, [u8; 3])]) -> Result<Vec<Input>, 
 
 /// Whether a text says exactly these inputs.
 fn says(alloc: Global, text: &str, stretches: &[(usize, [u8; 3])]) -> Result<bool, AllocError> {
-    let wanted = spelled(alloc, stretches)?;
+    let wanted = inputs_of(alloc, stretches)?;
     match read_text(alloc, text.as_bytes()) {
         Ok(found) => Ok(found.as_slice() == wanted.as_slice()),
         Err(_) => Ok(false),
@@ -125,7 +125,7 @@ fn names(rt: HostRuntime) -> Result<(), Fail> {
         let text = format!(in rt.alloc(); "1 {word}\n")?;
         let said = says(rt.alloc(), text.as_str(), &[(1, bytes)])?;
         assert!(rt; said, "{word}");
-        let inputs = spelled(rt.alloc(), &[(1, bytes)])?;
+        let inputs = inputs_of(rt.alloc(), &[(1, bytes)])?;
         let printed = write_text(rt.alloc(), inputs.as_slice())?;
         assert!(rt; printed.as_str() == text.as_str(), "{word}");
     }
@@ -164,7 +164,7 @@ fn bad_lines(rt: HostRuntime) {
 #[test]
 fn printed_inputs(rt: HostRuntime) -> Result<(), Fail> {
     for (stretches, text) in PRINTED {
-        let inputs = spelled(rt.alloc(), stretches)?;
+        let inputs = inputs_of(rt.alloc(), stretches)?;
         let printed = write_text(rt.alloc(), inputs.as_slice())?;
         assert!(rt; printed.as_str() == *text, "{text}");
     }

@@ -17,16 +17,16 @@ pub record Trace : Type 0 where
 abbrev pub with_byte : List ℕ → ℕ × ℕ → List ℕ
 with_byte memory entry = slice_set memory entry.0 entry.1
 
-abbrev pub noted : Trace → Event → Trace
-noted t e = if nat_lt (length t.events) 8 then record t { events = t.events ++ e ∷ [] } else t
+abbrev pub with_event : Trace → Event → Trace
+with_event t e = if nat_lt (length t.events) 8 then record t { events = t.events ++ e ∷ [] } else t
 
-abbrev pub traced : Meaning Trace
-traced =
+abbrev pub trace_meaning : Meaning Trace
+trace_meaning =
     record {
       passed = λ t n. record t { clock = (t.clock + n) % 2 ^ 32 };
       read_value = λ t at. slice_index t.memory at;
-      after_read = λ t at. noted t (Read t.clock at);
-      after_write = λ t at v. noted (record t { memory = slice_set t.memory at v }) (Write t.clock at v);
+      after_read = λ t at. with_event t (Read t.clock at);
+      after_write = λ t at v. with_event (record t { memory = slice_set t.memory at v }) (Write t.clock at v);
       peeked = λ t at. if at / 256 == t.device_page then None else Some (slice_index t.memory at);
       peeked_zero = λ t at. slice_index t.memory at;
     }

@@ -42,13 +42,13 @@ impl LogBus {
 }
 
 impl Bus for LogBus {
-    ghost use Rattle.test_processor.specs.Trace.{Trace, traced};
+    ghost use Rattle.test_processor.specs.Trace.{Trace, trace_meaning};
 
     ghost State = { Trace };
 
     ghost state = { λ b. record { memory = b.memory; clock = b.clock; events = b.events.items; device_page = b.device_page } };
 
-    ghost meaning = { traced };
+    ghost meaning = { trace_meaning };
 
     fn pass(&mut self, cycles: u8) {
         let before = self.clock;

@@ -22,7 +22,7 @@ fn plan() -> Plan {
 }
 
 /// What a run over memory answers, and its line.
-fn told<T: Threads + Wait + Sync + AllocGlobal>(
+fn run_over_bytes<T: Threads + Wait + Sync + AllocGlobal>(
     rt: &T,
     mut bytes: &[u8],
 ) -> (Result<Status, RunError>, Vec<u8>) {
@@ -49,7 +49,7 @@ fn genuine_movies(rt: HostRuntime) -> Result<(), Fail> {
         ),
         (uncut, b"genuine: 1 frames, 0 checkpoints\n".as_slice()),
     ] {
-        let (status, line) = told(&rt, &bytes);
+        let (status, line) = run_over_bytes(&rt, &bytes);
         assert_eq!(rt; status, Ok(Status::Done));
         assert!(rt; line.as_slice() == wanted);
     }
@@ -62,11 +62,11 @@ fn false_checkpoints(rt: HostRuntime) -> Result<(), Fail> {
         first_of_two_false(rt.alloc())?,
         timer_part_left(rt.alloc(), 88)?,
     ] {
-        let (status, line) = told(&rt, &bytes);
+        let (status, line) = run_over_bytes(&rt, &bytes);
         assert_eq!(rt; status, Ok(Status::False));
         assert!(rt; line.as_slice() == b"false checkpoint 1 at frame 1\n".as_slice());
     }
-    let (status, _line) = told(&rt, &timer_part_left(rt.alloc(), 87)?);
+    let (status, _line) = run_over_bytes(&rt, &timer_part_left(rt.alloc(), 87)?);
     assert_eq!(rt; status, Ok(Status::Done));
     Ok(())
 }
@@ -74,7 +74,7 @@ fn false_checkpoints(rt: HostRuntime) -> Result<(), Fail> {
 #[test]
 fn fault_comes_before_the_checkpoint_of_its_frame(rt: HostRuntime) -> Result<(), Fail> {
     let bytes = movie(rt.alloc(), &SEVEN_FRAMES, &power_on(), 7, 7, &[power_on()])?;
-    let (status, line) = told(&rt, &bytes);
+    let (status, line) = run_over_bytes(&rt, &bytes);
     assert_eq!(rt; status, Ok(Status::Fault));
     assert!(rt; line.as_slice() == b"fault at frame 7: bad opcode 02 at F010\n".as_slice());
     Ok(())
@@ -93,7 +93,7 @@ fn faults_of_a_first_frame(rt: HostRuntime) -> Result<(), Fail> {
         ),
     ] {
         let bytes = movie(rt.alloc(), &program, &power_on(), 1, 1, &[])?;
-        let (status, line) = told(&rt, &bytes);
+        let (status, line) = run_over_bytes(&rt, &bytes);
         assert_eq!(rt; status, Ok(Status::Fault));
         assert!(rt; line.as_slice() == wanted);
     }
@@ -102,13 +102,13 @@ fn faults_of_a_first_frame(rt: HostRuntime) -> Result<(), Fail> {
 
 #[test]
 fn empty_input_is_refused(rt: HostRuntime) {
-    let (status, line) = told(&rt, &[]);
+    let (status, line) = run_over_bytes(&rt, &[]);
     assert_eq!(rt; status, Ok(Status::Refused));
     assert!(rt; line.as_slice() == b"refused: Short\n".as_slice());
 }
 
 /// What a run over so many zeros answers, its line, and how many reads it made.
-fn told_of_zeros<T: Threads + Wait + Sync + AllocGlobal>(
+fn run_over_zeros<T: Threads + Wait + Sync + AllocGlobal>(
     rt: &T,
     left: u64,
 ) -> (Result<Status, RunError>, Vec<u8>, u64) {
@@ -128,7 +128,7 @@ fn told_of_zeros<T: Threads + Wait + Sync + AllocGlobal>(
 
 #[test]
 fn longest_input_is_read(rt: HostRuntime) {
-    let (status, line, reads) = told_of_zeros(&rt, 16_777_216);
+    let (status, line, reads) = run_over_zeros(&rt, 16_777_216);
     assert_eq!(rt; reads, 16_777_217);
     assert_eq!(rt; status, Ok(Status::Refused));
     assert!(rt; status != Ok(Status::Done));
@@ -137,7 +137,7 @@ fn longest_input_is_read(rt: HostRuntime) {
 
 #[test]
 fn endless_input_is_too_long(rt: HostRuntime) {
-    let (status, line, reads) = told_of_zeros(&rt, u64::MAX);
+    let (status, line, reads) = run_over_zeros(&rt, u64::MAX);
     assert_eq!(rt; status, Err(RunError::TooLong));
     assert!(rt; status != Err(RunError::NoMemory));
     assert!(rt; line.is_empty());
@@ -145,7 +145,7 @@ fn endless_input_is_too_long(rt: HostRuntime) {
 }
 
 /// What a run answers over a reader whose read of a given number fails, and its line.
-fn told_in_parts<T: Threads + Wait + Sync + AllocGlobal>(
+fn run_over_reads<T: Threads + Wait + Sync + AllocGlobal>(
     rt: &T,
     bytes: &[u8],
     left: u64,
@@ -168,11 +168,11 @@ fn told_in_parts<T: Threads + Wait + Sync + AllocGlobal>(
 fn failed_read_writes_nothing(rt: HostRuntime) -> Result<(), Fail> {
     let bytes = two_frames(rt.alloc())?;
     for left in 0..6u64 {
-        let (status, line) = told_in_parts(&rt, &bytes, left);
+        let (status, line) = run_over_reads(&rt, &bytes, left);
         assert_eq!(rt; status, Err(RunError::ReadFault));
         assert!(rt; line.is_empty());
     }
-    let (status, _line) = told_in_parts(&rt, &bytes, 6);
+    let (status, _line) = run_over_reads(&rt, &bytes, 6);
     assert_eq!(rt; status, Ok(Status::Done));
     Ok(())
 }

@@ -18,7 +18,7 @@ const SEVEN_INPUTS: [u8; 21] = [
 ];
 
 /// What a making over memory answers, its movie and its line.
-fn made(
+fn make_of_bytes(
     alloc: Global,
     mut rom: &[u8],
     mut inputs: &[u8],
@@ -40,7 +40,7 @@ fn made(
 
 #[test]
 fn movie_is_made(rt: HostRuntime) -> Result<(), Fail> {
-    let (status, movie, line) = made(rt.alloc(), &rom(&ENDLESS_FRAMES), &TWO_INPUTS, 2);
+    let (status, movie, line) = make_of_bytes(rt.alloc(), &rom(&ENDLESS_FRAMES), &TWO_INPUTS, 2);
     assert_eq!(rt; status, Ok(Status::Done));
     assert_eq!(rt; movie.len(), 2446);
     assert!(rt; movie == two_frames_with_a_last_checkpoint(rt.alloc())?);
@@ -50,7 +50,7 @@ fn movie_is_made(rt: HostRuntime) -> Result<(), Fail> {
 
 #[test]
 fn made_movie_is_told(rt: HostRuntime) {
-    let (_, movie, _) = made(rt.alloc(), &rom(&ENDLESS_FRAMES), &TWO_INPUTS, 2);
+    let (_, movie, _) = make_of_bytes(rt.alloc(), &rom(&ENDLESS_FRAMES), &TWO_INPUTS, 2);
     let mut line = Vec::new(rt.alloc());
     let status = run_info(rt.alloc(), &mut movie.as_slice(), &mut line);
     assert_eq!(rt; status, Ok(Status::Done));
@@ -60,7 +60,7 @@ fn made_movie_is_told(rt: HostRuntime) {
 
 #[test]
 fn made_movie_is_genuine(rt: HostRuntime) -> Result<(), Fail> {
-    let (_, movie, _) = made(rt.alloc(), &rom(&ENDLESS_FRAMES), &TWO_INPUTS, 2);
+    let (_, movie, _) = make_of_bytes(rt.alloc(), &rom(&ENDLESS_FRAMES), &TWO_INPUTS, 2);
     let plan = Plan::without_pictures(Workers::ONE);
     let mut line = Vec::new(rt.alloc());
     let status = run(
@@ -112,7 +112,7 @@ fn refused_makings_write_no_movie(rt: HostRuntime) {
             b"refused: BadCartSize\n".as_slice(),
         ),
     ] {
-        let (status, movie, line) = made(rt.alloc(), rom, inputs, every);
+        let (status, movie, line) = make_of_bytes(rt.alloc(), rom, inputs, every);
         assert_eq!(rt; status, Ok(Status::Refused));
         assert!(rt; movie.is_empty());
         assert!(rt; line.as_slice() == wanted);
@@ -121,7 +121,7 @@ fn refused_makings_write_no_movie(rt: HostRuntime) {
 
 #[test]
 fn faulty_run_makes_no_movie(rt: HostRuntime) {
-    let (status, movie, line) = made(rt.alloc(), &rom(&SEVEN_FRAMES), &SEVEN_INPUTS, 1);
+    let (status, movie, line) = make_of_bytes(rt.alloc(), &rom(&SEVEN_FRAMES), &SEVEN_INPUTS, 1);
     assert_eq!(rt; status, Ok(Status::Fault));
     assert!(rt; movie.is_empty());
     assert!(rt; line.as_slice() == b"fault at frame 7: bad opcode 02 at F010\n".as_slice());
@@ -210,7 +210,7 @@ fn making_of_endless_inputs_is_too_long(rt: HostRuntime) {
 }
 
 /// What a making answers over writers that take so many bytes, and what they took.
-fn written(
+fn make_into(
     alloc: Global,
     movie_writes: u64,
     line_writes: u64,
@@ -239,7 +239,7 @@ fn written(
 fn failed_write_leaves_a_prefix_of_the_movie(rt: HostRuntime) -> Result<(), Fail> {
     let wanted = two_frames_with_a_last_checkpoint(rt.alloc())?;
     for movie_writes in [0usize, 1, 2445] {
-        let (status, movie, line) = written(rt.alloc(), movie_writes as u64, 30);
+        let (status, movie, line) = make_into(rt.alloc(), movie_writes as u64, 30);
         assert_eq!(rt; status, Err(RunError::WriteFault));
         assert_eq!(rt; movie.len(), movie_writes);
         assert!(rt; wanted.starts_with(&movie) && line.is_empty());
@@ -252,7 +252,7 @@ fn failed_write_leaves_the_movie_and_a_prefix_of_its_line(rt: HostRuntime) -> Re
     let wanted = two_frames_with_a_last_checkpoint(rt.alloc())?;
     let wanted_line = b"made: 2 frames, 1 checkpoints\n".as_slice();
     for line_writes in [0usize, 29] {
-        let (status, movie, line) = written(rt.alloc(), 2446, line_writes as u64);
+        let (status, movie, line) = make_into(rt.alloc(), 2446, line_writes as u64);
         assert_eq!(rt; status, Err(RunError::WriteFault));
         assert!(rt; movie == wanted);
         assert_eq!(rt; line.len(), line_writes);

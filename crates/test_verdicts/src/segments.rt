@@ -1,7 +1,7 @@
 //! Movies cut into segments, whose pieces are gathered.
 
 use crate::movies::{endless, going_on_at_no_opcode, read, two, two_frames_with_a_last_checkpoint};
-use crate::verdicts::{FIRST_FALSE, kept};
+use crate::verdicts::{FIRST_FALSE, picture_count};
 use movie_file::Movie;
 use replay_plan::Keep;
 use replay_segments::{BadCuts, Cuts, GatherError, Piece, Verdict, gather, replay, verify_one};
@@ -41,7 +41,7 @@ fn whole(alloc: Global, movie: &Movie) -> Result<Verdict, Fail> {
 }
 
 /// What the pieces of these segments give.
-fn gathered(
+fn gather_pieces(
     alloc: Global,
     movie: &Movie,
     numbers: &[u32],
@@ -72,7 +72,7 @@ fn pieces_in_any_order_give_the_verdict_of_one_replay(rt: HostRuntime) -> Result
         [0, 1].as_slice(),
         [1, 1, 0, 0].as_slice(),
     ] {
-        let verdict = gathered(rt.alloc(), &genuine, order)??;
+        let verdict = gather_pieces(rt.alloc(), &genuine, order)??;
         assert!(rt; verdict.equals(&whole));
     }
     Ok(())
@@ -87,7 +87,7 @@ fn first_missing_segment_is_named(rt: HostRuntime) -> Result<(), Fail> {
         ([0].as_slice(), 1),
         ([1, 1].as_slice(), 0),
     ] {
-        let verdict = gathered(rt.alloc(), &genuine, order)?;
+        let verdict = gather_pieces(rt.alloc(), &genuine, order)?;
         assert_eq!(rt; verdict.err(), Some(GatherError::Missing(missing)));
         assert!(rt; GatherError::Missing(missing) != GatherError::NoMemory);
     }
@@ -98,10 +98,10 @@ fn first_missing_segment_is_named(rt: HostRuntime) -> Result<(), Fail> {
 fn bad_segment_that_came_first_is_no_verdict(rt: HostRuntime) -> Result<(), Fail> {
     let claims = going_on_at_no_opcode(rt.alloc())?;
     for order in [[1u32, 0].as_slice(), [0, 1].as_slice(), [0].as_slice()] {
-        let verdict = gathered(rt.alloc(), &claims, order)??;
+        let verdict = gather_pieces(rt.alloc(), &claims, order)??;
         assert!(rt; verdict.equals(&FIRST_FALSE));
     }
-    let alone = gathered(rt.alloc(), &claims, &[1])?;
+    let alone = gather_pieces(rt.alloc(), &claims, &[1])?;
     assert!(rt; matches!(alone, Err(GatherError::Missing(0))));
     Ok(())
 }
@@ -114,8 +114,8 @@ fn segment_after_the_last_checkpoint_has_no_frames(rt: HostRuntime) -> Result<()
         last.iter()
             .all(|piece| piece.passed() && piece.number() == 1)
     );
-    let verdict = gathered(rt.alloc(), &genuine, &[1, 0])??;
-    assert_eq!(rt; kept(&verdict), Some(2));
+    let verdict = gather_pieces(rt.alloc(), &genuine, &[1, 0])??;
+    assert_eq!(rt; picture_count(&verdict), Some(2));
     assert!(rt; verdict.equals(&whole(rt.alloc(), &genuine)?));
     Ok(())
 }

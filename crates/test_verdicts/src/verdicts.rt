@@ -16,7 +16,7 @@ pub(crate) const FIRST_FALSE: Verdict = Verdict::FalseCheckpoint {
 };
 
 /// How many pictures a genuine movie has kept.
-pub(crate) fn kept(verdict: &Verdict) -> Option<usize> {
+pub(crate) fn picture_count(verdict: &Verdict) -> Option<usize> {
     match verdict {
         Verdict::Genuine { pictures } => Some(pictures.len()),
         _ => None,
@@ -54,7 +54,7 @@ pub(crate) fn colours(alloc: Global, verdict: &Verdict) -> Result<Vec<u8>, Fail>
 fn kept_pictures_have_one_row_of_zeros(rt: HostRuntime) -> Result<(), Fail> {
     let genuine = two(rt.alloc())?;
     let verdict = verify_one(rt.alloc(), &genuine, Keep::new(1, 2)?)?;
-    assert_eq!(rt; kept(&verdict), Some(2));
+    assert_eq!(rt; picture_count(&verdict), Some(2));
     assert!(rt; are_rows_of_zeros(&verdict));
     assert!(rt; matches!(&verdict, Verdict::Genuine { pictures } if !pictures.is_empty()));
     Ok(())
@@ -77,7 +77,7 @@ fn frames_are_kept_by_number(rt: HostRuntime) -> Result<(), Fail> {
     let genuine = endless(rt.alloc(), 2, &checkpoints)?;
     for (first, count, wanted) in [(2, 600, 1), (3, 5, 0), (1, 0, 0), (1, 600, 2)] {
         let verdict = verify_one(rt.alloc(), &genuine, Keep::new(first, count)?)?;
-        assert_eq!(rt; kept(&verdict), Some(wanted));
+        assert_eq!(rt; picture_count(&verdict), Some(wanted));
     }
     Ok(())
 }

@@ -88,7 +88,7 @@ fn movie_of_two_banks_is_made(rt: HostRuntime) {
 }
 
 /// What a conversion over memory answers, its movie and its line.
-fn converted(alloc: Global, mut old: &[u8]) -> (Result<Status, RunError>, Vec<u8>, Vec<u8>) {
+fn convert_bytes(alloc: Global, mut old: &[u8]) -> (Result<Status, RunError>, Vec<u8>, Vec<u8>) {
     let mut movie = Vec::new(alloc);
     let mut line = Vec::new(alloc);
     let status = run_convert(alloc, &mut old, &mut movie, &mut line);
@@ -119,11 +119,11 @@ fn movie_of_version_2_is_told(rt: HostRuntime) -> Result<(), Fail> {
 
 #[test]
 fn converted_movie_has_its_verdict(rt: HostRuntime) -> Result<(), Fail> {
-    let (status, movie, line) = converted(rt.alloc(), &two_frames(rt.alloc())?);
+    let (status, movie, line) = convert_bytes(rt.alloc(), &two_frames(rt.alloc())?);
     assert_eq!(rt; status, Ok(Status::Done));
     assert_eq!(rt; movie.len(), 2448);
     assert!(rt; line.as_slice() == b"converted: 2 frames, 1 checkpoints\n".as_slice());
-    let (_, bad_movie, _) = converted(rt.alloc(), &first_of_two_false(rt.alloc())?);
+    let (_, bad_movie, _) = convert_bytes(rt.alloc(), &first_of_two_false(rt.alloc())?);
     for workers in [1, 2, 8] {
         let line = line_of(&rt, &movie, workers)?;
         assert!(rt; line.as_slice() == b"genuine: 2 frames, 1 checkpoints\n".as_slice());
@@ -136,13 +136,13 @@ fn converted_movie_has_its_verdict(rt: HostRuntime) -> Result<(), Fail> {
 #[test]
 fn refused_conversions_write_no_movie(rt: HostRuntime) -> Result<(), Fail> {
     let old = two_frames(rt.alloc())?;
-    let (_, new, _) = converted(rt.alloc(), &old);
+    let (_, new, _) = convert_bytes(rt.alloc(), &old);
     let prefix = old.get(..2300).ok_or("2,300 bytes")?;
     for (bytes, wanted) in [
         (new.as_slice(), b"refused: AlreadyTwo\n".as_slice()),
         (prefix, b"refused: Short\n".as_slice()),
     ] {
-        let (status, movie, line) = converted(rt.alloc(), bytes);
+        let (status, movie, line) = convert_bytes(rt.alloc(), bytes);
         assert_eq!(rt; status, Ok(Status::Refused));
         assert!(rt; movie.is_empty());
         assert!(rt; line.as_slice() == wanted);

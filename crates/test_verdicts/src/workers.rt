@@ -5,7 +5,7 @@ use crate::movies::{
     COLOURED_FRAMES, ENDLESS_FRAMES, endless, first_of_two_false, fourth_of_five_false,
     going_on_at_no_opcode, read, run_of, timer_part_left, two, two_frames_with_a_last_checkpoint,
 };
-use crate::verdicts::{FIRST_FALSE, colours, kept};
+use crate::verdicts::{FIRST_FALSE, colours, picture_count};
 use movie_file::Movie;
 use replay_plan::{Keep, Workers};
 use replay_segments::{Cuts, Verdict, verify_one};
@@ -39,7 +39,7 @@ fn one_segment_has_one_worker(rt: HostRuntime) -> Result<(), Fail> {
     let one = endless(rt.alloc(), 1, &[])?;
     let counts = Counts::new();
     let verdict = answer(&rt, rt.alloc(), &one, &[], 8, Keep::new(1, 0)?, &counts)?;
-    assert_eq!(rt; kept(&verdict), Some(0));
+    assert_eq!(rt; picture_count(&verdict), Some(0));
     assert_eq!(rt; counts.entries(), [1, 0, 0, 0]);
     assert_eq!(rt; counts.leaves(), [1, 0, 0, 0]);
     Ok(())
@@ -50,7 +50,7 @@ fn any_workers_and_cuts_give_the_verdict_of_one_replay(rt: HostRuntime) -> Resul
     let genuine = two(rt.alloc())?;
     let keep = Keep::new(1, 2)?;
     let whole = verify_one(rt.alloc(), &genuine, keep)?;
-    assert_eq!(rt; kept(&whole), Some(2));
+    assert_eq!(rt; picture_count(&whole), Some(2));
     for numbers in [[].as_slice(), [1u16].as_slice()] {
         for workers in [1u8, 2, 3, 64] {
             let verdict = answer(&rt, rt.alloc(), &genuine, numbers, workers, keep, &NoGate)?;
@@ -122,7 +122,7 @@ fn meet<R: Threads + Wait + Sync>(rt: &R, alloc: Global, frames: u8) -> Result<b
     let gate = Meeting::of(u64::from(workers));
     let verdict = answer_of_all(rt, alloc, &movie, workers, &gate)?;
     let met = gate.missed.load(Ordering::SeqCst) == 0;
-    Ok(met && kept(&verdict) == Some(usize::from(frames)))
+    Ok(met && picture_count(&verdict) == Some(usize::from(frames)))
 }
 
 #[test]
@@ -140,7 +140,7 @@ fn segment_after_the_last_checkpoint_passes(rt: HostRuntime) -> Result<(), Fail>
         let keep = Keep::new(first, count)?;
         let counts = Counts::new();
         let verdict = answer(&rt, rt.alloc(), &genuine, &[1], 2, keep, &counts)?;
-        assert_eq!(rt; kept(&verdict), Some(wanted));
+        assert_eq!(rt; picture_count(&verdict), Some(wanted));
         assert_eq!(rt; counts.entries(), [1, 1, 0, 0]);
     }
     Ok(())

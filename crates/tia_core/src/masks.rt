@@ -88,7 +88,7 @@ impl Masks {
 
     /// The collision bits with those of the pairs that meet in pixels `from..to`.
     #[inline(always)]
-    pub fn latched(&mut self, t: &TiaFields, from: u8, to: u8) -> u16
+    pub fn collisions_after(&mut self, t: &TiaFields, from: u8, to: u8) -> u16
         requires lawful { IsLawfulTia t.now }
         requires fit { MasksFit t.now self.old }
         requires order { from ≤ to }

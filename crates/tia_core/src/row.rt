@@ -81,7 +81,7 @@ pub fn reversed_half(half: u8) -> u8
 
 /// A byte's bits the other way round.
 #[inline]
-pub fn reversed(byte: u8) -> u8
+pub fn reverse_bits(byte: u8) -> u8
     ensures { (k : ℕ) → k < 8 → has_bit result k ≡ has_bit byte (7 - k) }
 {
     REVERSED_BYTES[byte as usize]
@@ -89,7 +89,7 @@ pub fn reversed(byte: u8) -> u8
 
 /// A byte's bits, each two times.
 #[inline]
-pub fn doubled(byte: u8) -> u16
+pub fn double_bits(byte: u8) -> u16
     ensures { (k : ℕ) → k < 16 → has_bit result k ≡ has_bit byte (k / 2) }
 {
     u16::from(DOUBLED[(byte / 16) as usize]) * 256 + u16::from(DOUBLED[(byte % 16) as usize])
@@ -97,7 +97,7 @@ pub fn doubled(byte: u8) -> u16
 
 /// A byte's bits, each four times.
 #[inline]
-pub fn quadrupled(byte: u8) -> u32
+pub fn quadruple_bits(byte: u8) -> u32
     ensures { (k : ℕ) → k < 32 → has_bit result k ≡ has_bit byte (k / 4) }
 {
     QUADRUPLED[byte as usize]
@@ -111,7 +111,7 @@ pub fn player_dots(reflected: bool, graphic: u8) -> u8
     if reflected {
         graphic
     } else {
-        reversed(graphic)
+        reverse_bits(graphic)
     }
 }
 
@@ -122,8 +122,8 @@ pub fn player_row(mode: u8, reflected: bool, graphic: u8) -> u32
 {
     let dots = player_dots(reflected, graphic);
     match mode {
-        5 => u32::from(doubled(dots)),
-        7 => quadrupled(dots),
+        5 => u32::from(double_bits(dots)),
+        7 => quadruple_bits(dots),
         _ => u32::from(dots),
     }
 }

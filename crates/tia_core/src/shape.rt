@@ -9,11 +9,11 @@ ghost use Rattle.tia_core.specs.Playfield.{playfield_bit, playfield_index};
 
 use crate::coverage::copies;
 use crate::mask::Mask;
-use crate::row::{missile_row, player_row, quadrupled, reversed, reversed_half};
+use crate::row::{missile_row, player_row, quadruple_bits, reverse_bits, reversed_half};
 
 /// The mask of a row at each copy of an object.
 #[inline]
-fn copied(row: u32, mode: u8, position: u8) -> Mask
+fn mask_of_copies(row: u32, mode: u8, position: u8) -> Mask
     requires { position < 160 }
     ensures { (x : ℕ) → x < 160 → covers result x ≡ list_any (λ c. has_bit row (distance_of x position c)) (copies_of mode) }
 {
@@ -39,7 +39,7 @@ pub fn player_mask(mode: u8, reflected: bool, graphic: u8, position: u8) -> Mask
     requires { position < 160 }
     ensures { (x : ℕ) → x < 160 → covers result x ≡ player_covers mode reflected graphic position x }
 {
-    copied(player_row(mode, reflected, graphic), mode, position)
+    mask_of_copies(player_row(mode, reflected, graphic), mode, position)
 }
 
 /// The mask of a missile of this size.
@@ -48,7 +48,7 @@ pub fn missile_mask(mode: u8, size: u8, position: u8) -> Mask
     requires size { size ≤ 8 }
     ensures { (x : ℕ) → x < 160 → covers result x ≡ missile_covers mode size position x }
 {
-    copied(missile_row(size), mode, position)
+    mask_of_copies(missile_row(size), mode, position)
 }
 
 /// The mask of a ball of this size.
@@ -67,7 +67,7 @@ pub fn ball_mask(size: u8, position: u8) -> Mask
 fn left_half(pf0: u8, pf1: u8, pf2: u8) -> u32
     ensures { (i : ℕ) → i < 20 → has_bit result i ≡ playfield_bit pf0 pf1 pf2 i }
 {
-    (u32::from(pf2) * 256 + u32::from(reversed(pf1))) * 16 + u32::from(pf0 / 16)
+    (u32::from(pf2) * 256 + u32::from(reverse_bits(pf1))) * 16 + u32::from(pf0 / 16)
 }
 
 /// The playfield's twenty bits, the leftmost highest.
@@ -75,7 +75,7 @@ fn left_half(pf0: u8, pf1: u8, pf2: u8) -> u32
 fn mirrored_half(pf0: u8, pf1: u8, pf2: u8) -> u32
     ensures { (i : ℕ) → i < 20 → has_bit result i ≡ playfield_bit pf0 pf1 pf2 (19 - i) }
 {
-    (u32::from(reversed_half(pf0 / 16)) * 256 + u32::from(pf1)) * 256 + u32::from(reversed(pf2))
+    (u32::from(reversed_half(pf0 / 16)) * 256 + u32::from(pf1)) * 256 + u32::from(reverse_bits(pf2))
 }
 
 /// The twenty bits of a line's right half, the leftmost lowest.
@@ -97,10 +97,10 @@ pub fn playfield_mask(pf0: u8, pf1: u8, pf2: u8, mirrored: bool) -> Mask
     let left = left_half(pf0, pf1, pf2);
     let right = right_half(pf0, pf1, pf2, mirrored);
     Mask::of_words([
-        quadrupled((left % 256) as u8),
-        quadrupled((left / 256 % 256) as u8),
-        quadrupled((right % 16) as u8 * 16 + (left / 65536 % 16) as u8),
-        quadrupled((right / 16 % 256) as u8),
-        quadrupled((right / 4096 % 256) as u8),
+        quadruple_bits((left % 256) as u8),
+        quadruple_bits((left / 256 % 256) as u8),
+        quadruple_bits((right % 16) as u8 * 16 + (left / 65536 % 16) as u8),
+        quadruple_bits((right / 16 % 256) as u8),
+        quadruple_bits((right / 4096 % 256) as u8),
     ])
 }

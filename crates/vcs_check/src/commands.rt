@@ -47,7 +47,7 @@ impl From<RunError> for Failure {
 }
 
 /// A writer that gathers small writes.
-fn buffered<W: Write + Drop>(alloc: Global, writer: W) -> Result<BufWriter<W>, Failure>
+fn with_buffer<W: Write + Drop>(alloc: Global, writer: W) -> Result<BufWriter<W>, Failure>
     ensures { OnErr result (result ≡ Err (Failure.Run RunError.NoMemory)) }
 {
     match BufWriter::new(alloc, writer) {
@@ -57,7 +57,7 @@ fn buffered<W: Write + Drop>(alloc: Global, writer: W) -> Result<BufWriter<W>, F
 }
 
 /// Empties a buffer. That its last write failed shows only here.
-fn flushed<W: Write>(writer: &mut W) -> Result<(), Failure>
+fn flush<W: Write>(writer: &mut W) -> Result<(), Failure>
     ensures { OnErr result (result ≡ Err (Failure.Run RunError.WriteFault)) }
 {
     match writer.flush() {
@@ -146,9 +146,9 @@ fn judge_with_pictures<
     ensures no_thread { result ≡ Err (Failure.Run RunError.NoThread) → 2 ≤ plan.now.workers.number }
     ensures read { result ≢ Err Failure.Open }
 {
-    let mut pictures = buffered(rt.alloc(), pictures)?;
+    let mut pictures = with_buffer(rt.alloc(), pictures)?;
     let status = run(rt, rt.alloc(), movie, plan, line, &mut pictures, gate)?;
-    flushed(&mut pictures)?;
+    flush(&mut pictures)?;
     Ok(status)
 }
 

@@ -21,7 +21,7 @@ fn of_bytes(alloc: Global, bytes: &[u8]) -> Result<Making, AllocError>
     let movie = match read_movie(alloc, bytes) {
         Ok(movie) => movie,
         Err(MovieError::NoMemory) => return Err(AllocError),
-        Err(error) => return Making::refused(alloc, Line::Refused(error)),
+        Err(error) => return Making::refusal(alloc, Line::Refused(error)),
     };
     match convert(movie) {
         Ok(movie) => {
@@ -33,7 +33,7 @@ fn of_bytes(alloc: Global, bytes: &[u8]) -> Result<Making, AllocError>
             };
             Making::of_movie(alloc, &movie, line)
         }
-        Err(ConvertError::AlreadyTwo(_)) => Making::refused(alloc, Line::AlreadyTwo),
+        Err(ConvertError::AlreadyTwo(_)) => Making::refusal(alloc, Line::AlreadyTwo),
     }
 }
 

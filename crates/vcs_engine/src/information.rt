@@ -16,7 +16,7 @@ use std::alloc::{AllocError, Global};
 use std::io::{Read, Write};
 
 /// A status, and the line about the bytes of an input, with its end.
-fn told(alloc: Global, bytes: &[u8]) -> Result<(Status, String), AllocError>
+fn status_and_line(alloc: Global, bytes: &[u8]) -> Result<(Status, String), AllocError>
     ensures { IfOk result (λ told. information_of (movie_at bytes.now)
         ≡ record { status = told.0; line = string_bytes told.1; movie = []; pictures = [] }) }
 {
@@ -63,7 +63,7 @@ pub fn run_info<R: Read, W: Write>(
     ensures no_thread { result ≢ Err RunError.NoThread }
 {
     let bytes = read_all(alloc, movie)?;
-    let (status, text) = told(alloc, &bytes)?;
+    let (status, text) = status_and_line(alloc, &bytes)?;
     write_bytes(text.as_bytes(), line)?;
     Ok(status)
 }

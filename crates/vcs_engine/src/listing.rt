@@ -17,8 +17,8 @@ use std::alloc::{AllocError, Global};
 use std::io::{Read, Write};
 
 /// A status, and what is written of the inputs of a movie.
-fn listed(alloc: Global, bytes: &[u8]) -> Result<(Status, String), AllocError>
-    ensures { IfOk result (λ listed. Lists (movie_at bytes.now) listed.0 (string_bytes listed.1)) }
+fn status_and_text(alloc: Global, bytes: &[u8]) -> Result<(Status, String), AllocError>
+    ensures { IfOk result (λ found. Lists (movie_at bytes.now) found.0 (string_bytes found.1)) }
 {
     match read_movie(alloc, bytes) {
         Ok(movie) => Ok((Status::Done, write_text(alloc, movie.inputs())?)),
@@ -50,7 +50,7 @@ pub fn run_inputs<R: Read, W: Write>(
     ensures no_thread { result ≢ Err RunError.NoThread }
 {
     let bytes = read_all(alloc, movie)?;
-    let (status, output) = listed(alloc, &bytes)?;
+    let (status, output) = status_and_text(alloc, &bytes)?;
     write_bytes(output.as_bytes(), text)?;
     Ok(status)
 }

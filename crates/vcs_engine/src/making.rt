@@ -71,7 +71,7 @@ impl Making {
     }
 
     /// What is written of what is refused.
-    pub(crate) fn refused(alloc: Global, line: Line) -> Result<Making, AllocError>
+    pub(crate) fn refusal(alloc: Global, line: Line) -> Result<Making, AllocError>
         ensures { IfOk result (λ making. making ≡ line_answer Refused line) }
     {
         Making::new(alloc, Status::Refused, Vec::new(alloc), line)
@@ -113,7 +113,7 @@ impl Making {
                 Making::new(alloc, Status::Fault, Vec::new(alloc), line)
             }
             Err(MakeError::BadCounts) => {
-                Making::refused(alloc, Line::Refused(MovieError::BadCounts))
+                Making::refusal(alloc, Line::Refused(MovieError::BadCounts))
             }
             Err(MakeError::NoMemory) => Err(AllocError),
         }
@@ -133,12 +133,12 @@ impl Making {
             InputForm::Bytes => match read_inputs(alloc, inputs) {
                 Ok(inputs) => Making::of_inputs(alloc, cart, inputs, every),
                 Err(MovieError::NoMemory) => Err(AllocError),
-                Err(error) => Making::refused(alloc, Line::Refused(error)),
+                Err(error) => Making::refusal(alloc, Line::Refused(error)),
             },
             InputForm::Text => match read_text(alloc, inputs) {
                 Ok(inputs) => Making::of_inputs(alloc, cart, inputs, every),
                 Err(TextError::NoMemory) => Err(AllocError),
-                Err(TextError::BadLine(number)) => Making::refused(alloc, Line::BadLine(number)),
+                Err(TextError::BadLine(number)) => Making::refusal(alloc, Line::BadLine(number)),
             },
         }
     }
@@ -156,7 +156,7 @@ impl Making {
         ensures too_long { result ≡ Err ReadError.TooLong → IsTooLong (S.remaining inputs.old) }
     {
         let Ok(cart) = Cart::new(rom) else {
-            return Ok(Making::refused(alloc, Line::Refused(MovieError::BadCartSize))?);
+            return Ok(Making::refusal(alloc, Line::Refused(MovieError::BadCartSize))?);
         };
         let bytes = read_all(alloc, inputs)?;
         Ok(Making::of_bytes(alloc, cart, form, &bytes, every)?)

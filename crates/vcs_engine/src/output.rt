@@ -113,7 +113,7 @@ impl Output {
     }
 
     /// The status and line of bytes that are no movie.
-    fn refused(alloc: Global, error: MovieError) -> Result<Output, AllocError>
+    fn refusal(alloc: Global, error: MovieError) -> Result<Output, AllocError>
         ensures { IfOk result (λ output. output ≡ refusal error) }
     {
         Output::new(alloc, Status::Refused, Line::Refused(error), None)
@@ -144,7 +144,7 @@ impl Output {
         let movie = match read_movie(alloc, bytes) {
             Ok(movie) => movie,
             Err(MovieError::NoMemory) => return Err(JudgeError::NoMemory),
-            Err(error) => return Ok(Output::refused(alloc, error)?),
+            Err(error) => return Ok(Output::refusal(alloc, error)?),
         };
         let verdict = verdict_of(rt, alloc, &movie, plan, gate)?;
         Ok(Output::of_verdict(alloc, &movie, verdict)?)

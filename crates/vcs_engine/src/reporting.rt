@@ -21,7 +21,7 @@ use std::sync::Wait;
 use std::thread::Threads;
 
 /// A status, and what is written of the bytes of an input.
-fn reported<T: Threads + Wait + Sync, G: CountedGate + Sync>(
+fn status_and_text<T: Threads + Wait + Sync, G: CountedGate + Sync>(
     rt: &T,
     alloc: Global,
     bytes: &[u8],
@@ -75,7 +75,7 @@ pub fn run_report<T: Threads + Wait + Sync, R: Read, W: Write, G: CountedGate + 
     ensures no_thread { result ≡ Err RunError.NoThread → 2 ≤ plan.now.workers.number }
 {
     let bytes = read_all(alloc, movie)?;
-    let (status, output) = reported(rt, alloc, &bytes, plan, gate)?;
+    let (status, output) = status_and_text(rt, alloc, &bytes, plan, gate)?;
     write_bytes(output.as_bytes(), text)?;
     Ok(status)
 }

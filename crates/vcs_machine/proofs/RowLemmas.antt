@@ -5,12 +5,12 @@ use Rattle.std.proofs.lemmas.Bool.Decides.{nat_tests}
 use Rattle.std.proofs.lemmas.List.{set-get_or, set-set, get_or-set_same, length-set}
 use Rattle.tia_core.specs.Runs.{run_drawn}
 use Rattle.vcs_machine.specs.Pictures.{Rows, with_pixel}
-use Rattle.vcs_machine.specs.Private.Rows.{filled}
+use Rattle.vcs_machine.specs.Private.Rows.{with_pixels}
 
 one_less : (n i : ℕ) → i < n → n - i ≡ suc (n - (i + 1))
 one_less n i h = omega arith
 
-pub filled-step : (row : List ℕ) (x to colour : ℕ) → x < to → filled row x (to - x) colour ≡ filled (slice_set row x colour) (x + 1) (to - (x + 1)) colour
+pub filled-step : (row : List ℕ) (x to colour : ℕ) → x < to → with_pixels row x (to - x) colour ≡ with_pixels (slice_set row x colour) (x + 1) (to - (x + 1)) colour
 filled-step row x to colour h = rw (one_less to x h) refl
 
 pixel-inside : (rows : Rows) (line x colour : ℕ) → line < length rows → x < 160
@@ -24,7 +24,7 @@ pixel-outside : (rows : Rows) (line x colour : ℕ) → length rows ≤ line →
 pixel-outside rows line x colour h = let a : nat_lt line (length rows) ≡ false = grind (arith, nat_tests) in rw a refl
 
 pub run-inside : (rows : Rows) (line x k colour : ℕ) → line < length rows → x + k ≤ 160
-    → run_drawn with_pixel rows line x k colour ≡ slice_set rows line (filled (slice_index_or rows line []) x k colour)
+    → run_drawn with_pixel rows line x k colour ≡ slice_set rows line (with_pixels (slice_index_or rows line []) x k colour)
 run-inside rows line x zero colour h most = sym (set-get_or rows line [])
 run-inside rows line x (suc k) colour h most =
     let row : List ℕ = slice_index_or rows line [] in
@@ -32,7 +32,7 @@ run-inside rows line x (suc k) colour h most =
     ap (λ (r : Rows). run_drawn with_pixel r line (x + 1) k colour) (pixel-inside rows line x colour h (omega arith))
     ∙ run-inside next line (x + 1) k colour (omega (arith, length-set rows line (slice_set row x colour))) (omega arith)
     ∙ set-set rows line (slice_set row x colour) _
-    ∙ ap (λ (r : List ℕ). slice_set rows line (filled r (x + 1) k colour)) (get_or-set_same rows line (slice_set row x colour) [] h)
+    ∙ ap (λ (r : List ℕ). slice_set rows line (with_pixels r (x + 1) k colour)) (get_or-set_same rows line (slice_set row x colour) [] h)
 
 pub run-outside : (rows : Rows) (line x k colour : ℕ) → length rows ≤ line → run_drawn with_pixel rows line x k colour ≡ rows
 run-outside rows line x zero colour h = refl

@@ -33,7 +33,7 @@ pub struct Devices<S> {
 impl<S: Paint> Devices<S> {
     /// The cycles that the TIA has yet to see.
     #[inline(always)]
-    fn owed(&self) -> u8
+    fn cycles_owed(&self) -> u8
         requires { IsBehind self.now }
         ensures { result ≡ 76 - self.now.left }
     {
@@ -49,7 +49,7 @@ impl<S: Paint> Devices<S> {
           paid = 76 - self.old.left;
         } }
     {
-        let owed = self.owed();
+        let owed = self.cycles_owed();
         self.riot.cycles(owed - self.paid);
         self.paid = owed;
     }
@@ -67,7 +67,7 @@ impl<S: Paint> Devices<S> {
         } }
     {
         self.settle_riot();
-        let owed = self.owed();
+        let owed = self.cycles_owed();
         self.tia.clocks(3 * owed, &mut self.sink);
         self.left = MOST_OWED;
         self.paid = 0;
@@ -124,7 +124,7 @@ impl<S: Paint> Devices<S> {
         let Some(mut tia) = Tia::from_fields(fields) else {
             unreachable!()
         };
-        tia.clocks(3 * self.owed(), &mut NoPaint);
+        tia.clocks(3 * self.cycles_owed(), &mut NoPaint);
         tia.read(register)
     }
 
@@ -135,6 +135,6 @@ impl<S: Paint> Devices<S> {
         ensures value { result ≡ (tia_seen self.now).fields.clock / 3 }
         ensures range { result < 76 }
     {
-        (self.tia.beam() / 3 + self.owed()) % 76
+        (self.tia.beam() / 3 + self.cycles_owed()) % 76
     }
 }

@@ -3,7 +3,7 @@ ghost use Rattle.std.specs.Prelude.{◌≡◌, ◌↔◌, ◌<◌, ◌≤◌, �
 ghost use Rattle.std.specs.Prelude.{slice_index_or, vec_capacity, IsTrue, IfOk};
 ghost use Rattle.vcs_machine.specs.Frame.{most_frame_cycles};
 ghost use Rattle.vcs_machine.specs.Pictures.{with_pixel, blank, rows_of};
-ghost use Rattle.vcs_machine.specs.Private.Rows.{filled};
+ghost use Rattle.vcs_machine.specs.Private.Rows.{with_pixels};
 
 use std::alloc::{AllocError, Global};
 use std::marker::Model;
@@ -57,7 +57,7 @@ impl Paint for Picture {
 fn fill(row: &mut [u8; 160], from: u8, to: u8, colour: u8)
     requires order { from ≤ to }
     requires range { to ≤ 160 }
-    ensures { row.new ≡ filled row.old from (to - from) colour }
+    ensures { row.new ≡ with_pixels row.old from (to - from) colour }
 {
     for place in from..to {
         row[place as usize] = colour;

@@ -19,35 +19,35 @@ pub fn is_unchanged(fields: &TiaFields, register: u8, value: u8) -> bool
         effect_after (after_beam fields.now collisions clock comb) (register_of register) value ≡ Nothing }
 {
     match register {
-        0x04 => Register::Nusiz0.kept(value) == fields.nusiz0,
-        0x05 => Register::Nusiz1.kept(value) == fields.nusiz1,
-        0x06 => Register::Colup0.kept(value) == fields.colup0,
-        0x07 => Register::Colup1.kept(value) == fields.colup1,
-        0x08 => Register::Colupf.kept(value) == fields.colupf,
-        0x09 => Register::Colubk.kept(value) == fields.colubk,
-        0x0A => Register::Ctrlpf.kept(value) == fields.ctrlpf,
-        0x0B => Register::Refp0.kept(value) == fields.refp0,
-        0x0C => Register::Refp1.kept(value) == fields.refp1,
-        0x0D => Register::Pf0.kept(value) == fields.pf0,
-        0x0E => Register::Pf1.kept(value) == fields.pf1,
-        0x0F => Register::Pf2.kept(value) == fields.pf2,
-        0x1B => Register::Grp0.kept(value) == fields.grp0_new && fields.grp1_new == fields.grp1_old,
+        0x04 => Register::Nusiz0.keep(value) == fields.nusiz0,
+        0x05 => Register::Nusiz1.keep(value) == fields.nusiz1,
+        0x06 => Register::Colup0.keep(value) == fields.colup0,
+        0x07 => Register::Colup1.keep(value) == fields.colup1,
+        0x08 => Register::Colupf.keep(value) == fields.colupf,
+        0x09 => Register::Colubk.keep(value) == fields.colubk,
+        0x0A => Register::Ctrlpf.keep(value) == fields.ctrlpf,
+        0x0B => Register::Refp0.keep(value) == fields.refp0,
+        0x0C => Register::Refp1.keep(value) == fields.refp1,
+        0x0D => Register::Pf0.keep(value) == fields.pf0,
+        0x0E => Register::Pf1.keep(value) == fields.pf1,
+        0x0F => Register::Pf2.keep(value) == fields.pf2,
+        0x1B => Register::Grp0.keep(value) == fields.grp0_new && fields.grp1_new == fields.grp1_old,
         0x1C => {
-            Register::Grp1.kept(value) == fields.grp1_new
+            Register::Grp1.keep(value) == fields.grp1_new
                 && fields.grp0_new == fields.grp0_old
                 && fields.enabl_new == fields.enabl_old
         }
-        0x1D => Register::Enam0.kept(value) == fields.enam0,
-        0x1E => Register::Enam1.kept(value) == fields.enam1,
-        0x1F => Register::Enabl.kept(value) == fields.enabl_new,
-        0x20 => Register::Hmp0.kept(value) == fields.hmp0,
-        0x21 => Register::Hmp1.kept(value) == fields.hmp1,
-        0x22 => Register::Hmm0.kept(value) == fields.hmm0,
-        0x23 => Register::Hmm1.kept(value) == fields.hmm1,
-        0x24 => Register::Hmbl.kept(value) == fields.hmbl,
-        0x25 => Register::Vdelp0.kept(value) == fields.vdelp0,
-        0x26 => Register::Vdelp1.kept(value) == fields.vdelp1,
-        0x27 => Register::Vdelbl.kept(value) == fields.vdelbl,
+        0x1D => Register::Enam0.keep(value) == fields.enam0,
+        0x1E => Register::Enam1.keep(value) == fields.enam1,
+        0x1F => Register::Enabl.keep(value) == fields.enabl_new,
+        0x20 => Register::Hmp0.keep(value) == fields.hmp0,
+        0x21 => Register::Hmp1.keep(value) == fields.hmp1,
+        0x22 => Register::Hmm0.keep(value) == fields.hmm0,
+        0x23 => Register::Hmm1.keep(value) == fields.hmm1,
+        0x24 => Register::Hmbl.keep(value) == fields.hmbl,
+        0x25 => Register::Vdelp0.keep(value) == fields.vdelp0,
+        0x26 => Register::Vdelp1.keep(value) == fields.vdelp1,
+        0x27 => Register::Vdelbl.keep(value) == fields.vdelbl,
         _ => false,
     }
 }

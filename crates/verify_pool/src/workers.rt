@@ -44,7 +44,7 @@ impl Promise<Hand> for WorkerPromise {
 }
 
 /// The first hand, with the numbers and the pieces of the second as well.
-fn united(desk: &Desk, first: Hand, second: Hand) -> Hand
+fn unite(desk: &Desk, first: Hand, second: Hand) -> Hand
     requires own { IsOf desk.now first.ticket × IsOf desk.now second.ticket }
     requires room { vec_len first.pieces + vec_len second.pieces ≤ vec_capacity first.pieces }
     ensures worked { (job : Job) (a b : ℕ) → IsWorked desk.now job a first → IsWorked desk.now job b second → IsWorked desk.now job (a + b) result }
@@ -147,7 +147,7 @@ fn crew_within<'s, E, G: Gate + Sync, R: Threads + Wait + Sync>(
     let Ok(first) = rest else {
         return Err(NoThread);
     };
-    Ok(united(shared.desk, first, last))
+    Ok(unite(shared.desk, first, last))
 }
 
 /// Works on all hands until their tickets have ended, each hand but the first in a thread of its

@@ -1,7 +1,7 @@
 use Rattle.replay_segments.proofs.RunStateLemmas.{IsResumable-fault}
 use Rattle.replay_segments.proofs.run_states.left_state.Goals as goal
 
-pub resumed-state-requires : goal.resumed-state-requires
-resumed-state-requires c =
+pub resume-state-requires : goal.resume-state-requires
+resume-state-requires c =
     (IsResumable-fault c.args.movie.now c.args.frame c.checkpoints_before-next.result c.args.kind c.frames.ensures.lawful c.requires
     c.checkpoints_before-next.ensures.within c.checkpoints_before-next.ensures.before).2

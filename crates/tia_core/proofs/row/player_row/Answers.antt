@@ -8,16 +8,16 @@ use Rattle.tia_core.proofs.row.player_row.Goals as goal
 
 pub returns-in-5 : goal.returns-in-5
 returns-in-5 c = λ d.
-    let row : c.from.result ≡ c.doubled.result = c.from.ensures in
+    let row : c.from.result ≡ c.double_bits.result = c.from.ensures in
     let mode : c.args.mode ≡ 5 = c.in-5.is in
     rw mode (row_shows 16 c.args.reflected c.args.graphic c.player_dots-dots.result c.from.result d c.player_dots-dots.ensures
-    (λ lt. omega arith) (λ lt. ap (λ (n : ℕ). has_bit n d) row ∙ c.doubled.ensures d lt) (λ le. bit-above c.from.result 16 d (omega arith) le))
+    (λ lt. omega arith) (λ lt. ap (λ (n : ℕ). has_bit n d) row ∙ c.double_bits.ensures d lt) (λ le. bit-above c.from.result 16 d (omega arith) le))
 
 pub returns-in-7 : goal.returns-in-7
 returns-in-7 c = λ d.
     let mode : c.args.mode ≡ 7 = c.in-7.is in
-    rw mode (row_shows 32 c.args.reflected c.args.graphic c.player_dots-dots.result c.quadrupled.result d c.player_dots-dots.ensures
-    (λ lt. omega arith) (λ lt. c.quadrupled.ensures d lt) (λ le. bit-above c.quadrupled.result 32 d (omega arith) le))
+    rw mode (row_shows 32 c.args.reflected c.args.graphic c.player_dots-dots.result c.quadruple_bits.result d c.player_dots-dots.ensures
+    (λ lt. omega arith) (λ lt. c.quadruple_bits.ensures d lt) (λ le. bit-above c.quadruple_bits.result 32 d (omega arith) le))
 
 pub returns-in_default : goal.returns-in_default
 returns-in_default c = λ d.

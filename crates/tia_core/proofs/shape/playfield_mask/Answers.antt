@@ -12,9 +12,9 @@ returns c = λ x h.
     c.of_words.ensures x h
     ∙ sym (covers-is _ x h)
     ∙ five-words _ _ _ _ _ (λ y. playfield_bit a.pf0 a.pf1 a.pf2 (playfield_index a.mirrored y))
-    (λ k lt. c.quadrupled.ensures k lt ∙ word-0 a.pf0 a.pf1 a.pf2 a.mirrored left right c.left_half-left.ensures c.right_half-right.ensures k lt)
-    (λ k lt. c.quadrupled-2.ensures k lt ∙ word-1 a.pf0 a.pf1 a.pf2 a.mirrored left right c.left_half-left.ensures c.right_half-right.ensures k lt)
-    (λ k lt. c.quadrupled-3.ensures k lt ∙ word-2 a.pf0 a.pf1 a.pf2 a.mirrored left right c.left_half-left.ensures c.right_half-right.ensures k lt)
-    (λ k lt. c.quadrupled-4.ensures k lt ∙ word-3 a.pf0 a.pf1 a.pf2 a.mirrored left right c.left_half-left.ensures c.right_half-right.ensures k lt)
-    (λ k lt. c.quadrupled-5.ensures k lt ∙ word-4 a.pf0 a.pf1 a.pf2 a.mirrored left right c.left_half-left.ensures c.right_half-right.ensures k lt)
+    (λ k lt. c.quadruple_bits.ensures k lt ∙ word-0 a.pf0 a.pf1 a.pf2 a.mirrored left right c.left_half-left.ensures c.right_half-right.ensures k lt)
+    (λ k lt. c.quadruple_bits-2.ensures k lt ∙ word-1 a.pf0 a.pf1 a.pf2 a.mirrored left right c.left_half-left.ensures c.right_half-right.ensures k lt)
+    (λ k lt. c.quadruple_bits-3.ensures k lt ∙ word-2 a.pf0 a.pf1 a.pf2 a.mirrored left right c.left_half-left.ensures c.right_half-right.ensures k lt)
+    (λ k lt. c.quadruple_bits-4.ensures k lt ∙ word-3 a.pf0 a.pf1 a.pf2 a.mirrored left right c.left_half-left.ensures c.right_half-right.ensures k lt)
+    (λ k lt. c.quadruple_bits-5.ensures k lt ∙ word-4 a.pf0 a.pf1 a.pf2 a.mirrored left right c.left_half-left.ensures c.right_half-right.ensures k lt)
     x h

@@ -22,4 +22,4 @@ returns g c =
     let same = ap (λ (t : TiaState). t.fields) (made (is_tia c.fields-fields.result) _ _ c.in-Some.ensures) ∙ c.fields-fields.ensures.value in
     c.read-2.ensures
     ∙ ap (λ (t : TiaState). tia_read t c.args.register) c.clocks.ensures.value
-    ∙ rw c.owed.ensures (read-pairs (3 * (76 - d.left)) c.in-Some.tia d.tia c.args.register same c.if-register-ge8.false)
+    ∙ rw c.cycles_owed.ensures (read-pairs (3 * (76 - d.left)) c.in-Some.tia d.tia c.args.register same c.if-register-ge8.false)

@@ -5,7 +5,7 @@ use Rattle.std.proofs.lemmas.List.Folds.{list_any_more}
 use Rattle.tia_core.specs.Bits.{has_bit}
 use Rattle.tia_core.specs.Coverage.{distance_of}
 use Rattle.tia_core.proofs.Shapes.{distance_of-moved}
-use Rattle.tia_core.proofs.shape.copied.Goals as goal
+use Rattle.tia_core.proofs.shape.mask_of_copies.Goals as goal
 
 pub loop-copy-preserved : goal.loop-copy-preserved
 loop-copy-preserved c = λ x h.

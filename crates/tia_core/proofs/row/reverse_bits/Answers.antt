@@ -1,5 +1,5 @@
 use Rattle.tia_core.proofs.Tables.{reversed-bytes-fit}
-use Rattle.tia_core.proofs.row.reversed.Goals as goal
+use Rattle.tia_core.proofs.row.reverse_bits.Goals as goal
 
 pub returns : goal.returns
 returns c = λ k h. reversed-bytes-fit c.args.byte k c.ranges.byte.fits h

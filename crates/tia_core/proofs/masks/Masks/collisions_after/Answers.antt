@@ -1,6 +1,6 @@
 use Rattle.std.proofs.Common.{◌-◌, arith}
 use Rattle.tia_core.proofs.PairLemmas.{stretch-bounded}
-use Rattle.tia_core.proofs.masks.Masks.latched.Goals as goal
+use Rattle.tia_core.proofs.masks.Masks.collisions_after.Goals as goal
 
 pub returns-then-t-self-clause-value : goal.returns-then-t-self-clause-value
 returns-then-t-self-clause-value c =

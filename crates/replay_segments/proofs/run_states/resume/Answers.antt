@@ -1,6 +1,6 @@
 use Rattle.std.proofs.Common.{arith}
 use Rattle.replay_segments.proofs.RunStateLemmas.{run-resumed}
-use Rattle.replay_segments.proofs.run_states.resumed.Goals as goal
+use Rattle.replay_segments.proofs.run_states.resume.Goals as goal
 
 pub overflow_sub-frame : goal.overflow_sub-frame
 overflow_sub-frame c = (c.requires.claim c.checkpoint-checkpoint.result.now (omega arith) c.checkpoint-checkpoint.ensures).0

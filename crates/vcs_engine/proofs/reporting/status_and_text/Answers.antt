@@ -1,5 +1,5 @@
 use Rattle.std.proofs.Common.{refl}
-use Rattle.vcs_engine.proofs.reporting.reported.Goals as goal
+use Rattle.vcs_engine.proofs.reporting.status_and_text.Goals as goal
 
 pub report-requires : goal.report-requires
 report-requires g c = (c.args.plan.now.keep, c.in_ok-verdict.ensures.verdict)

@@ -1,5 +1,5 @@
 use Rattle.verify_pool.proofs.CrewLemmas.{worked_united}
-use Rattle.verify_pool.proofs.workers.united.Goals as goal
+use Rattle.verify_pool.proofs.workers.unite.Goals as goal
 
 pub returns-clause-worked : goal.returns-clause-worked
 returns-clause-worked c = λ job a b one two.

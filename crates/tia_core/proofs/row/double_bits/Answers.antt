@@ -2,7 +2,7 @@ use Rattle.std.proofs.Common.{◌∙◌, ◌-◌, ◌/◌, ◌%◌, ◌≡◌, s
 use Rattle.tia_core.specs.Bits.{has_bit}
 use Rattle.tia_core.proofs.Tables.{halves, half-low, half-high, doubled-fits, doubled-below}
 use Rattle.tia_core.proofs.Tables.{doubled_table}
-use Rattle.tia_core.proofs.row.doubled.Goals as goal
+use Rattle.tia_core.proofs.row.double_bits.Goals as goal
 
 pub returns : goal.returns
 returns c = λ k h.
