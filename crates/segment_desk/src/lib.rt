@@ -13,6 +13,3 @@ pub use desk::Desk;
 pub use laws::law_of_desk_states;
 pub use part::Part;
 pub use ticket::Ticket;
-
-#[cfg(test)]
-mod tests;

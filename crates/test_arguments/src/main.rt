@@ -15,6 +15,8 @@ use std::io::{self, Print, Read};
 use std::process::ExitCode;
 
 #[cfg(test)]
+mod expectation;
+#[cfg(test)]
 mod tests;
 
 /// The number of the growth that is refused.

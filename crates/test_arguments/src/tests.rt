@@ -1,5 +1,6 @@
 //! Worked command lines, with the commands that they are.
 
+use crate::expectation::expect_equal;
 use command_line::{Command, LineFault, parse_line};
 use replay_plan::{Keep, Plan, Workers};
 use std::num::NonZeroU16;
@@ -34,10 +35,10 @@ fn every_in(found: &Result<Command, LineFault>) -> Option<u32> {
 #[test]
 fn defaults(rt: HostRuntime) -> Result<(), Fail> {
     let found = parse_line(rt.alloc(), &["vcs_check", "verify", "m"]);
-    assert_eq!(rt; plan_in(&found), plan(1, 1, 1, 0));
+    expect_equal(&rt, plan_in(&found), plan(1, 1, 1, 0));
     assert!(rt; matches!(&found, Ok(Command::Verify { pictures: None, .. })));
     let found = parse_line(rt.alloc(), &["vcs_check", "verify", "m", "--pictures", "p"]);
-    assert_eq!(rt; plan_in(&found), plan(1, 1, 1, 600));
+    expect_equal(&rt, plan_in(&found), plan(1, 1, 1, 600));
     assert!(rt;
         matches!(
             &found,
@@ -55,9 +56,9 @@ fn defaults(rt: HostRuntime) -> Result<(), Fail> {
     assert!(rt; matches!(&found, Ok(Command::Convert { .. })));
     let found = parse_line(rt.alloc(), &["vcs_check", "report", "m"]);
     assert!(rt; matches!(&found, Ok(Command::Report { .. })));
-    assert_eq!(rt; plan_in(&found), plan(1, 1, 1, 0));
+    expect_equal(&rt, plan_in(&found), plan(1, 1, 1, 0));
     let found = parse_line(rt.alloc(), &["vcs_check", "report", "m", "--workers", "64"]);
-    assert_eq!(rt; plan_in(&found), plan(64, 1, 1, 0));
+    expect_equal(&rt, plan_in(&found), plan(64, 1, 1, 0));
     let found = parse_line(rt.alloc(), &["vcs_check"]);
     assert!(rt; matches!(&found, Ok(Command::Stdin)));
     let found = parse_line(rt.alloc(), &["vcs_check", "--"]);
@@ -85,7 +86,7 @@ fn numbers_are_those_of_the_words(rt: HostRuntime) {
         "p",
     ];
     let found = parse_line(rt.alloc(), &words);
-    assert_eq!(rt; plan_in(&found), plan(64, 65_535, 4_294_967_295, 599));
+    expect_equal(&rt, plan_in(&found), plan(64, 65_535, 4_294_967_295, 599));
     assert!(rt;
         matches!(
             &found,
@@ -97,7 +98,7 @@ fn numbers_are_those_of_the_words(rt: HostRuntime) {
     );
     // Without a file for them no pictures are kept.
     let found = parse_line(rt.alloc(), &["vcs_check", "verify", "m", "--count", "2"]);
-    assert_eq!(rt; plan_in(&found), plan(1, 1, 1, 0));
+    expect_equal(&rt, plan_in(&found), plan(1, 1, 1, 0));
     let words = [
         "vcs_check",
         "make",
@@ -110,7 +111,7 @@ fn numbers_are_those_of_the_words(rt: HostRuntime) {
     ];
     let found = parse_line(rt.alloc(), &words);
     assert!(rt; matches!(&found, Ok(Command::Make { text: false, .. })));
-    assert_eq!(rt; every_in(&found), Some(4_294_967_295));
+    expect_equal(&rt, every_in(&found), Some(4_294_967_295));
     let words = [
         "vcs_check",
         "make",
@@ -124,7 +125,7 @@ fn numbers_are_those_of_the_words(rt: HostRuntime) {
     ];
     let found = parse_line(rt.alloc(), &words);
     assert!(rt; matches!(&found, Ok(Command::Make { text: true, .. })));
-    assert_eq!(rt; every_in(&found), Some(1));
+    expect_equal(&rt, every_in(&found), Some(1));
 }
 
 #[test]

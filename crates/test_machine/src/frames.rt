@@ -1,5 +1,6 @@
 //! Frames of small cartridges, whose states are known to the number.
 
+use crate::expectation::expect_equal;
 use riot_map::Cart;
 use std::alloc::Global;
 use std::process::Abort;
@@ -96,7 +97,7 @@ fn counts_the_cycles_of_each_frame(rt: HostRuntime) {
     let start = State::power_on(&cart);
     let mut state = start.copy();
     for (timer, clock) in [(0xF3, 3 * 13), (0xE3, 3 * 29), (0xD3, 3 * 45)] {
-        assert_eq!(rt; fault_of(&rt, rt.alloc(), &cart, &mut state), None);
+        expect_equal(&rt, fault_of(&rt, rt.alloc(), &cart, &mut state), None);
         let mut wanted = start.fields();
         wanted.cpu.p = 0x06;
         wanted.cpu.pc = 0xF00A;
@@ -117,9 +118,9 @@ fn read_of_a_bank_switch_sees_the_bank_before_it(rt: HostRuntime) {
     let last = [0, 0, 0x5A, 0, 0, 0, 0x00, 0xF0];
     let cart = banked_cart(&rt, rt.alloc(), [0xAD, 0xF8, 0x1F], last);
     let start = State::power_on(&cart);
-    assert_eq!(rt; start.fields().bank, 1);
+    expect_equal(&rt, start.fields().bank, 1);
     let mut state = start.copy();
-    assert_eq!(rt; fault_of(&rt, rt.alloc(), &cart, &mut state), None);
+    expect_equal(&rt, fault_of(&rt, rt.alloc(), &cart, &mut state), None);
     let mut wanted = start.fields();
     wanted.cpu.p = 0x06;
     wanted.cpu.pc = 0xF00D;
@@ -142,9 +143,9 @@ fn write_to_a_bank_switch_selects(rt: HostRuntime) {
     let last = [0, 0, 0, 0, 0, 0, 0x00, 0xF0];
     let cart = banked_cart(&rt, rt.alloc(), [0x8D, 0xF8, 0x1F], last);
     let mut state = State::power_on(&cart);
-    assert_eq!(rt; fault_of(&rt, rt.alloc(), &cart, &mut state), None);
-    assert_eq!(rt; state.fields().cpu.pc, 0xF00D);
-    assert_eq!(rt; state.fields().bank, 0);
+    expect_equal(&rt, fault_of(&rt, rt.alloc(), &cart, &mut state), None);
+    expect_equal(&rt, state.fields().cpu.pc, 0xF00D);
+    expect_equal(&rt, state.fields().bank, 0);
 }
 
 #[test]
@@ -153,10 +154,10 @@ fn instruction_out_of_a_bank_switch_selects_nothing(rt: HostRuntime) {
     let last = [0xA9, 2, 0x85, 0, 0xD0, 0x84, 0xF6, 0xFF];
     let cart = banked_cart(&rt, rt.alloc(), [0; 3], last);
     let mut state = State::power_on(&cart);
-    assert_eq!(rt; fault_of(&rt, rt.alloc(), &cart, &mut state), None);
-    assert_eq!(rt; state.fields().cpu.pc, 0xFF84);
-    assert_eq!(rt; state.line_cycle(), 0x0D);
-    assert_eq!(rt; state.fields().bank, 1);
+    expect_equal(&rt, fault_of(&rt, rt.alloc(), &cart, &mut state), None);
+    expect_equal(&rt, state.fields().cpu.pc, 0xFF84);
+    expect_equal(&rt, state.line_cycle(), 0x0D);
+    expect_equal(&rt, state.fields().bank, 1);
 }
 
 #[test]
@@ -168,7 +169,7 @@ fn frame_ends_after_the_wait_of_its_last_write(rt: HostRuntime) {
     let mut state = lawful(&rt, fields);
     let picture = picture_of(&rt, rt.alloc(), &cart, &mut state, 0);
     assert_eq!(rt; picture.rows(), 1);
-    assert_eq!(rt; *picture.row(0), [0; 160]);
+    expect_equal(&rt, *picture.row(0), [0; 160]);
     let mut wanted = State::power_on(&cart).fields();
     wanted.tia.vblank = 2;
     wanted.riot.timer = 0xB4;
@@ -186,9 +187,9 @@ fn wait_ends_where_a_scanline_begins(rt: HostRuntime) {
         fields.tia.clock = clock;
         let mut state = lawful(&rt, fields);
         let picture = picture_of(&rt, rt.alloc(), &cart, &mut state, 0);
-        assert_eq!(rt; picture.rows(), 2);
-        assert_eq!(rt; state.fields().riot.timer, timer);
-        assert_eq!(rt; state.line_cycle(), 10);
+        expect_equal(&rt, picture.rows(), 2);
+        expect_equal(&rt, state.fields().riot.timer, timer);
+        expect_equal(&rt, state.line_cycle(), 10);
     }
 }
 
@@ -204,8 +205,8 @@ fn buttons_are_read_through_their_latches(rt: HostRuntime) {
         let mut state = lawful(&rt, fields);
         for (buttons, seen) in [(1, 0), (0, released)] {
             let _picture = picture_of(&rt, rt.alloc(), &cart, &mut state, buttons);
-            assert_eq!(rt; state.fields().riot.ram[0], seen);
-            assert_eq!(rt; state.fields().tia.latches, latches);
+            expect_equal(&rt, state.fields().riot.ram[0], seen);
+            expect_equal(&rt, state.fields().tia.latches, latches);
         }
     }
 }
@@ -224,7 +225,7 @@ fn each_button_has_a_register(rt: HostRuntime) {
         let cart = cart_of(&rt, rt.alloc(), &program, 0x800, &[]);
         let mut state = State::power_on(&cart);
         let _picture = picture_of(&rt, rt.alloc(), &cart, &mut state, buttons);
-        assert_eq!(rt; state.fields().riot.ram[0], seen);
+        expect_equal(&rt, state.fields().riot.ram[0], seen);
     }
 }
 
@@ -237,9 +238,9 @@ fn picture_has_the_colours_put_and_else_0(rt: HostRuntime) {
     let mut state = State::power_on(&cart);
     let picture = picture_of(&rt, rt.alloc(), &cart, &mut state, 0);
     assert_eq!(rt; picture.rows(), 3);
-    assert_eq!(rt; *picture.row(0), [0x0E; 160]);
-    assert_eq!(rt; picture.at(1, 159), 0x0E);
-    assert_eq!(rt; *picture.row(2), [0; 160]);
+    expect_equal(&rt, *picture.row(0), [0x0E; 160]);
+    expect_equal(&rt, picture.at(1, 159), 0x0E);
+    expect_equal(&rt, *picture.row(2), [0; 160]);
     let mut again = State::power_on(&cart);
     assert!(rt; picture.equals(&picture_of(&rt, rt.alloc(), &cart, &mut again, 0)));
     assert!(rt;
@@ -261,17 +262,17 @@ fn fault_leaves_the_state_before_its_instruction(rt: HostRuntime) {
     let cart = cart_of(&rt, rt.alloc(), &program, 0x10, &[2]);
     let mut state = State::power_on(&cart);
     for number in 1..7u8 {
-        assert_eq!(rt; fault_of(&rt, rt.alloc(), &cart, &mut state), None);
-        assert_eq!(rt; state.fields().cpu.x, number);
+        expect_equal(&rt, fault_of(&rt, rt.alloc(), &cart, &mut state), None);
+        expect_equal(&rt, state.fields().cpu.x, number);
     }
     let bad = FaultKind::BadOpcode {
         opcode: 2,
         at: 0xF010,
     };
-    assert_eq!(rt; fault_of(&rt, rt.alloc(), &cart, &mut state), Some(bad));
+    expect_equal(&rt, fault_of(&rt, rt.alloc(), &cart, &mut state), Some(bad));
     assert!(rt; bad != FaultKind::Overlong);
-    assert_eq!(rt; state.fields().cpu.x, 7);
-    assert_eq!(rt; state.fields().cpu.pc, 0xF010);
+    expect_equal(&rt, state.fields().cpu.x, 7);
+    expect_equal(&rt, state.fields().cpu.pc, 0xF010);
 }
 
 #[test]
@@ -281,9 +282,10 @@ fn fetch_outside_names_its_address(rt: HostRuntime) {
         let mut fields = State::power_on(&jump).fields();
         fields.cpu.pc = pc;
         let outside = FaultKind::FetchOutside { at };
-        assert_eq!(rt;
+        expect_equal(
+            &rt,
             fault_of(&rt, rt.alloc(), &jump, &mut lawful(&rt, fields)),
-            Some(outside)
+            Some(outside),
         );
     }
 }
@@ -293,30 +295,33 @@ fn pointer_of_a_jump_is_no_register(rt: HostRuntime) {
     // JMP ($0010): its pointer would come from a register of the TIA.
     let jump = cart_of(&rt, rt.alloc(), &[0x6C, 0x10, 0x00], 0x7FF, &[0xA9]);
     let mut state = State::power_on(&jump);
-    assert_eq!(rt;
+    expect_equal(
+        &rt,
         fault_of(&rt, rt.alloc(), &jump, &mut state),
-        Some(FaultKind::FetchOutside { at: 0x0010 })
+        Some(FaultKind::FetchOutside { at: 0x0010 }),
     );
-    assert_eq!(rt; state.fields().cpu.pc, 0xF000);
+    expect_equal(&rt, state.fields().cpu.pc, 0xF000);
 }
 
 #[test]
 fn frame_without_an_end_is_too_long(rt: HostRuntime) {
     let jump = cart_of(&rt, rt.alloc(), &[0x4C, 0, 0xF0], 0x800, &[]);
     let mut state = State::power_on(&jump);
-    assert_eq!(rt;
+    expect_equal(
+        &rt,
         fault_of(&rt, rt.alloc(), &jump, &mut state),
-        Some(FaultKind::Overlong)
+        Some(FaultKind::Overlong),
     );
-    assert_eq!(rt; state.line_cycle(), 1);
+    expect_equal(&rt, state.line_cycle(), 1);
     let mut fields = State::power_on(&jump).fields();
     fields.cpu.pc = 0x80;
     fields.riot.ram[0] = 0x4C;
     fields.riot.ram[1] = 0x80;
     fields.tia.clock = 3 * 75;
-    assert_eq!(rt;
+    expect_equal(
+        &rt,
         fault_of(&rt, rt.alloc(), &jump, &mut lawful(&rt, fields)),
-        Some(FaultKind::Overlong)
+        Some(FaultKind::Overlong),
     );
 }
 
@@ -328,7 +333,7 @@ fn numbers_and_inputs_are_tested(rt: HostRuntime) {
     fields.tia.position_p0 = 160;
     assert!(rt; State::from_fields(fields).is_none());
     let input = idle(&rt, 2);
-    assert_eq!(rt; input.bytes(), [0xFF, 0x3F, 2]);
+    expect_equal(&rt, input.bytes(), [0xFF, 0x3F, 2]);
     assert!(rt; Input::new(0xFF, 0x3F, 4).is_none());
     assert!(rt; Input::new(0xFF, 0x1F, 0).is_none());
 }

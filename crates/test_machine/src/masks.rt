@@ -1,6 +1,7 @@
 //! Worked examples of masks, and of clocks in one call and in many.
 ghost use Rattle.std.specs.Prelude.{◌≡◌, ◌≤◌, nat_lt, slice_set, if◌then◌else◌};
 
+use crate::expectation::expect_equal;
 use std::test::Fail;
 use tia_core::{Mask, Paint, Tia, TiaFields};
 
@@ -147,9 +148,9 @@ fn one_call_is_as_many(rt: HostRuntime) -> Result<(), Fail> {
         assert!(rt; row.pixels == other.pixels);
         assert!(rt; one.fields() == many.fields());
         assert!(rt; one.fields() != fields);
-        assert_eq!(rt; one.line(), many.line());
+        expect_equal(&rt, one.line(), many.line());
         // Player 0 has met the playfield.
-        assert_eq!(rt; one.read(2), 0x80);
+        expect_equal(&rt, one.read(2), 0x80);
     }
     Ok(())
 }

@@ -1,5 +1,6 @@
 //! Worked examples of the ports, the timer, the address map and cartridges.
 
+use crate::expectation::expect_equal;
 use riot_map::{BadCartSize, Cart, Place, Riot, RiotFields, place};
 use std::test::Fail;
 
@@ -22,10 +23,10 @@ fn ports_mix_pins_and_outputs(rt: HostRuntime) {
     riot.write(SWCHA, 0xA5);
     riot.write(SWBCNT, 0xF0);
     riot.write(SWCHB, 0xA5);
-    assert_eq!(rt; riot.read(SWCHA), 0x2C);
-    assert_eq!(rt; riot.read(SWCHB), 0xAC);
-    assert_eq!(rt; riot.read(SWACNT), 0xF0);
-    assert_eq!(rt; riot.read(SWBCNT), 0xF0);
+    expect_equal(&rt, riot.read(SWCHA), 0x2C);
+    expect_equal(&rt, riot.read(SWCHB), 0xAC);
+    expect_equal(&rt, riot.read(SWACNT), 0xF0);
+    expect_equal(&rt, riot.read(SWBCNT), 0xF0);
 }
 
 #[test]
@@ -41,12 +42,12 @@ fn cartridges_have_2048_4096_or_8192_bytes(rt: HostRuntime) -> Result<(), Fail> 
         match Cart::new(bytes) {
             Ok(cart) => {
                 assert!(rt; fits);
-                assert_eq!(rt; cart.len() as usize, length);
-                assert_eq!(rt; cart.bytes().len(), length);
+                expect_equal(&rt, cart.len() as usize, length);
+                expect_equal(&rt, cart.bytes().len(), length);
             }
             Err(refusal) => {
                 assert!(rt; !fits);
-                assert_eq!(rt; refusal, BadCartSize);
+                expect_equal(&rt, refusal, BadCartSize);
             }
         }
     }
@@ -61,10 +62,10 @@ fn small_cartridge_stands_at_each_2048_addresses(rt: HostRuntime) -> Result<(), 
     bytes[0x7FD] = 3;
     let cart = Cart::new(bytes).ok().ok_or("2048 bytes")?;
     for (address, byte) in [(0x1000u16, 1u8), (0x1800, 1), (0xFFFC, 2), (0xFFFD, 3)] {
-        assert_eq!(rt; place(address), Place::Cart(address));
-        assert_eq!(rt; cart.at(0, address), byte);
-        assert_eq!(rt; cart.at(1, address), byte);
-        assert_eq!(rt; cart.select(0, 0x1FF9), 0);
+        expect_equal(&rt, place(address), Place::Cart(address));
+        expect_equal(&rt, cart.at(0, address), byte);
+        expect_equal(&rt, cart.at(1, address), byte);
+        expect_equal(&rt, cart.select(0, 0x1FF9), 0);
     }
     let other = Cart::new(vec![in rt.alloc(); 0u8; 2048]?)
         .ok()
@@ -82,7 +83,7 @@ fn banks_stand_at_each_4096_addresses(rt: HostRuntime) -> Result<(), Fail> {
     bytes[0x1000] = 3;
     bytes[0x1FFC] = 4;
     let cart = Cart::new(bytes).ok().ok_or("8192 bytes")?;
-    assert_eq!(rt; cart.bank_at_power_on(), 1);
+    expect_equal(&rt, cart.bank_at_power_on(), 1);
     for (address, in_first, in_second) in [
         (0x1000u16, 1u8, 3u8),
         (0xF000, 1, 3),
@@ -90,8 +91,8 @@ fn banks_stand_at_each_4096_addresses(rt: HostRuntime) -> Result<(), Fail> {
         (0xFFFC, 2, 4),
         (0x1FFC, 2, 4),
     ] {
-        assert_eq!(rt; cart.at(0, address), in_first);
-        assert_eq!(rt; cart.at(1, address), in_second);
+        expect_equal(&rt, cart.at(0, address), in_first);
+        expect_equal(&rt, cart.at(1, address), in_second);
     }
     for (address, from_first, from_second) in [
         (0x1FF8u16, 0u8, 0u8),
@@ -102,19 +103,19 @@ fn banks_stand_at_each_4096_addresses(rt: HostRuntime) -> Result<(), Fail> {
         (0x1FFA, 0, 1),
         (0x0FF8, 0, 1),
     ] {
-        assert_eq!(rt; cart.select(0, address), from_first);
-        assert_eq!(rt; cart.select(1, address), from_second);
+        expect_equal(&rt, cart.select(0, address), from_first);
+        expect_equal(&rt, cart.select(1, address), from_second);
     }
     Ok(())
 }
 
 #[test]
 fn places_by_address_lines(rt: HostRuntime) {
-    assert_eq!(rt; place(0x0002), Place::Tia(0x02));
+    expect_equal(&rt, place(0x0002), Place::Tia(0x02));
     assert!(rt; place(0x0002) != Place::Tia(0x03));
-    assert_eq!(rt; place(0x0180), Place::Ram(0x00));
-    assert_eq!(rt; place(0x0296), Place::Io(0x16));
-    assert_eq!(rt; place(0x2280), Place::Io(0x00));
+    expect_equal(&rt, place(0x0180), Place::Ram(0x00));
+    expect_equal(&rt, place(0x0296), Place::Io(0x16));
+    expect_equal(&rt, place(0x2280), Place::Io(0x00));
 }
 
 #[test]
@@ -124,11 +125,11 @@ fn numbers_come_back(rt: HostRuntime) -> Result<(), Fail> {
     riot.write(TIM64T, 2);
     riot.cycles(1);
     let fields = riot.fields();
-    assert_eq!(rt; fields.timer, 1);
-    assert_eq!(rt; fields.part, 64);
-    assert_eq!(rt; fields.interval, 2);
+    expect_equal(&rt, fields.timer, 1);
+    expect_equal(&rt, fields.part, 64);
+    expect_equal(&rt, fields.interval, 2);
     let back = Riot::from_fields(fields).ok_or("lawful")?;
-    assert_eq!(rt; back.ram(5), 9);
+    expect_equal(&rt, back.ram(5), 9);
     let refused = RiotFields { part: 65, ..fields };
     assert!(rt; Riot::from_fields(refused).is_none());
     Ok(())

@@ -1,6 +1,7 @@
 //! Worked examples, whose results were written down by hand.
 ghost use Rattle.std.specs.Prelude.{◌≡◌, nat_lt, slice_set, if◌then◌else◌};
 
+use crate::expectation::expect_equal;
 use tia_core::{Effect, Paint, Tia};
 
 const VBLANK: u8 = 0x01;
@@ -82,9 +83,9 @@ fn playfield_and_player_by_priority(rt: HostRuntime) {
         tia.write(PF0, 0x10);
         tia.write(CTRLPF, ctrlpf);
         assert!(rt; draw(&mut tia, 228) == pixels, "with {ctrlpf}");
-        assert_eq!(rt; tia.read(CXP0FB), 0x80);
+        expect_equal(&rt, tia.read(CXP0FB), 0x80);
         tia.write(CXCLR, 0);
-        assert_eq!(rt; tia.read(CXP0FB), 0);
+        expect_equal(&rt, tia.read(CXP0FB), 0);
     }
 }
 
@@ -95,10 +96,10 @@ fn comb_hides_eight_pixels_of_one_line(rt: HostRuntime) {
     draw(&mut tia, 3);
     assert!(rt; tia.write(HMOVE, 0) != Effect::Sync);
     assert!(rt; draw(&mut tia, 225) == row_of(0x0E, &[(0, 8, 0)]));
-    assert_eq!(rt; tia.line(), 1);
-    assert_eq!(rt; tia.beam(), 0);
+    expect_equal(&rt, tia.line(), 1);
+    expect_equal(&rt, tia.beam(), 0);
     assert!(rt; draw(&mut tia, 228) == row_of(0x0E, &[]));
-    assert_eq!(rt; tia.line(), 2);
+    expect_equal(&rt, tia.line(), 2);
 }
 
 #[test]
@@ -107,14 +108,14 @@ fn buttons_are_latched(rt: HostRuntime) {
     tia.set_fire(true, false);
     tia.write(VBLANK, 0x40);
     tia.set_fire(false, false);
-    assert_eq!(rt; tia.read(INPT4), 0x00);
+    expect_equal(&rt, tia.read(INPT4), 0x00);
     tia.write(VBLANK, 0x00);
-    assert_eq!(rt; tia.read(INPT4), 0x80);
+    expect_equal(&rt, tia.read(INPT4), 0x80);
     tia.write(VBLANK, 0x40);
     draw(&mut tia, 228);
     tia.set_fire(true, false);
     tia.new_frame();
     tia.set_fire(false, false);
-    assert_eq!(rt; tia.read(INPT4), 0x00);
-    assert_eq!(rt; tia.line(), 0);
+    expect_equal(&rt, tia.read(INPT4), 0x00);
+    expect_equal(&rt, tia.line(), 0);
 }

@@ -3,6 +3,8 @@
 #![tactic(auto)]
 
 #[cfg(test)]
+mod expectation;
+#[cfg(test)]
 mod movies;
 #[cfg(test)]
 mod texts;

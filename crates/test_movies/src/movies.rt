@@ -1,5 +1,6 @@
 //! Worked movie files, records and inputs, and movies that are made.
 
+use crate::expectation::expect_equal;
 use movie_file::{
     ConvertError, MakeError, Movie, MovieError, convert, make_movie, read_inputs, read_movie,
     read_state, write_movie, write_state,
@@ -167,7 +168,7 @@ fn refusal(alloc: Global, bytes: &[u8]) -> Option<MovieError> {
 #[test]
 fn movie_is_written_as_it_was_read(rt: HostRuntime) -> Result<(), Fail> {
     let bytes = file(rt.alloc())?;
-    assert_eq!(rt; bytes.len(), 2446);
+    expect_equal(&rt, bytes.len(), 2446);
     let movie = read_movie(rt.alloc(), &bytes)?;
     let mut output = Vec::from_slice(rt.alloc(), &[0x99])?;
     write_movie(&movie, &mut output)?;
@@ -179,15 +180,15 @@ fn movie_is_written_as_it_was_read(rt: HostRuntime) -> Result<(), Fail> {
 fn readers_name_the_parts(rt: HostRuntime) -> Result<(), Fail> {
     let movie = read_movie(rt.alloc(), &file(rt.alloc())?)?;
     let version = movie.version();
-    assert_eq!(rt; (version, movie.cart().len()), (1, 2048));
-    assert_eq!(rt; movie.start().fields().cpu.pc, 0xF000);
+    expect_equal(&rt, (version, movie.cart().len()), (1, 2048));
+    expect_equal(&rt, movie.start().fields().cpu.pc, 0xF000);
     let frames = movie.frames();
-    assert_eq!(rt; frames, 2);
-    assert_eq!(rt; movie.input(2).bytes(), [0xFF, 0x3F, 0x00]);
+    expect_equal(&rt, frames, 2);
+    expect_equal(&rt, movie.input(2).bytes(), [0xFF, 0x3F, 0x00]);
     let checkpoints = movie.checkpoints();
-    assert_eq!(rt; checkpoints, 1);
-    assert_eq!(rt; movie.checkpoint(1).frame, 1);
-    assert_eq!(rt; movie.checkpoint(1).state.line_cycle(), 13);
+    expect_equal(&rt, checkpoints, 1);
+    expect_equal(&rt, movie.checkpoint(1).frame, 1);
+    expect_equal(&rt, movie.checkpoint(1).state.line_cycle(), 13);
     Ok(())
 }
 
@@ -196,10 +197,10 @@ fn lengths_are_judged(rt: HostRuntime) -> Result<(), Fail> {
     let mut bytes = file(rt.alloc())?;
     for length in [0usize, 3, 13, 2300, 2445] {
         let prefix = bytes.get(..length).ok_or("a shorter file")?;
-        assert_eq!(rt; refusal(rt.alloc(), prefix), Some(MovieError::Short));
+        expect_equal(&rt, refusal(rt.alloc(), prefix), Some(MovieError::Short));
     }
     bytes.push(0)?;
-    assert_eq!(rt; refusal(rt.alloc(), &bytes), Some(MovieError::Trailing));
+    expect_equal(&rt, refusal(rt.alloc(), &bytes), Some(MovieError::Trailing));
     Ok(())
 }
 
@@ -213,11 +214,11 @@ fn headers_are_judged(rt: HostRuntime) -> Result<(), Fail> {
         (11, 0, MovieError::BadCounts),
     ] {
         let bad = with_bytes_at(rt.alloc(), &bytes, at, &[byte])?;
-        assert_eq!(rt; refusal(rt.alloc(), &bad), Some(want));
+        expect_equal(&rt, refusal(rt.alloc(), &bad), Some(want));
     }
     for (checkpoints, want) in [(4096u16, MovieError::BadCounts), (4095, MovieError::Short)] {
         let bad = with_bytes_at(rt.alloc(), &bytes, 12, &checkpoints.to_be_bytes())?;
-        assert_eq!(rt; refusal(rt.alloc(), &bad), Some(want));
+        expect_equal(&rt, refusal(rt.alloc(), &bad), Some(want));
     }
     Ok(())
 }
@@ -234,7 +235,7 @@ fn states_and_inputs_are_judged(rt: HostRuntime) -> Result<(), Fail> {
         (2263, 0x34, MovieError::BadState(1)),
     ] {
         let bad = with_bytes_at(rt.alloc(), &bytes, at, &[byte])?;
-        assert_eq!(rt; refusal(rt.alloc(), &bad), Some(want));
+        expect_equal(&rt, refusal(rt.alloc(), &bad), Some(want));
     }
     Ok(())
 }
@@ -245,9 +246,13 @@ fn checkpoints_rise(rt: HostRuntime) -> Result<(), Fail> {
     let mut two = with_bytes_at(rt.alloc(), &bytes, 13, &[2])?;
     two.extend_from_slice(&[0, 0, 0, 1])?;
     two.extend_from_slice(&state_after_frame_1())?;
-    assert_eq!(rt; refusal(rt.alloc(), &two), Some(MovieError::BadOrder(2)));
+    expect_equal(
+        &rt,
+        refusal(rt.alloc(), &two),
+        Some(MovieError::BadOrder(2)),
+    );
     let risen = with_bytes_at(rt.alloc(), &two, 2449, &[2])?;
-    assert_eq!(rt; refusal(rt.alloc(), &risen), None);
+    expect_equal(&rt, refusal(rt.alloc(), &risen), None);
     Ok(())
 }
 
@@ -264,10 +269,10 @@ fn first_refusal_is_named(rt: HostRuntime) -> Result<(), Fail> {
         (2258, 2, MovieError::BadOrder(1)),
         (2263, 0x06, MovieError::BadState(1)),
     ] {
-        assert_eq!(rt; refusal(rt.alloc(), &bytes), Some(want));
+        expect_equal(&rt, refusal(rt.alloc(), &bytes), Some(want));
         bytes = with_bytes_at(rt.alloc(), &bytes, at, &[byte])?;
     }
-    assert_eq!(rt; refusal(rt.alloc(), &bytes), Some(MovieError::Trailing));
+    expect_equal(&rt, refusal(rt.alloc(), &bytes), Some(MovieError::Trailing));
     Ok(())
 }
 
@@ -293,9 +298,9 @@ fn record_is_read_and_written(rt: HostRuntime) -> Result<(), Fail> {
     assert!(rt; write_state(&state) == record);
     let prefix = record.get(..187).ok_or("a shorter record")?;
     assert!(rt; read_state(prefix).is_none());
-    assert_eq!(rt; state.fields().cpu.pc, 0xF00A);
-    assert_eq!(rt; state.fields().riot.timer, 0xF3);
-    assert_eq!(rt; state.fields().bank, 1);
+    expect_equal(&rt, state.fields().cpu.pc, 0xF00A);
+    expect_equal(&rt, state.fields().riot.timer, 0xF3);
+    expect_equal(&rt, state.fields().bank, 1);
     assert!(rt; read_state(&with_bank(&state_after_frame_1(), 2)).is_none());
     Ok(())
 }
@@ -303,11 +308,11 @@ fn record_is_read_and_written(rt: HostRuntime) -> Result<(), Fail> {
 #[test]
 fn movie_of_two_banks_is_written_as_it_was_read(rt: HostRuntime) -> Result<(), Fail> {
     let bytes = banked_file(rt.alloc())?;
-    assert_eq!(rt; bytes.len(), 8592);
+    expect_equal(&rt, bytes.len(), 8592);
     let movie = read_movie(rt.alloc(), &bytes)?;
-    assert_eq!(rt; movie.version(), 2);
-    assert_eq!(rt; movie.cart().len(), 8192);
-    assert_eq!(rt; movie.start().fields().bank, 1);
+    expect_equal(&rt, movie.version(), 2);
+    expect_equal(&rt, movie.cart().len(), 8192);
+    expect_equal(&rt, movie.start().fields().bank, 1);
     assert!(rt; file_of(rt.alloc(), &movie)? == bytes);
     Ok(())
 }
@@ -323,7 +328,7 @@ fn refusals_of_version_2(rt: HostRuntime) -> Result<(), Fail> {
         (8590, [0x00, 0x02], MovieError::BadState(1)),
     ] {
         let copy = with_bytes_at(rt.alloc(), &bytes, at, &new)?;
-        assert_eq!(rt; refusal(rt.alloc(), &copy), Some(wanted));
+        expect_equal(&rt, refusal(rt.alloc(), &copy), Some(wanted));
     }
     Ok(())
 }
@@ -339,7 +344,7 @@ fn each_version_has_its_most_frames(rt: HostRuntime) -> Result<(), Fail> {
         (&new, 262_144, MovieError::BadCounts),
     ] {
         let copy = with_bytes_at(rt.alloc(), bytes, 8, &frames.to_be_bytes())?;
-        assert_eq!(rt; refusal(rt.alloc(), &copy), Some(wanted));
+        expect_equal(&rt, refusal(rt.alloc(), &copy), Some(wanted));
     }
     Ok(())
 }
@@ -355,23 +360,27 @@ fn bank_1_is_refused_without_banks(rt: HostRuntime) -> Result<(), Fail> {
     bytes.extend_from_slice(&with_bank(&state_at_power_on(), 1))?;
     bytes.extend_from_slice(&[0xFF, 0x3F, 0x00])?;
     let bytes = with_bytes_at(rt.alloc(), &bytes, 4, &[0, 2, 8, 0, 0, 0, 0, 1, 0, 0])?;
-    assert_eq!(rt; refusal(rt.alloc(), &bytes), Some(MovieError::BadState(0)));
+    expect_equal(
+        &rt,
+        refusal(rt.alloc(), &bytes),
+        Some(MovieError::BadState(0)),
+    );
     let bytes = with_bytes_at(rt.alloc(), &bytes, 2249, &[0])?;
-    assert_eq!(rt; refusal(rt.alloc(), &bytes), None);
+    expect_equal(&rt, refusal(rt.alloc(), &bytes), None);
     Ok(())
 }
 
 #[test]
 fn movie_is_converted_once(rt: HostRuntime) -> Result<(), Fail> {
     let wanted = file_in_version_2(rt.alloc())?;
-    assert_eq!(rt; wanted.len(), 2448);
+    expect_equal(&rt, wanted.len(), 2448);
     let movie = convert(read_movie(rt.alloc(), &file(rt.alloc())?)?)?;
-    assert_eq!(rt; movie.version(), 2);
+    expect_equal(&rt, movie.version(), 2);
     assert!(rt; file_of(rt.alloc(), &movie)? == wanted);
     match convert(movie) {
         Ok(_) => Err("converted twice".into()),
         Err(ConvertError::AlreadyTwo(movie)) => {
-            assert_eq!(rt; movie.frames(), 2);
+            expect_equal(&rt, movie.frames(), 2);
             Ok(())
         }
     }
@@ -382,9 +391,9 @@ fn movie_is_made_of_two_banks(rt: HostRuntime) -> Result<(), Fail> {
     let inputs = read_inputs(rt.alloc(), &[0xFF, 0x3F, 0x00, 0xFF, 0x3F, 0x00])?;
     let cart = Cart::new(Vec::from_slice(rt.alloc(), &banked_bytes())?)?;
     let movie = make_movie(rt.alloc(), cart, inputs, 1)?;
-    assert_eq!(rt; movie.version(), 2);
+    expect_equal(&rt, movie.version(), 2);
     let bytes = file_of(rt.alloc(), &movie)?;
-    assert_eq!(rt; bytes.len(), 8784);
+    expect_equal(&rt, bytes.len(), 8784);
     assert!(rt; bytes.get(8404..8592) == Some(banked_state_after_frame_1().as_slice()));
     Ok(())
 }
@@ -392,16 +401,17 @@ fn movie_is_made_of_two_banks(rt: HostRuntime) -> Result<(), Fail> {
 #[test]
 fn inputs_are_read_or_refused(rt: HostRuntime) -> Result<(), Fail> {
     let inputs = read_inputs(rt.alloc(), &[0xFF, 0x3F, 0x00, 0x7F, 0xBF, 0x03])?;
-    assert_eq!(rt; inputs.len(), 2);
-    assert_eq!(rt;
+    expect_equal(&rt, inputs.len(), 2);
+    expect_equal(
+        &rt,
         inputs.last().map(|input| input.bytes()),
-        Some([0x7F, 0xBF, 0x03])
+        Some([0x7F, 0xBF, 0x03]),
     );
     assert!(rt; read_inputs(rt.alloc(), &[])?.is_empty());
     let short = read_inputs(rt.alloc(), &[0xFF, 0x3F, 0x04, 0xFF]).err();
-    assert_eq!(rt; short, Some(MovieError::Short));
+    expect_equal(&rt, short, Some(MovieError::Short));
     let spare_bit = read_inputs(rt.alloc(), &[0xFF, 0x3F, 0x00, 0xFF, 0x3F, 0x04]).err();
-    assert_eq!(rt; spare_bit, Some(MovieError::BadInput(2)));
+    expect_equal(&rt, spare_bit, Some(MovieError::BadInput(2)));
     Ok(())
 }
 
@@ -411,7 +421,7 @@ fn movie_is_made_of_a_run(rt: HostRuntime) -> Result<(), Fail> {
     let movie = make_movie(rt.alloc(), cart(rt.alloc(), &PROGRAM)?, inputs, 2)?;
     let later = with_bytes_at(rt.alloc(), &file(rt.alloc())?, 2258, &[2])?;
     let wanted = with_bytes_at(rt.alloc(), &later, 2259, &state_after_frame_2())?;
-    assert_eq!(rt; wanted.len(), 2446);
+    expect_equal(&rt, wanted.len(), 2446);
     assert!(rt; file_of(rt.alloc(), &movie)? == wanted);
     Ok(())
 }
@@ -432,10 +442,14 @@ fn movies_are_not_made_of_bad_counts(rt: HostRuntime) -> Result<(), Fail> {
         let inputs = read_inputs(rt.alloc(), &bytes)?;
         let movie = make_movie(rt.alloc(), cart(rt.alloc(), &PROGRAM)?, inputs, every);
         if made {
-            assert_eq!(rt; movie.ok().map(|movie| movie.checkpoints()), Some(2_048));
+            expect_equal(
+                &rt,
+                movie.ok().map(|movie| movie.checkpoints()),
+                Some(2_048),
+            );
         } else {
             let refusal = movie.err();
-            assert_eq!(rt; refusal, Some(MakeError::BadCounts));
+            expect_equal(&rt, refusal, Some(MakeError::BadCounts));
             assert!(rt; refusal != Some(MakeError::NoMemory));
         }
     }
@@ -454,6 +468,6 @@ fn first_fault_of_a_run_is_named(rt: HostRuntime) -> Result<(), Fail> {
         opcode: 0x02,
         at: 0xF010,
     };
-    assert_eq!(rt; movie.err(), Some(MakeError::Fault { frame: 7, kind }));
+    expect_equal(&rt, movie.err(), Some(MakeError::Fault { frame: 7, kind }));
     Ok(())
 }

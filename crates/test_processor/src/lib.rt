@@ -3,6 +3,8 @@
 #![tactic(auto)]
 
 mod event;
+#[cfg(test)]
+mod expectation;
 mod log_bus;
 #[cfg(test)]
 mod tests;

@@ -2,7 +2,8 @@
 ghost use Rattle.std.specs.Prelude.{◌≡◌, true};
 ghost use Rattle.segment_desk.specs.Views.{IsOf};
 
-use crate::{Desk, Ticket};
+use crate::expectation::expect_equal;
+use segment_desk::{Desk, Ticket};
 use std::test::Fail;
 use std::thread;
 use std::thread::Threads;
@@ -13,15 +14,15 @@ fn two_tickets_at_a_desk_of_three_numbers(rt: HostRuntime) -> Result<(), Fail> {
     let mut b = tickets.pop().ok_or("a ticket for b")?;
     let mut a = tickets.pop().ok_or("a ticket for a")?;
     assert_eq!(rt; desk.draw(&mut a), Some(0));
-    assert_eq!(rt; desk.draw(&mut b), Some(1));
+    expect_equal(&rt, desk.draw(&mut b), Some(1));
     desk.report_bad(&mut a, 0);
-    assert_eq!(rt; desk.draw(&mut b), Some(2));
-    assert_eq!(rt; desk.least_bad(&mut b), 0);
-    assert_eq!(rt; desk.draw(&mut a), None);
-    assert_eq!(rt; desk.draw(&mut b), None);
+    expect_equal(&rt, desk.draw(&mut b), Some(2));
+    expect_equal(&rt, desk.least_bad(&mut b), 0);
+    expect_equal(&rt, desk.draw(&mut a), None);
+    expect_equal(&rt, desk.draw(&mut b), None);
     desk.hand_in(&mut a, b);
-    assert_eq!(rt; desk.draw(&mut a), None);
-    assert_eq!(rt; desk.least_bad(&mut a), 0);
+    expect_equal(&rt, desk.draw(&mut a), None);
+    expect_equal(&rt, desk.least_bad(&mut a), 0);
     Ok(())
 }
 
@@ -29,11 +30,11 @@ fn two_tickets_at_a_desk_of_three_numbers(rt: HostRuntime) -> Result<(), Fail> {
 fn a_desk_is_made_with_a_ticket_for_each_worker(rt: HostRuntime) -> Result<(), Fail> {
     for workers in [1, 3, 64] {
         let (desk, mut tickets) = Desk::new(rt.alloc(), 1, workers)?;
-        assert_eq!(rt; tickets.len(), usize::from(workers));
+        expect_equal(&rt, tickets.len(), usize::from(workers));
         let mut ticket = tickets.pop().ok_or("a ticket")?;
-        assert_eq!(rt; desk.least_bad(&mut ticket), 1);
-        assert_eq!(rt; desk.draw(&mut ticket), Some(0));
-        assert_eq!(rt; desk.draw(&mut ticket), None);
+        expect_equal(&rt, desk.least_bad(&mut ticket), 1);
+        expect_equal(&rt, desk.draw(&mut ticket), Some(0));
+        expect_equal(&rt, desk.draw(&mut ticket), None);
     }
     Ok(())
 }
@@ -41,10 +42,10 @@ fn a_desk_is_made_with_a_ticket_for_each_worker(rt: HostRuntime) -> Result<(), F
 #[test]
 fn a_desk_of_the_most_numbers_takes_no_more_memory(rt: HostRuntime) -> Result<(), Fail> {
     let (desk, mut tickets) = Desk::new(rt.alloc(), u32::MAX, 255)?;
-    assert_eq!(rt; tickets.len(), 255);
+    expect_equal(&rt, tickets.len(), 255);
     let mut ticket = tickets.pop().ok_or("a ticket")?;
-    assert_eq!(rt; desk.least_bad(&mut ticket), u32::MAX);
-    assert_eq!(rt; desk.draw(&mut ticket), Some(0));
+    expect_equal(&rt, desk.least_bad(&mut ticket), u32::MAX);
+    expect_equal(&rt, desk.draw(&mut ticket), Some(0));
     Ok(())
 }
 
@@ -100,12 +101,12 @@ fn three_threads_draw_each_number_once(rt: HostRuntime) -> Result<(), Fail> {
     );
     let times = a.times.iter().zip(b.times.iter().zip(c.times.iter()));
     for (of_a, (of_b, of_c)) in times {
-        assert_eq!(rt; of_a.saturating_add(*of_b).saturating_add(*of_c), 1);
+        expect_equal(&rt, of_a.saturating_add(*of_b).saturating_add(*of_c), 1);
     }
     let mut whole = a.ticket;
     desk.hand_in(&mut whole, b.ticket);
     desk.hand_in(&mut whole, c.ticket);
-    assert_eq!(rt; desk.draw(&mut whole), None);
-    assert_eq!(rt; desk.least_bad(&mut whole), 6);
+    expect_equal(&rt, desk.draw(&mut whole), None);
+    expect_equal(&rt, desk.least_bad(&mut whole), 6);
     Ok(())
 }

@@ -1,6 +1,7 @@
 //! The engine over memory, and over devices that fail.
 
 use crate::devices::{FailingReader, FailingWriter, Zeros};
+use crate::expectation::expect_equal;
 use crate::movies::{
     ENDLESS_FRAMES, SEVEN_FRAMES, first_of_two_false, movie, power_on, timer_part_left, two_frames,
 };
@@ -50,7 +51,7 @@ fn genuine_movies(rt: HostRuntime) -> Result<(), Fail> {
         (uncut, b"genuine: 1 frames, 0 checkpoints\n".as_slice()),
     ] {
         let (status, line) = run_over_bytes(&rt, &bytes);
-        assert_eq!(rt; status, Ok(Status::Done));
+        expect_equal(&rt, status, Ok(Status::Done));
         assert!(rt; line.as_slice() == wanted);
     }
     Ok(())
@@ -63,11 +64,11 @@ fn false_checkpoints(rt: HostRuntime) -> Result<(), Fail> {
         timer_part_left(rt.alloc(), 88)?,
     ] {
         let (status, line) = run_over_bytes(&rt, &bytes);
-        assert_eq!(rt; status, Ok(Status::False));
+        expect_equal(&rt, status, Ok(Status::False));
         assert!(rt; line.as_slice() == b"false checkpoint 1 at frame 1\n".as_slice());
     }
     let (status, _line) = run_over_bytes(&rt, &timer_part_left(rt.alloc(), 87)?);
-    assert_eq!(rt; status, Ok(Status::Done));
+    expect_equal(&rt, status, Ok(Status::Done));
     Ok(())
 }
 
@@ -75,7 +76,7 @@ fn false_checkpoints(rt: HostRuntime) -> Result<(), Fail> {
 fn fault_comes_before_the_checkpoint_of_its_frame(rt: HostRuntime) -> Result<(), Fail> {
     let bytes = movie(rt.alloc(), &SEVEN_FRAMES, &power_on(), 7, 7, &[power_on()])?;
     let (status, line) = run_over_bytes(&rt, &bytes);
-    assert_eq!(rt; status, Ok(Status::Fault));
+    expect_equal(&rt, status, Ok(Status::Fault));
     assert!(rt; line.as_slice() == b"fault at frame 7: bad opcode 02 at F010\n".as_slice());
     Ok(())
 }
@@ -94,7 +95,7 @@ fn faults_of_a_first_frame(rt: HostRuntime) -> Result<(), Fail> {
     ] {
         let bytes = movie(rt.alloc(), &program, &power_on(), 1, 1, &[])?;
         let (status, line) = run_over_bytes(&rt, &bytes);
-        assert_eq!(rt; status, Ok(Status::Fault));
+        expect_equal(&rt, status, Ok(Status::Fault));
         assert!(rt; line.as_slice() == wanted);
     }
     Ok(())
@@ -103,7 +104,7 @@ fn faults_of_a_first_frame(rt: HostRuntime) -> Result<(), Fail> {
 #[test]
 fn empty_input_is_refused(rt: HostRuntime) {
     let (status, line) = run_over_bytes(&rt, &[]);
-    assert_eq!(rt; status, Ok(Status::Refused));
+    expect_equal(&rt, status, Ok(Status::Refused));
     assert!(rt; line.as_slice() == b"refused: Short\n".as_slice());
 }
 
@@ -129,8 +130,8 @@ fn run_over_zeros<T: Threads + Wait + Sync + AllocGlobal>(
 #[test]
 fn longest_input_is_read(rt: HostRuntime) {
     let (status, line, reads) = run_over_zeros(&rt, 16_777_216);
-    assert_eq!(rt; reads, 16_777_217);
-    assert_eq!(rt; status, Ok(Status::Refused));
+    expect_equal(&rt, reads, 16_777_217);
+    expect_equal(&rt, status, Ok(Status::Refused));
     assert!(rt; status != Ok(Status::Done));
     assert!(rt; line.as_slice() == b"refused: BadMagic\n".as_slice());
 }
@@ -138,10 +139,10 @@ fn longest_input_is_read(rt: HostRuntime) {
 #[test]
 fn endless_input_is_too_long(rt: HostRuntime) {
     let (status, line, reads) = run_over_zeros(&rt, u64::MAX);
-    assert_eq!(rt; status, Err(RunError::TooLong));
+    expect_equal(&rt, status, Err(RunError::TooLong));
     assert!(rt; status != Err(RunError::NoMemory));
     assert!(rt; line.is_empty());
-    assert_eq!(rt; reads, 16_777_217);
+    expect_equal(&rt, reads, 16_777_217);
 }
 
 /// What a run answers over a reader whose read of a given number fails, and its line.
@@ -169,11 +170,11 @@ fn failed_read_writes_nothing(rt: HostRuntime) -> Result<(), Fail> {
     let bytes = two_frames(rt.alloc())?;
     for left in 0..6u64 {
         let (status, line) = run_over_reads(&rt, &bytes, left);
-        assert_eq!(rt; status, Err(RunError::ReadFault));
+        expect_equal(&rt, status, Err(RunError::ReadFault));
         assert!(rt; line.is_empty());
     }
     let (status, _line) = run_over_reads(&rt, &bytes, 6);
-    assert_eq!(rt; status, Ok(Status::Done));
+    expect_equal(&rt, status, Ok(Status::Done));
     Ok(())
 }
 
@@ -195,7 +196,7 @@ fn failed_write_leaves_a_prefix_of_the_line(rt: HostRuntime) -> Result<(), Fail>
             &mut io::sink(),
             &NoGate,
         );
-        assert_eq!(rt; status, Err(RunError::WriteFault));
+        expect_equal(&rt, status, Err(RunError::WriteFault));
         assert!(rt; writer.taken.as_slice() == &wanted[..left]);
     }
     let mut writer = FailingWriter {
@@ -211,7 +212,7 @@ fn failed_write_leaves_a_prefix_of_the_line(rt: HostRuntime) -> Result<(), Fail>
         &mut io::sink(),
         &NoGate,
     );
-    assert_eq!(rt; status, Ok(Status::Done));
+    expect_equal(&rt, status, Ok(Status::Done));
     assert!(rt; writer.taken.as_slice() == wanted);
     Ok(())
 }
@@ -224,7 +225,7 @@ fn statuses(rt: HostRuntime) {
         Status::Fault.code(),
         Status::Refused.code(),
     ];
-    assert_eq!(rt; codes, [0, 1, 2, 3]);
+    expect_equal(&rt, codes, [0, 1, 2, 3]);
 }
 
 /// The bytes of two pictures of one row of zeros each.
@@ -241,7 +242,7 @@ fn two_black_pictures(alloc: Global) -> Result<Vec<u8>, Fail> {
 fn kept_pictures_follow_the_line(rt: HostRuntime) -> Result<(), Fail> {
     let bytes = two_frames(rt.alloc())?;
     let wanted = two_black_pictures(rt.alloc())?;
-    assert_eq!(rt; wanted.len(), 986);
+    expect_equal(&rt, wanted.len(), 986);
     let mut line = Vec::new(rt.alloc());
     let mut pictures = Vec::new(rt.alloc());
     let status = run(
@@ -253,7 +254,7 @@ fn kept_pictures_follow_the_line(rt: HostRuntime) -> Result<(), Fail> {
         &mut pictures,
         &NoGate,
     );
-    assert_eq!(rt; status, Ok(Status::Done));
+    expect_equal(&rt, status, Ok(Status::Done));
     assert!(rt; pictures.as_slice() == wanted.as_slice());
     for left in [0, 500, 985] {
         let mut line = Vec::new(rt.alloc());
@@ -270,7 +271,7 @@ fn kept_pictures_follow_the_line(rt: HostRuntime) -> Result<(), Fail> {
             &mut writer,
             &NoGate,
         );
-        assert_eq!(rt; status, Err(RunError::WriteFault));
+        expect_equal(&rt, status, Err(RunError::WriteFault));
         assert!(rt; line.as_slice() == b"genuine: 2 frames, 1 checkpoints\n".as_slice());
         assert!(rt; Some(writer.taken.as_slice()) == wanted.get(..left as usize));
     }
@@ -279,7 +280,7 @@ fn kept_pictures_follow_the_line(rt: HostRuntime) -> Result<(), Fail> {
 
 #[test]
 fn colours_of_the_palette(rt: HostRuntime) {
-    assert_eq!(rt; rgb(0x00), [0, 0, 0]);
-    assert_eq!(rt; rgb(0x1E), [232, 232, 168]);
-    assert_eq!(rt; rgb(0x8E), [168, 168, 255]);
+    expect_equal(&rt, rgb(0x00), [0, 0, 0]);
+    expect_equal(&rt, rgb(0x1E), [232, 232, 168]);
+    expect_equal(&rt, rgb(0x8E), [168, 168, 255]);
 }

@@ -3,9 +3,13 @@
 #![tactic(auto)]
 
 #[cfg(test)]
+mod desk;
+#[cfg(test)]
 mod devices;
 #[cfg(test)]
 mod engine;
+#[cfg(test)]
+mod expectation;
 #[cfg(test)]
 mod gates;
 #[cfg(test)]

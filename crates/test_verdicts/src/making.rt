@@ -1,6 +1,7 @@
 //! The engines that make movies and tell about them, over memory and over devices that fail.
 
 use crate::devices::{FailingReader, FailingWriter, Zeros};
+use crate::expectation::expect_equal;
 use crate::movies::{ENDLESS_FRAMES, SEVEN_FRAMES, rom, two_frames_with_a_last_checkpoint};
 use replay_plan::{Plan, Workers};
 use std::alloc::Global;
@@ -41,8 +42,8 @@ fn make_of_bytes(
 #[test]
 fn movie_is_made(rt: HostRuntime) -> Result<(), Fail> {
     let (status, movie, line) = make_of_bytes(rt.alloc(), &rom(&ENDLESS_FRAMES), &TWO_INPUTS, 2);
-    assert_eq!(rt; status, Ok(Status::Done));
-    assert_eq!(rt; movie.len(), 2446);
+    expect_equal(&rt, status, Ok(Status::Done));
+    expect_equal(&rt, movie.len(), 2446);
     assert!(rt; movie == two_frames_with_a_last_checkpoint(rt.alloc())?);
     assert!(rt; line.as_slice() == b"made: 2 frames, 1 checkpoints\n".as_slice());
     Ok(())
@@ -53,7 +54,7 @@ fn made_movie_is_told(rt: HostRuntime) {
     let (_, movie, _) = make_of_bytes(rt.alloc(), &rom(&ENDLESS_FRAMES), &TWO_INPUTS, 2);
     let mut line = Vec::new(rt.alloc());
     let status = run_info(rt.alloc(), &mut movie.as_slice(), &mut line);
-    assert_eq!(rt; status, Ok(Status::Done));
+    expect_equal(&rt, status, Ok(Status::Done));
     let wanted = b"movie: version 1, cartridge 2048, 2 frames, 1 checkpoints\n";
     assert!(rt; line.as_slice() == wanted.as_slice());
 }
@@ -72,7 +73,7 @@ fn made_movie_is_genuine(rt: HostRuntime) -> Result<(), Fail> {
         &mut io::sink(),
         &NoGate,
     );
-    assert_eq!(rt; status, Ok(Status::Done));
+    expect_equal(&rt, status, Ok(Status::Done));
     assert!(rt; line.as_slice() == b"genuine: 2 frames, 1 checkpoints\n".as_slice());
     Ok(())
 }
@@ -113,7 +114,7 @@ fn refused_makings_write_no_movie(rt: HostRuntime) {
         ),
     ] {
         let (status, movie, line) = make_of_bytes(rt.alloc(), rom, inputs, every);
-        assert_eq!(rt; status, Ok(Status::Refused));
+        expect_equal(&rt, status, Ok(Status::Refused));
         assert!(rt; movie.is_empty());
         assert!(rt; line.as_slice() == wanted);
     }
@@ -122,7 +123,7 @@ fn refused_makings_write_no_movie(rt: HostRuntime) {
 #[test]
 fn faulty_run_makes_no_movie(rt: HostRuntime) {
     let (status, movie, line) = make_of_bytes(rt.alloc(), &rom(&SEVEN_FRAMES), &SEVEN_INPUTS, 1);
-    assert_eq!(rt; status, Ok(Status::Fault));
+    expect_equal(&rt, status, Ok(Status::Fault));
     assert!(rt; movie.is_empty());
     assert!(rt; line.as_slice() == b"fault at frame 7: bad opcode 02 at F010\n".as_slice());
 }
@@ -133,7 +134,7 @@ fn information_of_refused_bytes(rt: HostRuntime) -> Result<(), Fail> {
     bytes.push(0)?;
     let mut line = Vec::new(rt.alloc());
     let status = run_info(rt.alloc(), &mut bytes.as_slice(), &mut line);
-    assert_eq!(rt; status, Ok(Status::Refused));
+    expect_equal(&rt, status, Ok(Status::Refused));
     assert!(rt; line.as_slice() == b"refused: Trailing\n".as_slice());
     Ok(())
 }
@@ -154,7 +155,7 @@ fn inputs_of_a_bad_rom_are_not_read(rt: HostRuntime) {
         &mut io::sink(),
         &mut line,
     );
-    assert_eq!(rt; status, Ok(Status::Refused));
+    expect_equal(&rt, status, Ok(Status::Refused));
     assert!(rt; line.as_slice() == b"refused: BadCartSize\n".as_slice());
 }
 
@@ -181,7 +182,7 @@ fn making_with_a_failed_read_writes_nothing(rt: HostRuntime) {
             &mut movie,
             &mut line,
         );
-        assert_eq!(rt; status, Err(RunError::ReadFault));
+        expect_equal(&rt, status, Err(RunError::ReadFault));
         assert!(rt; movie.is_empty() && line.is_empty());
     }
 }
@@ -204,9 +205,9 @@ fn making_of_endless_inputs_is_too_long(rt: HostRuntime) {
         &mut movie,
         &mut line,
     );
-    assert_eq!(rt; status, Err(RunError::TooLong));
+    expect_equal(&rt, status, Err(RunError::TooLong));
     assert!(rt; movie.is_empty() && line.is_empty());
-    assert_eq!(rt; inputs.reads, 16_777_217);
+    expect_equal(&rt, inputs.reads, 16_777_217);
 }
 
 /// What a making answers over writers that take so many bytes, and what they took.
@@ -240,8 +241,8 @@ fn failed_write_leaves_a_prefix_of_the_movie(rt: HostRuntime) -> Result<(), Fail
     let wanted = two_frames_with_a_last_checkpoint(rt.alloc())?;
     for movie_writes in [0usize, 1, 2445] {
         let (status, movie, line) = make_into(rt.alloc(), movie_writes as u64, 30);
-        assert_eq!(rt; status, Err(RunError::WriteFault));
-        assert_eq!(rt; movie.len(), movie_writes);
+        expect_equal(&rt, status, Err(RunError::WriteFault));
+        expect_equal(&rt, movie.len(), movie_writes);
         assert!(rt; wanted.starts_with(&movie) && line.is_empty());
     }
     Ok(())
@@ -253,9 +254,9 @@ fn failed_write_leaves_the_movie_and_a_prefix_of_its_line(rt: HostRuntime) -> Re
     let wanted_line = b"made: 2 frames, 1 checkpoints\n".as_slice();
     for line_writes in [0usize, 29] {
         let (status, movie, line) = make_into(rt.alloc(), 2446, line_writes as u64);
-        assert_eq!(rt; status, Err(RunError::WriteFault));
+        expect_equal(&rt, status, Err(RunError::WriteFault));
         assert!(rt; movie == wanted);
-        assert_eq!(rt; line.len(), line_writes);
+        expect_equal(&rt, line.len(), line_writes);
         assert!(rt; wanted_line.starts_with(&line));
     }
     Ok(())
@@ -269,7 +270,7 @@ fn failed_write_leaves_a_prefix_of_the_information(rt: HostRuntime) -> Result<()
         left: 29,
     };
     let status = run_info(rt.alloc(), &mut movie.as_slice(), &mut line);
-    assert_eq!(rt; status, Err(RunError::WriteFault));
+    expect_equal(&rt, status, Err(RunError::WriteFault));
     assert!(rt; line.taken.as_slice() == b"movie: version 1, cartridge 2".as_slice());
     Ok(())
 }

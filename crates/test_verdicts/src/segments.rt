@@ -1,5 +1,6 @@
 //! Movies cut into segments, whose pieces are gathered.
 
+use crate::expectation::expect_equal;
 use crate::movies::{endless, going_on_at_no_opcode, read, two, two_frames_with_a_last_checkpoint};
 use crate::verdicts::{FIRST_FALSE, picture_count};
 use movie_file::Movie;
@@ -57,7 +58,7 @@ fn pieces_pass_or_do_not(rt: HostRuntime) -> Result<(), Fail> {
         (going_on_at_no_opcode(rt.alloc())?, false),
     ] {
         let pieces = pieces_of(rt.alloc(), &movie, &[1, 1, 0, 0])?;
-        assert_eq!(rt; pieces.len(), 4);
+        expect_equal(&rt, pieces.len(), 4);
         assert!(rt; pieces.iter().all(|piece| piece.passed() == passed));
     }
     Ok(())
@@ -88,7 +89,7 @@ fn first_missing_segment_is_named(rt: HostRuntime) -> Result<(), Fail> {
         ([1, 1].as_slice(), 0),
     ] {
         let verdict = gather_pieces(rt.alloc(), &genuine, order)?;
-        assert_eq!(rt; verdict.err(), Some(GatherError::Missing(missing)));
+        expect_equal(&rt, verdict.err(), Some(GatherError::Missing(missing)));
         assert!(rt; GatherError::Missing(missing) != GatherError::NoMemory);
     }
     Ok(())
@@ -115,7 +116,7 @@ fn segment_after_the_last_checkpoint_has_no_frames(rt: HostRuntime) -> Result<()
             .all(|piece| piece.passed() && piece.number() == 1)
     );
     let verdict = gather_pieces(rt.alloc(), &genuine, &[1, 0])??;
-    assert_eq!(rt; picture_count(&verdict), Some(2));
+    expect_equal(&rt, picture_count(&verdict), Some(2));
     assert!(rt; verdict.equals(&whole(rt.alloc(), &genuine)?));
     Ok(())
 }
@@ -132,7 +133,7 @@ fn cuts_are_rising_numbers_of_checkpoints(rt: HostRuntime) -> Result<(), Fail> {
         ([1, 2].as_slice(), Err(BadCuts)),
     ] {
         let cuts = cuts_at(rt.alloc(), &genuine, numbers)?;
-        assert_eq!(rt; cuts.map(|cuts| cuts.segments()), segments);
+        expect_equal(&rt, cuts.map(|cuts| cuts.segments()), segments);
     }
     Ok(())
 }
@@ -143,7 +144,7 @@ fn cuts_are_at_each_so_many_checkpoints(rt: HostRuntime) -> Result<(), Fail> {
     for (every, segments) in [(1, 2), (2, 1)] {
         let every = NonZeroU16::new(every).ok_or("every")?;
         let cuts = Cuts::every(rt.alloc(), &genuine, every)?;
-        assert_eq!(rt; cuts.segments(), segments);
+        expect_equal(&rt, cuts.segments(), segments);
     }
     Ok(())
 }
@@ -156,7 +157,7 @@ fn cuts_fit_a_movie_with_their_checkpoints(rt: HostRuntime) -> Result<(), Fail> 
         let every = NonZeroU16::new(every).ok_or("every")?;
         let cuts = Cuts::every(rt.alloc(), &genuine, every)?;
         assert!(rt; cuts.fits(&genuine));
-        assert_eq!(rt; cuts.fits(&uncut), fits);
+        expect_equal(&rt, cuts.fits(&uncut), fits);
     }
     Ok(())
 }

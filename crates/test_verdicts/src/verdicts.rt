@@ -1,5 +1,6 @@
 //! Verdicts and kept pictures.
 
+use crate::expectation::expect_equal;
 use crate::movies::{
     SEVEN_FRAMES, after_frame, endless, going_on_at_no_opcode, movie, power_on, read, two,
 };
@@ -54,7 +55,7 @@ pub(crate) fn colours(alloc: Global, verdict: &Verdict) -> Result<Vec<u8>, Fail>
 fn kept_pictures_have_one_row_of_zeros(rt: HostRuntime) -> Result<(), Fail> {
     let genuine = two(rt.alloc())?;
     let verdict = verify_one(rt.alloc(), &genuine, Keep::new(1, 2)?)?;
-    assert_eq!(rt; picture_count(&verdict), Some(2));
+    expect_equal(&rt, picture_count(&verdict), Some(2));
     assert!(rt; are_rows_of_zeros(&verdict));
     assert!(rt; matches!(&verdict, Verdict::Genuine { pictures } if !pictures.is_empty()));
     Ok(())
@@ -66,7 +67,7 @@ fn verdicts_differ_in_their_pictures(rt: HostRuntime) -> Result<(), Fail> {
     let verdict = verify_one(rt.alloc(), &genuine, Keep::new(1, 2)?)?;
     for (first, count, equals) in [(1, 2, true), (2, 1, false)] {
         let other = verify_one(rt.alloc(), &genuine, Keep::new(first, count)?)?;
-        assert_eq!(rt; verdict.equals(&other), equals);
+        expect_equal(&rt, verdict.equals(&other), equals);
     }
     Ok(())
 }
@@ -77,15 +78,15 @@ fn frames_are_kept_by_number(rt: HostRuntime) -> Result<(), Fail> {
     let genuine = endless(rt.alloc(), 2, &checkpoints)?;
     for (first, count, wanted) in [(2, 600, 1), (3, 5, 0), (1, 0, 0), (1, 600, 2)] {
         let verdict = verify_one(rt.alloc(), &genuine, Keep::new(first, count)?)?;
-        assert_eq!(rt; picture_count(&verdict), Some(wanted));
+        expect_equal(&rt, picture_count(&verdict), Some(wanted));
     }
     Ok(())
 }
 
 #[test]
 fn frames_from_0_and_more_than_600_are_not_kept(rt: HostRuntime) {
-    assert_eq!(rt; Keep::new(1, 601), Err(BadKeep));
-    assert_eq!(rt; Keep::new(0, 1), Err(BadKeep));
+    expect_equal(&rt, Keep::new(1, 601), Err(BadKeep));
+    expect_equal(&rt, Keep::new(0, 1), Err(BadKeep));
 }
 
 #[test]

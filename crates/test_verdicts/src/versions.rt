@@ -1,5 +1,6 @@
 //! Movies of version 2: cartridges of two banks, and movies that are converted.
 
+use crate::expectation::expect_equal;
 use crate::movies::{after_frame, first_of_two_false, power_on, two_frames};
 use replay_plan::{Plan, Workers};
 use std::alloc::{AllocGlobal, Global};
@@ -81,8 +82,8 @@ fn movie_of_two_banks_is_made(rt: HostRuntime) {
         &mut movie,
         &mut line,
     );
-    assert_eq!(rt; status, Ok(Status::Done));
-    assert_eq!(rt; movie.len(), 8784);
+    expect_equal(&rt, status, Ok(Status::Done));
+    expect_equal(&rt, movie.len(), 8784);
     assert!(rt; line.as_slice() == b"made: 2 frames, 2 checkpoints\n".as_slice());
     assert!(rt; movie.get(8404..8591) == Some(banked_state().as_slice()));
 }
@@ -111,7 +112,7 @@ fn movie_of_version_2_is_told(rt: HostRuntime) -> Result<(), Fail> {
     let movie = two_banks(rt.alloc(), 0)?;
     let mut line = Vec::new(rt.alloc());
     let status = run_info(rt.alloc(), &mut movie.as_slice(), &mut line);
-    assert_eq!(rt; status, Ok(Status::Done));
+    expect_equal(&rt, status, Ok(Status::Done));
     let wanted = b"movie: version 2, cartridge 8192, 2 frames, 1 checkpoints\n";
     assert!(rt; line.as_slice() == wanted.as_slice());
     Ok(())
@@ -120,8 +121,8 @@ fn movie_of_version_2_is_told(rt: HostRuntime) -> Result<(), Fail> {
 #[test]
 fn converted_movie_has_its_verdict(rt: HostRuntime) -> Result<(), Fail> {
     let (status, movie, line) = convert_bytes(rt.alloc(), &two_frames(rt.alloc())?);
-    assert_eq!(rt; status, Ok(Status::Done));
-    assert_eq!(rt; movie.len(), 2448);
+    expect_equal(&rt, status, Ok(Status::Done));
+    expect_equal(&rt, movie.len(), 2448);
     assert!(rt; line.as_slice() == b"converted: 2 frames, 1 checkpoints\n".as_slice());
     let (_, bad_movie, _) = convert_bytes(rt.alloc(), &first_of_two_false(rt.alloc())?);
     for workers in [1, 2, 8] {
@@ -143,7 +144,7 @@ fn refused_conversions_write_no_movie(rt: HostRuntime) -> Result<(), Fail> {
         (prefix, b"refused: Short\n".as_slice()),
     ] {
         let (status, movie, line) = convert_bytes(rt.alloc(), bytes);
-        assert_eq!(rt; status, Ok(Status::Refused));
+        expect_equal(&rt, status, Ok(Status::Refused));
         assert!(rt; movie.is_empty());
         assert!(rt; line.as_slice() == wanted);
     }

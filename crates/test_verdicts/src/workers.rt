@@ -1,5 +1,6 @@
 //! Verdicts by workers, in threads.
 
+use crate::expectation::expect_equal;
 use crate::gates::{Counts, Meeting, SecondFirst};
 use crate::movies::{
     COLOURED_FRAMES, ENDLESS_FRAMES, endless, first_of_two_false, fourth_of_five_false,
@@ -39,9 +40,9 @@ fn one_segment_has_one_worker(rt: HostRuntime) -> Result<(), Fail> {
     let one = endless(rt.alloc(), 1, &[])?;
     let counts = Counts::new();
     let verdict = answer(&rt, rt.alloc(), &one, &[], 8, Keep::new(1, 0)?, &counts)?;
-    assert_eq!(rt; picture_count(&verdict), Some(0));
-    assert_eq!(rt; counts.entries(), [1, 0, 0, 0]);
-    assert_eq!(rt; counts.leaves(), [1, 0, 0, 0]);
+    expect_equal(&rt, picture_count(&verdict), Some(0));
+    expect_equal(&rt, counts.entries(), [1, 0, 0, 0]);
+    expect_equal(&rt, counts.leaves(), [1, 0, 0, 0]);
     Ok(())
 }
 
@@ -50,7 +51,7 @@ fn any_workers_and_cuts_give_the_verdict_of_one_replay(rt: HostRuntime) -> Resul
     let genuine = two(rt.alloc())?;
     let keep = Keep::new(1, 2)?;
     let whole = verify_one(rt.alloc(), &genuine, keep)?;
-    assert_eq!(rt; picture_count(&whole), Some(2));
+    expect_equal(&rt, picture_count(&whole), Some(2));
     for numbers in [[].as_slice(), [1u16].as_slice()] {
         for workers in [1u8, 2, 3, 64] {
             let verdict = answer(&rt, rt.alloc(), &genuine, numbers, workers, keep, &NoGate)?;
@@ -62,9 +63,9 @@ fn any_workers_and_cuts_give_the_verdict_of_one_replay(rt: HostRuntime) -> Resul
 
 #[test]
 fn no_workers_and_65_are_refused(rt: HostRuntime) {
-    assert_eq!(rt; Workers::new(0), None);
-    assert_eq!(rt; Workers::new(65), None);
-    assert_eq!(rt; Workers::new(64).map(|workers| workers.get()), Some(64));
+    expect_equal(&rt, Workers::new(0), None);
+    expect_equal(&rt, Workers::new(65), None);
+    expect_equal(&rt, Workers::new(64).map(|workers| workers.get()), Some(64));
 }
 
 /// The verdict of workers who keep all pictures, with a cut at each checkpoint.
@@ -87,7 +88,7 @@ fn two_workers_give_the_pictures_in_order(rt: HostRuntime) -> Result<(), Fail> {
     let gate = SecondFirst::new();
     let verdict = answer_of_all(&rt, rt.alloc(), &coloured, 2, &gate)?;
     assert!(rt; colours(rt.alloc(), &verdict)?.as_slice() == [2, 4, 6, 8].as_slice());
-    assert_eq!(rt; gate.missed.load(Ordering::SeqCst), 0);
+    expect_equal(&rt, gate.missed.load(Ordering::SeqCst), 0);
     Ok(())
 }
 
@@ -111,7 +112,7 @@ fn segment_that_comes_first_is_no_verdict(rt: HostRuntime) -> Result<(), Fail> {
     let gate = SecondFirst::new();
     let verdict = answer(&rt, rt.alloc(), &claims, &[1], 2, Keep::new(1, 0)?, &gate)?;
     assert!(rt; verdict.equals(&FIRST_FALSE));
-    assert_eq!(rt; gate.missed.load(Ordering::SeqCst), 0);
+    expect_equal(&rt, gate.missed.load(Ordering::SeqCst), 0);
     Ok(())
 }
 
@@ -140,8 +141,8 @@ fn segment_after_the_last_checkpoint_passes(rt: HostRuntime) -> Result<(), Fail>
         let keep = Keep::new(first, count)?;
         let counts = Counts::new();
         let verdict = answer(&rt, rt.alloc(), &genuine, &[1], 2, keep, &counts)?;
-        assert_eq!(rt; picture_count(&verdict), Some(wanted));
-        assert_eq!(rt; counts.entries(), [1, 1, 0, 0]);
+        expect_equal(&rt, picture_count(&verdict), Some(wanted));
+        expect_equal(&rt, counts.entries(), [1, 1, 0, 0]);
     }
     Ok(())
 }
@@ -153,8 +154,8 @@ fn segments_after_a_false_one_are_passed_over(rt: HostRuntime) -> Result<(), Fai
     let keep = Keep::new(1, 0)?;
     let verdict = answer(&rt, rt.alloc(), &false_movie, &[1, 2], 1, keep, &counts)?;
     assert!(rt; verdict.equals(&FIRST_FALSE));
-    assert_eq!(rt; counts.entries(), [1, 0, 0, 0]);
-    assert_eq!(rt; counts.leaves(), [1, 0, 0, 0]);
+    expect_equal(&rt, counts.entries(), [1, 0, 0, 0]);
+    expect_equal(&rt, counts.leaves(), [1, 0, 0, 0]);
     Ok(())
 }
 
@@ -168,7 +169,7 @@ fn late_segments_are_passed_over_too(rt: HostRuntime) -> Result<(), Fail> {
         frame: 4,
     };
     assert!(rt; verdict.equals(&fourth_false));
-    assert_eq!(rt; counts.entries(), [1, 1, 1, 1]);
-    assert_eq!(rt; counts.leaves(), [1, 1, 1, 1]);
+    expect_equal(&rt, counts.entries(), [1, 1, 1, 1]);
+    expect_equal(&rt, counts.leaves(), [1, 1, 1, 1]);
     Ok(())
 }

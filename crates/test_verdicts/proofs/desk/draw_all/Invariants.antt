@@ -1,6 +1,6 @@
 use Rattle.segment_desk.specs.Private.Draws.{left_of}
 use Rattle.segment_desk.specs.Views.{IsOf}
-use Rattle.segment_desk.proofs.tests.draw_all.Given as goal
+use Rattle.test_verdicts.proofs.desk.draw_all.Given as goal
 
 abbrev pub invariant-draws : goal.invariant-draws
 invariant-draws l = IsOf l.desk l.ticket
