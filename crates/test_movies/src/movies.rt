@@ -183,10 +183,10 @@ fn readers_name_the_parts(rt: HostRuntime) -> Result<(), Fail> {
     expect_equal(&rt, (version, movie.cart().len()), (1, 2048));
     expect_equal(&rt, movie.start().fields().cpu.pc, 0xF000);
     let frames = movie.frames();
-    expect_equal(&rt, frames, 2);
+    assert_eq!(rt; frames, 2);
     expect_equal(&rt, movie.input(2).bytes(), [0xFF, 0x3F, 0x00]);
     let checkpoints = movie.checkpoints();
-    expect_equal(&rt, checkpoints, 1);
+    assert_eq!(rt; checkpoints, 1);
     expect_equal(&rt, movie.checkpoint(1).frame, 1);
     expect_equal(&rt, movie.checkpoint(1).state.line_cycle(), 13);
     Ok(())
