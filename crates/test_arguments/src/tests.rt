@@ -4,7 +4,6 @@ use crate::expectation::expect_equal;
 use command_line::{Command, LineFault, parse_line};
 use replay_plan::{Keep, Plan, Workers};
 use std::num::NonZeroU16;
-use std::test::Fail;
 
 /// The plan of these numbers.
 fn plan(workers: u8, every: u16, first: u32, count: u32) -> Option<Plan> {
@@ -33,7 +32,7 @@ fn every_in(found: &Result<Command, LineFault>) -> Option<u32> {
 }
 
 #[test]
-fn defaults(rt: HostRuntime) -> Result<(), Fail> {
+fn defaults(rt: HostRuntime) {
     let found = parse_line(rt.alloc(), &["vcs_check", "verify", "m"]);
     expect_equal(&rt, plan_in(&found), plan(1, 1, 1, 0));
     assert!(rt; matches!(&found, Ok(Command::Verify { pictures: None, .. })));
@@ -65,7 +64,6 @@ fn defaults(rt: HostRuntime) -> Result<(), Fail> {
     assert!(rt; matches!(&found, Ok(Command::Stdin)));
     let found = parse_line(rt.alloc(), &["vcs_check", "--help"]);
     assert!(rt; matches!(&found, Err(LineFault::Help { .. })));
-    Ok(())
 }
 
 #[test]
