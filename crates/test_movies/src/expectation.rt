@@ -7,6 +7,6 @@ use std::process::Abort;
 ///
 /// `assert_eq!` written out costs the prover a second or more each time. A test does so only where
 /// its own proof needs that the two are equal.
-pub fn expect_equal<T: PartialEq + Debug + Drop>(rt: &impl Abort, found: T, wanted: T) {
+pub(crate) fn expect_equal<T: PartialEq + Debug + Drop>(rt: &impl Abort, found: T, wanted: T) {
     assert_eq!(rt; found, wanted);
 }
