@@ -1,23 +1,17 @@
-//! A program that reads the arguments of a command line, with memory enough or with one growth of
-//! memory refused, and worked command lines as tests. They stand apart from `command_line`, since a
-//! crate with tests is proved twice, and from `test_memory`, since `clap` takes as long to compile
-//! as all the rest.
+//! A program that reads the arguments of a command line. It stands apart from `test_memory`, since
+//! `clap` takes as long to compile as all the rest.
 //!
-//! It is asked and answers as `test_memory` does: each line of standard input names some arguments,
-//! and `NAME N` is for a process whose thousandth growth is refused, so that it is the N-th one of
-//! the call. `ci/refused-growths` walks through N.
+//! A line of standard input that begins with `vcs_check` is a command line, whose words stand one
+//! space apart: the answer is the command that it is. Each other line names some arguments, as the
+//! lines of `test_memory` name calls, and `NAME N` is for a process whose thousandth growth of
+//! memory is refused, so that it is the N-th one of the call. `ci/refused-growths` walks through N.
 #![tactic(auto)]
 
 use command_line::{Command, LineFault, parse_line};
 use replay_plan::Keep;
-use std::alloc::Global;
+use std::alloc::{AllocError, Global};
 use std::io::{self, Print, Read};
 use std::process::ExitCode;
-
-#[cfg(test)]
-mod expectation;
-#[cfg(test)]
-mod tests;
 
 /// The number of the growth that is refused.
 const REFUSED: usize = 1000;
@@ -57,8 +51,38 @@ fn outcome_of(alloc: Global, name: &str) -> &'static str {
     }
 }
 
+/// The command that the words of a line are.
+fn command_of(alloc: Global, line: &str) -> Result<Command, LineFault> {
+    let mut words = Vec::new(alloc);
+    for word in line.split(' ') {
+        words.push(word).map_err(AllocError::from)?;
+    }
+    parse_line(alloc, &words)
+}
+
+/// What the answer is where there is no command.
+fn name_of(fault: &LineFault) -> &'static str {
+    match fault {
+        LineFault::Usage { text } if text.starts_with("error") => "usage",
+        LineFault::Usage { .. } => "usage that names no error",
+        LineFault::Help { .. } => "help",
+        LineFault::Memory => "out of memory",
+    }
+}
+
+/// Prints the command that a line is.
+fn tell(rt: &impl Print, alloc: Global, line: &str) -> io::Result<()> {
+    match command_of(alloc, line) {
+        Ok(command) => println!(rt; "{line}: {command:?}"),
+        Err(fault) => println!(rt; "{line}: {}", name_of(&fault)),
+    }
+}
+
 /// Does what a line asks for, and prints the answer.
 fn answer(rt: &impl Print, alloc: Global, line: &str) -> io::Result<()> {
+    if line.starts_with("vcs_check") {
+        return tell(rt, alloc, line);
+    }
     let (name, number) = match line.split_once(' ') {
         Some((name, number)) => (name, number.parse::<usize>().ok()),
         None => (line, None),
@@ -76,7 +100,7 @@ fn answer(rt: &impl Print, alloc: Global, line: &str) -> io::Result<()> {
 }
 
 fn main(rt: HostRuntime) -> ExitCode {
-    let mut room = [0u8; 1024];
+    let mut room = [0u8; 4096];
     let Ok(length) = rt.stdin().read(&mut room) else {
         return ExitCode::FAILURE;
     };
