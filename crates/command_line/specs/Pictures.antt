@@ -3,7 +3,7 @@ use Rattle.std.specs.Prelude.{◌≡◌, None}
 use Rattle.command_line.specs.declared.command.Command.{Command}
 use Rattle.command_line.specs.declared.command.Command.TheVariants.{Verify}
 
--- Where no file takes pictures none is kept.
+-- If no file takes pictures none is kept.
 abbrev pub KeepsWhatIsTaken : Command → Type 0
 KeepsWhatIsTaken (Verify file plan None) = plan.keep.count ≡ 0
 KeepsWhatIsTaken other = Unit {0}

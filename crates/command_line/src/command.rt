@@ -12,7 +12,7 @@ pub enum Command {
     /// Judge a movie.
     Verify {
         file: String,
-        /// Where no file takes pictures it keeps none.
+        /// If no file takes pictures it keeps none.
         plan: Plan,
         /// The file that takes the pictures.
         pictures: Option<String>,
@@ -55,7 +55,7 @@ pub enum LineFault {
     Usage { text: String },
     /// The words ask for help, or for the version; the text is that.
     Help { text: String },
-    /// A growth of memory was refused.
+    /// An allocation was refused.
     Memory,
 }
 

@@ -20,7 +20,7 @@ fn workers_of(matches: &ArgMatches<'_>) -> Option<Workers> {
     Workers::new(matches.get_one::<u8>("workers")?)
 }
 
-/// The plan that is asked for, which keeps pictures only where a file takes them.
+/// The plan that is asked for, which keeps pictures only if a file takes them.
 fn plan_of(matches: &ArgMatches<'_>, pictures: bool) -> Option<Plan>
     ensures { IfSome result (λ plan. pictures ≡ false → plan.keep.count ≡ 0) }
 {
@@ -110,7 +110,7 @@ fn out_of_range(alloc: Global) -> LineFault {
 
 /// The command of some arguments, of which the first is the program's name.
 ///
-/// Where they name no command it is `Command::Stdin`. Each number is tried by `clap`, and once more
+/// If they name no command it is `Command::Stdin`. Each number is tried by `clap`, and once more
 /// here, since its type promises its range.
 pub fn parse_line<S: AsStr>(alloc: Global, words: &[S]) -> Result<Command, LineFault>
     ensures { IfOk result KeepsWhatIsTaken }

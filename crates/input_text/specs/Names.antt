@@ -54,7 +54,7 @@ is_same_port _ _ = false
 abbrev pub idle : InputData
 idle = record { swcha = 0xFF; swchb = 0x3F; buttons = 0 }
 
--- the bit of a name in the byte of a port: none where another port has it
+-- the bit of a name in the byte of a port: none if another port has it
 abbrev pub bit_in : Port → Name → ℕ
 bit_in port name = if is_same_port port (bit_of_name name).port then 2 ^ (bit_of_name name).bit else 0
 

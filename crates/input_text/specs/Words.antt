@@ -2,7 +2,7 @@
 use Rattle.std.specs.Prelude.{ℕ, Bool, ◌==◌, ◌||◌, not, List, length, filter}
 use Rattle.std.specs.List.{slice_split, before_first}
 
--- The parts between line feeds. Where a line feed ends the text, the part after it is empty, and an
+-- The parts between line feeds. If a line feed ends the text, the part after it is empty, and an
 -- empty line says nothing.
 abbrev pub lines_of : List ℕ → List (List ℕ)
 lines_of text = slice_split (λ byte. byte == 10) text

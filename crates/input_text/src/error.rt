@@ -10,7 +10,7 @@ pub enum TextError {
     /// The line of this number, from 1, is the first that can't be read, or with which there are
     /// more frames than a movie has.
     BadLine(u64),
-    /// A growth for the inputs was refused.
+    /// An allocation for the inputs was refused.
     NoMemory,
 }
 

@@ -59,7 +59,7 @@ fn input_in(bytes: &[u8]) -> Option<Input>
     Some(held.input())
 }
 
-/// The frames of a line: none where it has no words. A number above `MOST_FRAMES` counts as the
+/// The frames of a line: none if it has no words. A number above `MOST_FRAMES` counts as the
 /// one after it.
 fn stretch_in(line: &[u8]) -> Option<Stretch>
     ensures readable { is_some result ≡ is_readable (words_of line.now) }
@@ -81,7 +81,7 @@ fn stretch_in(line: &[u8]) -> Option<Stretch>
 
 /// The inputs that a text says. `BadLine` has the number, from 1, of the first line that can't be
 /// read, or with which there would be more than 262,143 inputs; no memory is taken for that line.
-/// `NoMemory` comes where a growth was refused for a line before it.
+/// `NoMemory` comes if an allocation was refused for a line before it.
 pub fn read_text(alloc: Global, text: &[u8]) -> Result<Vec<Input>, TextError>
     ensures found { IfOk result (λ inputs. inputs_in text.now ≡ Ok inputs.items) }
     ensures bad { (number : ℕ) → result ≡ Err (TextError.BadLine number)

@@ -54,7 +54,7 @@ fn bytes_before_blank(bytes: &[u8]) -> Option<usize>
     bytes.iter().position(|byte| is_blank(*byte))
 }
 
-/// The first word, and what follows it, or `None` where there is no word.
+/// The first word, and what follows it, or `None` if there is no word.
 pub(crate) fn first_word(bytes: &[u8]) -> Option<(&[u8], &[u8])>
     ensures words { MatchOption result (words_in bytes.now ≡ [])
         (λ p. words_in bytes.now ≡ p.0.now ∷ words_in p.1.now) }

@@ -50,7 +50,7 @@ decimal_adc_of a m p =
 abbrev pub adc_of : ℕ → ℕ → ℕ → Alu
 adc_of a m p = if has_flag Decimal p then decimal_adc_of a m p else binary_adc_of a m p
 
--- A difference of low digits. Where it is negative it is 6 less modulo 16, and borrows 16.
+-- A difference of low digits. If it is negative it is 6 less modulo 16, and borrows 16.
 abbrev pub low_with_borrow : ℤ → ℤ
 low_with_borrow l = if int_lt l (pos 0) then pos (modulo (l -ℤ pos 6) 16) -ℤ pos 16 else l
 
@@ -58,7 +58,7 @@ low_with_borrow l = if int_lt l (pos 0) then pos (modulo (l -ℤ pos 6) 16) -ℤ
 abbrev pub low_difference_of : ℕ → ℕ → ℕ → ℤ
 low_difference_of a m p = low_with_borrow (less_borrow (pos (low_digit a)) (pos (low_digit m)) p)
 
--- A difference of both digits. Where it is negative it is 96 less.
+-- A difference of both digits. If it is negative it is 96 less.
 abbrev pub high_with_borrow : ℤ → ℤ
 high_with_borrow s = if int_lt s (pos 0) then s -ℤ pos 96 else s
 

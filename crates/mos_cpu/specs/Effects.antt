@@ -78,7 +78,7 @@ stack_down r n = record r { s = after_pushes r.s n }
 abbrev pub stack_up : Registers → ℕ → Registers
 stack_up r n = record r { s = after_pulls r.s n }
 
--- A changed operand: in A, or in memory, where only the status is left to change.
+-- A changed operand: in A, or in memory, if only the status is left to change.
 abbrev pub with_result : Operand → Registers → Alu → Registers
 with_result Register r o = with_a r o
 with_result other r o = with_p r o.p

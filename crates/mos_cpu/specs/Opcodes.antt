@@ -19,7 +19,7 @@ use Rattle.mos_cpu.specs.declared.mode.Mode.TheVariants.{ZeroPageX, ZeroPageY, A
 use Rattle.mos_cpu.specs.declared.mode.Mode.TheVariants.{AbsoluteY, Relative, Indirect, IndirectX}
 use Rattle.mos_cpu.specs.declared.mode.Mode.TheVariants.{IndirectY}
 
--- An opcode, its operation, addressing mode and cycles, and whether it takes one more where
+-- An opcode, its operation, addressing mode and cycles, and whether it takes one more if
 -- indexing crosses a page.
 abbrev pub Entry : Type 0
 Entry = ℕ × Operation × Mode × ℕ × Bool

@@ -20,7 +20,7 @@ binary_adc_of a m p =
           (put_flag Overflow (overflows signed_sum) (with_nz (sum % 256) p));
     }
 
--- A difference with borrow: 1 less where C isn't set.
+-- A difference with borrow: 1 less if C isn't set.
 abbrev pub less_borrow : ℤ → ℤ → ℕ → ℤ
 less_borrow a m p = a -ℤ m +ℤ pos (carry_of p) -ℤ pos 1
 

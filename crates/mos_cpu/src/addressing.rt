@@ -122,7 +122,7 @@ pub struct Target {
     pub next: u16,
 }
 
-/// The number of the two bytes after the opcode. None where the second isn't there.
+/// The number of the two bytes after the opcode. None if the second isn't there.
 #[inline(always)]
 pub fn word_after<B: Bus>(cpu: &Cpu, bus: &B, low: u8) -> Option<u16>
     requires { IsLow B.meaning (B.state bus.now) cpu.now low }

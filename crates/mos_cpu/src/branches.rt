@@ -127,7 +127,7 @@ impl Conditional for Bvs {
     }
 }
 
-/// A branch by the byte after the opcode. Where it is taken it has one cycle more, and where its
+/// A branch by the byte after the opcode. If it is taken it has one cycle more, and if its
 /// target is on another page than the next instruction, two.
 #[inline(never)]
 pub fn branch<O: Conditional, B: Bus>(cpu: &mut Cpu, bus: &mut B, low: u8) -> Option<u8>

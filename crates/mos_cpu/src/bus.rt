@@ -29,7 +29,7 @@ pub trait Bus {
     fn write(&mut self, addr: u16, value: u8)
         ensures { state self.new ≡ meaning.after_write (state self.old) addr value };
 
-    /// An opcode, operand, pointer or vector byte, looked at with no effect. None where a register
+    /// An opcode, operand, pointer or vector byte, looked at with no effect. None if a register
     /// of a device would answer.
     fn peek(&self, addr: u16) -> Option<u8>
         ensures { result ≡ meaning.peeked (state self.now) addr };

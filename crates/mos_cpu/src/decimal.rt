@@ -10,7 +10,7 @@ ghost use Rattle.mos_cpu.specs.Decimal.{low_difference_of, decimal_difference};
 use crate::arithmetic::Alu;
 use crate::status::{Flag, has, with_flag};
 
-/// The sum of the low digits with carry, and 16 where they carry.
+/// The sum of the low digits with carry, and 16 if they carry.
 #[inline(always)]
 const fn low_digits(a: u8, m: u8, p: u8) -> u8
     ensures { result ≡ low_sum a m p }

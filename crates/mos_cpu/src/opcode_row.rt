@@ -6,7 +6,7 @@ use crate::operation::Operation;
 /// The row of an opcode in the table of instructions.
 ///
 /// `cycles` are those of an instruction that crosses no page and takes no branch. `crossing` is
-/// true where indexing that crosses a page costs one more.
+/// true if indexing that crosses a page costs one more.
 #[derive(Clone, Copy, Debug, PartialEq, Eq)]
 pub struct Row {
     pub operation: Operation,

@@ -20,7 +20,7 @@ const fn fixed(operation: Operation, mode: Mode, cycles: u8) -> Row
     }
 }
 
-/// A row with one more cycle where indexing crosses a page.
+/// A row with one more cycle if indexing crosses a page.
 #[inline(always)]
 const fn indexed(operation: Operation, mode: Mode, cycles: u8) -> Row
     ensures { result ≡ row_with operation mode cycles true }

@@ -13,7 +13,7 @@ use crate::registers::Cpu;
 /// An addressing mode that names a place.
 ///
 /// `CYCLES` are those of an instruction that reads the place and crosses no page. `INDEXED` is true
-/// where indexing may cross one.
+/// if indexing may cross one.
 pub trait PlaceMode {
     const CYCLES: u8;
 
@@ -25,7 +25,7 @@ pub trait PlaceMode {
 
     ghost mode: { Mode };
 
-    /// The place by the byte after the opcode. None where a byte of the instruction isn't there.
+    /// The place by the byte after the opcode. None if a byte of the instruction isn't there.
     fn target<B: Bus>(cpu: &Cpu, bus: &B, low: u8) -> Option<Target>
         requires { IsLow B.meaning (B.state bus.now) cpu.now low }
         ensures { IsNamed B.meaning (B.state bus.now) cpu.now mode result };

@@ -32,7 +32,7 @@ fn has_low(opcode: u8) -> bool
     !(opcode % 16 == 8 || opcode % 16 == 10 || opcode == 0 || opcode == 0x40 || opcode == 0x60)
 }
 
-/// The byte after an opcode. None where it isn't there, and 0 where it need not be.
+/// The byte after an opcode. None if it isn't there, and 0 if it need not be.
 #[inline(always)]
 fn low_byte<B: Bus>(cpu: &Cpu, bus: &B, opcode: u8) -> Option<u8>
     ensures some { IfSome result (λ low. has_low opcode ≡ true → IsLow B.meaning (B.state bus.now) cpu.now low) }
@@ -45,7 +45,7 @@ fn low_byte<B: Bus>(cpu: &Cpu, bus: &B, opcode: u8) -> Option<u8>
     }
 }
 
-/// The instruction at the program counter, by its opcode. None, with nothing done, where it has a
+/// The instruction at the program counter, by its opcode. None, with nothing done, if it has a
 /// fault.
 #[inline(always)]
 fn run_opcode<B: Bus>(cpu: &mut Cpu, bus: &mut B) -> Option<u8>

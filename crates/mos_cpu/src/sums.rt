@@ -8,7 +8,7 @@ use crate::arithmetic::Alu;
 use crate::decimal::{decimal_adc, decimal_sub};
 use crate::status::{Flag, has, with_flag, with_sign};
 
-/// ADC: the sum with carry, in decimal where D is set.
+/// ADC: the sum with carry, in decimal if D is set.
 #[inline(always)]
 pub const fn adc(a: u8, m: u8, p: u8) -> Alu
     ensures result { result ≡ adc_of a m p }
@@ -39,7 +39,7 @@ const fn binary_adc(a: u8, m: u8, p: u8) -> Alu
     }
 }
 
-/// SBC: the difference with borrow. Its value is in decimal where D is set, its flags never are.
+/// SBC: the difference with borrow. Its value is in decimal if D is set, its flags never are.
 #[inline(always)]
 pub const fn sbc(a: u8, m: u8, p: u8) -> Alu
     ensures result { result ≡ sbc_of a m p }

@@ -14,7 +14,7 @@ use Rattle.movie_file.specs.Judgement.{AllSound, FaultsAt}
 use Rattle.movie_file.specs.Movie.{MovieData}
 use Rattle.movie_file.specs.Run.{run}
 
--- the version of a movie that is made of a cartridge of so many bytes and so many inputs: 1 where
+-- the version of a movie that is made of a cartridge of so many bytes and so many inputs: 1 if
 -- that has room for them
 abbrev pub version_made : ℕ → ℕ → ℕ
 version_made cart frames = if has_banks cart || nat_lt (most_frames 1) frames then 2 else 1
@@ -52,7 +52,7 @@ IsFirstFault cart inputs frame kind =
     (k : ℕ) × (frame ≡ k + 1) × AllSound (bare cart inputs) (state_at_power_on cart) 0 k
     × FaultsAt (bare cart inputs) (state_at_power_on cart) 0 k kind
 
--- Why no movie is made. The counts are looked at first, and memory is taken before the run, where
+-- Why no movie is made. The counts are looked at first, and memory is taken before the run, if
 -- there is a checkpoint.
 abbrev pub Explains : List ℕ → List InputData → ℕ → MakeError → Type 0
 Explains cart inputs every (Fault frame kind) =

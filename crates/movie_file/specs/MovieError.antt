@@ -8,7 +8,7 @@ use Rattle.movie_file.specs.declared.error.MovieError.TheVariants.{BadCartSize, 
 use Rattle.movie_file.specs.declared.error.MovieError.TheVariants.{BadInput, BadOrder, Trailing}
 use Rattle.movie_file.specs.declared.error.MovieError.TheVariants.{NoMemory}
 
--- the name of a refusal, and its number where it has one
+-- the name of a refusal, and its number if it has one
 abbrev pub refusal_text : MovieError → List ℕ
 refusal_text Short = codes "Short"
 refusal_text BadMagic = codes "BadMagic"
@@ -21,7 +21,7 @@ refusal_text (BadOrder k) = codes "BadOrder " ++ decimal k
 refusal_text Trailing = codes "Trailing"
 refusal_text NoMemory = codes "NoMemory"
 
--- reading ends with this refusal; nothing is said where memory was refused
+-- reading ends with this refusal; nothing is said if memory was refused
 abbrev pub Fails : {Y : Type 0} → MovieError → Result Y MovieError → Type 0
 Fails e read = e ≢ NoMemory → read ≡ Err e
 

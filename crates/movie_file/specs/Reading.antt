@@ -1,5 +1,5 @@
 -- Reading a movie, with the first refusal that is met, in the order of the format: the fields of
--- the header prefix to back, the length of the file, the start state, the inputs, the checkpoints,
+-- the header front to back, the length of the file, the start state, the inputs, the checkpoints,
 -- the end. This project's own.
 use Rattle.std.specs.Prelude.{ℕ, zero, suc, ◌&&◌, List, [], ◌∷◌, length, take, drop, slice_index}
 use Rattle.std.specs.Prelude.{Option, Result, Ok, Err, nat_lt, nat_le, ◌==◌, if◌then◌else◌}

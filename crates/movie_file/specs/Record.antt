@@ -29,7 +29,7 @@ fields_at bytes = record {
   bank = slice_index bytes 187;
 }
 
--- the state whose record the bytes are, where they are one
+-- the state whose record the bytes are, if they are one
 unfoldable pub recorded_state : List ℕ → Option StateFields
 recorded_state bytes = if (length bytes == state_length) && is_state (fields_at bytes) then Some (fields_at bytes) else None
 
@@ -37,7 +37,7 @@ recorded_state bytes = if (length bytes == state_length) && is_state (fields_at 
 abbrev pub movie_record : ℕ → StateFields → List ℕ
 movie_record version f = take (record_length version) (record_of f)
 
--- a bank other than 0 is there only where a cartridge of so many bytes has banks
+-- a bank other than 0 is there only if a cartridge of so many bytes has banks
 abbrev pub fits_bank : ℕ → StateFields → Bool
 fits_bank cart f = has_banks cart || (f.bank == 0)
 

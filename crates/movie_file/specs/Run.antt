@@ -7,7 +7,7 @@ use Rattle.vcs_machine.specs.Pictures.{Rows}
 use Rattle.vcs_machine.specs.declared.fields.StateFields.{StateFields}
 use Rattle.movie_file.specs.Movie.{MovieData}
 
--- what frame k + 1 of a movie does to a state, where the movie has that frame
+-- what frame k + 1 of a movie does to a state, if the movie has that frame
 abbrev pub frame_after : MovieData → ℕ → StateFields → Option FrameOutcome
 frame_after m k state = option_map (λ input. frame_of m.cart state input) (slice_get m.inputs k)
 
@@ -23,7 +23,7 @@ pictures_of (Some (Played state picture)) = picture ∷ []
 pictures_of (Some (Failed kind state)) = []
 pictures_of None = []
 
--- The run from a state that stands after frame `from`: the state after k more frames, or none where
+-- The run from a state that stands after frame `from`: the state after k more frames, or none if
 -- one of them failed. From the movie's start, with from = 0, it is the movie's one unbroken run.
 abbrev pub run : MovieData → StateFields → ℕ → ℕ → Option StateFields
 run m start from zero = Some start

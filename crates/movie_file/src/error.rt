@@ -31,7 +31,7 @@ pub enum MovieError {
     BadOrder(u16),
     /// Bytes follow the movie.
     Trailing,
-    /// A growth for the movie was refused.
+    /// An allocation for the movie was refused.
     NoMemory,
 }
 
@@ -80,6 +80,6 @@ pub enum MakeError {
     Fault { frame: u32, kind: FaultKind },
     /// No frame or too many, a checkpoint after each 0 frames, or too many checkpoints.
     BadCounts,
-    /// A growth for the checkpoints was refused.
+    /// An allocation for the checkpoints was refused.
     NoMemory,
 }

@@ -77,7 +77,7 @@ fn frame_without_picture(
     }
 }
 
-/// Adds the checkpoint after a frame, where one stands there. It takes no memory.
+/// Adds the checkpoint after a frame, if one stands there. It takes no memory.
 fn claim(checkpoints: &mut Vec<Checkpoint>, every: u32, frame: u32, state: &State)
     requires every { 1 ≤ every }
     requires room { frame % every ≡ 0
@@ -123,10 +123,10 @@ fn checkpoints_of_run(
 /// The movie of a run from power-on on a cartridge, one frame for each input, with a checkpoint
 /// after each `every` frames.
 ///
-/// The movie has version 1 where that has room for it, and else version 2.
+/// The movie has version 1 if that has room for it, and else version 2.
 ///
 /// `BadCounts` comes first: for no inputs, more than 262,143, `every` 0, or more than 4,095
-/// checkpoints. Then the memory of the checkpoints is taken, in one growth; where that is refused
+/// checkpoints. Then the memory of the checkpoints is taken, in one allocation; if that is refused
 /// `NoMemory` comes before any frame. `Fault` names the first frame that faults.
 pub fn make_movie(
     alloc: Global,

@@ -105,7 +105,7 @@ fn parts_in(alloc: Global, bytes: &[u8]) -> Result<MovieParts, MovieError>
 }
 
 /// The movie that the bytes spell, all of the bytes; else the first refusal in the order of the
-/// format. `NoMemory` comes only where the header is good and enough bytes follow it, and then
+/// format. `NoMemory` comes only if the header is good and enough bytes follow it, and then
 /// before any other refusal.
 pub fn read_movie(alloc: Global, bytes: &[u8]) -> Result<Movie, MovieError>
     ensures found { IfOk result (λ m. Spells bytes.now m) }

@@ -33,7 +33,7 @@ fn state_in(bytes: &[u8]) -> Option<State>
     })
 }
 
-/// The state whose record the bytes are; none where they aren't 188 bytes or break a condition.
+/// The state whose record the bytes are; none if they aren't 188 bytes or break a condition.
 pub fn read_state(bytes: &[u8]) -> Option<State>
     ensures exact { result ≡ recorded_state bytes.now }
     ensures found { IfSome result (λ f. IsState f × (bytes.now ≡ record_of f)) }

@@ -107,7 +107,7 @@ fn put_movie(out: &mut Vec<u8>, movie: &Movie) -> Result<(), AllocError>
     Ok(())
 }
 
-/// Appends the one spelling of a movie. Where memory is refused the vector has the bytes that it
+/// Appends the one spelling of a movie. If memory is refused the vector has the bytes that it
 /// had.
 pub fn write_movie(movie: &Movie, out: &mut Vec<u8>) -> Result<(), AllocError>
     ensures ok { OnOk result (out.new.items ≡ out.old.items ++ spelling movie.now) }

@@ -26,7 +26,7 @@ difference_line Start pair =
 difference_line Claim pair =
     pair.name ++ (codes ": claimed " ++ (encode_upper pair.first ++ (codes ", found " ++ (encode_upper pair.second ++ 10 ∷ []))))
 
--- Where its bytes are the same it has none.
+-- If its bytes are the same it has none.
 abbrev pub line_if_different : Comparison → Pair → List ℕ
 line_if_different comparison pair = if bytes_eq pair.first pair.second then [] else difference_line comparison pair
 

@@ -41,7 +41,7 @@ impl Comparison {
             Comparison::Claim => format!(in alloc; "{number}: claimed {first}, found {second}\n"),
         }
     }
-    /// The line of a number where its bytes differ, and else nothing.
+    /// The line of a number if its bytes differ, and else nothing.
     fn line_if_different(
         self,
         alloc: Global,

@@ -1,4 +1,4 @@
--- What a writer has got after a failed write, where its bytes are known.
+-- What a writer has got after a failed write, if its bytes are known.
 use Rattle.std.specs.Prelude.{◌≡◌, ℕ, List, ◌++◌, Option}
 use Rattle.std.specs.Io.KnownBytes.{Appends}
 

@@ -17,7 +17,7 @@ impl Workers {
     /// One worker, who needs no thread.
     pub const ONE: Workers = Workers { number: 1 };
 
-    /// So many workers, or None where they are not 1 to 64.
+    /// So many workers, or None if they are not 1 to 64.
     pub fn new(number: u8) -> Option<Workers>
         ensures range { IsSome result ↔ ((1 ≤ number) × (number ≤ most_workers)) }
         ensures value { IfSome result (λ workers. workers.number ≡ number) }

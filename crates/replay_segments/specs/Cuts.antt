@@ -8,7 +8,7 @@ pub record AreCuts (most : ℕ) (cuts : List ℕ) : Type 0 where
   pub range : (i n : ℕ) → slice_get cuts i ≡ Some n → (0 < n) × (n ≤ most)
   pub rising : (i j n p : ℕ) → i < j → slice_get cuts i ≡ Some n → slice_get cuts j ≡ Some p → n < p
 
--- Cuts fit a movie where each is the number of one of its checkpoints.
+-- Cuts fit a movie if each is the number of one of its checkpoints.
 abbrev pub Fits : List ℕ → MovieData → Type 0
 Fits cuts m = AreCuts (length m.checkpoints) cuts
 

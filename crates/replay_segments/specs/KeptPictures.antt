@@ -7,7 +7,7 @@ use Rattle.movie_file.specs.Run.{frame_after, pictures_of, run}
 use Rattle.replay_plan.specs.declared.keep.Keep.{Keep}
 use Rattle.replay_plan.specs.Keeping.{is_kept}
 
--- The picture of frame k + 1 of a movie, from a state, where it ends.
+-- The picture of frame k + 1 of a movie, from a state, if it ends.
 abbrev pub picture_after : MovieData → ℕ → Option StateFields → List Rows
 picture_after m k None = []
 picture_after m k (Some state) = pictures_of (frame_after m k state)

@@ -18,7 +18,7 @@ left_by_frame m state input =
     let here = machine_at (stop_of (console_rules with_pixel_logged) (machine_of m.cart state input [])) in
     record { state = state_left here; scanline = (line_cycle_of state + here.cycles) / 76 }
 
--- What the frame of this number, from 1, of the run leaves, where the run comes to it.
+-- What the frame of this number, from 1, of the run leaves, if the run comes to it.
 abbrev pub left_at : MovieData → ℕ → Option LeftState
 left_at m frame =
     option_and_then (λ state. option_map (λ input. left_by_frame m state input) (slice_get m.inputs (frame - 1))) (run m m.start 0 (frame - 1))

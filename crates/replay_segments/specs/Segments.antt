@@ -37,7 +37,7 @@ abbrev pub start_of : MovieData → List ℕ → ℕ → StateFields
 start_of m cuts zero = m.start
 start_of m cuts (suc i) = state_or m.start (checkpoint_at m (slice_get cuts i))
 
--- What is said of a segment, by the rule of a whole movie: it passed where that says genuine.
+-- What is said of a segment, by the rule of a whole movie: it passed if that says genuine.
 abbrev pub IsSegment : MovieData → List ℕ → Keep → ℕ → Verdict → Type 0
 IsSegment m cuts keep i verdict =
     (len : ℕ) × (from_of m cuts i + len ≡ end_of m cuts i)

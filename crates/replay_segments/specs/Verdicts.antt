@@ -11,7 +11,7 @@ use Rattle.replay_segments.specs.KeptPictures.{pictures}
 
 -- What is said of `len` frames from a state that stands after frame `from`. It is of the least
 -- frame that faults, or after which a checkpoint claims another state; of one that does both the
--- fault, since a frame that faults has no state after it. Where there is no such frame they are
+-- fault, since a frame that faults has no state after it. If there is no such frame they are
 -- genuine, with the kept pictures.
 abbrev pub IsJudged : MovieData → Keep → StateFields → ℕ → ℕ → Verdict → Type 0
 IsJudged m keep start from len (Genuine kept) =

@@ -54,7 +54,7 @@ impl Cuts {
 
     /// The cuts at checkpoints k, 2k, .. up to the movie's last one.
     ///
-    /// AllocError comes only where the growth of the list of their numbers was refused.
+    /// AllocError comes only if the allocation of the list of their numbers was refused.
     pub fn every(alloc: Global, movie: &Movie, k: NonZeroU16) -> Result<Cuts, AllocError>
         ensures every { IfOk result (λ cuts. IsEvery (non_zero_u16_get k) (length movie.now.checkpoints) cuts) }
         ensures fit { IfOk result (λ cuts. Fits cuts movie.now) }

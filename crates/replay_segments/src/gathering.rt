@@ -15,7 +15,7 @@ use std::alloc::{AllocError, Global};
 #[derive(Clone, Copy, Debug, PartialEq, Eq)]
 pub enum GatherError {
     /// The first segment without a piece that passed has pieces, all of them without memory; or the
-    /// growth of the list of all pictures was refused.
+    /// allocation of the list of all pictures was refused.
     NoMemory,
     /// The first segment without a piece that passed, which is named, has no piece.
     Missing(u32),
@@ -24,8 +24,8 @@ pub enum GatherError {
 /// The verdict of the movie whose pieces these are, which has `n` segments. They come in any order,
 /// and a segment may have more than one.
 ///
-/// It is that of the first segment that did not pass, or genuine where each has a piece that did.
-/// Where no piece has a picture no memory is taken; else there is one growth, for all pictures.
+/// It is that of the first segment that did not pass, or genuine if each has a piece that did.
+/// If no piece has a picture no memory is taken; else there is one allocation, for all pictures.
 pub fn gather(alloc: Global, pieces: Vec<Piece>, n: u32) -> Result<Verdict, GatherError>
     requires { 0 < n }
     ensures verdict { IfOk result (λ verdict. (job : Job) → NamesAll job pieces.items

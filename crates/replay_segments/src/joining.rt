@@ -35,7 +35,7 @@ fn pictures_in(pieces: &[Piece]) -> Option<usize>
     Some(n)
 }
 
-/// The pictures of all segments, each of which passed. The only growth is for all of them.
+/// The pictures of all segments, each of which passed. The only allocation is for all of them.
 pub(crate) fn all_pictures(
     alloc: Global,
     mut pieces: Vec<Piece>,

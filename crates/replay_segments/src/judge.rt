@@ -27,7 +27,7 @@ pub(crate) fn movie_frame(
     frame(alloc, movie.cart(), state, movie.input(before + 1), keep)
 }
 
-/// Frame `before` + 1 of the movie, whose picture is kept where it is to be.
+/// Frame `before` + 1 of the movie, whose picture is kept if it is to be.
 fn advance(
     alloc: Global,
     movie: &Movie,
@@ -52,7 +52,7 @@ fn advance(
 }
 
 /// Compares a state with the checkpoint after a frame, if there is one. `next` is the index of the
-/// first that is not before the frame. The answer is that of the first after it, or None where the
+/// first that is not before the frame. The answer is that of the first after it, or None if the
 /// checkpoint is false.
 fn next_checkpoint(movie: &Movie, next: u16, frame: u32, state: &State) -> Option<u16>
     requires { IsNext movie.now next frame }
@@ -120,7 +120,7 @@ pub(crate) fn judge_frames(
 
 /// The verdict of a movie, by one unbroken replay on the calling thread.
 ///
-/// AllocError comes only where a growth was refused, for a kept picture or for their list; where no
+/// AllocError comes only if an allocation was refused, for a kept picture or for their list; if no
 /// frame is kept none is taken.
 #[tactic(auto, using(crate::proofs::CheckpointLemmas::at_start))]
 pub fn verify_one(alloc: Global, movie: &Movie, keep: Keep) -> Result<Verdict, AllocError>

@@ -6,6 +6,6 @@ use crate::verdict::Verdict;
 pub enum Outcome {
     /// By the rule of a whole movie; genuine says that the segment passed.
     Judged(Verdict),
-    /// A growth was refused.
+    /// An allocation was refused.
     NoMemory,
 }

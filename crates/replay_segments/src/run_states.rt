@@ -19,7 +19,7 @@ const LINE_CYCLES: u64 = 76;
 /// What a frame leaves that faults.
 #[derive(Drop)]
 pub struct LeftState {
-    /// The state before the faulty instruction. Where the frame was overlong it is the one that was
+    /// The state before the faulty instruction. If the frame was overlong it is the one that was
     /// reached.
     pub state: State,
     /// The scanline of its beam, 0 being the one in which the frame began.
@@ -45,7 +45,7 @@ fn state_after(alloc: Global, movie: &Movie, start: &State, from: u32, len: u32)
 }
 
 /// The state of the run after a frame, replayed from the checkpoint before index `next`, or from
-/// the start where there is none.
+/// the start if there is none.
 fn resume(alloc: Global, movie: &Movie, next: u16, frame: u32) -> State
     requires { IsResumable movie.now next frame }
     ensures { run movie.now movie.now.start 0 frame ≡ Some result }
@@ -60,7 +60,7 @@ fn resume(alloc: Global, movie: &Movie, next: u16, frame: u32) -> State
 
 /// The state that a movie's one unbroken run has after the frame of its first false checkpoint.
 ///
-/// The movie is replayed from the checkpoint before the false one, or from its start where there is
+/// The movie is replayed from the checkpoint before the false one, or from its start if there is
 /// none. No memory is taken.
 pub fn found_state(alloc: Global, movie: &Movie, number: u16, frame: u32) -> State
     requires { HasVerdict movie.now (FalseCheckpoint number frame) }
@@ -86,7 +86,7 @@ fn checkpoints_before(movie: &Movie, frame: u32) -> u16
 
 /// What the frame leaves in which a movie's one unbroken run faults.
 ///
-/// The movie is replayed from the last checkpoint before that frame, or from its start where there
+/// The movie is replayed from the last checkpoint before that frame, or from its start if there
 /// is none. No memory is taken.
 pub fn left_state(alloc: Global, movie: &Movie, frame: u32, kind: FaultKind) -> LeftState
     requires { HasVerdict movie.now (Fault frame kind) }

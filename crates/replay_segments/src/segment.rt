@@ -79,7 +79,7 @@ fn outcome_of(alloc: Global, movie: &Movie, cuts: &Cuts, keep: Keep, number: u32
 
 /// Replays a segment, from 0, on the calling thread. The cuts fit the movie, and have that segment.
 ///
-/// NoMemory comes only where a growth was refused, for a kept picture or for their list; where no
+/// NoMemory comes only if an allocation was refused, for a kept picture or for their list; if no
 /// frame of the segment is kept none is taken.
 pub fn replay(alloc: Global, movie: &Movie, cuts: &Cuts, keep: Keep, number: u32) -> Piece
     requires fit { Fits cuts.now movie.now }

@@ -4,11 +4,11 @@ use Rattle.std.specs.Prelude.{ℕ, ◌<◌, Bool, false, not, ◌&&◌, if◌the
 use Rattle.riot_map.specs.Bits.{has_bit, byte_of_bits}
 use Rattle.riot_map.specs.declared.port.Port.{Port}
 
--- port A: the pin, but 0 where the direction is 1 and the latch is 0
+-- port A: the pin, but 0 if the direction is 1 and the latch is 0
 abbrev pub port_a_bit : Port → ℕ → Bool
 port_a_bit p k = if has_bit p.direction k && not (has_bit p.output k) then false else has_bit p.pins k
 
--- port B: the latch where the direction is 1, else the pin
+-- port B: the latch if the direction is 1, else the pin
 abbrev pub port_b_bit : Port → ℕ → Bool
 port_b_bit p k = if has_bit p.direction k then has_bit p.output k else has_bit p.pins k
 

@@ -79,7 +79,7 @@ port_read r register =
     if register == 0 then port_a_byte r.port_a else if register == 1 then r.port_a.direction
     else if register == 2 then port_b_byte r.port_b else r.port_b.direction
 
--- INTIM where A0 is 0, else the flag in bit 7. That the other bits are 0 is this project's own.
+-- INTIM if A0 is 0, else the flag in bit 7. That the other bits are 0 is this project's own.
 abbrev pub timer_read : Countdown → ℕ → ℕ
 timer_read t io = if has_bit io 0 then (if t.flag then 128 else 0) else intim t
 
@@ -103,8 +103,8 @@ after_port_write r register value =
     else if register == 2 then record r { port_b = record r.port_b { output = value } }
     else record r { port_b = record r.port_b { direction = value } }
 
--- where A4 is 1 the timer starts with the interval of A1 and A0 (TIM1T, TIM8T, TIM64T, T1024T).
--- That nothing happens where A4 is 0 is this project's own.
+-- if A4 is 1 the timer starts with the interval of A1 and A0 (TIM1T, TIM8T, TIM64T, T1024T).
+-- That nothing happens if A4 is 0 is this project's own.
 abbrev pub after_timer_write : RiotState → ℕ → ℕ → RiotState
 after_timer_write r io value = if has_bit io 4 then record r { timer = timer_of_write (interval_of (io % 4)) value } else r
 

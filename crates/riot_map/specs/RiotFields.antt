@@ -3,7 +3,7 @@ use Rattle.std.specs.Prelude.{◌≡◌, ◌<◌, length, All, Bool, ◌==◌, �
 use Rattle.riot_map.specs.Timer.{Countdown, count_of, interval_of}
 use Rattle.riot_map.specs.declared.fields.RiotFields.{RiotFields}
 
--- r is value * interval + part where zero is ahead, else value - 255
+-- r is value * interval + part if zero is ahead, else value - 255
 unfoldable pub timer_of : RiotFields → Countdown
 timer_of f = record { count = count_of f.timer f.part (interval_of f.interval) (f.past_zero == 1); interval = interval_of f.interval; flag = f.flag == 1 }
 

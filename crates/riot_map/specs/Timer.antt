@@ -24,7 +24,7 @@ after_cycle t = record { count = next_count t.count; interval = t.interval; flag
 abbrev pub is_running : Countdown → Bool
 is_running t = int_le (pos 1) t.count
 
--- INTIM: (r - 1) div the interval where r is at least 1, else 255 + r
+-- INTIM: (r - 1) div the interval if r is at least 1, else 255 + r
 unfoldable pub intim : Countdown → ℕ
 intim t = if is_running t then nat_abs (t.count -ℤ pos 1) / t.interval else nat_abs (pos 255 +ℤ t.count)
 

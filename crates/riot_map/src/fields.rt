@@ -24,9 +24,9 @@ pub struct RiotFields {
     pub part: u16,
     /// The code of the interval: 0 to 3 for 1, 8, 64 and 1024 cycles.
     pub interval: u8,
-    /// 1 where the timer is past zero, else 0.
+    /// 1 if the timer is past zero, else 0.
     pub past_zero: u8,
-    /// 1 where the timer's flag is set, else 0.
+    /// 1 if the timer's flag is set, else 0.
     pub flag: u8,
 }
 

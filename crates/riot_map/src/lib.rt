@@ -1,7 +1,7 @@
 //! The address map of an Atari 2600, its cartridge, and its RIOT: 128 bytes of memory, two ports
 //! and a timer.
 //!
-//! The rules follow the Stella Programmer's Guide; where that is silent they are this project's
+//! The rules follow the Stella Programmer's Guide; if that is silent they are this project's
 //! own, as the definitions in `specs/` say.
 #![tactic(auto)]
 

@@ -49,7 +49,7 @@ impl Riot {
         }
     }
 
-    /// The RIOT of some numbers, with all pins at 1; none where they aren't lawful.
+    /// The RIOT of some numbers, with all pins at 1; none if they aren't lawful.
     #[tactic(auto, unfolding(crate::specs::Riot::riot_of))]
     pub fn from_fields(fields: RiotFields) -> Option<Riot>
         ensures { result ≡ (if is_riot fields then Some (riot_of fields) else None) }

@@ -67,7 +67,7 @@ impl Timer {
         }
     }
 
-    /// The timer of some numbers; none where they aren't lawful.
+    /// The timer of some numbers; none if they aren't lawful.
     #[tactic(auto, using(crate::proofs::RiotFieldLemmas::lawful_interval, crate::proofs::RiotFieldLemmas::lawful_some, crate::proofs::RiotFieldLemmas::lawful_most, crate::proofs::RiotFieldLemmas::lawful_past), unfolding(crate::specs::RiotFields::timer_of),)]
     pub fn from_fields(fields: &RiotFields) -> Option<Timer>
         ensures { result ≡ (if is_riot fields.now then Some (timer_of fields.now) else None) }

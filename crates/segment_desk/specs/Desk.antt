@@ -46,7 +46,7 @@ at_end v = record v { ended = true }
 abbrev pub draw_at : ℕ → Part → Part
 draw_at k v = if nat_lt k v.segments then with_drawn k v else at_end v
 
--- The numbers passed over, and the last drawn one with them where the least number x is below it.
+-- The numbers passed over, and the last drawn one with them if the least number x is below it.
 abbrev pub with_passed : ℕ → Option ℕ → List ℕ → List ℕ
 with_passed x None ks = ks
 with_passed x (Some k) ks = if nat_lt x k then with_number k ks else ks
@@ -66,7 +66,7 @@ smaller_of (Some x) None = Some x
 smaller_of (Some x) (Some y) = Some (min x y)
 
 -- A ticket that took another in: both their lists and shares, the smaller seen number, its own last
--- one, and ended where either had.
+-- one, and ended if either had.
 abbrev pub with_handed_in : Part → Part → Part
 with_handed_in v u = record v {
   drawn = v.drawn ++ u.drawn;

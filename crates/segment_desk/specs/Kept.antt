@@ -4,7 +4,7 @@ use Rattle.segment_desk.specs.declared.part.Part.{Part}
 use Rattle.segment_desk.specs.Desk.{times, DeskState, IsTicket}
 
 -- Each number is drawn, and one that is passed over has a smaller one that is reported. So none up
--- to the least reported number is passed over, and where nothing is reported nothing is.
+-- to the least reported number is passed over, and if nothing is reported nothing is.
 pub record IsWhole (v : Part) : Type 0 where
   pub all_drawn : (k : ℕ) → k < v.segments → times k v.drawn ≡ 1
   pub none_missed : (k : ℕ) → 0 < times k v.passed_over → (f : ℕ) × (f < k) × (0 < times f v.reported)
@@ -39,13 +39,13 @@ pub record IsDesk (n w : ℕ) (s : DeskState) : Type 0 where
   pub not_yet : (k : ℕ) → s.count ≤ k → drawn_times k s ≡ 0
   pub within : (k : ℕ) → n ≤ k → drawn_times k s ≡ 0
   pub count_le : s.count ≤ n + w
-  -- the least number is the least on any reported list, or n where there is none
+  -- the least number is the least on any reported list, or n if there is none
   pub least_le : s.least ≤ n
   pub none_below : (k : ℕ) → k < s.least → reported_times k s ≡ 0
   pub is_reported : s.least < n → 0 < reported_times s.least s
   -- and it is at most what any ticket has seen
   pub seen : (j : ℕ) (v : Part) (k : ℕ) → slice_get s.parts j ≡ Some v → v.seen ≡ Some k → s.least ≤ k
-  -- a number is reported or passed over only on the ticket that drew it, and passed over only where
+  -- a number is reported or passed over only on the ticket that drew it, and passed over only if
   -- a smaller one is reported
   pub own_reports : (j : ℕ) (v : Part) (k : ℕ) → slice_get s.parts j ≡ Some v → times k v.reported ≤ times k v.drawn
   pub own_passes : (j : ℕ) (v : Part) (k : ℕ) → slice_get s.parts j ≡ Some v → times k v.passed_over ≤ times k v.drawn

@@ -43,8 +43,8 @@ impl Desk {
 
     /// A desk, and a ticket for each worker.
     ///
-    /// There are three growths, of the list and of the table's two blocks. `AllocError` comes only
-    /// where one was refused.
+    /// There are three allocations, of the list and of the table's two blocks. `AllocError` comes
+    /// only if one was refused.
     pub fn new(alloc: Global, segments: u32, workers: u8) -> Result<(Desk, Vec<Ticket>), AllocError>
         requires segments { 0 < segments }
         requires workers { 0 < workers }
@@ -103,7 +103,7 @@ impl Desk {
         }
     }
 
-    /// The least number that was reported bad, or the number of segments. Where it is below the
+    /// The least number that was reported bad, or the number of segments. If it is below the
     /// ticket's last drawn number, that one is passed over in this step.
     pub fn least_bad(&self, ticket: &mut Ticket) -> u32
         requires { IsOf self.now ticket.old }
@@ -141,7 +141,7 @@ impl Desk {
     }
 
     /// `into` then has the numbers of both, of which none is the same, and stands for the workers
-    /// of both. It has ended where either had.
+    /// of both. It has ended if either had.
     pub fn hand_in(&self, into: &mut Ticket, from: Ticket)
         requires into { IsOf self.now into.old }
         requires from { IsOf self.now from }

@@ -18,8 +18,8 @@ pub struct Part {
     pub ghost passed_over: { List ℕ },
     /// The number that it drew last.
     pub ghost last: { Option ℕ },
-    /// The least number that it has seen: a bad one, or the number of segments where none was
-    /// reported. It is `None` where the ticket has neither looked nor reported.
+    /// The least number that it has seen: a bad one, or the number of segments if none was
+    /// reported. It is `None` if the ticket has neither looked nor reported.
     pub ghost seen: { Option ℕ },
     /// Whether a draw found no number left.
     pub ghost ended: { Bool },

@@ -6,7 +6,7 @@ use std::marker::Model;
 
 /// A worker's right to draw. Contracts see its part of the desk's history.
 ///
-/// What it drew is lost to the desk where it is dropped and not handed in.
+/// What it drew is lost to the desk if it is dropped and not handed in.
 #[derive(Drop)]
 pub struct Ticket {
     pub(crate) seat: Seat<(), Part>,

@@ -1,5 +1,5 @@
 //! Reports of movies, by their first and last lines: a text of some hundred bytes keeps the prover
-//! for minutes. Whole reports, with digests, are compared by `ci/demo`.
+//! for minutes. Whole reports, with digests, are compared by `ci/cases`.
 
 use crate::movies::{ENDLESS_FRAMES, SEVEN_FRAMES, after_frame, movie, power_on, read, two};
 use movie_file::Movie;

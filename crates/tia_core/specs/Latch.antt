@@ -7,7 +7,7 @@ use Rattle.tia_core.specs.Bits.{has_bit}
 abbrev pub latches_with_buttons : ℕ → Bool → Bool → ℕ
 latches_with_buttons latches fire0 fire1 = (if has_bit latches 0 || fire0 then 1 else 0) + (if has_bit latches 1 || fire1 then 2 else 0)
 
--- the latches after VBLANK was written: cleared where its bit 6 is clear
+-- the latches after VBLANK was written: cleared if its bit 6 is clear
 abbrev pub latches_after_vblank : ℕ → Bool → Bool → ℕ → ℕ
 latches_after_vblank latches fire0 fire1 vblank = if has_bit vblank 6 then latches_with_buttons latches fire0 fire1 else 0
 

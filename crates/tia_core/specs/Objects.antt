@@ -7,7 +7,7 @@ use Rattle.tia_core.specs.Playfield.{playfield_bit, playfield_index}
 use Rattle.tia_core.specs.declared.fields.TiaFields.{TiaFields}
 use Rattle.tia_core.specs.declared.objects.Objects.{Objects}
 
--- what is shown of graphics, or of the ball's enable: the old value where bit 0 of its delay
+-- what is shown of graphics, or of the ball's enable: the old value if bit 0 of its delay
 -- register is set
 abbrev pub value_by_delay : ℕ → ℕ → ℕ → ℕ
 value_by_delay delay old new = if has_bit delay 0 then old else new
@@ -16,11 +16,11 @@ value_by_delay delay old new = if has_bit delay 0 then old else new
 abbrev pub size_of : ℕ → ℕ
 size_of register = 2 ^ (register / 16 % 4)
 
--- a missile is shown where it is enabled and not locked to its player
+-- a missile is shown if it is enabled and not locked to its player
 abbrev pub missile_at : ℕ → ℕ → ℕ → ℕ → ℕ → Bool
 missile_at enam resmp nusiz position x = has_bit enam 1 && not (has_bit resmp 1) && missile_covers (nusiz % 8) (size_of nusiz) position x
 
--- a ball is shown where it is enabled
+-- a ball is shown if it is enabled
 abbrev pub ball_at : ℕ → ℕ → ℕ → ℕ → Bool
 ball_at enabl ctrlpf position x = has_bit enabl 1 && ball_covers (size_of ctrlpf) position x
 

@@ -28,7 +28,7 @@ moved_position motion position =
 abbrev pub release_of : ℕ → ℕ
 release_of mode = if mode == 5 then 8 else if mode == 7 then 16 else 4
 
--- where a missile is after a write of RESMP: released from its player where the bit falls
+-- where a missile is after a write of RESMP: released from its player if the bit falls
 abbrev pub released_position : ℕ → ℕ → ℕ → ℕ → ℕ → ℕ
 released_position old new nusiz player missile =
     if has_bit old 1 && not (has_bit new 1) then (player + release_of (nusiz % 8)) % 160 else missile

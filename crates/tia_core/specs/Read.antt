@@ -6,7 +6,7 @@ use Rattle.tia_core.specs.Bits.{has_bit, two_bits}
 use Rattle.tia_core.specs.TiaState.{TiaState}
 use Rattle.tia_core.specs.declared.fields.TiaFields.{TiaFields}
 
--- a button by bit 7, which is clear where it counts as pressed: by its latch where VBLANK has bit 6
+-- a button by bit 7, which is clear if it counts as pressed: by its latch if VBLANK has bit 6
 abbrev pub button_byte : ℕ → Bool → Bool → ℕ
 button_byte vblank fire latch = if (if has_bit vblank 6 then latch else fire) then 0 else 128
 

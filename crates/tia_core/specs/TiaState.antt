@@ -43,7 +43,7 @@ has_lawful_positions t =
     fits_register Resmp0 t.resmp0 && fits_register Resmp1 t.resmp1 && nat_lt t.position_p0 160 && nat_lt t.position_p1 160
     && nat_lt t.position_m0 160 && nat_lt t.position_m1 160 && nat_lt t.position_bl 160
 
--- fifteen collision bits and two latches, of which none is set where VBLANK has bit 6 clear; 228
+-- fifteen collision bits and two latches, of which none is set if VBLANK has bit 6 clear; 228
 -- clocks of a line; a comb or none
 abbrev pub has_lawful_beam : TiaFields → Bool
 has_lawful_beam t =
@@ -108,7 +108,7 @@ tia_at_power_on = record {
 abbrev pub with_fire : TiaState → Bool → Bool → TiaState
 with_fire s fire0 fire1 = record s { fire0 = fire0; fire1 = fire1 }
 
--- the start of a frame: line 0, and a pressed button sets its latch where VBLANK has bit 6
+-- the start of a frame: line 0, and a pressed button sets its latch if VBLANK has bit 6
 abbrev pub at_frame_start : TiaState → TiaState
 at_frame_start s = record s {
   fields = record s.fields { latches = latches_at_start s.fields.latches s.fire0 s.fire1 s.fields.vblank };

@@ -80,7 +80,7 @@ fields_after t fire0 fire1 Ignored v = t
 unfoldable pub tia_after_write : TiaState → ℕ → ℕ → TiaState
 tia_after_write s number v = record s { fields = fields_after s.fields s.fire0 s.fire1 (register_of number) v }
 
--- what a write asks of its caller: to wait after WSYNC, to end the frame where VSYNC's bit 1 falls
+-- what a write asks of its caller: to wait after WSYNC, to end the frame if VSYNC's bit 1 falls
 abbrev pub effect_after : TiaFields → Register → ℕ → Effect
 effect_after t Wsync v = Sync
 effect_after t Vsync v = if has_bit t.vsync 1 && not (has_bit v 1) then FrameEnd else Nothing

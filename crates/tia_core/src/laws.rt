@@ -62,7 +62,7 @@ pub fn law_of_collisions()
     ensures { (n : ℕ) (s : TiaState) (k : ℕ) → has_bit s.fields.collisions k ≡ true → has_bit (iterate after_clock n s).fields.collisions k ≡ true }
 {}
 
-/// A write ends the frame exactly where bit 1 of VSYNC falls.
+/// A write ends the frame exactly if bit 1 of VSYNC falls.
 pub fn law_of_frame_ends()
     ensures { (t : TiaFields) (fire0 fire1 : Bool) (r : Register) (v : ℕ)
         → (effect_after t r v ≡ Effect.FrameEnd) ↔ ((has_bit t.vsync 1 ≡ true) × (has_bit (fields_after t fire0 fire1 r v).vsync 1 ≡ false)) }

@@ -161,7 +161,7 @@ fn changes(word: u32, first: u8) -> u32
     }
 }
 
-/// The place of the lowest set bit above bit 0; 33 where none is set.
+/// The place of the lowest set bit above bit 0; 33 if none is set.
 #[inline]
 pub(crate) fn first_change(changes: u32) -> u8
     ensures positive { 0 < result }

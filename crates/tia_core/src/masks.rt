@@ -126,7 +126,7 @@ impl Masks {
         t.collisions
     }
 
-    /// Finds the bound where none is known: the pairs of the objects that may be visible.
+    /// Finds the bound if none is known: the pairs of the objects that may be visible.
     #[inline(always)]
     fn find_bound(&mut self, t: &TiaFields)
         requires { MasksFit t.now self.old }
@@ -304,7 +304,7 @@ fn most_pairs(t: &TiaFields) -> u16
     Objects::visible(t).pairs()
 }
 
-/// Makes the mask of player 0 anew where it is to be.
+/// Makes the mask of player 0 anew if it is to be.
 #[inline]
 #[tactic(auto, unfolding(crate::specs::Objects::objects_at))]
 fn renew_player0(mask: &mut Mask, stale: bool, t: &TiaFields)
@@ -318,7 +318,7 @@ fn renew_player0(mask: &mut Mask, stale: bool, t: &TiaFields)
     }
 }
 
-/// Makes the mask of player 1 anew where it is to be.
+/// Makes the mask of player 1 anew if it is to be.
 #[inline]
 #[tactic(auto, unfolding(crate::specs::Objects::objects_at))]
 fn renew_player1(mask: &mut Mask, stale: bool, t: &TiaFields)
@@ -332,7 +332,7 @@ fn renew_player1(mask: &mut Mask, stale: bool, t: &TiaFields)
     }
 }
 
-/// Makes the mask of missile 0 anew where it is to be.
+/// Makes the mask of missile 0 anew if it is to be.
 #[inline]
 #[tactic(auto, unfolding(crate::specs::Objects::objects_at))]
 fn renew_missile0(mask: &mut Mask, stale: bool, t: &TiaFields)
@@ -345,7 +345,7 @@ fn renew_missile0(mask: &mut Mask, stale: bool, t: &TiaFields)
     }
 }
 
-/// Makes the mask of missile 1 anew where it is to be.
+/// Makes the mask of missile 1 anew if it is to be.
 #[inline]
 #[tactic(auto, unfolding(crate::specs::Objects::objects_at))]
 fn renew_missile1(mask: &mut Mask, stale: bool, t: &TiaFields)
@@ -358,7 +358,7 @@ fn renew_missile1(mask: &mut Mask, stale: bool, t: &TiaFields)
     }
 }
 
-/// Makes the mask of the ball anew where it is to be.
+/// Makes the mask of the ball anew if it is to be.
 #[inline]
 #[tactic(auto, unfolding(crate::specs::Objects::objects_at))]
 fn renew_ball(mask: &mut Mask, stale: bool, t: &TiaFields)
@@ -375,7 +375,7 @@ fn renew_ball(mask: &mut Mask, stale: bool, t: &TiaFields)
     }
 }
 
-/// Makes the mask of the playfield anew where it is to be.
+/// Makes the mask of the playfield anew if it is to be.
 #[inline]
 #[tactic(auto, unfolding(crate::specs::Objects::objects_at))]
 fn renew_playfield(mask: &mut Mask, stale: bool, t: &TiaFields)

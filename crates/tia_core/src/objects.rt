@@ -94,7 +94,7 @@ impl Objects {
     }
 }
 
-/// What is shown of a register that may be delayed: its old value where bit 0 of `delay` is set.
+/// What is shown of a register that may be delayed: its old value if bit 0 of `delay` is set.
 #[inline]
 pub fn value_by_delay(delay: u8, old: u8, new: u8) -> u8
     ensures { result ≡ value_by_delay delay old new }

@@ -1,4 +1,4 @@
--- How the program ends where no command came to a status. This project's own.
+-- How the program ends if no command came to a status. This project's own.
 use Rattle.std.specs.Prelude.{ℕ}
 use Rattle.std.specs.declared.io.ErrorKind.{ErrorKind}
 use Rattle.std.specs.declared.io.ErrorKind.TheVariants.{OutOfMemory}

@@ -1,4 +1,4 @@
-//! How the program ends where no command came to a status.
+//! How the program ends if no command came to a status.
 ghost use Rattle.std.specs.Prelude.{◌≡◌};
 
 use crate::commands::Failure;
@@ -16,7 +16,7 @@ const USAGE: u8 = 4;
 /// The exit status of a command that did not reach its end.
 const FAILED: u8 = 5;
 
-/// How the program ends where no command came to a status, with what it prints then.
+/// How the program ends if no command came to a status, with what it prints then.
 #[derive(Debug, Drop, Error)]
 pub(crate) enum Ending {
     /// The arguments ask for help, or for the version, which is the text.
@@ -53,7 +53,7 @@ impl Ending {
     }
 
     /// Prints it, help on standard output and all else on standard error, and answers the exit
-    /// status. Where standard error is a terminal, the fault of a file stands on a line after it.
+    /// status. If standard error is a terminal, the fault of a file stands on a line after it.
     pub(crate) fn report<R: Print + Eprint, E: IsTerminal>(
         self,
         rt: &R,

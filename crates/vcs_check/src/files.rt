@@ -25,7 +25,7 @@ fn cannot_open<'a>(fault: &mut Option<FileFault<'a>>, name: &'a str, reason: Rea
     Failure::Open
 }
 
-/// Opens an input. Where it can't be opened, `fault` says why.
+/// Opens an input. If it can't be opened, `fault` says why.
 pub(crate) fn open<'a, R: Files>(
     rt: &R,
     name: &'a str,
@@ -93,7 +93,7 @@ impl Identity {
     }
 }
 
-/// Opens an output, which is created where it isn't there, and empties it. Pipes and devices keep
+/// Opens an output, which is created if it isn't there, and empties it. Pipes and devices keep
 /// nothing, so they are not emptied, and may be inputs as well.
 fn open_empty<R: Files>(rt: &R, name: &str, inputs: &[Identity]) -> Result<R::File, Reason> {
     let file = OpenOptions::new().write(true).create(true).open(rt, name)?;
@@ -107,9 +107,9 @@ fn open_empty<R: Files>(rt: &R, name: &str, inputs: &[Identity]) -> Result<R::Fi
     Ok(file)
 }
 
-/// Opens an output, which is created where it isn't there, and empties it. Where it is one of the
+/// Opens an output, which is created if it isn't there, and empties it. If it is one of the
 /// inputs of the command, which are open, nothing is touched, and the answer is `Failure::Open`.
-/// Pipes and devices keep nothing, so they are not emptied, and may be inputs as well. Where it
+/// Pipes and devices keep nothing, so they are not emptied, and may be inputs as well. If it
 /// can't be opened or is an input, `fault` says why.
 pub(crate) fn create<'a, R: Files>(
     rt: &R,

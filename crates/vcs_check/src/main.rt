@@ -43,7 +43,7 @@ fn command_of(alloc: Global, arguments: Args) -> Result<Command, LineFault> {
     parse_line(alloc, &arguments)
 }
 
-/// Does what a command asks for. Where a file that it names fails, `fault` says why. The gate is
+/// Does what a command asks for. If a file that it names fails, `fault` says why. The gate is
 /// called around replays.
 fn answer_command<
     'a,

@@ -19,7 +19,7 @@ const NEVER: u64 = u64::MAX;
 /// how many are done. No line comes in the first half second, or less than a fifth of a second
 /// after another. At the end the line is wiped.
 ///
-/// Where standard error is no terminal, or where the clock fails, it writes nothing. A failed write
+/// If standard error is no terminal, or if the clock fails, it writes nothing. A failed write
 /// is ignored.
 #[derive(Drop)]
 pub(crate) struct Progress<'a, R> {

@@ -10,7 +10,7 @@ use Rattle.vcs_engine.specs.declared.line.Line.TheVariants as lines
 use Rattle.vcs_engine.specs.declared.status.Status.{Status}
 use Rattle.vcs_engine.specs.declared.status.Status.TheVariants as statuses
 
--- A status, a line with its end, the bytes of a movie, and pictures. Where no movie or no picture
+-- A status, a line with its end, the bytes of a movie, and pictures. If no movie or no picture
 -- is written, that list is empty.
 pub record Answer : Type 0 where
   pub status : Status

@@ -39,7 +39,7 @@ abbrev pub MakesFrom : List ℕ → Result (List InputData) Line → ℕ → Ans
 MakesFrom cart (Ok inputs) every answer = MakesOf cart inputs every answer
 MakesFrom cart (Err line) every answer = answer ≡ line_answer Refused line
 
--- What is written of the bytes of a ROM, and what is read of the inputs: where no cartridge has the
+-- What is written of the bytes of a ROM, and what is read of the inputs: if no cartridge has the
 -- ROM's length, nothing.
 abbrev pub Makes : InputForm → List ℕ → Option (List ℕ) → Option (List ℕ) → ℕ → Answer → Type 0
 Makes form rom old new every answer =

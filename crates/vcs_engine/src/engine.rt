@@ -25,7 +25,7 @@ use std::thread::Threads;
 /// or the whole line and the pictures' writer a prefix of the pictures. At most 16,777,217 reads
 /// are made. With more than one worker it joins the threads that it starts.
 ///
-/// The gate is called around each replay, and before and after all of them, where the movie isn't
+/// The gate is called around each replay, and before and after all of them, if the movie isn't
 /// refused.
 pub fn run<T: Threads + Wait + Sync, R: Read, W: Write, P: Write, G: CountedGate + Sync>(
     rt: &T,

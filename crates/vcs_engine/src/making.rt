@@ -143,7 +143,7 @@ impl Making {
         }
     }
 
-    /// What is written of the bytes of a ROM, and of the inputs, which are read where the ROM is a
+    /// What is written of the bytes of a ROM, and of the inputs, which are read if the ROM is a
     /// cartridge.
     fn of_rom<S: Read>(
         alloc: Global,
@@ -182,7 +182,7 @@ impl Making {
 /// Reads a ROM, and inputs in this form, makes a movie of the run from power-on with a checkpoint
 /// after each `every` frames, and writes the movie and then a line, which ends with a line feed.
 ///
-/// The ROM is read and checked first; where it is refused the inputs are not read. Inputs or counts
+/// The ROM is read and checked first; if it is refused the inputs are not read. Inputs or counts
 /// that are refused, and a run that faults, are a line and a status without a movie. After
 /// ReadFault, TooLong and NoMemory nothing was written; after WriteFault the movie's writer has got
 /// a prefix of the movie, and the line's writer a prefix of the line only after the whole movie. At

@@ -52,7 +52,7 @@ fn status_and_text<T: Threads + Wait + Sync, G: CountedGate + Sync>(
 /// of the text. At most 16,777,217 reads are made. With more than one worker it joins the threads
 /// that it starts.
 ///
-/// The gate is called around each replay, and before and after all of them, where the movie isn't
+/// The gate is called around each replay, and before and after all of them, if the movie isn't
 /// refused.
 pub fn run_report<T: Threads + Wait + Sync, R: Read, W: Write, G: CountedGate + Sync>(
     rt: &T,

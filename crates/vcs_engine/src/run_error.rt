@@ -14,7 +14,7 @@ pub enum RunError {
     /// An input has more than 16,777,216 bytes.
     #[error("file too long")]
     TooLong,
-    /// A growth was refused.
+    /// An allocation was refused.
     #[error("out of memory")]
     NoMemory,
     /// The start of a thread was refused.

@@ -26,7 +26,7 @@ left_by (Played s rows) = s
 left_by (Failed kind s) = s
 
 -- The console of a state at a frame's start: the pins and the buttons are those of the input, then
--- a pressed button sets its latch where VBLANK has bit 6, and the line is 0.
+-- a pressed button sets its latch if VBLANK has bit 6, and the line is 0.
 abbrev pub console_of : {S : Type 0} → List ℕ → StateFields → InputData → S → Console S
 console_of cart s i sink =
     record {

@@ -16,7 +16,7 @@ is_state f = is_status f.cpu.p && is_riot f.riot && is_tia f.tia && (f.tia.clock
 abbrev pub line_cycle_of : StateFields → ℕ
 line_cycle_of f = f.tia.clock / 3
 
--- A console that was just switched on. PC comes from the reset vector, in the second bank where
+-- A console that was just switched on. PC comes from the reset vector, in the second bank if
 -- there are two; the rest is this project's own: S is FF, I is set, and all else of the processor
 -- is 0.
 abbrev pub state_at_power_on : List ℕ → StateFields

@@ -212,7 +212,7 @@ impl<'a, S: Paint> Console<'a, S> {
         self.stirred = true;
     }
 
-    /// The wait that an instruction left, in cycles: up to the next scanline where it wrote WSYNC.
+    /// The wait that an instruction left, in cycles: up to the next scanline if it wrote WSYNC.
     #[tactic(auto, unfolding(crate::specs::Consoles::meaning_of, riot_map::specs::Riot::after_cycles))]
     #[inline(always)]
     pub fn wait(&mut self) -> u8
@@ -227,7 +227,7 @@ impl<'a, S: Paint> Console<'a, S> {
         }
     }
 
-    /// The same, where WSYNC was written or VSYNC has fallen.
+    /// The same, if WSYNC was written or VSYNC has fallen.
     #[tactic(auto, unfolding(crate::specs::Consoles::meaning_of, riot_map::specs::Riot::after_cycles))]
     #[inline(never)]
     fn wait_for_line(&mut self) -> u8

@@ -17,7 +17,7 @@ pub struct StateFields {
     /// The beam stands where a cycle of the processor begins, so that `clock` is three times the
     /// cycles of its scanline.
     pub tia: TiaFields,
-    /// The selected bank of the cartridge, 0 or 1; 0 where it has no banks.
+    /// The selected bank of the cartridge, 0 or 1; 0 if it has no banks.
     pub bank: u8,
 }
 

@@ -41,13 +41,13 @@ fn frame_onto<S: Paint + Drop>(
     }
 }
 
-/// One frame on a cartridge from a state, with its picture where `keep` is true.
+/// One frame on a cartridge from a state, with its picture if `keep` is true.
 ///
 /// A frame sets the pins and buttons from its input, then executes instructions, each with its wait
 /// after WSYNC, until bit 1 of VSYNC has fallen. It takes at most 24,401 cycles. After a fault the
 /// state is the one before the faulty instruction, with the frame's beginning done, and after
 /// `Overlong` the one that was reached. With `keep` false no memory is taken; with `keep` true that
-/// of 322 rows is taken first, in one growth, and where it is refused the state stays as it was.
+/// of 322 rows is taken first, in one allocation, and if it is refused the state stays as it was.
 pub fn frame(
     alloc: Global,
     cart: &Cart,
@@ -77,7 +77,7 @@ pub fn frame(
     }
 }
 
-/// How one frame on a cartridge stops before its end, and after how many of its cycles; none where
+/// How one frame on a cartridge stops before its end, and after how many of its cycles; none if
 /// it ends.
 ///
 /// The state is left as `frame` leaves it, and no memory is taken. The cycles are those of the

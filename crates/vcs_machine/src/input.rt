@@ -10,7 +10,7 @@ use std::marker::Model;
 /// joystick 1; 0 is pressed. SWCHB's bit 0 is reset, bit 1 select (0 is pressed), bit 3 colour,
 /// bits 6 and 7 the difficulty of players 0 and 1; its bits 2, 4 and 5 are 1 (Stella
 /// Programmer's Guide; that the unused ones are 1 is this project's own rule). Bits 0 and 1 of
-/// the buttons are 1 where button 0 or 1 is pressed.
+/// the buttons are 1 if button 0 or 1 is pressed.
 #[derive(Clone, Copy, Debug, PartialEq, Eq)]
 pub struct Input {
     swcha: u8,
@@ -32,7 +32,7 @@ impl Model for Input {
 }
 
 impl Input {
-    /// The input of these numbers, where no bit has a value that no console gives it.
+    /// The input of these numbers, if no bit has a value that no console gives it.
     pub fn new(swcha: u8, swchb: u8, buttons: u8) -> Option<Input>
         ensures { result ≡ (if is_input (record { swcha = swcha; swchb = swchb; buttons = buttons })
             then Some (record { swcha = swcha; swchb = swchb; buttons = buttons }) else None) }

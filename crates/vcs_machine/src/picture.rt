@@ -77,7 +77,7 @@ fn blank_rows(alloc: Global) -> Result<Vec<[u8; 160]>, AllocError>
 }
 
 impl Picture {
-    /// A picture of the most rows, all zeros. Its memory is taken in one growth.
+    /// A picture of the most rows, all zeros. Its memory is taken in one allocation.
     pub(crate) fn blank(alloc: Global) -> Result<Picture, AllocError>
         ensures { IfOk result (λ p. p ≡ blank MOST_ROWS) }
     {

@@ -59,7 +59,7 @@ impl State {
         }
     }
 
-    /// The state of these numbers, where each condition of the state record holds.
+    /// The state of these numbers, if each condition of the state record holds.
     pub fn from_fields(fields: StateFields) -> Option<State>
         ensures { result ≡ (if is_state fields then Some fields else None) }
     {

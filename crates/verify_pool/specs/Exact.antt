@@ -20,7 +20,7 @@ if_bad number outcome = if passed outcome then [] else number ∷ []
 abbrev pub bad_numbers : List PieceData → List ℕ
 bad_numbers pieces = flat_map (λ (p : PieceData). if_bad p.number p.outcome) pieces
 
--- Memory is refused to a piece only where its segment has a kept frame.
+-- Memory is refused to a piece only if its segment has a kept frame.
 abbrev pub WantsMemoryForPictures : PieceData → Type 0
 WantsMemoryForPictures p = p.outcome ≡ NoMemory → HasKept p.job p.number
 
@@ -30,6 +30,6 @@ pub record IsExact (job : Job) (v : Part) (pieces : List PieceData) : Type 0 whe
   pub names : NamesAll job pieces
   -- One piece for each number that was drawn and not passed over, and no other.
   pub pieces_of : (k : ℕ) → times k (piece_numbers pieces) + times k v.passed_over ≡ times k v.drawn
-  -- Such a number is reported exactly where its piece did not pass.
+  -- Such a number is reported exactly if its piece did not pass.
   pub reports_of : (k : ℕ) → times k (bad_numbers pieces) ≡ times k v.reported
   pub memory : All WantsMemoryForPictures pieces

@@ -12,12 +12,12 @@ use segment_desk::Ticket;
 ///
 /// A gate may take time, take memory, note what it is called for, and wait for what another worker
 /// does, as for its entry of another segment. It has to return: `verify` and `crew` join their
-/// threads, so where a gate never returns they don't either. A wait for another segment needs a
+/// threads, so if a gate never returns they don't either. A wait for another segment needs a
 /// bound, since that segment may never be entered: it may be passed over, there may be too few
 /// workers, and the start of a thread may be refused.
 ///
 /// A gate can't change a verdict. It sees the ticket and the piece and can change neither, and it
-/// returns nothing. Where it takes memory that a replay then lacks, there may be no verdict.
+/// returns nothing. If it takes memory that a replay then lacks, there may be no verdict.
 pub trait Gate {
     ghost use Rattle.std.specs.Prelude.{◌≡◌, ◌⊎◌, ◌<◌, IsTrue, Some};
     ghost use Rattle.replay_segments.specs.Pieces.{passed};

@@ -21,7 +21,7 @@ use std::thread::Threads;
 pub enum VerifyError {
     /// The start of a thread was refused.
     NoThread,
-    /// A growth was refused: for the desk, for the lists of pieces, or for pictures.
+    /// An allocation was refused: for the desk, for the lists of pieces, or for pictures.
     NoMemory,
 }
 
@@ -53,11 +53,11 @@ fn hands_of(
 
 /// The verdict of a movie, which is that of one unbroken run from its start state, by workers, who
 /// replay the segments between the cuts: one on the calling thread, each other one in a thread of
-/// its own. The cuts fit the movie. Where there is one worker, or one segment, no thread is
+/// its own. The cuts fit the movie. If there is one worker, or one segment, no thread is
 /// started.
 ///
-/// It joins its threads, so it returns where each of them does. It is refused in this order:
-/// NoMemory for the desk or the lists of pieces; NoThread; and NoMemory, where that was the outcome
+/// It joins its threads, so it returns if each of them does. It is refused in this order:
+/// NoMemory for the desk or the lists of pieces; NoThread; and NoMemory, if that was the outcome
 /// of the first segment that did not pass, or for the list of all pictures.
 pub fn verify<G: Gate + Sync, R: Threads + Wait + Sync>(
     rt: &R,

@@ -77,7 +77,7 @@ impl<'s, G: Gate> Shared<'s, G> {
     }
 
     /// Draws a segment and replays it, unless a smaller one is known not to have passed. False
-    /// where none is left.
+    /// if none is left.
     fn work_once(&self, ticket: &mut Ticket, pieces: &mut Vec<Piece>) -> bool
         requires own { IsOf self.now.desk.now ticket.old }
         requires known { IsKnown ticket.old.part }

@@ -154,10 +154,10 @@ fn crew_within<'s, E, G: Gate + Sync, R: Threads + Wait + Sync>(
 /// own, and gives back the first with the numbers and the pieces of all. The cuts fit the movie,
 /// and the desk is for its segments.
 ///
-/// A worker looks after each draw, and passes a segment over where a smaller one is known not to
+/// A worker looks after each draw, and passes a segment over if a smaller one is known not to
 /// have passed. Of each other one it tells the gate, replays it, and reports it unless it passed.
 ///
-/// One hand is worked on by the calling thread, without another. NoThread comes where the start of
+/// One hand is worked on by the calling thread, without another. NoThread comes if the start of
 /// a thread was refused, for any cause, after those that were started have ended.
 pub fn crew<G: Gate + Sync, R: Threads + Wait + Sync>(
     rt: &R,

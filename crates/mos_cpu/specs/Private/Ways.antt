@@ -44,7 +44,7 @@ pub record IsTarget {S : Type 0} (m : Meaning S) (s : S) (r : Registers) (mode :
   pub named : ◌≡◌ {A = Result Operand CpuFault} (operand_by_mode m s r mode) (Ok (Place t.address t.crossed))
   pub next : t.next ≡ (r.pc + length_of mode) % 65536
 
--- The place that a mode names, or none where a byte of the instruction isn't there.
+-- The place that a mode names, or none if a byte of the instruction isn't there.
 abbrev pub IsNamed : {S : Type 0} → Meaning S → S → Registers → Mode → Option Target → Type 0
 IsNamed m s r mode (Some target) = IsTarget m s r mode target
 IsNamed m s r mode None = IsErr (operand_by_mode m s r mode)
@@ -60,7 +60,7 @@ pub record IsUndone {S : Type 0} (m : Meaning S) (r : Registers) (s : S) (after 
   pub bus_state : bus ≡ s
   pub fault : IsErr (instruction_at m s r)
 
--- A way answers and leaves what a step does, or has no answer where it is a fault.
+-- A way answers and leaves what a step does, or has no answer if it is a fault.
 abbrev pub IsWay : {S : Type 0} → Meaning S → Registers → S → Option ℕ → Registers → S → Type 0
 IsWay m r s (Some cycles) after bus = IsStepOf m r s cycles after bus
 IsWay m r s None after bus = IsUndone m r s after bus
@@ -90,7 +90,7 @@ pub record IsChanger (o : Operation) : Type 0 where
       → effect o (Place address crossed) r bytes ≡ with_p r (changed_of o (slice_index bytes 0) r.p).p
   pub in_a : (r : Registers) (bytes : List ℕ) → effect o Register r bytes ≡ with_a r (changed_of o r.a r.p)
 
--- An operation that goes elsewhere where its test is met.
+-- An operation that goes elsewhere if its test is met.
 pub record IsBranch (o : Operation) : Type 0 where
   pub used : use_of o ≡ Nothing
   pub plain : takes_vector o ≡ false

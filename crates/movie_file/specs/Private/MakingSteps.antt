@@ -12,7 +12,7 @@ use Rattle.movie_file.specs.Making.{bare, IsFirstFault}
 use Rattle.movie_file.specs.Movie.{IsState}
 use Rattle.movie_file.specs.Run.{run}
 
--- the checkpoint after a frame, where the frame's number is a multiple
+-- the checkpoint after a frame, if the frame's number is a multiple
 abbrev pub checkpoint_if : ℕ → ℕ → StateFields → List Checkpoint
 checkpoint_if every frame state = if frame % every == 0 then record { frame = frame; state = state } ∷ [] else []
 

@@ -27,8 +27,8 @@ fn all_inputs_in(alloc: Global, bytes: &[u8]) -> Result<Vec<Input>, MovieError>
     Ok(inputs)
 }
 
-/// The inputs that the bytes spell, three bytes each. `Short` comes where the length is no
-/// multiple of three, then `NoMemory` where their growth is refused, then the first `BadInput`.
+/// The inputs that the bytes spell, three bytes each. `Short` comes if the length is no
+/// multiple of three, then `NoMemory` if their allocation is refused, then the first `BadInput`.
 pub fn read_inputs(alloc: Global, bytes: &[u8]) -> Result<Vec<Input>, MovieError>
     ensures found { IfOk result (λ inputs. SpellsInputs bytes.now inputs.items) }
     // What the bytes spell is read, unless memory was refused.

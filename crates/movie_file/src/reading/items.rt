@@ -57,7 +57,7 @@ fn head_state_in(sizes: Sizes, bytes: &[u8]) -> Option<State>
     movie_state_in(sizes, &bytes[..record_length(sizes.version)])
 }
 
-/// The checkpoint of a number, at the head of the bytes, where the one before it stands after
+/// The checkpoint of a number, at the head of the bytes, if the one before it stands after
 /// frame `last`.
 #[tactic(auto, unfolding(crate::specs::Reading::claimed_checkpoint))]
 fn checkpoint_in(

@@ -5,7 +5,7 @@ ghost use Rattle.movie_file.specs.RecordParts.{cpu_bytes, cpu_at};
 
 use mos_cpu::Cpu;
 
-/// The processor that seven bytes spell; none where the one of P isn't a status.
+/// The processor that seven bytes spell; none if the one of P isn't a status.
 pub fn cpu_in(bytes: &[u8]) -> Option<Cpu>
     requires { length bytes.now ≡ 7 }
     ensures { result

@@ -7,7 +7,7 @@ use tia_core::TiaFields;
 /// The cycles of a scanline, each of three colour clocks.
 const LINE_CYCLES: u8 = 76;
 
-/// The TIA that 42 bytes spell; none where the beam is beyond its scanline.
+/// The TIA that 42 bytes spell; none if the beam is beyond its scanline.
 pub fn tia_in(bytes: &[u8]) -> Option<TiaFields>
     requires { length bytes.now ≡ 42 }
     ensures { result

@@ -4,7 +4,7 @@ use Rattle.movie_file.specs.Movie.{MovieData}
 use Rattle.movie_file.specs.Run.{run}
 use Rattle.movie_file.specs.declared.checkpoint.Checkpoint.{Checkpoint}
 
--- The run has a state after a frame, and the checkpoint before index `next`, where there is one, is
+-- The run has a state after a frame, and the checkpoint before index `next`, if there is one, is
 -- not after that frame and claims the run's state.
 pub record IsResumable (m : MovieData) (next frame : ℕ) : Type 0 where
   pub within : next ≤ length m.checkpoints

@@ -21,7 +21,7 @@ IsFrameStep m k old keep new (Ok picture) =
 IsFrameStep m k old keep new (Err (Fault kind)) = (left : StateFields) × (frame_after m k old ≡ Some (Failed kind left))
 IsFrameStep m k old keep new (Err NoMemory) = keep ≡ true
 
--- The same, where a kept picture goes to the end of a list.
+-- The same, if a kept picture goes to the end of a list.
 abbrev pub IsAdvance : MovieData → Keep → ℕ → StateFields → List Rows → StateFields → List Rows → Result (Unit {0}) FrameError → Type 0
 IsAdvance m keep before old olds new news (Ok _) =
     (rows : Rows) × (frame_after m before old ≡ Some (Played new rows))

@@ -44,7 +44,7 @@ pub record IsLawfulTia (t : TiaFields) : Type 0 where
   pub position_bl : t.position_bl < 160
   pub collisions : t.collisions < 2 ^ 15
   pub latches : t.latches < 4
-  -- no latch is set where VBLANK has bit 6 clear
+  -- no latch is set if VBLANK has bit 6 clear
   pub unlatched : has_bit t.vblank 6 ≡ false → t.latches ≡ 0
   pub clock : t.clock < 228
   pub comb : t.comb < 2

@@ -67,7 +67,7 @@ union_of a b = record {
 abbrev pub is_any : Objects → Bool
 is_any o = o.player0 || o.player1 || o.missile0 || o.missile1 || o.ball || o.playfield
 
--- the objects of `new` where they are of this set, else those of `old`
+-- the objects of `new` if they are of this set, else those of `old`
 abbrev pub with_objects : Objects → Objects → Objects → Objects
 with_objects o new old = record {
   player0 = if o.player0 then new.player0 else old.player0;

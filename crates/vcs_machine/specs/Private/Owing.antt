@@ -28,7 +28,7 @@ pub record IsBehind {S : Type 0} (d : Devices S) : Type 0 where
 abbrev pub given_back : {S : Type 0} → Devices S → ℕ → Devices S
 given_back d cycles = record d { left = (d.left + cycles) % 256 }
 
--- What is known where no instruction stirred: none wrote WSYNC, and VSYNC has not fallen.
+-- What is known if no instruction stirred: none wrote WSYNC, and VSYNC has not fallen.
 pub record IsStirring (stirred awaits_line ended : Bool) : Type 0 where
   pub no_wait : stirred ≡ false → awaits_line ≡ false
   pub no_end : stirred ≡ false → ended ≡ false
