@@ -24,8 +24,9 @@ truncate -s 16777217 too-long
 cat one.ppm one.ppm >two.ppm
 { printf 'P6\n160 2\n255\n'; head -c 960 /dev/zero; } >two-rows.ppm
 
-# The movie with a checkpoint after frame 1 and that with one after frame 2 give the one with both, the one without any, and the one
-# of the cartridge twice as long, whose second half is its first.
+# The movie with a checkpoint after frame 1 and that with one after frame 2 give the one with both, the one without
+# any, and the one of the cartridge twice as long, whose second half is its first.
 { head -c 12 one.a26m; printf '\x00\x02'; tail -c +15 one.a26m; tail -c 191 end.a26m; } >both.a26m
 { head -c 12 one.a26m; printf '\x00\x00'; tail -c +15 one.a26m | head -c 2241; } >no-checkpoint.a26m
-{ head -c 6 end.a26m; printf '\x10\x00'; tail -c +9 end.a26m | head -c 6; cat twice.rom; tail -c +2063 end.a26m; } >4096-bytes.a26m
+{ head -c 6 end.a26m; printf '\x10\x00'; tail -c +9 end.a26m | head -c 6; cat twice.rom; tail -c +2063 end.a26m; } \
+    >4096-bytes.a26m
