@@ -1,0 +1,22 @@
+/* Refuses the growth whose number REFUSED names, and then makes the file REFUSAL. */
+#include <fcntl.h>
+#include <stdatomic.h>
+#include <stdlib.h>
+#include <unistd.h>
+
+extern void *__libc_malloc(size_t);
+static long refused;
+static atomic_long made;
+
+__attribute__((constructor)) static void begin(void) {
+    refused = atol(getenv("REFUSED"));
+    made = 0;
+}
+
+void *malloc(size_t size) {
+    if (refused != 0 && atomic_fetch_add(&made, 1) + 1 == refused) {
+        close(open(getenv("REFUSAL"), O_CREAT | O_WRONLY, 0600));
+        return 0;
+    }
+    return __libc_malloc(size);
+}
