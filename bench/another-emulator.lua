@@ -1,0 +1,100 @@
+-- What bench/another-emulator has MAME do: it plays the file 'inputs', three numbers a frame as a movie has them, and
+-- writes the file 'states', a line a frame: what processor, memory, RIOT, TIA and cartridge hold at the frame's end.
+
+local machine = manager.machine
+local processor = machine.devices[":maincpu"]
+local space = processor.spaces["program"]
+local memory = machine.memory.shares[":riot_ram"]
+local cycles_a_second = 1193191
+
+-- All numbers that MAME would save of the TIA and the RIOT, by their names.
+local function saved_numbers()
+  local numbers = {}
+  for _, tag in ipairs({":tia_video", ":riot"}) do
+    for name, index in pairs(machine.devices[tag].items) do
+      local item = emu.item(index)
+      if item.count == 1 then numbers[name:gsub("^0/", "")] = item end
+    end
+  end
+  return numbers
+end
+
+-- The inputs of all frames.
+local function read_inputs()
+  local inputs = {}
+  for line in io.lines("inputs") do
+    local ports, console, buttons = line:match("(%d+) (%d+) (%d+)")
+    inputs[#inputs + 1] = {tonumber(ports), tonumber(console), tonumber(buttons)}
+  end
+  return inputs
+end
+
+-- A function for the selected bank, which MAME doesn't show: it looks where the two differ. None without banks.
+local function bank_reader()
+  local rom = machine.memory.regions[":cartslot:cart:rom"]
+  for place = 0, rom.size == 8192 and 0x0FF7 or -1 do
+    if rom:read_u8(place) ~= rom:read_u8(0x1000 + place) then
+      return function() return space:read_u8(0x1000 + place) == rom:read_u8(0x1000 + place) and 1 or 0 end
+    end
+  end
+end
+
+-- The line of a frame: names with their numbers, and the memory.
+local function state_line(numbers, bank)
+  local words = {"cycles=" .. math.floor(machine.time:as_double() * cycles_a_second + 0.5)}
+  if bank then words[#words + 1] = "bank=" .. bank() end
+  for _, name in ipairs({"PC", "IR", "A", "X", "Y", "SP", "P"}) do
+    words[#words + 1] = name .. "=" .. processor.state[name].value
+  end
+  for name, item in pairs(numbers) do words[#words + 1] = name .. "=" .. item:read(0) end
+  local bytes = {}
+  for place = 0, 127 do bytes[#bytes + 1] = string.format("%02x", memory:read_u8(place)) end
+  return table.concat(words, " ") .. " memory=" .. table.concat(bytes) .. "\n"
+end
+
+-- What docs/MACHINE.md says of power-on by a rule of its own, and MAME has otherwise: the second of two banks is
+-- selected, the timer has an interval of 1024 cycles and one to go, and no collision has been.
+local function power_on(numbers)
+  space:read_u8(0x1FF9)
+  space:write_u8(0x0297, 0)
+  for name, item in pairs(numbers) do
+    if name:match("^CX") then item:write(0, 0) end
+  end
+end
+
+local inputs = read_inputs()
+local numbers, bank = saved_numbers(), bank_reader()
+local states = io.open("states", "w")
+local frame, written = 1, 0 -- and what was last written to VSYNC
+states:setvbuf("line")
+power_on(numbers)
+
+-- What follows is global, so that MAME keeps it. MAME itself looks at what is held once in a frame of its own, wherever
+-- the program then is; so what is held is put in where the program reads it, a bit of a port if it is an input.
+WatchOfPorts = space:install_read_tap(0x0280, 0x029F, "ports", function(address, byte)
+  if address & 5 ~= 0 then return byte end
+  local port = address >> 1 & 1
+  local driven = numbers["m_port[" .. port .. "].m_ddr"]:read(0)
+  return byte & driven | inputs[frame][port + 1] & ~driven & 0xFF
+end)
+
+-- The same of the buttons. Other bits that the TIA doesn't drive are 0 here, and in MAME what was on the bus.
+WatchOfTia = space:install_read_tap(0x0000, 0x007F, "tia", function(address, byte)
+  local button = (address & 0x0F) - 0x0C
+  if button ~= 0 and button ~= 1 then return byte & 0xC0 end
+  return inputs[frame][3] >> button & 1 == 1 and 0 or 0x80
+end)
+
+-- A write is seen before it is done.
+WatchOfVsync = space:install_write_tap(0x0000, 0x0000, "vsync", function(_, byte)
+  local ends = written & 2 == 2 and byte & 2 == 0
+  written = byte
+  if not ends or frame > #inputs then return end
+  states:write(state_line(numbers, bank))
+  frame = frame + 1
+  if frame > #inputs then
+    inputs[frame] = inputs[frame - 1]
+    states:close()
+    machine:exit()
+  end
+end)
