@@ -1,11 +1,17 @@
 -- What bench/another-emulator has MAME do: it plays the file 'inputs', three numbers a frame as a movie has them, and
--- writes the file 'states', a line a frame: what processor, memory, RIOT, TIA and cartridge hold at the frame's end.
+-- writes the file 'states', a line a frame: what processor, memory, RIOT, TIA and cartridge hold at the frame's end. Of as many
+-- frames as PICTURES says it also writes 'writes', a line for each write to the TIA, and 'pictures', each after its frame's number.
 
 local machine = manager.machine
 local processor = machine.devices[":maincpu"]
 local space = processor.spaces["program"]
 local memory = machine.memory.shares[":riot_ram"]
 local cycles_a_second = 1193191
+
+-- The cycles that have passed.
+local function cycles()
+  return math.floor(machine.time:as_double() * cycles_a_second + 0.5)
+end
 
 -- All numbers that MAME would save of the TIA and the RIOT, by their names.
 local function saved_numbers()
@@ -41,7 +47,7 @@ end
 
 -- The line of a frame: names with their numbers, and the memory.
 local function state_line(numbers, bank)
-  local words = {"cycles=" .. math.floor(machine.time:as_double() * cycles_a_second + 0.5)}
+  local words = {"cycles=" .. cycles()}
   if bank then words[#words + 1] = "bank=" .. bank() end
   for _, name in ipairs({"PC", "IR", "A", "X", "Y", "SP", "P"}) do
     words[#words + 1] = name .. "=" .. processor.state[name].value
@@ -69,6 +75,17 @@ local frame, written = 1, 0 -- and what was last written to VSYNC
 states:setvbuf("line")
 power_on(numbers)
 
+-- What MAME shows at the end of a frame of its own is what the program had drawn when the first line was to be shown, 238
+-- lines before: a picture of the frame that had ended by then.
+local wanted = tonumber(os.getenv("PICTURES") or "0")
+local pictures, writes = io.open("pictures", "wb"), io.open("writes", "w")
+local moments = {}
+emu.register_frame_done(function()
+  local bytes, shown = machine.screens[":screen"]:pixels(), #moments
+  while shown > 0 and moments[shown] > cycles() - 238 * 76 do shown = shown - 1 end
+  if shown <= wanted then pictures:write(string.pack("<I4", shown), bytes) end
+end)
+
 -- What follows is global, so that MAME keeps it. MAME itself looks at what is held once in a frame of its own, wherever
 -- the program then is; so what is held is put in where the program reads it, a bit of a port if it is an input.
 WatchOfPorts = space:install_read_tap(0x0280, 0x029F, "ports", function(address, byte)
@@ -91,10 +108,18 @@ WatchOfVsync = space:install_write_tap(0x0000, 0x0000, "vsync", function(_, byte
   written = byte
   if not ends or frame > #inputs then return end
   states:write(state_line(numbers, bank))
+  moments[frame] = cycles()
   frame = frame + 1
   if frame > #inputs then
     inputs[frame] = inputs[frame - 1]
-    states:close()
+    for _, file in ipairs({states, pictures, writes}) do file:close() end
+    wanted = 0
     machine:exit()
   end
+end)
+
+-- It is put in last, since of two such functions the later one is called first.
+WatchOfWrites = space:install_write_tap(0x0000, 0x003F, "writes", function(address, byte)
+  if frame > wanted then return end
+  writes:write(cycles(), " ", address & 0x3F, " ", byte, "\n")
 end)
