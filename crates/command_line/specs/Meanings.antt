@@ -81,6 +81,7 @@ Suits (number least most default) text = IsNumberIn least most text
 Suits (needed_number least most) text = IsNumberIn least most text
 Suits other text = Unit {0}
 
+-- The same of each argument of a list.
 abbrev pub SuitsEach : List Argument → List Row → Type 0
 SuitsEach [] rows = Unit {0}
 SuitsEach (argument ∷ more) rows =

@@ -30,6 +30,7 @@ pub record Listed : Type 0 where
   pub name : Text
   pub arguments : List Argument
 
+-- The rows. Where two commands have an argument alike it is one row.
 abbrev pub file_row : Argument
 file_row = record { name = codes "file"; kind = operand }
 
@@ -69,6 +70,7 @@ old_row = record { name = codes "old"; kind = operand }
 abbrev pub new_row : Argument
 new_row = record { name = codes "new"; kind = operand }
 
+-- The commands, with their rows in the order of help.
 abbrev pub verify_listed : Listed
 verify_listed = record {
   name = codes "verify";
@@ -119,6 +121,7 @@ rule_as (number least most default) name =
 rule_as (needed_number least most) name = record (with_number least most name) { required = true }
 rule_as switch name = record (new_rule name) { long = Some name; action = Some SetTrue }
 
+-- An argument of the table.
 abbrev pub rule_for : Argument → Rule
 rule_for argument = rule_as argument.kind argument.name
 
@@ -126,6 +129,7 @@ rule_for argument = rule_as argument.kind argument.name
 abbrev pub IsRow : Argument → Arg → Type 0
 IsRow argument given = (rule_of given ≡ rule_for argument) × (given.global ≡ false)
 
+-- A command of the table.
 abbrev pub shape_for : Listed → Shape
 shape_for listed = record (new_shape listed.name) { rules = map rule_for listed.arguments }
 

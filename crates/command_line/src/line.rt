@@ -9,6 +9,7 @@ ghost use Rattle.command_line.specs.Faults.{IsRefusal};
 ghost use Rattle.command_line.specs.Meanings.{HasNumbers, IsCommand, IsCommandAt, IsPlan};
 ghost use Rattle.command_line.specs.Meanings.{Suits, number_of};
 ghost use Rattle.command_line.specs.Pictures.{KeepsWhatIsTaken};
+ghost use Rattle.command_line.specs.declared.command.Command.TheVariants.{Stdin};
 ghost use Rattle.command_line.specs.Table.{program_app, verify_listed, report_listed, make_listed};
 ghost use Rattle.command_line.specs.Table.{workers_row, cuts_row, first_row, count_row};
 ghost use Rattle.command_line.specs.Table.{checkpoints_row, pictures_row, text_row};
@@ -221,6 +222,8 @@ pub fn parse_line<S: AsStr>(alloc: Global, words: &[S]) -> Result<Command, LineF
     ensures kept { IfOk result KeepsWhatIsTaken }
     ensures taken { IfOk result (λ _. faults_at program_app (map S.text words.now) ≡ []) }
     ensures ok { IfOk result (IsCommand (subcommand_of program_app (map S.text words.now))) }
+    ensures stdin { IfOk result (λ command. command ≡ Stdin
+        → subcommand_of program_app (map S.text words.now) ≡ None) }
     ensures err { IfErr result (IsRefusal (map S.text words.now)) }
 {
     let program = program(alloc)?;
