@@ -1,4 +1,6 @@
 //! What a command line asks for.
+ghost use Rattle.std.specs.Prelude.{◌≡◌};
+ghost use Rattle.command_line.specs.declared.command.LineFault.TheVariants.{Memory};
 
 use replay_plan::{Plan, Workers};
 use std::alloc::AllocError;
@@ -60,6 +62,8 @@ pub enum LineFault {
 }
 
 impl From<AllocError> for LineFault {
+    ghost from_gives = { λ _ fault. fault ≡ Memory };
+
     fn from(_refused: AllocError) -> LineFault {
         LineFault::Memory
     }

@@ -1,6 +1,18 @@
 //! From arguments to a command.
-ghost use Rattle.std.specs.Prelude.{◌≡◌, false, IfOk, IfSome};
+ghost use Rattle.std.specs.Prelude.{◌≡◌, ◌↔◌, false, true, [], map, codes, option_map, unwrap_or};
+ghost use Rattle.std.specs.Prelude.{IfErr, IfOk, IfNone, IfSome, string_bytes};
+ghost use Rattle.std.specs.NonZero.{non_zero_u16_get, non_zero_u32_get};
+ghost use Rattle.clap.specs.Words.{fault_of as faults_at, found_of, kind_of, rows_of, subcommand_of};
+ghost use Rattle.clap.specs.Words.{first_of, one_of};
+ghost use Rattle.command_line.specs.Faults.{HasBadValue, IsAnswerTo, IsMistake, IsOutOfRange};
+ghost use Rattle.command_line.specs.Faults.{IsRefusal};
+ghost use Rattle.command_line.specs.Meanings.{HasNumbers, IsCommand, IsCommandAt, IsPlan};
+ghost use Rattle.command_line.specs.Meanings.{Suits, number_of};
 ghost use Rattle.command_line.specs.Pictures.{KeepsWhatIsTaken};
+ghost use Rattle.command_line.specs.declared.command.Command.TheVariants.{Stdin};
+ghost use Rattle.command_line.specs.Table.{program_app, verify_listed, report_listed, make_listed};
+ghost use Rattle.command_line.specs.Table.{workers_row, cuts_row, first_row, count_row};
+ghost use Rattle.command_line.specs.Table.{checkpoints_row, pictures_row, text_row};
 
 use crate::command::{Command, LineFault};
 use crate::parser::program;
@@ -11,25 +23,60 @@ use std::alloc::{AllocError, Global};
 use std::convert::AsStr;
 use std::num::{NonZeroU16, NonZeroU32};
 
-fn text_of(alloc: Global, matches: &ArgMatches<'_>, name: &str) -> Result<String, AllocError> {
+/// The word of an argument, or the empty text.
+fn text_of(alloc: Global, matches: &ArgMatches<'_>, name: &str) -> Result<String, AllocError>
+    ensures { IfOk result (λ text. string_bytes text
+        ≡ unwrap_or (first_of name.now (rows_of (found_of matches.now))) (codes "")) }
+{
     String::from_str(alloc, matches.get_str(name).unwrap_or(""))
 }
 
 /// The workers that are asked for.
-fn workers_of(matches: &ArgMatches<'_>) -> Option<Workers> {
+fn workers_of(matches: &ArgMatches<'_>) -> Option<Workers>
+    ensures some { IfSome result (λ workers.
+        number_of workers_row (rows_of (found_of matches.now)) ≡ Some workers.number) }
+    ensures none { IfNone result (Suits workers_row.kind
+        (one_of workers_row.name (rows_of (found_of matches.now))) → ⊥) }
+{
     Workers::new(matches.get_one::<u8>("workers")?)
+}
+
+/// Where `verify` cuts the movie.
+fn cuts_of(matches: &ArgMatches<'_>) -> Option<NonZeroU16>
+    ensures some { IfSome result (λ every. number_of cuts_row
+        (rows_of (found_of matches.now)) ≡ Some (non_zero_u16_get every)) }
+    ensures none { IfNone result (Suits cuts_row.kind
+        (one_of cuts_row.name (rows_of (found_of matches.now))) → ⊥) }
+{
+    NonZeroU16::new(matches.get_one::<u16>("every")?)
+}
+
+/// The pictures that are kept, which are none if no file takes them.
+fn keep_of(matches: &ArgMatches<'_>, pictures: bool) -> Option<Keep>
+    ensures kept { IfSome result (λ keep. pictures ≡ false → keep.count ≡ 0) }
+    ensures first { IfSome result (λ keep.
+        number_of first_row (rows_of (found_of matches.now)) ≡ Some keep.first) }
+    ensures count { IfSome result (λ keep. pictures ≡ true
+        → number_of count_row (rows_of (found_of matches.now)) ≡ Some keep.count) }
+    ensures none { IfNone result (
+        Suits first_row.kind (one_of first_row.name (rows_of (found_of matches.now)))
+        → Suits count_row.kind (one_of count_row.name (rows_of (found_of matches.now))) → ⊥) }
+{
+    let first = matches.get_one::<u32>("first")?;
+    let wanted = matches.get_one::<u32>("count")?;
+    let count = if pictures { wanted } else { 0 };
+    Keep::new(first, count).ok()
 }
 
 /// The plan that is asked for, which keeps pictures only if a file takes them.
 fn plan_of(matches: &ArgMatches<'_>, pictures: bool) -> Option<Plan>
-    ensures { IfSome result (λ plan. pictures ≡ false → plan.keep.count ≡ 0) }
+    ensures kept { IfSome result (λ plan. pictures ≡ false → plan.keep.count ≡ 0) }
+    ensures some { IfSome result (IsPlan (rows_of (found_of matches.now)) pictures) }
+    ensures none { IfNone result (HasNumbers verify_listed (rows_of (found_of matches.now)) → ⊥) }
 {
     let workers = workers_of(matches)?;
-    let every = NonZeroU16::new(matches.get_one::<u16>("every")?)?;
-    let first = matches.get_one::<u32>("first")?;
-    let wanted = matches.get_one::<u32>("count")?;
-    let count = if pictures { wanted } else { 0 };
-    let keep = Keep::new(first, count).ok()?;
+    let every = cuts_of(matches)?;
+    let keep = keep_of(matches, pictures)?;
     Some(Plan {
         workers,
         every,
@@ -37,15 +84,25 @@ fn plan_of(matches: &ArgMatches<'_>, pictures: bool) -> Option<Plan>
     })
 }
 
+/// The file that takes the pictures, if there is one.
+fn pictures_of(alloc: Global, matches: &ArgMatches<'_>) -> Result<Option<String>, AllocError>
+    ensures { IfOk result (λ pictures. option_map string_bytes pictures
+        ≡ first_of pictures_row.name (rows_of (found_of matches.now))) }
+{
+    match matches.get_str("pictures") {
+        Some(name) => Ok(Some(String::from_str(alloc, name)?)),
+        None => Ok(None),
+    }
+}
+
 /// The command `verify`.
 fn verify_of(alloc: Global, matches: &ArgMatches<'_>) -> Result<Command, LineFault>
-    ensures { IfOk result KeepsWhatIsTaken }
+    ensures kept { IfOk result KeepsWhatIsTaken }
+    ensures ok { IfOk result (IsCommandAt (codes "verify") (rows_of (found_of matches.now))) }
+    ensures err { IfErr result (IsOutOfRange verify_listed (rows_of (found_of matches.now))) }
 {
     let file = text_of(alloc, matches, "file")?;
-    let pictures = match matches.get_str("pictures") {
-        Some(name) => Some(String::from_str(alloc, name)?),
-        None => None,
-    };
+    let pictures = pictures_of(alloc, matches)?;
     let Some(plan) = plan_of(matches, pictures.is_some()) else {
         return Err(out_of_range(alloc));
     };
@@ -58,7 +115,9 @@ fn verify_of(alloc: Global, matches: &ArgMatches<'_>) -> Result<Command, LineFau
 
 /// The command `report`.
 fn report_of(alloc: Global, matches: &ArgMatches<'_>) -> Result<Command, LineFault>
-    ensures { IfOk result KeepsWhatIsTaken }
+    ensures kept { IfOk result KeepsWhatIsTaken }
+    ensures ok { IfOk result (IsCommandAt (codes "report") (rows_of (found_of matches.now))) }
+    ensures err { IfErr result (IsOutOfRange report_listed (rows_of (found_of matches.now))) }
 {
     let file = text_of(alloc, matches, "file")?;
     let Some(workers) = workers_of(matches) else {
@@ -67,16 +126,35 @@ fn report_of(alloc: Global, matches: &ArgMatches<'_>) -> Result<Command, LineFau
     Ok(Command::Report { file, workers })
 }
 
+/// The frames between the checkpoints of `make`.
+fn checkpoints_of(matches: &ArgMatches<'_>) -> Option<NonZeroU32>
+    ensures some { IfSome result (λ every. number_of checkpoints_row
+        (rows_of (found_of matches.now)) ≡ Some (non_zero_u32_get every)) }
+    ensures none { IfNone result (Suits checkpoints_row.kind
+        (one_of checkpoints_row.name (rows_of (found_of matches.now))) → ⊥) }
+{
+    NonZeroU32::new(matches.get_one::<u32>("every")?)
+}
+
+/// Whether the inputs of `make` are text.
+fn is_text(matches: &ArgMatches<'_>) -> bool
+    ensures { (result ≡ true)
+        ↔ (one_of text_row.name (rows_of (found_of matches.now)) ≡ Some (codes "true")) }
+{
+    matches.get_one::<bool>("text").unwrap_or(false)
+}
+
 /// The command `make`.
 fn make_of(alloc: Global, matches: &ArgMatches<'_>) -> Result<Command, LineFault>
-    ensures { IfOk result KeepsWhatIsTaken }
+    ensures kept { IfOk result KeepsWhatIsTaken }
+    ensures ok { IfOk result (IsCommandAt (codes "make") (rows_of (found_of matches.now))) }
+    ensures err { IfErr result (IsOutOfRange make_listed (rows_of (found_of matches.now))) }
 {
     let rom = text_of(alloc, matches, "rom")?;
     let inputs = text_of(alloc, matches, "inputs")?;
     let out = text_of(alloc, matches, "out")?;
-    let text = matches.get_flag("text");
-    let wanted = matches.get_one::<u32>("every").unwrap_or(0);
-    let Some(every) = NonZeroU32::new(wanted) else {
+    let text = is_text(matches);
+    let Some(every) = checkpoints_of(matches) else {
         return Err(out_of_range(alloc));
     };
     Ok(Command::Make {
@@ -89,7 +167,9 @@ fn make_of(alloc: Global, matches: &ArgMatches<'_>) -> Result<Command, LineFault
 }
 
 /// What `clap` says of arguments that are no command, or that ask for help.
-fn fault_of(alloc: Global, error: &clap::Error) -> LineFault {
+fn fault_of(alloc: Global, error: &clap::Error) -> LineFault
+    ensures { IsAnswerTo (kind_of error.now) result }
+{
     if error.kind() == ErrorKind::OutOfMemory {
         return LineFault::Memory;
     }
@@ -101,10 +181,36 @@ fn fault_of(alloc: Global, error: &clap::Error) -> LineFault {
 }
 
 /// A number that `clap` let through outside of its range, which its parser doesn't.
-fn out_of_range(alloc: Global) -> LineFault {
+fn out_of_range(alloc: Global) -> LineFault
+    ensures { IsMistake result }
+{
     match String::from_str(alloc, "error: a number is out of its range\n") {
         Ok(text) => LineFault::Usage { text },
         Err(_) => LineFault::Memory,
+    }
+}
+
+/// The command of this name, of which `clap` found some values.
+fn command_of(alloc: Global, name: &str, matches: &ArgMatches<'_>) -> Result<Command, LineFault>
+    ensures kept { IfOk result KeepsWhatIsTaken }
+    ensures ok { IfOk result (IsCommandAt name.now (rows_of (found_of matches.now))) }
+    ensures err { IfErr result (HasBadValue name.now (rows_of (found_of matches.now))) }
+{
+    match name {
+        "verify" => verify_of(alloc, matches),
+        "report" => report_of(alloc, matches),
+        "make" => make_of(alloc, matches),
+        "info" => Ok(Command::Info {
+            file: text_of(alloc, matches, "file")?,
+        }),
+        "inputs" => Ok(Command::Inputs {
+            file: text_of(alloc, matches, "file")?,
+        }),
+        "convert" => Ok(Command::Convert {
+            old: text_of(alloc, matches, "old")?,
+            new: text_of(alloc, matches, "new")?,
+        }),
+        _ => Ok(Command::Stdin),
     }
 }
 
@@ -113,7 +219,12 @@ fn out_of_range(alloc: Global) -> LineFault {
 /// If they name no command it is `Command::Stdin`. Each number is tried by `clap`, and once more
 /// here, since its type promises its range.
 pub fn parse_line<S: AsStr>(alloc: Global, words: &[S]) -> Result<Command, LineFault>
-    ensures { IfOk result KeepsWhatIsTaken }
+    ensures kept { IfOk result KeepsWhatIsTaken }
+    ensures taken { IfOk result (λ _. faults_at program_app (map S.text words.now) ≡ []) }
+    ensures ok { IfOk result (IsCommand (subcommand_of program_app (map S.text words.now))) }
+    ensures stdin { IfOk result (λ command. command ≡ Stdin
+        → subcommand_of program_app (map S.text words.now) ≡ None) }
+    ensures err { IfErr result (IsRefusal (map S.text words.now)) }
 {
     let program = program(alloc)?;
     let matches = match program.try_get_matches_from(words) {
@@ -121,19 +232,7 @@ pub fn parse_line<S: AsStr>(alloc: Global, words: &[S]) -> Result<Command, LineF
         Err(error) => return Err(fault_of(alloc, &error)),
     };
     match matches.subcommand() {
-        Some(("verify", inner)) => verify_of(alloc, inner),
-        Some(("report", inner)) => report_of(alloc, inner),
-        Some(("make", inner)) => make_of(alloc, inner),
-        Some(("info", inner)) => Ok(Command::Info {
-            file: text_of(alloc, inner, "file")?,
-        }),
-        Some(("inputs", inner)) => Ok(Command::Inputs {
-            file: text_of(alloc, inner, "file")?,
-        }),
-        Some(("convert", inner)) => Ok(Command::Convert {
-            old: text_of(alloc, inner, "old")?,
-            new: text_of(alloc, inner, "new")?,
-        }),
-        _ => Ok(Command::Stdin),
+        Some((name, inner)) => command_of(alloc, name, inner),
+        None => Ok(Command::Stdin),
     }
 }

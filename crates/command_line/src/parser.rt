@@ -1,4 +1,13 @@
 //! The commands of the program, as `clap` knows them.
+ghost use Rattle.std.specs.Prelude.{◌≡◌, false, IfOk};
+ghost use Rattle.clap.specs.Words.{app_of};
+ghost use Rattle.clap.specs.declared.builder.Command.TheViews.{out-Command};
+ghost use Rattle.command_line.specs.Table.{IsListed, IsRow, file_row, workers_row, cuts_row};
+ghost use Rattle.command_line.specs.Table.{first_row, count_row, pictures_row, rom_row};
+ghost use Rattle.command_line.specs.Table.{inputs_row, text_row, checkpoints_row, out_row};
+ghost use Rattle.command_line.specs.Table.{old_row, new_row, verify_listed, report_listed};
+ghost use Rattle.command_line.specs.Table.{make_listed, info_listed, listing_listed};
+ghost use Rattle.command_line.specs.Table.{convert_listed, program_app};
 
 use clap::{Arg, ArgAction, Command, value_parser};
 use replay_plan::{MOST_KEPT, MOST_WORKERS};
@@ -27,7 +36,9 @@ movies: versions 1 and 2
 machine: revision 1 of its rules";
 
 /// A movie that is read.
-fn movie<'a>(alloc: Global) -> Arg<'a> {
+fn movie<'a>(alloc: Global) -> Arg<'a>
+    ensures { IsRow file_row result }
+{
     Arg::new(alloc, "file")
         .value_name("FILE")
         .required(true)
@@ -35,7 +46,9 @@ fn movie<'a>(alloc: Global) -> Arg<'a> {
 }
 
 /// `--workers N` of `verify` and `report`.
-fn workers<'a>(alloc: Global) -> Arg<'a> {
+fn workers<'a>(alloc: Global) -> Arg<'a>
+    ensures { IsRow workers_row result }
+{
     Arg::new(alloc, "workers")
         .long("workers")
         .value_name("N")
@@ -45,7 +58,9 @@ fn workers<'a>(alloc: Global) -> Arg<'a> {
 }
 
 /// `--every N` of `verify`.
-fn cuts<'a>(alloc: Global) -> Arg<'a> {
+fn cuts<'a>(alloc: Global) -> Arg<'a>
+    ensures { IsRow cuts_row result }
+{
     Arg::new(alloc, "every")
         .long("every")
         .value_name("N")
@@ -55,7 +70,9 @@ fn cuts<'a>(alloc: Global) -> Arg<'a> {
 }
 
 /// `--first N` of `verify`.
-fn first<'a>(alloc: Global) -> Arg<'a> {
+fn first<'a>(alloc: Global) -> Arg<'a>
+    ensures { IsRow first_row result }
+{
     Arg::new(alloc, "first")
         .long("first")
         .value_name("N")
@@ -65,7 +82,9 @@ fn first<'a>(alloc: Global) -> Arg<'a> {
 }
 
 /// `--count N` of `verify`.
-fn count<'a>(alloc: Global) -> Arg<'a> {
+fn count<'a>(alloc: Global) -> Arg<'a>
+    ensures { IsRow count_row result }
+{
     Arg::new(alloc, "count")
         .long("count")
         .value_name("N")
@@ -75,7 +94,9 @@ fn count<'a>(alloc: Global) -> Arg<'a> {
 }
 
 /// `--pictures FILE` of `verify`.
-fn pictures<'a>(alloc: Global) -> Arg<'a> {
+fn pictures<'a>(alloc: Global) -> Arg<'a>
+    ensures { IsRow pictures_row result }
+{
     Arg::new(alloc, "pictures")
         .long("pictures")
         .value_name("FILE")
@@ -84,7 +105,9 @@ fn pictures<'a>(alloc: Global) -> Arg<'a> {
 }
 
 /// `verify FILE`, with its options.
-fn verify<'a>(alloc: Global) -> Result<Command<'a>, AllocError> {
+fn verify<'a>(alloc: Global) -> Result<Command<'a>, AllocError>
+    ensures { IfOk result (IsListed verify_listed) }
+{
     Command::new(alloc, "verify")
         .about("Judge a movie: genuine, its first false checkpoint, or its fault")
         .arg(movie(alloc))?
@@ -96,7 +119,9 @@ fn verify<'a>(alloc: Global) -> Result<Command<'a>, AllocError> {
 }
 
 /// `report FILE`, with its option.
-fn report<'a>(alloc: Global) -> Result<Command<'a>, AllocError> {
+fn report<'a>(alloc: Global) -> Result<Command<'a>, AllocError>
+    ensures { IfOk result (IsListed report_listed) }
+{
     Command::new(alloc, "report")
         .about("Judge a movie, and say what a judge asks next")
         .arg(movie(alloc))?
@@ -104,7 +129,9 @@ fn report<'a>(alloc: Global) -> Result<Command<'a>, AllocError> {
 }
 
 /// `--every N` of `make`.
-fn checkpoints<'a>(alloc: Global) -> Arg<'a> {
+fn checkpoints<'a>(alloc: Global) -> Arg<'a>
+    ensures { IsRow checkpoints_row result }
+{
     Arg::new(alloc, "every")
         .long("every")
         .value_name("N")
@@ -114,7 +141,9 @@ fn checkpoints<'a>(alloc: Global) -> Arg<'a> {
 }
 
 /// `--out MOVIE` of `make`.
-fn out<'a>(alloc: Global) -> Arg<'a> {
+fn out<'a>(alloc: Global) -> Arg<'a>
+    ensures { IsRow out_row result }
+{
     Arg::new(alloc, "out")
         .long("out")
         .value_name("MOVIE")
@@ -124,68 +153,101 @@ fn out<'a>(alloc: Global) -> Arg<'a> {
 }
 
 /// `--text` of `make`.
-fn text<'a>(alloc: Global) -> Arg<'a> {
+fn text<'a>(alloc: Global) -> Arg<'a>
+    ensures { IsRow text_row result }
+{
     Arg::new(alloc, "text")
         .long("text")
         .help("INPUTS is text: how many frames and what is held, a line for each stretch")
         .action(ArgAction::SetTrue)
 }
 
+/// `ROM` of `make`.
+fn rom<'a>(alloc: Global) -> Arg<'a>
+    ensures { IsRow rom_row result }
+{
+    Arg::new(alloc, "rom")
+        .value_name("ROM")
+        .required(true)
+        .help("The cartridge, of 2048, 4096 or 8192 bytes")
+}
+
+/// `INPUTS` of `make`.
+fn frames<'a>(alloc: Global) -> Arg<'a>
+    ensures { IsRow inputs_row result }
+{
+    Arg::new(alloc, "inputs")
+        .value_name("INPUTS")
+        .required(true)
+        .help("Three bytes a frame: SWCHA, SWCHB, buttons; with --text lines of text")
+}
+
 /// `make ROM INPUTS`, with its options.
-fn make<'a>(alloc: Global) -> Result<Command<'a>, AllocError> {
+fn make<'a>(alloc: Global) -> Result<Command<'a>, AllocError>
+    ensures { IfOk result (IsListed make_listed) }
+{
     Command::new(alloc, "make")
         .about("Make a movie of a cartridge and the inputs of its frames, from power-on")
-        .arg(
-            Arg::new(alloc, "rom")
-                .value_name("ROM")
-                .required(true)
-                .help("The cartridge, of 2048, 4096 or 8192 bytes"),
-        )?
-        .arg(
-            Arg::new(alloc, "inputs")
-                .value_name("INPUTS")
-                .required(true)
-                .help("Three bytes a frame: SWCHA, SWCHB, buttons; with --text lines of text"),
-        )?
+        .arg(rom(alloc))?
+        .arg(frames(alloc))?
         .arg(text(alloc))?
         .arg(checkpoints(alloc))?
         .arg(out(alloc))
 }
 
 /// `info FILE`.
-fn info<'a>(alloc: Global) -> Result<Command<'a>, AllocError> {
+fn info<'a>(alloc: Global) -> Result<Command<'a>, AllocError>
+    ensures { IfOk result (IsListed info_listed) }
+{
     Command::new(alloc, "info")
         .about("Say what a movie holds")
         .arg(movie(alloc))
 }
 
 /// `inputs FILE`.
-fn inputs<'a>(alloc: Global) -> Result<Command<'a>, AllocError> {
+fn inputs<'a>(alloc: Global) -> Result<Command<'a>, AllocError>
+    ensures { IfOk result (IsListed listing_listed) }
+{
     Command::new(alloc, "inputs")
         .about("Print the inputs of a movie as text, which make --text reads")
         .arg(movie(alloc))
 }
 
+/// `OLD` of `convert`.
+fn old<'a>(alloc: Global) -> Arg<'a>
+    ensures { IsRow old_row result }
+{
+    Arg::new(alloc, "old")
+        .value_name("OLD")
+        .required(true)
+        .help("The movie of version 1")
+}
+
+/// `NEW` of `convert`.
+fn new<'a>(alloc: Global) -> Arg<'a>
+    ensures { IsRow new_row result }
+{
+    Arg::new(alloc, "new")
+        .value_name("NEW")
+        .required(true)
+        .help("The movie in version 2, which is written")
+}
+
 /// `convert OLD NEW`.
-fn convert<'a>(alloc: Global) -> Result<Command<'a>, AllocError> {
+fn convert<'a>(alloc: Global) -> Result<Command<'a>, AllocError>
+    ensures { IfOk result (IsListed convert_listed) }
+{
     Command::new(alloc, "convert")
         .about("Write a movie of version 1 again in version 2")
-        .arg(
-            Arg::new(alloc, "old")
-                .value_name("OLD")
-                .required(true)
-                .help("The movie of version 1"),
-        )?
-        .arg(
-            Arg::new(alloc, "new")
-                .value_name("NEW")
-                .required(true)
-                .help("The movie in version 2, which is written"),
-        )
+        .arg(old(alloc))?
+        .arg(new(alloc))
 }
 
 /// The program with all of its commands. Without one it judges standard input.
-pub(crate) fn program<'a>(alloc: Global) -> Result<Command<'a>, AllocError> {
+pub(crate) fn program<'a>(alloc: Global) -> Result<Command<'a>, AllocError>
+    ensures { IfOk result (λ command. (app_of command ≡ program_app)
+        × ((out-Command command).has_globals ≡ false)) }
+{
     Command::new(alloc, "vcs_check")
         .version("1.1.0")
         .long_version(VERSIONS)

@@ -1,0 +1,124 @@
+-- What the getters of `clap` read, by the rows that it found.
+use Rattle.std.proofs.Common.{◌≡◌, ◌↔◌, ◌^◌, ◌<◌, ◌≤◌, ◌∙◌, ℕ, Bool, true, false, [], Option, Some, None, Result, Ok, Err, option_map, codes, slice_index}
+use Rattle.std.proofs.Common.{IfNone, IfOk, IfSome, IsOk, IsSome, MatchOption, unwrap_or, sym, subst, refl, ap, arith}
+use Rattle.std.specs.Result.{result_ok}
+use Rattle.replay_plan.specs.declared.keep.Keep.{Keep}
+use Rattle.std.specs.Str.Parse.{ParsesUnsigned, ExplainsUnsignedError, HasUnsignedDigitsIfOk, ParsesBool}
+use Rattle.std.specs.Borrow.{Bor}
+use Rattle.std.specs.declared.num.ParseIntError.{ParseIntError}
+use Rattle.std.specs.declared.str.ParseBoolError.{ParseBoolError}
+use Rattle.clap.specs.Matches.{ReadsOne, one_text, first_value}
+use Rattle.clap.specs.Words.{Text, one_of, rows_of, first_of, found_of}
+use Rattle.clap.specs.declared.ArgMatches.{ArgMatches}
+use Rattle.clap.proofs.WalkLemmas.{one_text-rows, first_value-rows}
+use Rattle.command_line.specs.Meanings.{IsNumberIn, number_in}
+
+-- How an unsigned type of k bits reads a text.
+abbrev pub Gives : ℕ → Text → Result ℕ ParseIntError → Type 0
+Gives k bs r = ParsesUnsigned k 10 bs r × ExplainsUnsignedError 10 bs r × HasUnsignedDigitsIfOk bs r
+
+-- What an unsigned type of k bits reads of a text: its number, or there is none in its range.
+abbrev pub IsRead : ℕ → Option Text → Option ℕ → Type 0
+IsRead k o (Some n) = option_map number_in o ≡ Some n
+IsRead k o None = (least most : ℕ) → most < 2 ^ k → IsNumberIn least most o → ⊥
+
+from_text : (k : ℕ) (o : Option Text) (r : Option ℕ) → (o ≡ None → r ≡ None)
+    → ((t : Text) → o ≡ Some t → ReadsOne (Gives k) t r) → IsRead k o r
+from_text k None (Some n) none value =
+    let bad : Some n ≡ None = none refl in
+    cc
+from_text k None None none value = λ least most fits h. h
+from_text k (Some t) (Some n) none value = ap Some (sym (value t refl).0.1)
+from_text k (Some t) None none value = λ least most fits h. (value t refl).1.0 (h.0, omega (arith, fits, h.2))
+
+pub number_read : (k : ℕ) (m : ArgMatches) (id : Text) (r : Option ℕ) → (one_text (found_of m) id ≡ None → r ≡ None)
+    → ((t : Text) → one_text (found_of m) id ≡ Some t → ReadsOne (Gives k) t r) → IsRead k (one_of id (rows_of (found_of m))) r
+number_read k m id r none value = subst (λ o. IsRead k o r) (one_text-rows (found_of m) id) (from_text k (one_text (found_of m) id) r none value)
+
+pub word_read : (m : ArgMatches) (id : Text) (r : Option (Bor Text)) → option_map (λ s. s.now) r ≡ first_value (found_of m) id
+    → option_map (λ s. s.now) r ≡ first_of id (rows_of (found_of m))
+word_read m id r is = is ∙ first_value-rows (found_of m) id
+
+-- What a `u32` reads where it reads nothing, or a number that is not taken.
+pub nothing_read : (k : ℕ) (o : Option Text) (r : Option ℕ) → IsRead k o r → r ≡ None → (least most : ℕ) → most < 2 ^ k → IsNumberIn least most o → ⊥
+nothing_read k o r read is = subst (IsRead k o) is read
+
+pub one_read : (k : ℕ) (o : Option Text) (r : Option ℕ) (n : ℕ) → IsRead k o r → r ≡ Some n → option_map number_in o ≡ Some n
+one_read k o r n read is = subst (IsRead k o) is read
+
+-- The number that was read is in each range in which the text has it.
+pub read_in : (o : Option Text) (n least most : ℕ) → option_map number_in o ≡ Some n → IsNumberIn least most o → (least ≤ n) × (n ≤ most)
+read_in None n least most is fits = absurd fits
+read_in (Some t) n least most is fits =
+    let same : number_in t ≡ n = cc in
+    (subst (λ m. least ≤ m) same fits.1, subst (λ m. m ≤ most) same fits.2)
+
+-- ---- what a type makes of a number
+
+pub none_if : {X : Type 0} (r : Option X) (P : Type 0) → (P → IsSome r) → IfNone r (P → ⊥)
+none_if None P h = λ p.
+    let bad : false ≡ true = h p in
+    cc
+none_if (Some x) P h = tt
+
+pub none_if_zero : {X : Type 0} (r : Option X) (n : ℕ) (get : X → ℕ) (P : Type 0) → MatchOption r (n ≡ 0) (λ x. get x ≡ n) → (P → 1 ≤ n) → IfNone r (P → ⊥)
+none_if_zero None n get P zero some = λ p. let h : 1 ≤ n = some p in absurd (omega (arith, h, zero))
+none_if_zero (Some x) n get P zero some = tt
+
+pub some_if : {X : Type 0} (r : Option X) (o : Option ℕ) (n : ℕ) (get : X → ℕ) (P : Type 0) → MatchOption r P (λ x. get x ≡ n) → o ≡ Some n → IfSome r (λ x. o ≡ Some (get x))
+some_if None o n get P h is = tt
+some_if (Some x) o n get P h is = is ∙ ap Some (sym h)
+
+-- ---- texts
+
+pub text_or : (r : Option (Bor Text)) (other : Bor Text) → (unwrap_or r other).now ≡ unwrap_or (option_map (λ s. s.now) r) other.now
+text_or None other = refl
+text_or (Some s) other = refl
+
+flag_from : (o : Option Text) (r : Option Bool) → (o ≡ None → r ≡ None) → ((t : Text) → o ≡ Some t → ReadsOne {E = ParseBoolError} ParsesBool t r)
+    → (unwrap_or r false ≡ true) ↔ (o ≡ Some (codes "true"))
+flag_from None r none value =
+    let is : r ≡ None = none refl in
+    rw is (λ h. cc, λ h. cc)
+flag_from (Some t) (Some true) none value = (λ h. ap Some (value t refl), λ h. refl)
+flag_from (Some t) (Some false) none value =
+    let is : t ≡ codes "false" = value t refl in
+    (λ h. cc, λ h. absurd (other t is h))
+  where
+    other : (t : Text) → t ≡ codes "false" → Some t ≡ Some (codes "true") → ⊥
+    other t is h =
+        let bad : slice_index t 0 ≡ 102 = rw is refl in
+        let good : slice_index t 0 ≡ 116 = ap (λ (o : Option Text). slice_index (unwrap_or o []) 0) h in
+        absurd (omega (arith, bad, good))
+flag_from (Some t) None none value = (λ h. cc, λ h. absurd ((value t refl).1.0 (same t h)))
+  where
+    same : (t : Text) → Some t ≡ Some (codes "true") → t ≡ codes "true"
+    same t h = ap (λ (o : Option Text). unwrap_or o []) h
+
+pub flag_read : (m : ArgMatches) (id : Text) (r : Option Bool) → (one_text (found_of m) id ≡ None → r ≡ None)
+    → ((t : Text) → one_text (found_of m) id ≡ Some t → ReadsOne {E = ParseBoolError} ParsesBool t r)
+    → (unwrap_or r false ≡ true) ↔ (one_of id (rows_of (found_of m)) ≡ Some (codes "true"))
+flag_read m id r none value =
+    subst (λ o. (unwrap_or r false ≡ true) ↔ (o ≡ Some (codes "true"))) (one_text-rows (found_of m) id) (flag_from (one_text (found_of m) id) r none value)
+
+pub some_then : {X : Type 0} (r : Option X) (P Q : X → Type 0) → ((x : X) → P x → Q x) → IfSome r P → IfSome r Q
+some_then None P Q f h = tt
+some_then (Some x) P Q f h = f x h
+
+-- ---- which pictures are kept
+
+pub keep_first : {E : Type 0} (r : Result Keep E) (o : Option ℕ) (first count : ℕ) → IfOk r (λ keep. (keep.first ≡ first) × (keep.count ≡ count))
+    → o ≡ Some first → IfSome (result_ok r) (λ keep. o ≡ Some keep.first)
+keep_first (Ok keep) o first count h is = is ∙ ap Some (sym h.0)
+keep_first (Err e) o first count h is = tt
+
+pub keep_count : {E : Type 0} (r : Result Keep E) (o : Option ℕ) (b : Bool) (first count : ℕ) → IfOk r (λ keep. (keep.first ≡ first) × (keep.count ≡ count))
+    → (b ≡ true → o ≡ Some count) → IfSome (result_ok r) (λ keep. b ≡ true → o ≡ Some keep.count)
+keep_count (Ok keep) o b first count h is = λ on. is on ∙ ap Some (sym h.1)
+keep_count (Err e) o b first count h is = tt
+
+pub keep_none : {X E : Type 0} (r : Result X E) (P Q : Type 0) → (P → Q → IsOk r) → IfNone (result_ok r) (P → Q → ⊥)
+keep_none (Ok x) P Q h = tt
+keep_none (Err e) P Q h = λ p q.
+    let bad : false ≡ true = h p q in
+    cc

@@ -1,0 +1,65 @@
+-- What `clap` says of the program's own command, and of its answers.
+use Rattle.std.proofs.Common.{◌≡◌, ◌∙◌, ◌⊎◌, List, [], Option, Some, None, Result, Ok, Err, true, option_map, sym, subst, refl, inl, inr, IfOk}
+use Rattle.clap.specs.Words.{App, HasKind, HasMatchesOf, IsAmong, Row, Text, fault_of, is_simple, is_simple_and_free, subcommand_of, subcommand_rows_of}
+use Rattle.clap.specs.declared.ArgMatches.{ArgMatches}
+use Rattle.clap.specs.declared.error.Error.{Error}
+use Rattle.clap.specs.declared.error.ErrorKind.{ErrorKind}
+use Rattle.clap.specs.declared.error.ErrorKind.TheVariants.{DisplayHelp, DisplayVersion, OutOfMemory}
+use Rattle.clap.proofs.OnLiterals.{clap_on_literals}
+use Rattle.command_line.specs.Faults.{HasBadValue, IsAnswerTo, IsRefusal}
+use Rattle.command_line.specs.Table.{program_app}
+use Rattle.command_line.specs.declared.command.LineFault.{LineFault}
+use Rattle.command_line.specs.declared.command.LineFault.TheVariants.{Usage, Help, Memory}
+
+program_is_simple : is_simple program_app ≡ true
+unfolding clap_on_literals
+program_is_simple = refl
+
+program_is_free : is_simple_and_free program_app ≡ true
+unfolding clap_on_literals
+program_is_free = refl
+
+pub taken : (app : App) (words : List Text) → app ≡ program_app → (is_simple_and_free app ≡ true → fault_of app words ≡ []) → fault_of program_app words ≡ []
+taken app words is kinds = subst (λ (a : App). is_simple_and_free a ≡ true → fault_of a words ≡ []) is kinds program_is_free
+
+pub failing : (app : App) (words : List Text) (error : Error) → app ≡ program_app → (is_simple_and_free app ≡ true → HasKind (fault_of app words) error)
+    → HasKind (fault_of program_app words) error
+failing app words error is kinds = subst (λ (a : App). is_simple_and_free a ≡ true → HasKind (fault_of a words) error) is kinds program_is_free
+
+pub meets : (app : App) (words : List Text) (m : ArgMatches) → app ≡ program_app → HasMatchesOf app words m → subcommand_rows_of m ≡ subcommand_of program_app words
+meets app words m is has = (subst (λ (a : App). HasMatchesOf a words m) is has program_is_simple).1
+
+-- A name and a value of the same thing.
+abbrev pub pair_of : {B X Y : Type 0} → (B → X) → (B → Y) → B → X × Y
+pair_of f g b = (f b, g b)
+
+pub both_of : {B X Y : Type 0} (f : B → X) (g : B → Y) (o : Option B) (x : X) (y : Y) → Some x ≡ option_map f o
+    → Some y ≡ option_map (λ (p : X × Y). p.1) (option_map (pair_of f g) o) → option_map (pair_of f g) o ≡ Some (x, y)
+both_of f g None x y first second = cc
+both_of f g (Some b) x y first second =
+    let same : x ≡ f b = cc in
+    let same2 : y ≡ g b = cc in
+    rw (same, same2) refl
+
+pub refused : (words : List Text) (kind : ErrorKind) (fault : LineFault) → (kind ≡ OutOfMemory) ⊎ IsAmong kind (fault_of program_app words)
+    → IsAnswerTo kind fault → IsRefusal words fault
+refused words kind (Usage text) (inl memory) answer = absurd (answer.0 memory)
+refused words kind (Usage text) (inr among) answer = inl (kind, among, answer)
+refused words kind (Help text) (inl memory) (inl help) =
+    let bad : OutOfMemory ≡ DisplayHelp = sym memory ∙ help in
+    cc
+refused words kind (Help text) (inl memory) (inr version) =
+    let bad : OutOfMemory ≡ DisplayVersion = sym memory ∙ version in
+    cc
+refused words kind (Help text) (inr among) answer = inl (kind, among, answer)
+refused words kind Memory found answer = tt
+
+pub bad_value : (words : List Text) (name : Text) (rows : List Row) (fault : LineFault) → subcommand_of program_app words ≡ Some (name, rows)
+    → HasBadValue name rows fault → IsRefusal words fault
+bad_value words name rows (Usage text) met bad = inr (rw met bad)
+bad_value words name rows (Help text) met bad = inr (rw met bad)
+bad_value words name rows Memory met bad = tt
+
+pub in_both : {T E : Type 0} (r : Result T E) (K : Type 0) → K → IfOk r (λ x. K)
+in_both (Ok x) K k = k
+in_both (Err e) K k = tt

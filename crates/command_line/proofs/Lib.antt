@@ -1,0 +1,3 @@
+pub mod Getters
+pub mod Known
+pub mod Stops

@@ -1,0 +1,36 @@
+use Rattle.std.proofs.Common.{◌∙◌, map, sym}
+use Rattle.std.proofs.lemmas.Result.{IfErr-weaker, IfOk-weaker}
+use Rattle.clap.specs.Words.{app_of, found_of, rows_of}
+use Rattle.command_line.proofs.Known.{bad_value, both_of, failing, in_both, meets, refused, taken}
+use Rattle.command_line.proofs.Stops.{named, only_without}
+use Rattle.command_line.proofs.line.parse_line.Goals as goal
+
+pub returns-in-Err-clause-err : goal.returns-in-Err-clause-err
+returns-in-Err-clause-err g c =
+    let words = map g.S.AsStr.text c.args.words.now in
+    refused words _ c.fault_of.result (failing (app_of c.in_ok-program.program) words c.in-Err.error c.in_ok-program.ensures.0 c.in-Err.ensures.kinds) c.fault_of.ensures
+
+pub returns-in-Some-clause-taken : goal.returns-in-Some-clause-taken
+returns-in-Some-clause-taken g c =
+    let words = map g.S.AsStr.text c.args.words.now in
+    in_both c.command_of.result _ (taken (app_of c.in_ok-program.program) words c.in_ok-program.ensures.0 c.in-Ok.ensures.kinds)
+
+pub returns-in-Some-clause-err : goal.returns-in-Some-clause-err
+returns-in-Some-clause-err g c =
+    let words = map g.S.AsStr.text c.args.words.now in
+    let met = meets (app_of c.in_ok-program.program) words c.in-Ok.matches c.in_ok-program.ensures.0 c.in-Ok.ensures.matches in
+    let both = both_of _ _ _ c.in-Some.name.now (rows_of (found_of c.in-Some.inner.now)) c.in-Some.ensures.name c.in-Some.ensures.rows in
+    IfErr-weaker c.command_of.result _ _ (λ fault bad. bad_value words _ _ fault (sym met ∙ both) bad) c.command_of.ensures.err
+
+pub returns-clause-taken : goal.returns-clause-taken
+returns-clause-taken g c =
+    let words = map g.S.AsStr.text c.args.words.now in
+    taken (app_of c.in_ok-program.program) words c.in_ok-program.ensures.0 c.in-Ok.ensures.kinds
+
+pub returns-in-Some-clause-stdin : goal.returns-in-Some-clause-stdin
+returns-in-Some-clause-stdin g c =
+    let words = map g.S.AsStr.text c.args.words.now in
+    let none = taken (app_of c.in_ok-program.program) words c.in_ok-program.ensures.0 c.in-Ok.ensures.kinds in
+    let met = meets (app_of c.in_ok-program.program) words c.in-Ok.matches c.in_ok-program.ensures.0 c.in-Ok.ensures.matches in
+    let both = both_of _ _ _ c.in-Some.name.now (rows_of (found_of c.in-Some.inner.now)) c.in-Some.ensures.name c.in-Some.ensures.rows in
+    IfOk-weaker c.command_of.result _ _ (λ command at. only_without words command none (named words _ _ command (sym met ∙ both) at)) c.command_of.ensures.ok

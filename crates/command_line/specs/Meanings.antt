@@ -1,0 +1,92 @@
+-- Which command the words of a command line are. This project's own.
+use Rattle.std.specs.Prelude.{◌≡◌, ◌≢◌, ◌↔◌, ◌≤◌, ℕ, Bool, true, List, [], ◌∷◌, Option, Some, None, codes}
+use Rattle.std.specs.Prelude.{is_some, option_map, string_bytes, unwrap_or}
+use Rattle.std.specs.NonZero.{non_zero_u16_get, non_zero_u32_get}
+use Rattle.std.specs.Str.Parse.{IsNumeral, digits_value, without_leading_plus}
+use Rattle.clap.specs.Words.{Row, Text, first_of, one_of}
+use Rattle.replay_plan.specs.declared.plan.Plan.{Plan}
+use Rattle.command_line.specs.Table.{Argument, Kind, Listed, commands, checkpoints_row, count_row}
+use Rattle.command_line.specs.Table.{cuts_row, file_row, first_row, inputs_row, new_row, old_row}
+use Rattle.command_line.specs.Table.{needed_number, number, out_row, pictures_row, rom_row}
+use Rattle.command_line.specs.Table.{text_row, workers_row}
+use Rattle.command_line.specs.declared.command.Command.{Command}
+use Rattle.command_line.specs.declared.command.Command.TheVariants.{Stdin, Verify, Report, Make}
+use Rattle.command_line.specs.declared.command.Command.TheVariants.{Info, Inputs, Convert}
+
+-- The number that a text writes in decimal digits, of which the first may follow a plus.
+abbrev pub number_in : Text → ℕ
+number_in text = digits_value 10 (without_leading_plus text)
+
+-- The number of an argument, in what `clap` found for a command.
+abbrev pub number_of : Argument → List Row → Option ℕ
+number_of argument rows = option_map number_in (one_of argument.name rows)
+
+-- The word of an argument; of one without a word the empty text.
+abbrev pub word_of : Argument → List Row → Text
+word_of argument rows = unwrap_or (first_of argument.name rows) (codes "")
+
+-- The plan of `verify`. If no file takes pictures none is kept.
+pub record IsPlan (rows : List Row) (pictures : Bool) (plan : Plan) : Type 0 where
+  pub workers : number_of workers_row rows ≡ Some plan.workers.number
+  pub every : number_of cuts_row rows ≡ Some (non_zero_u16_get plan.every)
+  pub first : number_of first_row rows ≡ Some plan.keep.first
+  pub count : pictures ≡ true → number_of count_row rows ≡ Some plan.keep.count
+
+-- The table has no command of this name.
+abbrev pub IsUnlisted : Text → List Listed → Type 0
+IsUnlisted name [] = Unit {0}
+IsUnlisted name (listed ∷ more) = (name ≢ listed.name) × IsUnlisted name more
+
+-- The command of this name, of which `clap` found these values.
+abbrev pub IsCommandAt : Text → List Row → Command → Type 0
+IsCommandAt name rows Stdin = IsUnlisted name commands
+IsCommandAt name rows (Verify file plan pictures) =
+    (name ≡ codes "verify") × (string_bytes file ≡ word_of file_row rows)
+    × IsPlan rows (is_some pictures) plan
+    × (option_map string_bytes pictures ≡ first_of pictures_row.name rows)
+IsCommandAt name rows (Report file workers) =
+    (name ≡ codes "report") × (string_bytes file ≡ word_of file_row rows)
+    × (number_of workers_row rows ≡ Some workers.number)
+IsCommandAt name rows (Make rom inputs text every out) =
+    (name ≡ codes "make") × (string_bytes rom ≡ word_of rom_row rows)
+    × (string_bytes inputs ≡ word_of inputs_row rows)
+    × ((text ≡ true) ↔ (one_of text_row.name rows ≡ Some (codes "true")))
+    × (number_of checkpoints_row rows ≡ Some (non_zero_u32_get every))
+    × (string_bytes out ≡ word_of out_row rows)
+IsCommandAt name rows (Info file) =
+    (name ≡ codes "info") × (string_bytes file ≡ word_of file_row rows)
+IsCommandAt name rows (Inputs file) =
+    (name ≡ codes "inputs") × (string_bytes file ≡ word_of file_row rows)
+IsCommandAt name rows (Convert older newer) =
+    (name ≡ codes "convert") × (string_bytes older ≡ word_of old_row rows)
+    × (string_bytes newer ≡ word_of new_row rows)
+
+-- The command of the words at which `clap` met this command's name, with the values that it found
+-- there. Without a name it judges standard input.
+abbrev pub IsCommand : Option (Text × List Row) → Command → Type 0
+IsCommand None command = command ≡ Stdin
+IsCommand (Some met) command = IsCommandAt met.0 met.1 command
+
+-- ---- numbers outside of their ranges
+
+-- A text is there, and writes a number from `least` to `most`.
+abbrev pub IsNumberIn : ℕ → ℕ → Option Text → Type 0
+IsNumberIn least most None = ⊥
+IsNumberIn least most (Some text) =
+    IsNumeral 10 (without_leading_plus text) × (least ≤ number_in text) × (number_in text ≤ most)
+
+-- The text suits the kind of argument: a number is in its range.
+abbrev pub Suits : Kind → Option Text → Type 0
+Suits (number least most default) text = IsNumberIn least most text
+Suits (needed_number least most) text = IsNumberIn least most text
+Suits other text = Unit {0}
+
+-- The same of each argument of a list.
+abbrev pub SuitsEach : List Argument → List Row → Type 0
+SuitsEach [] rows = Unit {0}
+SuitsEach (argument ∷ more) rows =
+    Suits argument.kind (one_of argument.name rows) × SuitsEach more rows
+
+-- Each number of a command is in its range.
+abbrev pub HasNumbers : Listed → List Row → Type 0
+HasNumbers listed rows = SuitsEach listed.arguments rows

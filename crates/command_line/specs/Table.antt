@@ -1,0 +1,150 @@
+-- The commands of the program and their arguments, a row an argument, as the page COMMANDS has
+-- them. This project's own.
+use Rattle.std.specs.Prelude.{◌≡◌, ℕ, List, [], ◌∷◌, Some, codes, map, pos, true, false}
+use Rattle.clap.specs.Words.{App, Rule, Shape, Text, new_rule, rule_of, shape_of}
+use Rattle.clap.specs.Simple.{new_shape}
+use Rattle.clap.specs.declared.builder.Arg.{Arg}
+use Rattle.clap.specs.declared.builder.Command.{Command}
+use Rattle.clap.specs.declared.builder.Command.TheViews.{out-Command}
+use Rattle.clap.specs.declared.builder.action.ArgAction.TheVariants.{Set, SetTrue}
+use Rattle.clap.specs.declared.builder.value_parser.ValueParser.TheVariants.{Signed}
+
+-- What an argument is: a word that stands by its place and has to be there; an option with a word;
+-- the same if it has to be there; an option with a number, from the least to the most, and the text
+-- that stands for it if it isn't there; the same if it has to be there; an option without a word.
+pub data Kind : Type 0 where
+  operand : Kind
+  word : Kind
+  needed_word : Kind
+  number : ℕ → ℕ → Text → Kind
+  needed_number : ℕ → ℕ → Kind
+  switch : Kind
+
+-- An argument of a command.
+pub record Argument : Type 0 where
+  pub name : Text
+  pub kind : Kind
+
+-- A command with its arguments.
+pub record Listed : Type 0 where
+  pub name : Text
+  pub arguments : List Argument
+
+-- The rows. Where two commands have an argument alike it is one row.
+abbrev pub file_row : Argument
+file_row = record { name = codes "file"; kind = operand }
+
+abbrev pub workers_row : Argument
+workers_row = record { name = codes "workers"; kind = number 1 64 (codes "1") }
+
+abbrev pub cuts_row : Argument
+cuts_row = record { name = codes "every"; kind = number 1 65535 (codes "1") }
+
+abbrev pub first_row : Argument
+first_row = record { name = codes "first"; kind = number 1 4294967295 (codes "1") }
+
+abbrev pub count_row : Argument
+count_row = record { name = codes "count"; kind = number 0 600 (codes "600") }
+
+abbrev pub pictures_row : Argument
+pictures_row = record { name = codes "pictures"; kind = word }
+
+abbrev pub rom_row : Argument
+rom_row = record { name = codes "rom"; kind = operand }
+
+abbrev pub inputs_row : Argument
+inputs_row = record { name = codes "inputs"; kind = operand }
+
+abbrev pub text_row : Argument
+text_row = record { name = codes "text"; kind = switch }
+
+abbrev pub checkpoints_row : Argument
+checkpoints_row = record { name = codes "every"; kind = needed_number 1 4294967295 }
+
+abbrev pub out_row : Argument
+out_row = record { name = codes "out"; kind = needed_word }
+
+abbrev pub old_row : Argument
+old_row = record { name = codes "old"; kind = operand }
+
+abbrev pub new_row : Argument
+new_row = record { name = codes "new"; kind = operand }
+
+-- The commands, with their rows in the order of help.
+abbrev pub verify_listed : Listed
+verify_listed = record {
+  name = codes "verify";
+  arguments = file_row ∷ workers_row ∷ cuts_row ∷ first_row ∷ count_row ∷ pictures_row ∷ [];
+}
+
+abbrev pub report_listed : Listed
+report_listed = record { name = codes "report"; arguments = file_row ∷ workers_row ∷ [] }
+
+abbrev pub make_listed : Listed
+make_listed = record {
+  name = codes "make";
+  arguments = rom_row ∷ inputs_row ∷ text_row ∷ checkpoints_row ∷ out_row ∷ [];
+}
+
+abbrev pub info_listed : Listed
+info_listed = record { name = codes "info"; arguments = file_row ∷ [] }
+
+abbrev pub listing_listed : Listed
+listing_listed = record { name = codes "inputs"; arguments = file_row ∷ [] }
+
+abbrev pub convert_listed : Listed
+convert_listed = record { name = codes "convert"; arguments = old_row ∷ new_row ∷ [] }
+
+-- The commands.
+abbrev pub commands : List Listed
+commands =
+    verify_listed ∷ report_listed ∷ make_listed ∷ info_listed ∷ listing_listed ∷ convert_listed ∷ []
+
+-- ---- the same as `clap` reads it
+
+-- An option with a word.
+abbrev pub with_word : Text → Rule
+with_word name = record (new_rule name) { long = Some name; value_names = 1 }
+
+-- An option with a number from `least` to `most`.
+abbrev pub with_number : ℕ → ℕ → Text → Rule
+with_number least most name =
+    record (with_word name) { parser = Some (Signed (pos least) (pos most)) }
+
+-- An argument of this kind and name.
+abbrev pub rule_as : Kind → Text → Rule
+rule_as operand name = record (new_rule name) { required = true; value_names = 1 }
+rule_as word name = record (with_word name) { action = Some Set }
+rule_as needed_word name = record (with_word name) { action = Some Set; required = true }
+rule_as (number least most default) name =
+    record (with_number least most name) { defaults = default ∷ [] }
+rule_as (needed_number least most) name = record (with_number least most name) { required = true }
+rule_as switch name = record (new_rule name) { long = Some name; action = Some SetTrue }
+
+-- An argument of the table.
+abbrev pub rule_for : Argument → Rule
+rule_for argument = rule_as argument.kind argument.name
+
+-- The argument is the one of a row.
+abbrev pub IsRow : Argument → Arg → Type 0
+IsRow argument given = (rule_of given ≡ rule_for argument) × (given.global ≡ false)
+
+-- A command of the table.
+abbrev pub shape_for : Listed → Shape
+shape_for listed = record (new_shape listed.name) { rules = map rule_for listed.arguments }
+
+-- The command is one of the table.
+abbrev pub IsListed : Listed → Command → Type 0
+IsListed listed command =
+    (shape_of command ≡ shape_for listed) × ((out-Command command).has_globals ≡ false)
+
+-- The program: its commands, and two texts for its version.
+abbrev pub program_app : App
+program_app = record {
+  top = record (new_shape (codes "vcs_check")) {
+    is_leaf = false;
+    has_version = true;
+    has_long_version = true;
+  };
+  subs = map shape_for commands;
+}
