@@ -129,7 +129,6 @@ impl Conditional for Bvs {
 
 /// A branch by the byte after the opcode. If it is taken it has one cycle more, and if its
 /// target is on another page than the next instruction, two.
-#[inline(never)]
 pub fn branch<O: Conditional, B: Bus>(cpu: &mut Cpu, bus: &mut B, low: u8) -> Option<u8>
     requires row { IsRow B.meaning (B.state bus.old) cpu.old O.operation Mode.Relative 2 false }
     requires low { IsLow B.meaning (B.state bus.old) cpu.old low }

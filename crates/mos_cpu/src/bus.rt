@@ -1,6 +1,6 @@
 //! What the processor is connected to.
 
-ghost use Rattle.std.specs.Prelude.{◌≡◌, ◌≤◌};
+ghost use Rattle.std.specs.Prelude.{◌≡◌, ◌≤◌, ◌+◌, ◌%◌, Some, IfSome};
 ghost use Rattle.mos_cpu.specs.Buses.{Meaning};
 
 /// A bus of 16 address lines and 8 data lines, with the parts on it and the clock that drives them.
@@ -33,6 +33,14 @@ pub trait Bus {
     /// of a device would answer.
     fn peek(&self, addr: u16) -> Option<u8>
         ensures { result ≡ meaning.peeked (state self.now) addr };
+
+    /// The byte after an address, looked at with no effect, if the bus has both at hand together.
+    /// None says nothing of it.
+    fn peek_after(&self, _addr: u16) -> Option<u8>
+        ensures { IfSome result (λ byte. meaning.peeked (state self.now) ((_addr + 1) % 65536) ≡ Some byte) }
+    {
+        None
+    }
 
     /// A byte of a pointer in page zero, looked at with no effect: what a read of it would give.
     fn peek_zero(&self, addr: u8) -> u8

@@ -105,7 +105,6 @@ impl Changer for Ror {
 
 /// The byte of a place is read, written back, and written as the operation makes it, in the last
 /// three cycles.
-#[inline(never)]
 pub fn change<O: Changer, M: PlaceMode, B: Bus>(cpu: &mut Cpu, bus: &mut B, low: u8) -> Option<u8>
     requires row { IsRow B.meaning (B.state bus.old) cpu.old O.operation M.mode (M.CYCLES + 2 + (if M.INDEXED then 1 else 0)) false }
     requires low { IsLow B.meaning (B.state bus.old) cpu.old low }
@@ -127,7 +126,6 @@ pub fn change<O: Changer, M: PlaceMode, B: Bus>(cpu: &mut Cpu, bus: &mut B, low:
 }
 
 /// A is changed.
-#[inline(never)]
 pub fn change_a<O: Changer, B: Bus>(cpu: &mut Cpu, bus: &mut B) -> Option<u8>
     requires { IsRow B.meaning (B.state bus.old) cpu.old O.operation Mode.Accumulator 2 false }
     ensures { IsWay B.meaning cpu.old (B.state bus.old) result cpu.new (B.state bus.new) }

@@ -257,7 +257,6 @@ impl OnRegisters for Tya {
 }
 
 /// An operation on registers, whose opcode is the whole instruction.
-#[inline(never)]
 pub fn implied<O: OnRegisters, B: Bus>(cpu: &mut Cpu, bus: &mut B) -> Option<u8>
     requires { IsRow B.meaning (B.state bus.old) cpu.old O.operation Mode.Implied 2 false }
     ensures { IsWay B.meaning cpu.old (B.state bus.old) result cpu.new (B.state bus.new) }

@@ -1,6 +1,6 @@
 //! One instruction.
 
-ghost use Rattle.std.specs.Prelude.{◌≡◌, ℕ, ◌≤◌, ◌+◌, ◌%◌, true, None, IfSome, IfNone, IfOk, OnErr};
+ghost use Rattle.std.specs.Prelude.{◌≡◌, ℕ, ◌≤◌, ◌+◌, ◌%◌, true, Some, None, IfSome, IfNone, IfOk, OnErr};
 ghost use Rattle.std.specs.Prelude.{Err, IsErr};
 ghost use Rattle.mos_cpu.specs.Buses.{IsClock};
 ghost use Rattle.mos_cpu.specs.Execution.{step_of};
@@ -33,11 +33,15 @@ fn has_low(opcode: u8) -> bool
 }
 
 /// The byte after an opcode. None if it isn't there, and 0 if it need not be.
-#[inline(always)]
-fn low_byte<B: Bus>(cpu: &Cpu, bus: &B, opcode: u8) -> Option<u8>
-    ensures some { IfSome result (λ low. has_low opcode ≡ true → IsLow B.meaning (B.state bus.now) cpu.now low) }
+///
+/// The processor comes by its value, so that the loop of a frame can keep its registers out of
+/// memory.
+#[cold]
+#[inline(never)]
+fn low_byte<B: Bus>(cpu: Cpu, bus: &B, opcode: u8) -> Option<u8>
+    ensures some { IfSome result (λ low. has_low opcode ≡ true → IsLow B.meaning (B.state bus.now) cpu low) }
     ensures none { IfNone result (has_low opcode ≡ true) }
-    ensures nowhere { IfNone result (B.meaning.peeked (B.state bus.now) ((cpu.now.pc + 1) % 65536) ≡ None) }
+    ensures nowhere { IfNone result (B.meaning.peeked (B.state bus.now) ((cpu.pc + 1) % 65536) ≡ None) }
 {
     match bus.peek(cpu.pc.wrapping_add(1)) {
         Some(low) => Some(low),
@@ -45,14 +49,14 @@ fn low_byte<B: Bus>(cpu: &Cpu, bus: &B, opcode: u8) -> Option<u8>
     }
 }
 
-/// The instruction at the program counter, by its opcode. None, with nothing done, if it has a
-/// fault.
+/// The instruction of this opcode, which is at the program counter, with the byte after it. None,
+/// with nothing done, if it has a fault.
 #[inline(always)]
-fn run_opcode<B: Bus>(cpu: &mut Cpu, bus: &mut B) -> Option<u8>
+fn run_bytes<B: Bus>(cpu: &mut Cpu, bus: &mut B, opcode: u8, low: u8) -> Option<u8>
+    requires opcode { B.meaning.peeked (B.state bus.old) cpu.old.pc ≡ Some opcode }
+    requires low { has_low opcode ≡ true → IsLow B.meaning (B.state bus.old) cpu.old low }
     ensures { IsWay B.meaning cpu.old (B.state bus.old) result cpu.new (B.state bus.new) }
 {
-    let opcode = bus.peek(cpu.pc)?;
-    let low = low_byte(cpu, bus, opcode)?;
     match opcode {
         0x69 => value::<Adc, B>(cpu, bus, low),
         0x65 => read::<Adc, ZeroPage, B>(cpu, bus, low),
@@ -209,14 +213,28 @@ fn run_opcode<B: Bus>(cpu: &mut Cpu, bus: &mut B) -> Option<u8>
     }
 }
 
+/// The instruction at the program counter, by its opcode. None, with nothing done, if it has a
+/// fault.
+#[inline(always)]
+fn run_opcode<B: Bus>(cpu: &mut Cpu, bus: &mut B) -> Option<u8>
+    ensures { IsWay B.meaning cpu.old (B.state bus.old) result cpu.new (B.state bus.new) }
+{
+    let opcode = bus.peek(cpu.pc)?;
+    let low = match bus.peek_after(cpu.pc) {
+        Some(low) => low,
+        None => low_byte(*cpu, bus, opcode)?,
+    };
+    run_bytes(cpu, bus, opcode, low)
+}
+
 /// The fault of the instruction at the program counter, which has one.
 #[cold]
 #[inline(never)]
-fn fault<B: Bus>(cpu: &Cpu, bus: &B) -> CpuFault
-    requires { IsErr (instruction_at B.meaning (B.state bus.now) cpu.now) }
-    ensures { instruction_at B.meaning (B.state bus.now) cpu.now ≡ Err result }
+fn fault<B: Bus>(cpu: Cpu, bus: &B) -> CpuFault
+    requires { IsErr (instruction_at B.meaning (B.state bus.now) cpu) }
+    ensures { instruction_at B.meaning (B.state bus.now) cpu ≡ Err result }
 {
-    match decode(cpu, bus) {
+    match decode(&cpu, bus) {
         Ok(_) => unreachable!(),
         Err(fault) => fault,
     }
@@ -230,7 +248,7 @@ fn run_instruction<B: Bus>(cpu: &mut Cpu, bus: &mut B) -> Result<u8, CpuFault>
 {
     match run_opcode(cpu, bus) {
         Some(cycles) => Ok(cycles),
-        None => Err(fault(cpu, bus)),
+        None => Err(fault(*cpu, bus)),
     }
 }
 

@@ -183,7 +183,6 @@ impl Reader for Sbc {
 }
 
 /// An operation with the byte of a place, which is read in the last cycle.
-#[inline(never)]
 pub fn read<O: Reader, M: PlaceMode, B: Bus>(cpu: &mut Cpu, bus: &mut B, low: u8) -> Option<u8>
     requires row { IsRow B.meaning (B.state bus.old) cpu.old O.operation M.mode M.CYCLES M.INDEXED }
     requires low { IsLow B.meaning (B.state bus.old) cpu.old low }
@@ -204,7 +203,6 @@ pub fn read<O: Reader, M: PlaceMode, B: Bus>(cpu: &mut Cpu, bus: &mut B, low: u8
 }
 
 /// An operation with the byte after the opcode.
-#[inline(never)]
 pub fn value<O: Reader, B: Bus>(cpu: &mut Cpu, bus: &mut B, low: u8) -> Option<u8>
     requires row { IsRow B.meaning (B.state bus.old) cpu.old O.operation Mode.Immediate 2 false }
     requires low { IsLow B.meaning (B.state bus.old) cpu.old low }

@@ -29,7 +29,6 @@ fn pulled_at(s: u8, n: u8) -> u16
 }
 
 /// JMP to the address after the opcode.
-#[inline(never)]
 pub fn jmp<B: Bus>(cpu: &mut Cpu, bus: &mut B, low: u8) -> Option<u8>
     requires row { IsRow B.meaning (B.state bus.old) cpu.old Operation.Jmp Mode.Absolute 3 false }
     requires low { IsLow B.meaning (B.state bus.old) cpu.old low }
@@ -42,7 +41,6 @@ pub fn jmp<B: Bus>(cpu: &mut Cpu, bus: &mut B, low: u8) -> Option<u8>
 }
 
 /// JSR: pushes the address of its last byte, high byte first, and jumps.
-#[inline(never)]
 pub fn jsr<B: Bus>(cpu: &mut Cpu, bus: &mut B, low: u8) -> Option<u8>
     requires row { IsRow B.meaning (B.state bus.old) cpu.old Operation.Jsr Mode.Absolute 6 false }
     requires low { IsLow B.meaning (B.state bus.old) cpu.old low }
@@ -61,7 +59,6 @@ pub fn jsr<B: Bus>(cpu: &mut Cpu, bus: &mut B, low: u8) -> Option<u8>
 }
 
 /// RTS: pulls an address, and goes to the one after it.
-#[inline(never)]
 pub fn rts<B: Bus>(cpu: &mut Cpu, bus: &mut B) -> Option<u8>
     requires { IsRow B.meaning (B.state bus.old) cpu.old Operation.Rts Mode.Implied 6 false }
     ensures { IsWay B.meaning cpu.old (B.state bus.old) result cpu.new (B.state bus.new) }
@@ -77,7 +74,6 @@ pub fn rts<B: Bus>(cpu: &mut Cpu, bus: &mut B) -> Option<u8>
 }
 
 /// PHA: pushes A.
-#[inline(never)]
 pub fn pha<B: Bus>(cpu: &mut Cpu, bus: &mut B) -> Option<u8>
     requires { IsRow B.meaning (B.state bus.old) cpu.old Operation.Pha Mode.Implied 3 false }
     ensures { IsWay B.meaning cpu.old (B.state bus.old) result cpu.new (B.state bus.new) }
@@ -91,7 +87,6 @@ pub fn pha<B: Bus>(cpu: &mut Cpu, bus: &mut B) -> Option<u8>
 }
 
 /// PLA: pulls A, with N and Z.
-#[inline(never)]
 pub fn pla<B: Bus>(cpu: &mut Cpu, bus: &mut B) -> Option<u8>
     requires { IsRow B.meaning (B.state bus.old) cpu.old Operation.Pla Mode.Implied 4 false }
     ensures { IsWay B.meaning cpu.old (B.state bus.old) result cpu.new (B.state bus.new) }
@@ -106,7 +101,6 @@ pub fn pla<B: Bus>(cpu: &mut Cpu, bus: &mut B) -> Option<u8>
 }
 
 /// PHP: pushes the status, with bits 5 and 4 set.
-#[inline(never)]
 pub fn php<B: Bus>(cpu: &mut Cpu, bus: &mut B) -> Option<u8>
     requires { IsRow B.meaning (B.state bus.old) cpu.old Operation.Php Mode.Implied 3 false }
     ensures { IsWay B.meaning cpu.old (B.state bus.old) result cpu.new (B.state bus.new) }
@@ -120,7 +114,6 @@ pub fn php<B: Bus>(cpu: &mut Cpu, bus: &mut B) -> Option<u8>
 }
 
 /// PLP: pulls the status.
-#[inline(never)]
 pub fn plp<B: Bus>(cpu: &mut Cpu, bus: &mut B) -> Option<u8>
     requires { IsRow B.meaning (B.state bus.old) cpu.old Operation.Plp Mode.Implied 4 false }
     ensures { IsWay B.meaning cpu.old (B.state bus.old) result cpu.new (B.state bus.new) }
@@ -135,7 +128,6 @@ pub fn plp<B: Bus>(cpu: &mut Cpu, bus: &mut B) -> Option<u8>
 }
 
 /// RTI: pulls the status and an address, and goes there.
-#[inline(never)]
 pub fn rti<B: Bus>(cpu: &mut Cpu, bus: &mut B) -> Option<u8>
     requires { IsRow B.meaning (B.state bus.old) cpu.old Operation.Rti Mode.Implied 6 false }
     ensures { IsWay B.meaning cpu.old (B.state bus.old) result cpu.new (B.state bus.new) }
@@ -154,7 +146,6 @@ pub fn rti<B: Bus>(cpu: &mut Cpu, bus: &mut B) -> Option<u8>
 }
 
 /// BRK: pushes the address two bytes on and the status, sets I, and goes where the vector says.
-#[inline(never)]
 pub fn brk<B: Bus>(cpu: &mut Cpu, bus: &mut B) -> Option<u8>
     requires { IsRow B.meaning (B.state bus.old) cpu.old Operation.Brk Mode.Implied 7 false }
     ensures { IsWay B.meaning cpu.old (B.state bus.old) result cpu.new (B.state bus.new) }
@@ -176,7 +167,6 @@ pub fn brk<B: Bus>(cpu: &mut Cpu, bus: &mut B) -> Option<u8>
 }
 
 /// JMP to the address that stands at the one after the opcode.
-#[inline(never)]
 pub fn jmp_indirect<B: Bus>(cpu: &mut Cpu, bus: &mut B, low: u8) -> Option<u8>
     requires row { IsRow B.meaning (B.state bus.old) cpu.old Operation.Jmp Mode.Indirect 5 false }
     requires low { IsLow B.meaning (B.state bus.old) cpu.old low }

@@ -72,7 +72,6 @@ impl Storer for Sty {
 }
 
 /// A byte is stored at a place in the last cycle.
-#[inline(never)]
 pub fn store<O: Storer, M: PlaceMode, B: Bus>(cpu: &mut Cpu, bus: &mut B, low: u8) -> Option<u8>
     requires row { IsRow B.meaning (B.state bus.old) cpu.old O.operation M.mode (M.CYCLES + (if M.INDEXED then 1 else 0)) false }
     requires low { IsLow B.meaning (B.state bus.old) cpu.old low }

@@ -16,9 +16,10 @@ use Rattle.riot_map.specs.Private.Parts.{ArePartsLawful}
 use Rattle.riot_map.specs.RiotFields.{is_riot, timer_of, AreInRange}
 use Rattle.riot_map.specs.Riot.{RiotState, IsRiot, riot_at_power_on, riot_of, fields_of, with_pins}
 use Rattle.riot_map.specs.Riot.{with_ram, after_cycles, after_timer_read, after_read, after_write}
-use Rattle.riot_map.specs.Riot.{is_timer}
+use Rattle.riot_map.specs.Riot.{is_timer, riot_read}
 use Rattle.riot_map.proofs.RiotFieldLemmas.{lawful_parts}
 use Rattle.riot_map.proofs.TimerLemmas.{timer, shown-parts, part-parts, past-parts, one-parts}
+use Rattle.riot_map.proofs.TimerLemmas.{iterate-but_for_flag}
 use Rattle.riot_map.specs.declared.fields.RiotFields.{RiotFields}
 
 -- one cycle
@@ -237,3 +238,40 @@ IsRiot-ram r i value k h = record { memory = length-set r.ram i value ∙ h.memo
 
 pub IsRiot-pins : (r : RiotState) (a b : ℕ) → IsRiot r → IsRiot (with_pins a b r)
 IsRiot-pins r a b h = record { memory = h.memory; bytes = h.bytes; port_a = record { output = h.port_a.output; direction = h.port_a.direction }; port_b = record { output = h.port_b.output; direction = h.port_b.direction }; timer = h.timer }
+
+-- a read of the timer forgets the one before it
+clear-again : (n : ℕ) (t : Countdown) → with_clear_flag (iterate after_cycle n (with_clear_flag t)) ≡ with_clear_flag (iterate after_cycle n t)
+clear-again n t =
+    let e = iterate-but_for_flag n (with_clear_flag t) t (record { count = refl; interval = refl }) in
+    same_timer-at _ _ _ _ e.count e.interval
+  where
+    same_timer-at : (r s : ℤ) (i j : ℕ) → r ≡ s → i ≡ j → timer r i false ≡ timer s j false
+    same_timer-at r s i j e f = rw (e, f) refl
+
+intim-again : (n : ℕ) (t : Countdown) → intim (iterate after_cycle n (with_clear_flag t)) ≡ intim (iterate after_cycle n t)
+unfolding intim
+intim-again n t =
+    let e = iterate-but_for_flag n (with_clear_flag t) t (record { count = refl; interval = refl }) in
+    rw (e.count, e.interval) refl
+
+pub read-again : (n io : ℕ) (r : RiotState) → is_timer io ≡ true → after_read (after_cycles n (after_read r io)) io ≡ after_read (after_cycles n r) io
+unfolding after_read after_timer_read after_cycles
+read-again n io r h = rw h (by_register (has_bit io 0))
+  where
+    by_register : (flag : Bool)
+        → (if flag then after_cycles n (if flag then r else record r { timer = with_clear_flag r.timer })
+        else record (after_cycles n (if flag then r else record r { timer = with_clear_flag r.timer })) { timer = with_clear_flag (after_cycles n (if flag then r else record r { timer = with_clear_flag r.timer })).timer })
+        ≡ (if flag then after_cycles n r else record (after_cycles n r) { timer = with_clear_flag (after_cycles n r).timer })
+    by_register true = refl
+    by_register false = ap (λ (t : Countdown). record r { timer = t }) (clear-again n r.timer)
+
+pub value-again : (n io : ℕ) (r : RiotState) → is_timer io ≡ true → riot_read (after_cycles n (after_read r io)) io ≡ riot_read (after_cycles n r) io
+unfolding riot_read after_read after_timer_read after_cycles
+value-again n io r h = rw h (by_register (has_bit io 0))
+  where
+    by_register : (flag : Bool)
+        → (if flag then (if (iterate after_cycle n (if flag then r else record r { timer = with_clear_flag r.timer }).timer).flag then 128 else 0)
+        else intim (iterate after_cycle n (if flag then r else record r { timer = with_clear_flag r.timer }).timer))
+        ≡ (if flag then (if (iterate after_cycle n r.timer).flag then 128 else 0) else intim (iterate after_cycle n r.timer))
+    by_register true = refl
+    by_register false = intim-again n r.timer

@@ -9,8 +9,9 @@ use Rattle.std.proofs.lemmas.Bool.{agree_below_at, eqb-true}
 use Rattle.std.proofs.lemmas.Bool.Decides.{nat_tests, Decides-int_eq}
 use Rattle.std.proofs.lemmas.Int.{ints}
 use Rattle.std.proofs.lemmas.Nat.{div-add-mod', div-mul-add, mod-mul-add}
+use Rattle.std.proofs.Math.Nat.{div-mul-le_self, le-div_iff_mul-le}
 use Rattle.riot_map.specs.Timer.{Countdown, next_count, after_cycle, intim, part_left, is_running}
-use Rattle.riot_map.specs.Timer.{count_of}
+use Rattle.riot_map.specs.Timer.{count_of, cycles_above}
 use Rattle.riot_map.specs.Private.Parts.{ArePartsLawful}
 
 abbrev pub timer : ℤ → ℕ → Bool → Countdown
@@ -188,3 +189,53 @@ cycles-within n v q i false b e h =
     let f : v * i + q ≡ (v * i + (q - n)) + n = omega (arith, h) in
     let g : 0 < v * i + (q - n) = omega (arith, h) in
     sym (iterate-pos n (v * i + (q - n)) (v * i + q) i b g f)
+
+-- what INTIM shows, and the flag, while INTIM shows at least so much
+pub record ShowsAtLeast (bound : ℕ) (t u : Countdown) : Type 0 where
+  pub least : bound ≤ intim u
+  pub most : intim u ≤ intim t
+  pub flag : u.flag ≡ t.flag
+
+less_one-suc : (j : ℕ) → nat_abs (pos (suc j) -ℤ pos 1) ≡ j
+less_one-suc j = less_one-abs (suc j) j (omega arith)
+
+shown-pos : (j i : ℕ) (b : Bool) → intim (timer (pos (suc j)) i b) ≡ j / i
+unfolding intim
+shown-pos j i b = rw (running-pos (suc j) (omega arith), less_one-suc j) refl
+
+above-pos : (least j i : ℕ) (b : Bool) → cycles_above least (timer (pos (suc j)) i b) ≡ j - least * i
+above-pos least j i b = rw (running-pos (suc j) (omega arith), less_one-suc j) refl
+
+div-mono : (x y i : ℕ) → 0 < i → x ≤ y → x / i ≤ y / i
+div-mono x y i some h = let most = div-mul-le_self x i in (le-div_iff_mul-le some).1 (omega (arith, most, h))
+
+above-by : (r : ℤ) (least n i : ℕ) (b : Bool) → 0 < i → 0 < cycles_above least (timer r i b) → n ≤ cycles_above least (timer r i b)
+    → ShowsAtLeast least (timer r i b) (iterate after_cycle n (timer r i b))
+above-by (negsuc k) least n i b some more h = absurd (omega (arith, more))
+above-by (pos zero) least n i b some more h = absurd (omega (arith, more))
+above-by (pos (suc j)) least n i b some more h =
+    let few : n ≤ j - least * i = rw (above-pos least j i b) at h in
+    let any : 0 < j - least * i = rw (above-pos least j i b) at more in
+    let sum : suc j ≡ suc (j - n) + n = omega (arith, few) in
+    let after = iterate-pos n (suc (j - n)) (suc j) i b (omega arith) sum in
+    let under : least * i ≤ j - n = omega (arith, few, any) in
+    rw (after) (record {
+      least = rw (shown-pos (j - n) i b) ((le-div_iff_mul-le some).1 under);
+      most = rw (shown-pos (j - n) i b, shown-pos j i b) (div-mono (j - n) j i some (omega arith));
+      flag = refl;
+    })
+
+pub shown-above : (least n : ℕ) (t : Countdown) → 0 < t.interval → 0 < cycles_above least t → n ≤ cycles_above least t
+    → ShowsAtLeast least t (iterate after_cycle n t)
+shown-above least n t some more h = above-by t.count least n t.interval t.flag some more h
+
+-- the count doesn't see the flag
+pub record IsButForFlag (s t : Countdown) : Type 0 where
+  pub count : s.count ≡ t.count
+  pub interval : s.interval ≡ t.interval
+
+pub iterate-but_for_flag : (n : ℕ) (s t : Countdown) → IsButForFlag s t → IsButForFlag (iterate after_cycle n s) (iterate after_cycle n t)
+unfolding after_cycle
+iterate-but_for_flag zero s t e = e
+iterate-but_for_flag (suc n) s t e =
+    iterate-but_for_flag n (after_cycle s) (after_cycle t) (record { count = ap next_count e.count; interval = e.interval })

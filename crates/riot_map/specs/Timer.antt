@@ -1,7 +1,7 @@
 -- The timer: one whole number that falls by one each cycle, an interval and a flag. Registers and
 -- intervals are the Stella Programmer's Guide's (TIM1T, TIM8T, TIM64T, T1024T, INTIM); the phase,
 -- that is in which cycle each value changes, is this project's own.
-use Rattle.std.specs.Prelude.{ℕ, ℤ, pos, negsuc, ◌≡◌, ◌≤ℤ◌, ◌+ℤ◌, ◌-ℤ◌, nat_abs, int_le, ◌+◌, ◌*◌}
+use Rattle.std.specs.Prelude.{ℕ, ℤ, pos, negsuc, ◌≡◌, ◌≤ℤ◌, ◌+ℤ◌, ◌-ℤ◌, nat_abs, int_le, ◌+◌, ◌-◌, ◌*◌}
 use Rattle.std.specs.Prelude.{◌/◌, ◌%◌, Bool, false, ◌||◌, ◌==◌, if◌then◌else◌}
 use Rattle.std.specs.Ordering.{int_eq}
 
@@ -31,6 +31,11 @@ intim t = if is_running t then nat_abs (t.count -ℤ pos 1) / t.interval else na
 -- the cycles until INTIM changes
 unfoldable pub part_left : Countdown → ℕ
 part_left t = if is_running t then nat_abs (t.count -ℤ pos 1) % t.interval + 1 else 1
+
+-- the cycles that may pass while INTIM shows at least this much, and zero is ahead; 0 if it shows
+-- less now, or if zero is behind
+abbrev pub cycles_above : ℕ → Countdown → ℕ
+cycles_above least t = if is_running t then nat_abs (t.count -ℤ pos 1) - least * t.interval else 0
 
 -- a write of n starts at n intervals and 1, with a clear flag
 unfoldable pub timer_of_write : ℕ → ℕ → Countdown

@@ -1,10 +1,11 @@
 //! The RIOT.
-ghost use Rattle.std.specs.Prelude.{◌≡◌, ◌<◌, ◌%◌, if◌then◌else◌, IsTrue, slice_index};
+ghost use Rattle.std.specs.Prelude.{◌≡◌, ◌<◌, ◌%◌, ◌^◌, if◌then◌else◌, IsTrue, slice_index};
 ghost use Rattle.riot_map.specs.Riot.{RiotState, riot_of, fields_of, riot_at_power_on};
 ghost use Rattle.riot_map.specs.Riot.{after_cycles, riot_read, after_read, after_write};
-ghost use Rattle.riot_map.specs.Riot.{after_port_write, after_timer_write, port_read, timer_read};
-ghost use Rattle.riot_map.specs.Riot.{after_timer_read, with_pins, with_ram};
+ghost use Rattle.riot_map.specs.Riot.{after_port_write, after_timer_write, port_read};
+ghost use Rattle.riot_map.specs.Riot.{with_pins, with_ram};
 ghost use Rattle.riot_map.specs.RiotFields.{is_riot, timer_of};
+ghost use Rattle.riot_map.specs.Timer.{cycles_above};
 
 use crate::bits::has_bit;
 use crate::fields::RiotFields;
@@ -92,41 +93,55 @@ impl Riot {
         }
     }
 
+    /// The cycles that may pass while INTIM, before zero, shows at least this much; 0 if it shows
+    /// less now, or if zero is behind.
+    pub fn cycles_above(&self, least: u8) -> u32
+        ensures value { result ≡ cycles_above least self.now.timer }
+        ensures interval { 0 < self.now.timer.interval }
+        ensures most { result < 2 ^ 18 }
+    {
+        self.timer.cycles_above(least)
+    }
+
     /// Lets `n` cycles of the processor's clock pass.
     #[tactic(auto, unfolding(crate::specs::Riot::after_cycles))]
+    #[inline(always)]
     pub fn cycles(&mut self, n: u8)
         ensures { self.new ≡ after_cycles n self.old }
     {
         self.timer.cycles(n);
     }
 
-    /// Reads a register of the ports or the timer. The low five bits of `io` are the address
-    /// lines A0 to A4; the others don't count.
-    #[tactic(auto, unfolding(crate::specs::Riot::riot_read, crate::specs::Riot::after_read))]
+    /// What a read of a register of the ports or the timer would give. The low five bits of `io`
+    /// are the address lines A0 to A4; the others don't count.
+    #[tactic(auto, unfolding(crate::specs::Riot::riot_read))]
+    #[inline(always)]
+    pub fn peek(&self, io: u8) -> u8
+        ensures { result ≡ riot_read self.now io }
+    {
+        if !has_bit(u16::from(io), 2) {
+            self.read_port(io)
+        } else if !has_bit(u16::from(io), 0) {
+            self.timer.value()
+        } else if self.timer.flag() {
+            0x80
+        } else {
+            0
+        }
+    }
+
+    /// Reads a register of the ports or the timer: what `peek` says. A read of INTIM clears the
+    /// flag.
+    #[tactic(auto, unfolding(crate::specs::Riot::after_read, crate::specs::Riot::after_timer_read))]
     pub fn read(&mut self, io: u8) -> u8
         ensures value { result ≡ riot_read self.old io }
         ensures after { self.new ≡ after_read self.old io }
     {
-        if has_bit(u16::from(io), 2) {
-            self.read_timer(io)
-        } else {
-            self.read_port(io)
-        }
-    }
-
-    /// Reads INTIM, which clears the flag, or the flag.
-    #[tactic(auto, unfolding(crate::specs::Riot::after_timer_read))]
-    fn read_timer(&mut self, io: u8) -> u8
-        ensures value { result ≡ timer_read self.old.timer io }
-        ensures after { self.new ≡ after_timer_read self.old io }
-    {
-        if has_bit(u16::from(io), 0) {
-            if self.timer.flag() { 0x80 } else { 0 }
-        } else {
-            let value = self.timer.value();
+        let value = self.peek(io);
+        if has_bit(u16::from(io), 2) && !has_bit(u16::from(io), 0) {
             self.timer.clear_flag();
-            value
         }
+        value
     }
 
     /// Reads SWCHA, SWACNT, SWCHB or SWBCNT.

@@ -1,10 +1,10 @@
 //! The timer.
-ghost use Rattle.std.specs.Prelude.{◌≡◌, ◌<◌, ◌≤◌, ◌==◌, ◌*◌, ◌+◌, if◌then◌else◌, IsTrue, not, pos};
+ghost use Rattle.std.specs.Prelude.{◌≡◌, ◌<◌, ◌≤◌, ◌==◌, ◌*◌, ◌+◌, ◌^◌, if◌then◌else◌, IsTrue, not, pos};
 ghost use Rattle.std.specs.Prelude.{true, false};
 ghost use Rattle.std.specs.Fn.{iterate};
 ghost use Rattle.riot_map.specs.Timer.{Countdown, after_cycle, intim, part_left, timer_of_write};
 ghost use Rattle.riot_map.specs.Timer.{is_running, interval_of, interval_code, count_of};
-ghost use Rattle.riot_map.specs.Timer.{with_clear_flag};
+ghost use Rattle.riot_map.specs.Timer.{with_clear_flag, cycles_above};
 ghost use Rattle.riot_map.specs.RiotFields.{timer_of, is_riot};
 ghost use Rattle.riot_map.specs.Private.Interval.{interval_cycles};
 
@@ -126,6 +126,21 @@ impl Timer {
         self.flag
     }
 
+    /// The cycles that may pass while INTIM, before zero, shows at least this much; 0 if it shows
+    /// less now, or if zero is behind.
+    pub fn cycles_above(&self, least: u8) -> u32
+        ensures value { result ≡ cycles_above least self.now }
+        ensures interval { 0 < self.now.interval }
+        ensures most { result < 2 ^ 18 }
+    {
+        if self.past_zero {
+            return 0;
+        }
+        let interval = self.interval.cycles() as u32;
+        let before_one = self.value as u32 * interval + self.part as u32 - 1;
+        before_one.saturating_sub(least as u32 * interval)
+    }
+
     /// Clears the flag.
     pub fn clear_flag(&mut self)
         ensures { self.new ≡ with_clear_flag self.old }
@@ -134,6 +149,7 @@ impl Timer {
     }
 
     /// Lets `n` cycles pass.
+    #[inline(always)]
     pub fn cycles(&mut self, n: u8)
         ensures { self.new ≡ iterate after_cycle n self.old }
     {

@@ -6,6 +6,7 @@ pub mod DebtLemmas
 pub mod FrameOutcomes
 pub mod OneStop
 pub mod PictureTable
+pub mod PollLemmas
 pub mod RowLemmas
 pub mod SinkLemmas
 pub mod StateLemmas

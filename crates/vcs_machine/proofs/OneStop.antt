@@ -11,6 +11,7 @@ use Rattle.vcs_machine.specs.Frame.{Rules, Machine, Turn, Failed, Went, turn, tu
 use Rattle.vcs_machine.specs.Frame.{is_over, Reaches, Ends, IsOverlong, Faults, Stop, Ended}
 use Rattle.vcs_machine.specs.Frame.{Overlong, Faulted, machine_at, StopsAs, stop_after, stop_within}
 use Rattle.vcs_machine.specs.Frame.{stop_of, most_turns, overlong_cycles}
+use Rattle.vcs_machine.specs.Private.Searching.{Searches}
 
 module _ {B : Type 0} (rules : Rules B) where
   -- A turn takes at least two cycles.
@@ -176,22 +177,16 @@ module _ {B : Type 0} (rules : Rules B) where
   search-long (suc fuel) m long =
       let yes : nat_le overlong_cycles m.cycles ≡ true = grind (arith, nat_tests) in rw yes refl
 
-  -- The search from a machine goes on to this stop.
-  pub record Searches (m : Machine B) (stop : Stop B) : Type 0 where
-    pub fuel : ℕ
-    pub enough : overlong_cycles ≤ m.cycles + 2 * fuel
-    pub finds : stop_within rules fuel m ≡ stop
-
-  pub search-begins : (m : Machine B) → m.cycles ≡ 0 → Searches m (stop_of rules m)
+  pub search-begins : (m : Machine B) → m.cycles ≡ 0 → Searches rules m (stop_of rules m)
   unfolding stop_of
   search-begins m fresh = record { fuel = most_turns; enough = omega arith; finds = refl }
 
-  pub search-goes_on : (m next : Machine B) (stop : Stop B) → Searches m stop → m.cycles < overlong_cycles → turn rules m ≡ Went next
-      → rules.ended next.bus ≡ false → m.cycles + 2 ≤ next.cycles → Searches next stop
+  pub search-goes_on : (m next : Machine B) (stop : Stop B) → Searches rules m stop → m.cycles < overlong_cycles → turn rules m ≡ Went next
+      → rules.ended next.bus ≡ false → m.cycles + 2 ≤ next.cycles → Searches rules next stop
   unfolding stop_within
   search-goes_on m next stop s short e unended more = by_fuel s.fuel s.enough s.finds
     where
-      by_fuel : (fuel : ℕ) → overlong_cycles ≤ m.cycles + 2 * fuel → stop_within rules fuel m ≡ stop → Searches next stop
+      by_fuel : (fuel : ℕ) → overlong_cycles ≤ m.cycles + 2 * fuel → stop_within rules fuel m ≡ stop → Searches rules next stop
       by_fuel zero enough finds = absurd (omega arith)
       by_fuel (suc fuel) enough finds =
           let not : nat_le overlong_cycles m.cycles ≡ false = grind (arith, nat_tests) in

@@ -1,13 +1,18 @@
 //! A console as its processor's bus.
-ghost use Rattle.std.specs.Prelude.{◌≡◌, ◌%◌, ◌/◌, ◌-◌, ◌*◌, ◌+◌, ◌<◌, ◌≤◌, IsTrue, false};
+ghost use Rattle.std.specs.Prelude.{◌≡◌, ◌%◌, ◌/◌, ◌-◌, ◌*◌, ◌+◌, ◌<◌, ◌≤◌, IsTrue, IfSome};
+ghost use Rattle.std.specs.Prelude.{false, true};
+ghost use Rattle.riot_map.specs.Bits.{has_bit};
+ghost use Rattle.riot_map.specs.Riot.{riot_read};
 ghost use Rattle.riot_map.specs.Riot.{riot_of, fields_of, with_pins, with_ram};
 ghost use Rattle.tia_core.specs.TiaState.{tia_of as tia_state_of, with_fire, at_frame_start};
 ghost use Rattle.vcs_machine.specs.Consoles.{meaning_of, after_wait, wait_cycles};
-ghost use Rattle.vcs_machine.specs.Consoles.{cycles_to_line_start};
+ghost use Rattle.vcs_machine.specs.Consoles.{cycles_to_line_start, passed, read_at};
+ghost use Rattle.vcs_machine.specs.Private.Polls.{GoOn, IsPoll};
 ghost use Rattle.vcs_machine.specs.Inputs.{is_pressed};
 
 use crate::devices::{Devices, MOST_OWED};
 use crate::input::Input;
+use crate::polls::Poll;
 use crate::socket::Socket;
 use crate::state::State;
 use crate::unchanged::is_unchanged;
@@ -27,14 +32,15 @@ pub struct Console<'a, S: Paint> {
     awaits_line: bool,
     /// VSYNC has fallen in this frame.
     ended: bool,
-    /// One of the two, perhaps: most instructions do neither, and ask this alone.
-    stirred: bool,
+    /// One of the two, or a read of the RIOT, perhaps: most instructions do none of these, and the
+    /// loop of a frame asks this alone.
+    has_event: bool,
 }
 
 impl<'a, S: Paint> Model for Console<'a, S> {
     ghost use Rattle.vcs_machine.specs.Consoles.{Console as ConsoleOf};
     ghost use Rattle.vcs_machine.specs.Private.Owing.{riot_seen, tia_seen, sink_seen, IsBehind};
-    ghost use Rattle.vcs_machine.specs.Private.Owing.{IsStirring};
+    ghost use Rattle.vcs_machine.specs.Private.Owing.{IsEventful};
 
     ghost Value = { ConsoleOf S };
 
@@ -48,7 +54,7 @@ impl<'a, S: Paint> Model for Console<'a, S> {
       sink = sink_seen S.drawn c.devices;
     } };
 
-    ghost invariant = { λ c. IsBehind c.devices × IsStirring c.stirred c.awaits_line c.ended };
+    ghost invariant = { λ c. IsBehind c.devices × IsEventful c.has_event c.awaits_line c.ended };
 }
 
 impl<'a, S: Paint> Bus for Console<'a, S> {
@@ -80,9 +86,10 @@ impl<'a, S: Paint> Bus for Console<'a, S> {
                 self.devices.tia.read(register)
             }
             Place::Ram(index) => self.devices.riot.ram(index),
-            Place::Io(register) => {
+            Place::Io(io) => {
+                self.has_event = true;
                 self.devices.settle_riot();
-                self.devices.riot.read(register)
+                self.devices.riot.read(io)
             }
         }
     }
@@ -108,6 +115,15 @@ impl<'a, S: Paint> Bus for Console<'a, S> {
             Place::Cart(address) => Some(self.socket.at(address)),
             Place::Ram(index) => Some(self.devices.riot.ram(index)),
             Place::Tia(_) | Place::Io(_) => None,
+        }
+    }
+
+    #[tactic(auto, unfolding(crate::specs::Consoles::meaning_of))]
+    #[inline(always)]
+    fn peek_after(&self, addr: u16) -> Option<u8> {
+        match place(addr) {
+            Place::Cart(address) => self.socket.after(address),
+            _ => None,
         }
     }
 
@@ -146,7 +162,7 @@ impl<'a, S: Paint> Console<'a, S> {
             },
             awaits_line: false,
             ended: false,
-            stirred: false,
+            has_event: false,
         }
     }
 
@@ -166,7 +182,7 @@ impl<'a, S: Paint> Console<'a, S> {
             mut devices,
             awaits_line: _,
             ended: _,
-            stirred: _,
+            has_event: _,
         } = self;
         devices.settle();
         let Devices {
@@ -188,7 +204,7 @@ impl<'a, S: Paint> Console<'a, S> {
         // These leave the cycles owed, since they change nothing in the TIA.
         if register == WSYNC {
             self.awaits_line = true;
-            self.stirred = true;
+            self.has_event = true;
             return;
         }
         if is_unchanged(&self.devices.tia.fields(), register, value) {
@@ -209,47 +225,89 @@ impl<'a, S: Paint> Console<'a, S> {
             Effect::Sync => self.awaits_line = true,
             Effect::FrameEnd => self.ended = true,
         }
-        self.stirred = true;
+        self.has_event = true;
+    }
+
+    /// Whether an instruction may have asked for a wait, ended the frame, or read the RIOT.
+    #[inline(always)]
+    pub fn has_event(&self) -> bool
+        ensures no_wait { result ≡ false → self.now.awaits_line ≡ false }
+        ensures no_end { result ≡ false → self.now.ended ≡ false }
+    {
+        self.has_event
     }
 
     /// The wait that an instruction left, in cycles: up to the next scanline if it wrote WSYNC.
     #[tactic(auto, unfolding(crate::specs::Consoles::meaning_of, riot_map::specs::Riot::after_cycles))]
-    #[inline(always)]
     pub fn wait(&mut self) -> u8
         ensures bus { self.new ≡ after_wait S.drawn self.old }
         ensures cycles { result ≡ wait_cycles self.old }
         ensures most { result ≤ 75 }
     {
-        if self.stirred {
-            self.wait_for_line()
-        } else {
-            0
-        }
-    }
-
-    /// The same, if WSYNC was written or VSYNC has fallen.
-    #[tactic(auto, unfolding(crate::specs::Consoles::meaning_of, riot_map::specs::Riot::after_cycles))]
-    #[inline(never)]
-    fn wait_for_line(&mut self) -> u8
-        ensures bus { self.new ≡ after_wait S.drawn self.old }
-        ensures cycles { result ≡ wait_cycles self.old }
-        ensures most { result ≤ 75 }
-    {
         if !self.awaits_line {
+            self.has_event = self.ended;
             return 0;
         }
         let cycles = (76 - self.devices.line_cycle()) % 76;
         self.pass(cycles);
         self.awaits_line = false;
-        self.stirred = self.ended;
+        self.has_event = self.ended;
         cycles
     }
 
     /// Whether VSYNC has fallen in this frame.
-    #[inline(always)]
     pub fn has_ended(&self) -> bool
         ensures { result ≡ self.now.ended }
     {
-        self.stirred && self.ended
+        self.ended
+    }
+
+    /// The loop that waits for the timer whose branch stands at an address, if one does there.
+    pub fn poll_at(&self, pc: u16) -> Option<Poll>
+        ensures { IfSome result (λ poll. IsPoll self.now.cart self.now.bank pc poll) }
+    {
+        self.socket.poll_at(pc)
+    }
+
+    /// So many rounds of such a loop surely go on: what is loaded in each but the last has the branch
+    /// taken again.
+    #[tactic(auto, unfolding(riot_map::specs::Riot::after_cycles))]
+    pub fn rounds_ahead(&mut self, poll: Poll) -> u32
+        requires timer { has_bit poll.register 2 ≡ true }
+        requires cycles { 0 < poll.cycles }
+        ensures bus { self.new ≡ self.old }
+        ensures some { 1 ≤ result }
+        ensures going { GoOn poll self.old.riot result }
+    {
+        self.devices.settle_riot();
+        let byte = self.devices.riot.peek(poll.register);
+        if !poll.branch.goes_on(byte) {
+            return 1;
+        }
+        self.devices.riot.cycles_above(poll.branch.least()) / poll.cycles as u32 + 1
+    }
+
+    /// The byte that a load of a register of the RIOT gives, which ends after so many cycles.
+    #[tactic(auto, unfolding(crate::specs::Consoles::meaning_of, riot_map::specs::Riot::after_cycles))]
+    pub fn load_after(&mut self, register: u8, cycles: u32) -> u8
+        ensures bus { self.new ≡ read_at (passed S.drawn self.old cycles) (Place.Io register) }
+        ensures byte { result ≡ riot_read (passed S.drawn self.old cycles).riot register }
+    {
+        self.pass_all(cycles);
+        self.devices.settle_riot();
+        self.devices.riot.read(register)
+    }
+
+    /// Lets cycles pass, those of several scanlines perhaps.
+    #[tactic(auto, unfolding(crate::specs::Consoles::meaning_of, riot_map::specs::Riot::after_cycles))]
+    fn pass_all(&mut self, cycles: u32)
+        ensures { self.new ≡ passed S.drawn self.old cycles }
+    {
+        let mut left = cycles;
+        while left > 76 {
+            self.pass(76);
+            left -= 76;
+        }
+        self.pass(left as u8);
     }
 }

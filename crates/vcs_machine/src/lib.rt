@@ -10,6 +10,7 @@ mod input;
 mod laws;
 mod picture;
 mod pictures;
+mod polls;
 mod run;
 mod socket;
 mod state;

@@ -1,36 +1,58 @@
 //! Instructions until a frame stops.
-ghost use Rattle.std.specs.Prelude.{◌≡◌, ◌<◌, ◌≤◌, ◌+◌, MatchResult, IfOk, OnErr, IfErr};
+ghost use Rattle.std.specs.Prelude.{◌≡◌, ◌<◌, ◌≤◌, ◌+◌, false, IfOk, IfErr};
 ghost use Rattle.mos_cpu.specs.Registers.{Registers};
-ghost use Rattle.vcs_machine.specs.Consoles.{console_rules};
+ghost use Rattle.vcs_machine.specs.Consoles.{Console as ConsoleOf, console_rules};
 ghost use Rattle.vcs_machine.specs.Faults.{stop_with};
-ghost use Rattle.vcs_machine.specs.Frame.{turn, Went, Failed, stop_of, Ended, most_frame_cycles};
+ghost use Rattle.vcs_machine.specs.Frame.{Machine, Stop, stop_of, Ended, most_frame_cycles};
+ghost use Rattle.vcs_machine.specs.Private.Searching.{Searches};
 
 use crate::console::Console;
 use crate::fault::{FaultKind, Halt};
-use mos_cpu::{Cpu, CpuFault, step};
+use mos_cpu::{Cpu, load, step};
 use tia_core::Paint;
 
 /// Cycles after which a frame that has not ended is too long.
 const TOO_MANY_CYCLES: u32 = 24_320;
 
-/// One instruction with its wait; it answers the cycles of the frame so far. A fault changes
-/// nothing.
-#[tactic(auto, unfolding(crate::specs::Consoles::console_rules, crate::specs::Frame::turn))]
-#[inline(always)]
-fn turn<S: Paint>(cpu: &mut Cpu, console: &mut Console<S>, cycles: u32) -> Result<u32, CpuFault>
-    requires { cycles < TOO_MANY_CYCLES }
-    ensures value { MatchResult result
-        (λ total. turn (console_rules S.drawn) (record { registers = cpu.old; bus = console.old; cycles = cycles })
-        ≡ Went (record { registers = cpu.new; bus = console.new; cycles = total }))
-        (λ fault. turn (console_rules S.drawn) (record { registers = cpu.old; bus = console.old; cycles = cycles }) ≡ Failed fault) }
-    ensures cpu { OnErr result (cpu.new ≡ cpu.old) }
-    ensures console { OnErr result (console.new ≡ console.old) }
-    ensures least { IfOk result (λ total. cycles + 2 ≤ total) }
-    ensures most { IfOk result (λ total. total ≤ cycles + 82) }
+/// Passes the rounds of a loop that waits for the timer, if the processor is at its branch, and they
+/// surely go on and begin before the frame is too long. It answers the processor, and the cycles of
+/// the frame so far.
+///
+/// A frame that goes on from there stops as it would have stopped. The processor comes by its value,
+/// so that the loop of a frame can keep its registers out of memory.
+#[inline(never)]
+fn pass_rounds<S: Paint>(cpu: Cpu, console: &mut Console<S>, cycles: u32) -> (Cpu, u32)
+    requires no_wait { console.old.awaits_line ≡ false }
+    requires no_end { console.old.ended ≡ false }
+    ensures searches { (stop : Stop (ConsoleOf S)) →
+        Searches (console_rules S.drawn) (record { registers = cpu; bus = console.old; cycles = cycles }) stop →
+        Searches (console_rules S.drawn) (record { registers = result.0; bus = console.new; cycles = result.1 }) stop }
+    ensures later { cycles ≤ result.1 }
+    ensures most { cycles ≤ most_frame_cycles → result.1 ≤ most_frame_cycles }
 {
-    let taken = step(cpu, console)?;
-    let waited = console.wait();
-    Ok(cycles + taken as u32 + waited as u32)
+    let Some(poll) = console.poll_at(cpu.pc) else {
+        return (cpu, cycles);
+    };
+    if cycles >= TOO_MANY_CYCLES || !poll.branch.is_taken(cpu.p) {
+        return (cpu, cycles);
+    }
+    let room = (TOO_MANY_CYCLES - cycles) / poll.cycles as u32;
+    let ahead = console.rounds_ahead(poll);
+    let count = if ahead < room { ahead } else { room };
+    if count == 0 {
+        return (cpu, cycles);
+    }
+    let passed = poll.cycles as u32 * count;
+    let loaded = load(console.load_after(poll.register, passed), cpu.p);
+    let after = Cpu {
+        a: loaded.value,
+        x: cpu.x,
+        y: cpu.y,
+        s: cpu.s,
+        p: loaded.p,
+        pc: cpu.pc,
+    };
+    (after, cycles + passed)
 }
 
 /// Instructions, each with its wait, until the frame stops; it answers its cycles.
@@ -43,15 +65,21 @@ pub fn run_frame<S: Paint>(cpu: &mut Cpu, console: &mut Console<S>) -> Result<u3
 {
     let mut cycles = 0;
     while cycles < TOO_MANY_CYCLES {
-        match turn(cpu, console, cycles) {
+        match step(cpu, console) {
+            Ok(taken) => cycles += taken as u32,
             Err(fault) => {
                 let kind = FaultKind::from(fault);
                 return Err(Halt { kind, cycles });
             }
-            Ok(total) => cycles = total,
         }
-        if console.has_ended() {
-            return Ok(cycles);
+        if console.has_event() {
+            cycles += console.wait() as u32;
+            if console.has_ended() {
+                return Ok(cycles);
+            }
+            let (after, total) = pass_rounds(*cpu, console, cycles);
+            *cpu = after;
+            cycles = total;
         }
     }
     Err(Halt {

@@ -1,14 +1,24 @@
 //! A cartridge in a console.
-ghost use Rattle.std.specs.Prelude.{◌≡◌, ◌<◌, ℕ, ◌-◌, length, slice_index, bit_and};
+ghost use Rattle.std.specs.Prelude.{◌≡◌, ◌<◌, ℕ, ◌+◌, ◌-◌, ◌%◌, length, slice_index, bit_and};
+ghost use Rattle.std.specs.Prelude.{IfSome};
 ghost use Rattle.riot_map.specs.Cart.{cart_byte, bank_after};
+ghost use Rattle.vcs_machine.specs.Private.Polls.{IsPoll};
+ghost use Rattle.vcs_machine.specs.Private.Mapped.{IsFollowed};
 
-use riot_map::Cart;
+use crate::polls::{Branch, Poll};
+use riot_map::{Cart, Place, place};
 
 /// The bytes of a bank.
 const BANK_LENGTH: usize = 4096;
 
 /// The part of an address that finds a byte in a bank.
 const BANK_MASK: u16 = 0xFFF;
+
+/// The opcode of LDA with an address of two bytes.
+const LDA_ABSOLUTE: u8 = 0xAD;
+
+/// The offset of a branch to five bytes before the next instruction.
+const BACK_BY_FIVE: u8 = 0xFB;
 
 /// A cartridge and its selected bank, with the bytes that this bank shows at hand. Their number is
 /// a power of two, so that an address finds its byte by a mask, one less.
@@ -20,6 +30,7 @@ pub struct Socket<'a> {
     pub mask: u16,
     ghost small: { bank < 2 },
     ghost within: { mask < length bytes.now },
+    ghost next: { (address : ℕ) → bit_and address mask < mask → IsFollowed mask address },
     ghost shown: { (address : ℕ) → slice_index bytes.now (bit_and address mask) ≡ cart_byte cart.now bank address },
 }
 
@@ -56,6 +67,49 @@ impl<'a> Socket<'a> {
         ensures { result ≡ cart_byte self.now.cart.now self.now.bank addr }
     {
         self.bytes[(addr & self.mask) as usize]
+    }
+
+    /// The byte after the one at an address, if it is not at the other end of what is mapped.
+    #[tactic(auto, using(std::proofs::lemmas::Nat::and_le_r))]
+    #[inline(always)]
+    pub fn after(&self, addr: u16) -> Option<u8>
+        ensures byte { IfSome result (λ byte. byte ≡ cart_byte self.now.cart.now self.now.bank (addr + 1)) }
+        ensures inside { IfSome result (λ byte. addr % 4096 < 4095) }
+    {
+        let index = addr & self.mask;
+        if index == self.mask {
+            None
+        } else {
+            Some(self.bytes[index as usize + 1])
+        }
+    }
+
+    /// The loop that waits for the timer whose branch stands at an address, if one does there. Its
+    /// bytes lie in a row, none of them at an end of the bank.
+    pub fn poll_at(&self, pc: u16) -> Option<Poll>
+        ensures { IfSome result (λ poll. IsPoll self.now.cart.now self.now.bank pc poll) }
+    {
+        let in_bank = pc % 4096;
+        if pc / 4096 % 2 != 1 || in_bank < 3 || in_bank > 4093 {
+            return None;
+        }
+        if self.at(pc - 3) != LDA_ABSOLUTE || self.at(pc + 1) != BACK_BY_FIVE {
+            return None;
+        }
+        let branch = Branch::of_opcode(self.at(pc))?;
+        let address = u16::from_le_bytes([self.at(pc - 2), self.at(pc - 1)]);
+        let Place::Io(register) = place(address) else {
+            return None;
+        };
+        if register / 4 % 2 != 1 {
+            return None;
+        }
+        let crosses = (pc + 2) / 256 != (pc - 3) / 256;
+        Some(Poll {
+            branch,
+            register,
+            cycles: if crosses { 8 } else { 7 },
+        })
     }
 
     /// Selects the bank that an access to an address selects.

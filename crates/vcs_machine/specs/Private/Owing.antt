@@ -28,10 +28,10 @@ pub record IsBehind {S : Type 0} (d : Devices S) : Type 0 where
 abbrev pub given_back : {S : Type 0} → Devices S → ℕ → Devices S
 given_back d cycles = record d { left = (d.left + cycles) % 256 }
 
--- What is known if no instruction stirred: none wrote WSYNC, and VSYNC has not fallen.
-pub record IsStirring (stirred awaits_line ended : Bool) : Type 0 where
-  pub no_wait : stirred ≡ false → awaits_line ≡ false
-  pub no_end : stirred ≡ false → ended ≡ false
+-- What is known if there was no event: no instruction wrote WSYNC, and VSYNC has not fallen.
+pub record IsEventful (has_event awaits_line ended : Bool) : Type 0 where
+  pub no_wait : has_event ≡ false → awaits_line ≡ false
+  pub no_end : has_event ≡ false → ended ≡ false
 
 -- The numbers of a TIA whose beam went on: nothing else of them changes.
 abbrev pub after_beam : TiaFields → ℕ → ℕ → ℕ → TiaFields

@@ -1,20 +1,11 @@
-use Rattle.mos_cpu.specs.Opcodes.{entries}
-use Rattle.mos_cpu.proofs.OpcodeLemmas.{row_in-absent}
-use Rattle.mos_cpu.proofs.WayLemmas.{decoded-unknown, decoded-short}
-use Rattle.std.proofs.Common.{rules, refl}
+use Rattle.mos_cpu.proofs.WayLemmas.{decoded-short}
+use Rattle.mos_cpu.specs.Registers.{Registers}
+use Rattle.std.proofs.Common.{rules, ◌≡◌, ◌+◌, ◌%◌, None, subst}
 use Rattle.mos_cpu.proofs.processor.run_opcode.Goals as goal
 
-pub returns-in_default : goal.returns-in_default
-returns-in_default g c =
-    record {
-      registers = refl;
-      bus_state = refl;
-      fault = decoded-unknown g.B.Bus.meaning c.args.cpu.now (g.B.Bus.state c.args.bus.now) c.in_ok-opcode.opcode (search rules)
-          (row_in-absent entries c.in_ok-opcode.opcode (assumption c));
-    }
-
-pub returns-in_err-low : goal.returns-in_err-low
-returns-in_err-low g c =
-    let err = decoded-short g.B.Bus.meaning c.args.cpu.now (g.B.Bus.state c.args.bus.now) c.in_ok-opcode.opcode (search rules)
-    c.in_err-low.ensures.none c.in_err-low.ensures.nowhere in
+pub returns-in_err-low-in-None : goal.returns-in_err-low-in-None
+returns-in_err-low-in-None g c =
+    let bus = g.B.Bus.state c.args.bus.now in
+    let nowhere = subst (λ (r : Registers). g.B.Bus.meaning.peeked bus ((r.pc + 1) % 65536) ≡ None) c.cpu.view_is c.in_err-low-in-None.ensures.nowhere in
+    let err = decoded-short g.B.Bus.meaning c.args.cpu.now bus c.in_ok-opcode.opcode (search rules) c.in_err-low-in-None.ensures.none nowhere in
     search rules

@@ -1,7 +1,7 @@
 use Rattle.std.proofs.Common.{◌-◌}
 use Rattle.vcs_machine.specs.Consoles.{console_rules}
 use Rattle.vcs_machine.specs.Frame.{stop_of}
-use Rattle.vcs_machine.proofs.OneStop.{Searches}
+use Rattle.vcs_machine.specs.Private.Searching.{Searches}
 use Rattle.vcs_machine.proofs.run.run_frame.Given as goal
 
 abbrev pub invariant-loop-cycles : goal.invariant-loop-cycles

@@ -1,6 +1,6 @@
 use Rattle.std.proofs.Common.{◌≡◌, true, length, arith, rules, tests}
 use Rattle.riot_map.specs.Cart.{has_banks}
-use Rattle.vcs_machine.proofs.BankLemmas.{part-length, part-shown}
+use Rattle.vcs_machine.proofs.BankLemmas.{followed-4095, part-length, part-shown}
 use Rattle.vcs_machine.proofs.socket.Socket.new.Goals as goal
 
 pub invariant_of-result-2 : goal.invariant_of-result-2
@@ -11,5 +11,6 @@ invariant_of-result-2 c =
     record {
       small = c.requires;
       within = omega (arith, long);
+      next = followed-4095;
       shown = λ address. rw (← value) (part-shown c.bytes-all.result.now c.args.bank banked c.requires address);
     }
