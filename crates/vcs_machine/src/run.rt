@@ -56,6 +56,7 @@ fn pass_rounds<S: Paint>(cpu: Cpu, console: &mut Console<S>, cycles: u32) -> (Cp
 }
 
 /// Instructions, each with its wait, until the frame stops; it answers its cycles.
+#[inline(always)]
 pub fn run_frame<S: Paint>(cpu: &mut Cpu, console: &mut Console<S>) -> Result<u32, Halt>
     ensures ok { IfOk result (λ total. stop_of (console_rules S.drawn) (record { registers = cpu.old; bus = console.old; cycles = 0 })
         ≡ Ended (record { registers = cpu.new; bus = console.new; cycles = total })) }
