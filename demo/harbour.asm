@@ -25,8 +25,8 @@
 ;     a pointer's read   LDA (p),Y     Peek
 ;     read, then write   INC FFF8      Haze
 ;
-; A frame has 262 lines: 37 of vertical blank, 64 of sky, 48 of haze, 80 of sea, 30 of overscan, and 3 of
-; vertical sync, which end it. In it bank 0 is selected 56 times, and bank 1 as often.
+; A frame shows 262 lines: 37 of vertical blank, 64 of sky, 48 of haze, 80 of sea, 30 of overscan, and 3 of vertical
+; sync, which end it. It begins and ends within a line, and takes the time of 261. In it bank 0 is selected 56 times, and bank 1 as often.
 
         processor 6502
 
@@ -143,6 +143,13 @@ Haze{1}
         jmp ToSea{1}
         ENDM
 
+; A start, in whichever bank a console begins. It goes on in bank 1.
+        MAC BEGIN
+Begin{1}
+        bit Bank1
+        jmp Start
+        ENDM
+
 ; ================================================================================================
 ; Bank 0: the sky
 ; ================================================================================================
@@ -211,15 +218,15 @@ SkyLine
         ldy #HazeLines-1
         jmp Haze0
 
-; A start in bank 0, which power-on never takes.
-Start0
-        bit Bank1
-        jmp Start0
+        org $0FE0
+        rorg $FFE0
+
+        BEGIN 0
 
         org $0FF0
         rorg $FFF0
         .byte $01,$02,$04,$08,$10,$20,$40,$80,$1E,$C8
-        .word Start0, Start0, Start0
+        .word Begin0, Begin0, Begin0
 
 ; ================================================================================================
 ; Bank 1: start, vertical blank, the sea, overscan
@@ -394,7 +401,17 @@ Waves                           ; from the middle of the picture
 Boat                            ; from below
         .byte $7E,$FF,$10,$D0,$F0,$70,$30,$10
 
+        org $1FE0
+        rorg $FFE0
+
+        BEGIN 1
+
+        IF Begin0 != Begin1
+            ECHO "a start stands at two addresses"
+            ERR
+        ENDIF
+
         org $1FF0
         rorg $FFF0
         .byte $03,$05,$07,$0B,$0D,$11,$13,$17,$9A,$1D
-        .word Start, Start, Start
+        .word Begin1, Begin1, Begin1
