@@ -227,16 +227,48 @@ fn run_opcode<B: Bus>(cpu: &mut Cpu, bus: &mut B) -> Option<u8>
     run_bytes(cpu, bus, opcode, low)
 }
 
-/// The fault of the instruction at the program counter, which has one.
+/// The opcode that the instruction at the program counter has a fault for, if it isn't documented.
+/// None if its fault is another one.
 #[cold]
 #[inline(never)]
+fn bad_opcode<B: Bus>(cpu: Cpu, bus: &B) -> Option<u8>
+    requires { IsErr (instruction_at B.meaning (B.state bus.now) cpu) }
+    ensures some { IfSome result (λ opcode. (at : ℕ) × (instruction_at B.meaning (B.state bus.now) cpu ≡ Err (CpuFault.BadOpcode opcode at))) }
+    ensures none { IfNone result ((at : ℕ) × (instruction_at B.meaning (B.state bus.now) cpu ≡ Err (CpuFault.FetchOutside at))) }
+{
+    match decode(&cpu, bus) {
+        Ok(_) => unreachable!(),
+        Err(CpuFault::BadOpcode { opcode, at: _ }) => Some(opcode),
+        Err(CpuFault::FetchOutside { at: _ }) => None,
+    }
+}
+
+/// The address of the byte for which the instruction at the program counter has a fault.
+#[cold]
+#[inline(never)]
+fn fault_address<B: Bus>(cpu: Cpu, bus: &B) -> u16
+    requires { IsErr (instruction_at B.meaning (B.state bus.now) cpu) }
+    ensures bad { (opcode at : ℕ) → instruction_at B.meaning (B.state bus.now) cpu ≡ Err (CpuFault.BadOpcode opcode at) → result ≡ at }
+    ensures outside { (at : ℕ) → instruction_at B.meaning (B.state bus.now) cpu ≡ Err (CpuFault.FetchOutside at) → result ≡ at }
+{
+    match decode(&cpu, bus) {
+        Ok(_) => unreachable!(),
+        Err(CpuFault::BadOpcode { opcode: _, at } | CpuFault::FetchOutside { at }) => at,
+    }
+}
+
+/// The fault of the instruction at the program counter, which has one. Its parts are found by two
+/// calls that answer in registers: one that answers in memory would have the loop of a frame clear
+/// that memory for each instruction.
+#[inline(always)]
 fn fault<B: Bus>(cpu: Cpu, bus: &B) -> CpuFault
     requires { IsErr (instruction_at B.meaning (B.state bus.now) cpu) }
     ensures { instruction_at B.meaning (B.state bus.now) cpu ≡ Err result }
 {
-    match decode(&cpu, bus) {
-        Ok(_) => unreachable!(),
-        Err(fault) => fault,
+    let at = fault_address(cpu, bus);
+    match bad_opcode(cpu, bus) {
+        Some(opcode) => CpuFault::BadOpcode { opcode, at },
+        None => CpuFault::FetchOutside { at },
     }
 }
 

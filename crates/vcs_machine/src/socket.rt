@@ -12,7 +12,7 @@ use riot_map::{Cart, Place, place};
 const BANK_LENGTH: usize = 4096;
 
 /// The part of an address that finds a byte in a bank.
-const BANK_MASK: u16 = 0xFFF;
+const BANK_MASK: usize = 0xFFF;
 
 /// The opcode of LDA with an address of two bytes.
 const LDA_ABSOLUTE: u8 = 0xAD;
@@ -27,7 +27,7 @@ pub struct Socket<'a> {
     pub cart: &'a Cart,
     pub bank: u8,
     pub bytes: &'a [u8],
-    pub mask: u16,
+    pub mask: usize,
     ghost small: { bank < 2 },
     ghost within: { mask < length bytes.now },
     ghost next: { (address : ℕ) → bit_and address mask < mask → IsFollowed mask address },
@@ -47,7 +47,7 @@ impl<'a> Socket<'a> {
                 cart,
                 bank,
                 bytes: all,
-                mask: all.len() as u16 - 1,
+                mask: all.len() - 1,
             };
         }
         let start = BANK_LENGTH * bank as usize;
@@ -66,7 +66,7 @@ impl<'a> Socket<'a> {
     pub fn at(&self, addr: u16) -> u8
         ensures { result ≡ cart_byte self.now.cart.now self.now.bank addr }
     {
-        self.bytes[(addr & self.mask) as usize]
+        self.bytes[addr as usize & self.mask]
     }
 
     /// The byte after the one at an address, if it is not at the other end of what is mapped.
@@ -76,11 +76,11 @@ impl<'a> Socket<'a> {
         ensures byte { IfSome result (λ byte. byte ≡ cart_byte self.now.cart.now self.now.bank (addr + 1)) }
         ensures inside { IfSome result (λ byte. addr % 4096 < 4095) }
     {
-        let index = addr & self.mask;
+        let index = addr as usize & self.mask;
         if index == self.mask {
             None
         } else {
-            Some(self.bytes[index as usize + 1])
+            Some(self.bytes[index + 1])
         }
     }
 
