@@ -55,6 +55,30 @@ fn pass_rounds<S: Paint>(cpu: Cpu, console: &mut Console<S>, cycles: u32) -> (Cp
     (after, cycles + passed)
 }
 
+/// The same after an instruction that was followed by so long a wait. One that waited wrote WSYNC,
+/// and didn't read the timer.
+#[inline(always)]
+fn pass_rounds_after<S: Paint>(
+    waited: u8,
+    cpu: Cpu,
+    console: &mut Console<S>,
+    cycles: u32,
+) -> (Cpu, u32)
+    requires no_wait { console.old.awaits_line ≡ false }
+    requires no_end { console.old.ended ≡ false }
+    ensures searches { (stop : Stop (ConsoleOf S)) →
+        Searches (console_rules S.drawn) (record { registers = cpu; bus = console.old; cycles = cycles }) stop →
+        Searches (console_rules S.drawn) (record { registers = result.0; bus = console.new; cycles = result.1 }) stop }
+    ensures later { cycles ≤ result.1 }
+    ensures most { cycles ≤ most_frame_cycles → result.1 ≤ most_frame_cycles }
+{
+    if waited > 0 {
+        (cpu, cycles)
+    } else {
+        pass_rounds(cpu, console, cycles)
+    }
+}
+
 /// Instructions, each with its wait, until the frame stops; it answers its cycles.
 #[inline(always)]
 pub fn run_frame<S: Paint>(cpu: &mut Cpu, console: &mut Console<S>) -> Result<u32, Halt>
@@ -74,11 +98,12 @@ pub fn run_frame<S: Paint>(cpu: &mut Cpu, console: &mut Console<S>) -> Result<u3
             }
         }
         if console.has_event() {
-            cycles += console.wait() as u32;
+            let waited = console.wait();
+            cycles += waited as u32;
             if console.has_ended() {
                 return Ok(cycles);
             }
-            let (after, total) = pass_rounds(*cpu, console, cycles);
+            let (after, total) = pass_rounds_after(waited, *cpu, console, cycles);
             *cpu = after;
             cycles = total;
         }

@@ -51,8 +51,8 @@ returns-then-has_ended-clause-ok g c =
     let step = step-parts drawn (step_of (meaning_of drawn) m.registers m.bus) (Ok c.in-Ok.taken) c.step.new.cpu c.step.new.bus
     c.in-Ok.ensures.answer c.in-Ok.ensures.registers c.in-Ok.ensures.bus in
     let went = waited_turn drawn m c.in-Ok.taken c.step.new.cpu c.step.new.bus step in
-    let over : (after_wait drawn c.step.new.bus).ended ≡ true = rw (← c.wait.ensures.bus) (sym c.has_ended.ensures ∙ c.if-has_ended.true) in
-    rw (c.wait.ensures.bus, c.wait.ensures.cycles)
+    let over : (after_wait drawn c.step.new.bus).ended ≡ true = rw (← c.wait-waited.ensures.bus) (sym c.has_ended.ensures ∙ c.if-has_ended.true) in
+    rw (c.wait-waited.ensures.bus, c.wait-waited.ensures.cycles)
     (sym s.finds ∙ search-ended (console_rules drawn) s.fuel m _ c.loop-cycles-test.true s.enough went (ended_at drawn _ over))
 
 pub loop-cycles-preserved : goal.loop-cycles-preserved
@@ -76,6 +76,6 @@ loop-cycles-preserved-then-has_event g c =
     c.in-Ok.ensures.answer c.in-Ok.ensures.registers c.in-Ok.ensures.bus in
     let went = waited_turn drawn m c.in-Ok.taken c.step.new.cpu c.step.new.bus step in
     let least = c.in-Ok.ensures.least in
-    let going : (after_wait drawn c.step.new.bus).ended ≡ false = rw (← c.wait.ensures.bus) (sym c.has_ended.ensures ∙ c.if-has_ended.false) in
+    let going : (after_wait drawn c.step.new.bus).ended ≡ false = rw (← c.wait-waited.ensures.bus) (sym c.has_ended.ensures ∙ c.if-has_ended.false) in
     let next = search-goes_on (console_rules drawn) m _ _ s c.loop-cycles-test.true went (unended_at drawn _ going) (omega (arith, least)) in
-    c.pass_rounds-after.ensures.searches _ (rw (c.wait.ensures.bus, c.wait.ensures.cycles) next)
+    c.pass_rounds_after-after.ensures.searches _ (rw (c.wait-waited.ensures.bus, c.wait-waited.ensures.cycles) next)
