@@ -18,6 +18,8 @@ printf '\xff\x3f\x04\xff' >third-button-and-a-byte.inputs
 idle 4096 >4096.inputs
 idle 262144 >262144.inputs
 truncate -s 16777217 too-long
+# What a file of 'writes' holds before.
+head -c 5000 /dev/zero >older
 
 # Two frames of the small cartridge have one row of zeros each.
 { printf 'P6\n160 1\n255\n'; head -c 480 /dev/zero; } >one.ppm

@@ -46,6 +46,15 @@ nothing_read k o r read is = subst (IsRead k o) is read
 pub one_read : (k : ℕ) (o : Option Text) (r : Option ℕ) (n : ℕ) → IsRead k o r → r ≡ Some n → option_map number_in o ≡ Some n
 one_read k o r n read is = subst (IsRead k o) is read
 
+-- The same of an answer as it is.
+pub number_some : (k : ℕ) (o : Option Text) (r : Option ℕ) → IsRead k o r → IfSome r (λ n. option_map number_in o ≡ Some n)
+number_some k o (Some n) read = read
+number_some k o None read = tt
+
+pub number_none : (k : ℕ) (o : Option Text) (r : Option ℕ) (least most : ℕ) → most < 2 ^ k → IsRead k o r → IfNone r (IsNumberIn least most o → ⊥)
+number_none k o None least most fits read = read least most fits
+number_none k o (Some n) least most fits read = tt
+
 -- The number that was read is in each range in which the text has it.
 pub read_in : (o : Option Text) (n least most : ℕ) → option_map number_in o ≡ Some n → IsNumberIn least most o → (least ≤ n) × (n ≤ most)
 read_in None n least most is fits = absurd fits

@@ -41,6 +41,14 @@ both_of f g (Some b) x y first second =
     let same2 : y ≡ g b = cc in
     rw (same, same2) refl
 
+abbrev nothing : {X : Type 0} → Option X
+nothing = None
+
+pub none_of : {B X Y : Type 0} (f : B → X) (g : B → Y) (o : Option B) → nothing ≡ option_map f o
+    → nothing ≡ option_map (λ (p : X × Y). p.1) (option_map (pair_of f g) o) → option_map (pair_of f g) o ≡ None
+none_of f g None first second = refl
+none_of f g (Some b) first second = cc
+
 pub refused : (words : List Text) (kind : ErrorKind) (fault : LineFault) → (kind ≡ OutOfMemory) ⊎ IsAmong kind (fault_of program_app words)
     → IsAnswerTo kind fault → IsRefusal words fault
 refused words kind (Usage text) (inl memory) answer = absurd (answer.0 memory)

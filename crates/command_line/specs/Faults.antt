@@ -5,8 +5,8 @@ use Rattle.clap.specs.declared.error.kind.ErrorKind.{ErrorKind}
 use Rattle.clap.specs.declared.error.kind.ErrorKind.TheVariants.{DisplayHelp, DisplayVersion}
 use Rattle.clap.specs.declared.error.kind.ErrorKind.TheVariants.{OutOfMemory}
 use Rattle.command_line.specs.Meanings.{HasNumbers}
-use Rattle.command_line.specs.Table.{Listed, make_listed, program_app, report_listed}
-use Rattle.command_line.specs.Table.{verify_listed}
+use Rattle.command_line.specs.Table.{Listed, cut_listed, drawing_listed, make_listed}
+use Rattle.command_line.specs.Table.{program_app, report_listed, verify_listed}
 use Rattle.command_line.specs.declared.command.LineFault.{LineFault}
 use Rattle.command_line.specs.declared.command.LineFault.TheVariants.{Usage, Help, Memory}
 
@@ -42,7 +42,8 @@ IsBadValue listed name rows fault = (name ≡ listed.name) × IsOutOfRange liste
 abbrev pub HasBadValue : Text → List Row → LineFault → Type 0
 HasBadValue name rows Memory = Unit {0}
 HasBadValue name rows fault = IsBadValue verify_listed name rows fault
-    ⊎ (IsBadValue report_listed name rows fault ⊎ IsBadValue make_listed name rows fault)
+    ⊎ (IsBadValue report_listed name rows fault ⊎ (IsBadValue make_listed name rows fault
+    ⊎ (IsBadValue drawing_listed name rows fault ⊎ IsBadValue cut_listed name rows fault)))
 
 -- The answer to words that are no command. Memory may run out at any words.
 abbrev pub IsRefusal : List Text → LineFault → Type 0

@@ -5,13 +5,15 @@ use Rattle.std.specs.NonZero.{non_zero_u16_get, non_zero_u32_get}
 use Rattle.std.specs.Str.Parse.{IsNumeral, digits_value, without_leading_plus}
 use Rattle.clap.specs.Words.{Row, Text, first_of, one_of}
 use Rattle.replay_plan.specs.declared.plan.Plan.{Plan}
-use Rattle.command_line.specs.Table.{Argument, Kind, Listed, commands, checkpoints_row, count_row}
+use Rattle.command_line.specs.Table.{Argument, Kind, Listed, asked_row, commands, checkpoints_row}
+use Rattle.command_line.specs.Table.{count_row}
 use Rattle.command_line.specs.Table.{cuts_row, file_row, first_row, inputs_row, new_row, old_row}
 use Rattle.command_line.specs.Table.{needed_number, number, out_row, pictures_row, rom_row}
 use Rattle.command_line.specs.Table.{text_row, workers_row}
 use Rattle.command_line.specs.declared.command.Command.{Command}
 use Rattle.command_line.specs.declared.command.Command.TheVariants.{Stdin, Verify, Report, Make}
 use Rattle.command_line.specs.declared.command.Command.TheVariants.{Info, Inputs, Convert}
+use Rattle.command_line.specs.declared.command.Command.TheVariants.{Pictures, Cut}
 
 -- The number that a text writes in decimal digits, of which the first may follow a plus.
 abbrev pub number_in : Text → ℕ
@@ -60,6 +62,16 @@ IsCommandAt name rows (Inputs file) =
 IsCommandAt name rows (Convert older newer) =
     (name ≡ codes "convert") × (string_bytes older ≡ word_of old_row rows)
     × (string_bytes newer ≡ word_of new_row rows)
+IsCommandAt name rows (Pictures file first count out) =
+    (name ≡ codes "pictures") × (string_bytes file ≡ word_of file_row rows)
+    × (number_of first_row rows ≡ Some (non_zero_u32_get first))
+    × (number_of asked_row rows ≡ Some count) × (string_bytes out ≡ word_of out_row rows)
+IsCommandAt name rows (Cut file first count every out) =
+    (name ≡ codes "cut") × (string_bytes file ≡ word_of file_row rows)
+    × (number_of first_row rows ≡ Some (non_zero_u32_get first))
+    × (number_of asked_row rows ≡ Some count)
+    × (number_of checkpoints_row rows ≡ Some (non_zero_u32_get every))
+    × (string_bytes out ≡ word_of out_row rows)
 
 -- The command of the words at which `clap` met this command's name, with the values that it found
 -- there. Without a name it judges standard input.

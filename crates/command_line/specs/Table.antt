@@ -46,6 +46,9 @@ first_row = record { name = codes "first"; kind = number 1 4294967295 (codes "1"
 abbrev pub count_row : Argument
 count_row = record { name = codes "count"; kind = number 0 600 (codes "600") }
 
+abbrev pub asked_row : Argument
+asked_row = record { name = codes "count"; kind = number 0 4294967295 (codes "4294967295") }
+
 abbrev pub pictures_row : Argument
 pictures_row = record { name = codes "pictures"; kind = word }
 
@@ -95,10 +98,23 @@ listing_listed = record { name = codes "inputs"; arguments = file_row ∷ [] }
 abbrev pub convert_listed : Listed
 convert_listed = record { name = codes "convert"; arguments = old_row ∷ new_row ∷ [] }
 
+abbrev pub drawing_listed : Listed
+drawing_listed = record {
+  name = codes "pictures";
+  arguments = file_row ∷ out_row ∷ first_row ∷ asked_row ∷ [];
+}
+
+abbrev pub cut_listed : Listed
+cut_listed = record {
+  name = codes "cut";
+  arguments = file_row ∷ checkpoints_row ∷ out_row ∷ first_row ∷ asked_row ∷ [];
+}
+
 -- The commands.
 abbrev pub commands : List Listed
 commands =
-    verify_listed ∷ report_listed ∷ make_listed ∷ info_listed ∷ listing_listed ∷ convert_listed ∷ []
+    verify_listed ∷ report_listed ∷ make_listed ∷ info_listed ∷ listing_listed ∷ convert_listed
+    ∷ drawing_listed ∷ cut_listed ∷ []
 
 -- ---- the same as `clap` reads it
 

@@ -48,6 +48,44 @@ pub enum Command {
         old: String,
         new: String,
     },
+    /// Write the pictures of some frames of a movie.
+    Pictures {
+        file: String,
+        /// The first of the frames, counted from 1.
+        first: NonZeroU32,
+        /// How many they are; the movie may have fewer.
+        count: u32,
+        out: String,
+    },
+    /// Write some frames of a movie as a movie of its own.
+    Cut {
+        file: String,
+        /// The first of the frames, counted from 1.
+        first: NonZeroU32,
+        /// How many they are; the movie may have fewer.
+        count: u32,
+        /// A checkpoint after every so many of them.
+        every: NonZeroU32,
+        out: String,
+    },
+}
+
+impl Command {
+    ghost use Rattle.std.specs.Prelude.{option_map};
+    ghost use Rattle.command_line.specs.Outputs.{output_of};
+
+    /// The name of the file that it writes, if it writes one.
+    pub fn output(&self) -> Option<&str>
+        ensures { option_map (λ name. name.now) result ≡ output_of self.now }
+    {
+        match self {
+            Command::Verify { pictures, .. } => pictures.as_deref(),
+            Command::Make { out, .. } | Command::Pictures { out, .. } | Command::Cut { out, .. } =>
+                { Some(out) }
+            Command::Convert { new, .. } => Some(new),
+            _ => None,
+        }
+    }
 }
 
 /// Why there is no command.

@@ -12,7 +12,8 @@ ghost use Rattle.command_line.specs.Pictures.{KeepsWhatIsTaken};
 ghost use Rattle.command_line.specs.declared.command.Command.TheVariants.{Stdin};
 ghost use Rattle.command_line.specs.Table.{program_app, verify_listed, report_listed, make_listed};
 ghost use Rattle.command_line.specs.Table.{workers_row, cuts_row, first_row, count_row};
-ghost use Rattle.command_line.specs.Table.{checkpoints_row, pictures_row, text_row};
+ghost use Rattle.command_line.specs.Table.{asked_row, checkpoints_row, cut_listed, drawing_listed};
+ghost use Rattle.command_line.specs.Table.{pictures_row, text_row};
 
 use crate::command::{Command, LineFault};
 use crate::parser::program;
@@ -126,7 +127,7 @@ fn report_of(alloc: Global, matches: &ArgMatches<'_>) -> Result<Command, LineFau
     Ok(Command::Report { file, workers })
 }
 
-/// The frames between the checkpoints of `make`.
+/// The frames between the checkpoints of `make` and `cut`.
 fn checkpoints_of(matches: &ArgMatches<'_>) -> Option<NonZeroU32>
     ensures some { IfSome result (λ every. number_of checkpoints_row
         (rows_of (found_of matches.now)) ≡ Some (non_zero_u32_get every)) }
@@ -161,6 +162,74 @@ fn make_of(alloc: Global, matches: &ArgMatches<'_>) -> Result<Command, LineFault
         rom,
         inputs,
         text,
+        every,
+        out,
+    })
+}
+
+/// The first frame that `pictures` and `cut` ask for.
+fn first_of_frames(matches: &ArgMatches<'_>) -> Option<NonZeroU32>
+    ensures some { IfSome result (λ first. number_of first_row
+        (rows_of (found_of matches.now)) ≡ Some (non_zero_u32_get first)) }
+    ensures none { IfNone result (Suits first_row.kind
+        (one_of first_row.name (rows_of (found_of matches.now))) → ⊥) }
+{
+    NonZeroU32::new(matches.get_one::<u32>("first")?)
+}
+
+/// How many frames `pictures` and `cut` ask for.
+fn count_of_frames(matches: &ArgMatches<'_>) -> Option<u32>
+    ensures some { IfSome result (λ count. number_of asked_row
+        (rows_of (found_of matches.now)) ≡ Some count) }
+    ensures none { IfNone result (Suits asked_row.kind
+        (one_of asked_row.name (rows_of (found_of matches.now))) → ⊥) }
+{
+    matches.get_one::<u32>("count")
+}
+
+/// The command `pictures`.
+fn drawing_of(alloc: Global, matches: &ArgMatches<'_>) -> Result<Command, LineFault>
+    ensures kept { IfOk result KeepsWhatIsTaken }
+    ensures ok { IfOk result (IsCommandAt (codes "pictures") (rows_of (found_of matches.now))) }
+    ensures err { IfErr result (IsOutOfRange drawing_listed (rows_of (found_of matches.now))) }
+{
+    let file = text_of(alloc, matches, "file")?;
+    let out = text_of(alloc, matches, "out")?;
+    let Some(first) = first_of_frames(matches) else {
+        return Err(out_of_range(alloc));
+    };
+    let Some(count) = count_of_frames(matches) else {
+        return Err(out_of_range(alloc));
+    };
+    Ok(Command::Pictures {
+        file,
+        first,
+        count,
+        out,
+    })
+}
+
+/// The command `cut`.
+fn cut_of(alloc: Global, matches: &ArgMatches<'_>) -> Result<Command, LineFault>
+    ensures kept { IfOk result KeepsWhatIsTaken }
+    ensures ok { IfOk result (IsCommandAt (codes "cut") (rows_of (found_of matches.now))) }
+    ensures err { IfErr result (IsOutOfRange cut_listed (rows_of (found_of matches.now))) }
+{
+    let file = text_of(alloc, matches, "file")?;
+    let out = text_of(alloc, matches, "out")?;
+    let Some(first) = first_of_frames(matches) else {
+        return Err(out_of_range(alloc));
+    };
+    let Some(count) = count_of_frames(matches) else {
+        return Err(out_of_range(alloc));
+    };
+    let Some(every) = checkpoints_of(matches) else {
+        return Err(out_of_range(alloc));
+    };
+    Ok(Command::Cut {
+        file,
+        first,
+        count,
         every,
         out,
     })
@@ -210,6 +279,8 @@ fn command_of(alloc: Global, name: &str, matches: &ArgMatches<'_>) -> Result<Com
             old: text_of(alloc, matches, "old")?,
             new: text_of(alloc, matches, "new")?,
         }),
+        "pictures" => drawing_of(alloc, matches),
+        "cut" => cut_of(alloc, matches),
         _ => Ok(Command::Stdin),
     }
 }

@@ -7,7 +7,8 @@ ghost use Rattle.command_line.specs.Table.{first_row, count_row, pictures_row, r
 ghost use Rattle.command_line.specs.Table.{inputs_row, text_row, checkpoints_row, out_row};
 ghost use Rattle.command_line.specs.Table.{old_row, new_row, verify_listed, report_listed};
 ghost use Rattle.command_line.specs.Table.{make_listed, info_listed, listing_listed};
-ghost use Rattle.command_line.specs.Table.{convert_listed, program_app};
+ghost use Rattle.command_line.specs.Table.{asked_row, convert_listed, cut_listed, drawing_listed};
+ghost use Rattle.command_line.specs.Table.{program_app};
 
 use clap::{Arg, ArgAction, Command, value_parser};
 use replay_plan::{MOST_KEPT, MOST_WORKERS};
@@ -243,6 +244,91 @@ fn convert<'a>(alloc: Global) -> Result<Command<'a>, AllocError>
         .arg(new(alloc))
 }
 
+/// `--first F` of `pictures` and `cut`.
+fn from<'a>(alloc: Global) -> Arg<'a>
+    ensures { IsRow first_row result }
+{
+    Arg::new(alloc, "first")
+        .long("first")
+        .value_name("F")
+        .help("The first frame, from 1")
+        .value_parser(value_parser!(u32).range(1..=4294967295))
+        .default_value("1")
+}
+
+/// `--count N` of `pictures` and `cut`.
+fn asked<'a>(alloc: Global) -> Arg<'a>
+    ensures { IsRow asked_row result }
+{
+    Arg::new(alloc, "count")
+        .long("count")
+        .value_name("N")
+        .help("How many frames, as many as the movie has, 0 to 4294967295")
+        .value_parser(value_parser!(u32).range(0..=4294967295))
+        .default_value("4294967295")
+}
+
+/// `--out PPM` of `pictures`.
+fn drawing<'a>(alloc: Global) -> Arg<'a>
+    ensures { IsRow out_row result }
+{
+    Arg::new(alloc, "out")
+        .long("out")
+        .value_name("PPM")
+        .help("The pictures, which are written as portable pixmaps (PPM)")
+        .required(true)
+        .action(ArgAction::Set)
+}
+
+/// `pictures FILE`, with its options.
+fn pictures_of<'a>(alloc: Global) -> Result<Command<'a>, AllocError>
+    ensures { IfOk result (IsListed drawing_listed) }
+{
+    Command::new(alloc, "pictures")
+        .about("Write the pictures of frames, whatever the movie claims")
+        .arg(movie(alloc))?
+        .arg(drawing(alloc))?
+        .arg(from(alloc))?
+        .arg(asked(alloc))
+}
+
+/// `--every E` of `cut`.
+fn claims<'a>(alloc: Global) -> Arg<'a>
+    ensures { IsRow checkpoints_row result }
+{
+    Arg::new(alloc, "every")
+        .long("every")
+        .value_name("E")
+        .help("Claim the state after every E of the frames, 1 to 4294967295")
+        .required(true)
+        .value_parser(value_parser!(u32).range(1..=4294967295))
+}
+
+/// `--out NEW` of `cut`.
+fn piece<'a>(alloc: Global) -> Arg<'a>
+    ensures { IsRow out_row result }
+{
+    Arg::new(alloc, "out")
+        .long("out")
+        .value_name("NEW")
+        .help("The movie of those frames, which is written")
+        .required(true)
+        .action(ArgAction::Set)
+}
+
+/// `cut FILE`, with its options.
+fn cut<'a>(alloc: Global) -> Result<Command<'a>, AllocError>
+    ensures { IfOk result (IsListed cut_listed) }
+{
+    Command::new(alloc, "cut")
+        .about("Write frames of a movie as a movie of its own")
+        .arg(movie(alloc))?
+        .arg(claims(alloc))?
+        .arg(piece(alloc))?
+        .arg(from(alloc))?
+        .arg(asked(alloc))
+}
+
 /// The program with all of its commands. Without one it judges standard input.
 pub(crate) fn program<'a>(alloc: Global) -> Result<Command<'a>, AllocError>
     ensures { IfOk result (λ command. (app_of command ≡ program_app)
@@ -258,5 +344,7 @@ pub(crate) fn program<'a>(alloc: Global) -> Result<Command<'a>, AllocError>
         .subcommand(make(alloc)?)?
         .subcommand(info(alloc)?)?
         .subcommand(inputs(alloc)?)?
-        .subcommand(convert(alloc)?)
+        .subcommand(convert(alloc)?)?
+        .subcommand(pictures_of(alloc)?)?
+        .subcommand(cut(alloc)?)
 }

@@ -8,13 +8,13 @@ use riot_map::Cart;
 pub(crate) const MAGIC: u32 = 0x4132_364D;
 
 /// The most frames of a movie of version 1.
-pub(crate) const MOST_FRAMES_OF_VERSION_1: u32 = 65_535;
+pub const MOST_FRAMES_OF_VERSION_1: u32 = 65_535;
 
 /// The most frames of a movie.
-pub(crate) const MOST_FRAMES: u32 = 262_143;
+pub const MOST_FRAMES: u32 = 262_143;
 
 /// The most checkpoints of a movie.
-pub(crate) const MOST_CHECKPOINTS: u16 = 4_095;
+pub const MOST_CHECKPOINTS: u16 = 4_095;
 
 /// The bytes of a header.
 pub(crate) const HEADER_LENGTH: usize = 14;

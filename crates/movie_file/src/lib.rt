@@ -5,6 +5,7 @@
 //! is, and `specs/Reading` which bytes are refused, and with which refusal.
 #![tactic(auto)]
 
+mod assembling;
 mod checkpoint;
 mod converting;
 mod error;
@@ -17,9 +18,11 @@ mod reading;
 mod record;
 mod writing;
 
+pub use assembling::movie_of;
 pub use checkpoint::Checkpoint;
 pub use converting::{ConvertError, convert};
 pub use error::{MakeError, MovieError};
+pub use format::{MOST_CHECKPOINTS, MOST_FRAMES, MOST_FRAMES_OF_VERSION_1};
 pub use laws::{
     law_of_checkpoints, law_of_conversion, law_of_inputs, law_of_judgements, law_of_making,
     law_of_one_movie, law_of_one_spelling, law_of_reading, law_of_records, law_of_runs,

@@ -13,6 +13,8 @@ mod expectation;
 #[cfg(test)]
 mod gates;
 #[cfg(test)]
+mod looking;
+#[cfg(test)]
 mod making;
 #[cfg(test)]
 mod movies;

@@ -7,6 +7,7 @@ use Rattle.std.specs.Io.KnownBytes.{Appends, Keeps}
 use Rattle.command_line.specs.declared.command.Command.{Command}
 use Rattle.command_line.specs.declared.command.Command.TheVariants.{Stdin, Verify, Report, Make}
 use Rattle.command_line.specs.declared.command.Command.TheVariants.{Info, Inputs, Convert}
+use Rattle.command_line.specs.declared.command.Command.TheVariants.{Pictures, Cut}
 use Rattle.movie_file.specs.Reading.{movie_at}
 use Rattle.replay_plan.specs.declared.keep.Keep.{Keep}
 use Rattle.vcs_check.specs.declared.commands.Failure.{Failure}
@@ -23,6 +24,8 @@ use Rattle.vcs_engine.specs.declared.making.InputForm.{InputForm}
 use Rattle.vcs_engine.specs.declared.making.InputForm.TheVariants.{Bytes, Text}
 use Rattle.vcs_engine.specs.declared.run_error.RunError.TheVariants.{WriteFault}
 use Rattle.vcs_engine.specs.declared.status.Status.{Status}
+use Rattle.view_engine.specs.Cuts.{Cuts}
+use Rattle.view_engine.specs.Drawings.{Draws}
 
 -- With a status, a line was written of which this holds, and nothing else.
 abbrev pub Writes : Option (List ℕ) → Option (List ℕ) → (Status → List ℕ → Type 0) → Result Status Failure → Type 0
@@ -49,6 +52,14 @@ IsInformation input status line = Shows (information_of (movie_at input)) status
 abbrev pub IsConverted : Status → List ℕ → Type 0
 IsConverted status line = (input : List ℕ) × Shows (conversion_of (movie_at input)) status line
 
+-- The line of the pictures of so many frames of these bytes from a first one on,
+abbrev pub IsDrawn : ℕ → ℕ → List ℕ → Status → List ℕ → Type 0
+IsDrawn first count input status line = (answer : Answer) × Draws (movie_at input) first count answer × Shows answer status line
+
+-- and that of a movie of those frames, with a checkpoint after every so many of them.
+abbrev pub IsCut : ℕ → ℕ → ℕ → List ℕ → Status → List ℕ → Type 0
+IsCut first count every input status line = (answer : Answer) × Cuts (movie_at input) first count every answer × Shows answer status line
+
 -- How the inputs of a command that makes a movie are written.
 abbrev pub form_of : Bool → InputForm
 form_of text = if text then Text else Bytes
@@ -70,6 +81,10 @@ IsAnswered (Make rom inputs text every out) old new status line = Keeps old new 
 IsAnswered (Info file) old new status line = (input : List ℕ) × ReadsFile (string_bytes file) old new input × IsInformation input status line
 IsAnswered (Inputs file) old new status line = (input : List ℕ) × ReadsFile (string_bytes file) old new input × Lists (movie_at input) status line
 IsAnswered (Convert older newer) old new status line = Keeps old new × IsConverted status line
+IsAnswered (Pictures file first count out) old new status line =
+    (input : List ℕ) × ReadsFile (string_bytes file) old new input × IsDrawn (non_zero_u32_get first) count input status line
+IsAnswered (Cut file first count every out) old new status line =
+    (input : List ℕ) × ReadsFile (string_bytes file) old new input × IsCut (non_zero_u32_get first) count (non_zero_u32_get every) input status line
 
 -- More than one worker judges: only `verify` and `report` with more than one start threads.
 abbrev pub StartsThreads : Command → Type 0
@@ -80,3 +95,5 @@ StartsThreads (Make rom inputs text every out) = ⊥
 StartsThreads (Info file) = ⊥
 StartsThreads (Inputs file) = ⊥
 StartsThreads (Convert older newer) = ⊥
+StartsThreads (Pictures file first count out) = ⊥
+StartsThreads (Cut file first count every out) = ⊥

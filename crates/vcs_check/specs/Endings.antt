@@ -6,7 +6,7 @@ use Rattle.command_line.specs.declared.command.LineFault.{LineFault}
 use Rattle.command_line.specs.declared.command.LineFault.TheVariants as faults
 use Rattle.vcs_check.specs.declared.commands.Failure.TheVariants.{Run}
 use Rattle.vcs_check.specs.declared.ending.Ending.{Ending}
-use Rattle.vcs_check.specs.declared.ending.Ending.TheVariants.{Help, Usage, NotUtf8, Failed}
+use Rattle.vcs_check.specs.declared.ending.Ending.TheVariants.{Help, Usage, NotUtf8, Dash, Failed}
 use Rattle.vcs_engine.specs.declared.run_error.RunError.TheVariants.{NoMemory}
 
 -- The exit status: help is no error.
@@ -14,6 +14,7 @@ abbrev pub exit_code : Ending → ℕ
 exit_code (Help text) = 0
 exit_code (Usage text) = 4
 exit_code NotUtf8 = 4
+exit_code Dash = 4
 exit_code (Failed failure) = 5
 
 -- The arguments could not be read: out of memory, and else one of them is not UTF-8.

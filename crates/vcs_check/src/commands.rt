@@ -2,7 +2,7 @@
 ghost use Rattle.std.specs.Prelude.{◌≡◌, ◌≢◌, ◌≤◌, List, ℕ, Err, OnErr, IsSome};
 ghost use Rattle.std.specs.NonZero.{non_zero_u16_get, non_zero_u32_get};
 ghost use Rattle.vcs_check.specs.Commands.{form_of, IsConverted, IsInformation, IsVerified, IsMade};
-ghost use Rattle.vcs_check.specs.Commands.{IsQuiet, ReadsFile, Writes};
+ghost use Rattle.vcs_check.specs.Commands.{IsCut, IsDrawn, IsQuiet, ReadsFile, Writes};
 ghost use Rattle.movie_file.specs.Reading.{movie_at};
 ghost use Rattle.vcs_engine.specs.Listings.{Lists};
 ghost use Rattle.vcs_engine.specs.Reports.{Reports};
@@ -10,6 +10,7 @@ ghost use Rattle.vcs_engine.specs.Streams.{ReadsAll};
 
 use crate::faults::FileFault;
 use crate::files::{Identity, create, open};
+use crate::output::finished;
 use replay_plan::{Plan, Workers};
 use std::alloc::Global;
 use std::io::{self, BufWriter, Read, Write};
@@ -22,6 +23,7 @@ use vcs_engine::{
     CountedGate, InputForm, RunError, Status, run, run_convert, run_info, run_inputs, run_make,
     run_report,
 };
+use view_engine::{run_cut, run_pictures};
 
 /// The name of a file that is standard input.
 const STANDARD_INPUT: &str = "-";
@@ -180,6 +182,7 @@ pub(crate) fn verify_with_pictures<
         let identity = Identity::of_standard_input(rt, fault)?;
         let mut pictures = create(rt, pictures, &[identity], fault)?;
         let answer = judge_with_pictures(rt, input, plan, &mut pictures, line, gate);
+        let answer = finished(answer, &mut pictures);
         pictures.tell(fault);
         return answer;
     }
@@ -187,6 +190,7 @@ pub(crate) fn verify_with_pictures<
     let identity = Identity::of(&movie, fault)?;
     let mut pictures = create(rt, pictures, &[identity], fault)?;
     let answer = judge_with_pictures(rt, &mut movie, plan, &mut pictures, line, gate);
+    let answer = finished(answer, &mut pictures);
     movie.tell(fault);
     pictures.tell(fault);
     answer
@@ -334,5 +338,100 @@ pub(crate) fn convert<'a, R: Files + AllocGlobal, W: Write>(
     let answer = run_convert(rt.alloc(), &mut movie, &mut converted, line);
     movie.tell(fault);
     converted.tell(fault);
+    Ok(answer?)
+}
+
+/// Writes the pictures of frames of a movie through a buffer.
+fn draw<M: Read, P: Write + Drop, W: Write>(
+    alloc: Global,
+    movie: &mut M,
+    first: NonZeroU32,
+    count: u32,
+    pictures: P,
+    line: &mut W,
+) -> Result<Status, Failure>
+    ensures ok { Writes (W.contents line.old) (W.contents line.new) (λ status text.
+        (input : List ℕ) × ReadsAll (M.remaining movie.old) (M.remaining movie.new) input
+        × IsDrawn (non_zero_u32_get first) count input status text) result }
+    ensures quiet { IsQuiet (W.contents line.old) (W.contents line.new) result }
+    ensures no_thread { result ≢ Err (Failure.Run RunError.NoThread) }
+    ensures read { result ≢ Err Failure.Open }
+{
+    let mut pictures = with_buffer(alloc, pictures)?;
+    let answer = run_pictures(alloc, movie, first, count, &mut pictures, line);
+    // Pictures that were written before an error stay.
+    let _flushed = pictures.flush();
+    Ok(answer?)
+}
+
+/// Writes the pictures of frames of the movie of a file to another.
+pub(crate) fn pictures<'a, R: Files + AllocGlobal, I: Read, W: Write>(
+    rt: &R,
+    input: &mut I,
+    file: &'a str,
+    first: NonZeroU32,
+    count: u32,
+    out: &'a str,
+    line: &mut W,
+    fault: &mut Option<FileFault<'a>>,
+) -> Result<Status, Failure>
+    ensures ok { Writes (W.contents line.old) (W.contents line.new) (λ status text.
+        (bytes : List ℕ) × ReadsFile file.now (I.remaining input.old) (I.remaining input.new) bytes
+        × IsDrawn (non_zero_u32_get first) count bytes status text) result }
+    ensures quiet { IsQuiet (W.contents line.old) (W.contents line.new) result }
+    ensures no_thread { result ≢ Err (Failure.Run RunError.NoThread) }
+    ensures named { result ≡ Err Failure.Open → IsSome fault.new }
+{
+    if file == STANDARD_INPUT {
+        let identity = Identity::of_standard_input(rt, fault)?;
+        let mut pictures = create(rt, out, &[identity], fault)?;
+        let answer = draw(rt.alloc(), input, first, count, &mut pictures, line);
+        let answer = finished(answer, &mut pictures);
+        pictures.tell(fault);
+        return answer;
+    }
+    let mut movie = open(rt, file, fault)?;
+    let identity = Identity::of(&movie, fault)?;
+    let mut pictures = create(rt, out, &[identity], fault)?;
+    let answer = draw(rt.alloc(), &mut movie, first, count, &mut pictures, line);
+    let answer = finished(answer, &mut pictures);
+    movie.tell(fault);
+    pictures.tell(fault);
+    answer
+}
+
+/// Writes frames of the movie of a file to another, as a movie of its own.
+pub(crate) fn cut<'a, R: Files + AllocGlobal, I: Read, W: Write>(
+    rt: &R,
+    input: &mut I,
+    file: &'a str,
+    first: NonZeroU32,
+    count: u32,
+    every: NonZeroU32,
+    out: &'a str,
+    line: &mut W,
+    fault: &mut Option<FileFault<'a>>,
+) -> Result<Status, Failure>
+    ensures ok { Writes (W.contents line.old) (W.contents line.new) (λ status text.
+        (bytes : List ℕ) × ReadsFile file.now (I.remaining input.old) (I.remaining input.new) bytes
+        × IsCut (non_zero_u32_get first) count (non_zero_u32_get every) bytes status text) result }
+    ensures quiet { IsQuiet (W.contents line.old) (W.contents line.new) result }
+    ensures no_thread { result ≢ Err (Failure.Run RunError.NoThread) }
+    ensures named { result ≡ Err Failure.Open → IsSome fault.new }
+{
+    let every = every.get();
+    if file == STANDARD_INPUT {
+        let identity = Identity::of_standard_input(rt, fault)?;
+        let mut new = create(rt, out, &[identity], fault)?;
+        let answer = run_cut(rt.alloc(), input, first, count, every, &mut new, line);
+        new.tell(fault);
+        return Ok(answer?);
+    }
+    let mut movie = open(rt, file, fault)?;
+    let identity = Identity::of(&movie, fault)?;
+    let mut new = create(rt, out, &[identity], fault)?;
+    let answer = run_cut(rt.alloc(), &mut movie, first, count, every, &mut new, line);
+    movie.tell(fault);
+    new.tell(fault);
     Ok(answer?)
 }

@@ -27,6 +27,9 @@ pub(crate) enum Ending {
     Usage { text: String },
     #[error("error: a word is not UTF-8\n")]
     NotUtf8,
+    /// An output is called `-`.
+    #[error("error: - is no output: name a file, or /dev/stdout\n")]
+    Dash,
     #[error("error: {0}\n")]
     Failed(Failure),
 }
@@ -47,7 +50,7 @@ impl Ending {
     {
         match self {
             Ending::Help { .. } => 0,
-            Ending::Usage { .. } | Ending::NotUtf8 => USAGE,
+            Ending::Usage { .. } | Ending::NotUtf8 | Ending::Dash => USAGE,
             Ending::Failed(_) => FAILED,
         }
     }

@@ -15,6 +15,8 @@ pub(crate) enum Reason {
     TooLong,
     #[error("is also an input of this command")]
     IsInput,
+    #[error("is also standard output or standard error")]
+    IsOutput,
     #[error("takes no more bytes")]
     TookNothing,
 }

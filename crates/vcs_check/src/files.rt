@@ -5,9 +5,10 @@ ghost use Rattle.vcs_check.specs.Faults.{Names};
 use crate::commands::Failure;
 use crate::faults::{FileFault, Reason};
 use crate::named::Named;
+use crate::output::Output;
 use std::fs::{self, Metadata, OpenFile, OpenOptions};
 use std::io;
-use std::os::unix::fs::MetadataExt;
+use std::os::unix::fs::{FileTypeExt, MetadataExt};
 use std::rt::Files;
 
 /// The name of standard input in messages.
@@ -93,35 +94,68 @@ impl Identity {
     }
 }
 
-/// Opens an output, which is created if it isn't there, and empties it. Pipes and devices keep
-/// nothing, so they are not emptied, and may be inputs as well.
-fn open_empty<R: Files>(rt: &R, name: &str, inputs: &[Identity]) -> Result<R::File, Reason> {
-    let file = OpenOptions::new().write(true).create(true).open(rt, name)?;
-    let metadata = file.metadata()?;
-    if metadata.is_file() {
-        if inputs.contains(&Identity::new(&metadata)) {
-            return Err(Reason::IsInput);
-        }
-        file.set_len(0)?;
-    }
-    Ok(file)
+/// Whether a standard stream that is written has a file of this identity.
+fn is_standard_output<R: Files>(rt: &R, identity: Identity) -> bool {
+    ["/dev/stdout", "/dev/stderr"]
+        .iter()
+        .any(|stream| match fs::metadata(rt, *stream) {
+            Ok(metadata) => Identity::new(&metadata) == identity,
+            Err(_) => false,
+        })
 }
 
-/// Opens an output, which is created if it isn't there, and empties it. If it is one of the
-/// inputs of the command, which are open, nothing is touched, and the answer is `Failure::Open`.
-/// Pipes and devices keep nothing, so they are not emptied, and may be inputs as well. If it
-/// can't be opened or is an input, `fault` says why.
+/// Opens an output, which is created if it isn't there. Pipes, terminals and other devices that keep
+/// nothing may be inputs, and standard streams, as well.
+fn open_output<R: Files>(
+    rt: &R,
+    name: &str,
+    inputs: &[Identity],
+) -> Result<Output<R::File>, Reason> {
+    let file = OpenOptions::new().write(true).create(true).open(rt, name)?;
+    let metadata = file.metadata()?;
+    let file_type = metadata.file_type();
+    if metadata.is_file() || file_type.is_block_device() {
+        let identity = Identity::new(&metadata);
+        if inputs.contains(&identity) {
+            return Err(Reason::IsInput);
+        }
+        if is_standard_output(rt, identity) {
+            return Err(Reason::IsOutput);
+        }
+    }
+    Ok(Output::new(file, metadata.is_file()))
+}
+
+/// Opens an output, which is created if it isn't there. Its bytes stay until the first new ones are
+/// written.
+///
+/// If it is one of the inputs of the command, which are open, or standard output or standard error,
+/// nothing is touched, and the answer is `Failure::Open`. Pipes, terminals and other devices that
+/// keep nothing may be those as well. If it can't be opened, or is one of those, `fault` says why.
 pub(crate) fn create<'a, R: Files>(
     rt: &R,
     name: &'a str,
     inputs: &[Identity],
     fault: &mut Option<FileFault<'a>>,
-) -> Result<Named<'a, R::File>, Failure>
+) -> Result<Named<'a, Output<R::File>>, Failure>
     ensures error { OnErr result (result ≡ Err Failure.Open) }
     ensures named { OnErr result (Names name.now fault.new) }
 {
-    match open_empty(rt, name, inputs) {
+    match open_output(rt, name, inputs) {
         Ok(file) => Ok(Named::new(name, file)),
         Err(reason) => Err(cannot_open(fault, name, reason)),
     }
+}
+
+/// Opens `/dev/null` in place of a standard stream that is closed, so that no file of a command gets
+/// its number, and is written as the stream. The file has to stay open.
+pub(crate) fn null_if_closed<R: Files>(rt: &R, stream: &str) -> Option<R::File> {
+    if fs::metadata(rt, stream).is_ok() {
+        return None;
+    }
+    OpenOptions::new()
+        .read(true)
+        .write(true)
+        .open(rt, "/dev/null")
+        .ok()
 }

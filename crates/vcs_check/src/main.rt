@@ -1,5 +1,5 @@
-//! The program: judges movies, makes them, converts them, and says what they hold and how they were
-//! played.
+//! The program: judges movies, makes them, converts them, looks into their runs, and says what they
+//! hold and how they were played.
 //!
 //! Status 0: done; 1: a false checkpoint; 2: a fault; 3: refused; 4: no command; 5: an error of
 //! files, memory or devices, which is printed on standard error. Without arguments it judges the
@@ -11,6 +11,7 @@ mod ending;
 mod faults;
 mod files;
 mod named;
+mod output;
 mod progress;
 
 ghost use Rattle.std.specs.Prelude.{◌≡◌, Err, IsSome};
@@ -19,12 +20,12 @@ ghost use Rattle.vcs_engine.specs.declared.run_error.RunError.TheVariants.{NoThr
 
 use command_line::{Command, LineFault, parse_line};
 use commands::{
-    Failure, convert, form_of, info, inputs, make, plan_of_standard_input, report, verify,
-    verify_with_pictures, verify_without_pictures,
+    Failure, convert, cut, form_of, info, inputs, make, pictures, plan_of_standard_input, report,
+    verify, verify_with_pictures, verify_without_pictures,
 };
 use ending::Ending;
 use faults::FileFault;
-use files::{STANDARD_INPUT, STANDARD_OUTPUT};
+use files::{STANDARD_INPUT, STANDARD_OUTPUT, null_if_closed};
 use named::Named;
 use progress::Progress;
 use replay_plan::Plan;
@@ -90,16 +91,39 @@ fn answer_command<
         Command::Info { file } => info(rt, input, file, line, fault),
         Command::Inputs { file } => inputs(rt, input, file, line, fault),
         Command::Convert { old, new } => convert(rt, old, new, line, fault),
+        Command::Pictures {
+            file,
+            first,
+            count,
+            out,
+        } => pictures(rt, input, file, *first, *count, out, line, fault),
+        Command::Cut {
+            file,
+            first,
+            count,
+            every,
+            out,
+        } => cut(rt, input, file, *first, *count, *every, out, line, fault),
     }
 }
 
-/// The command of the program's arguments.
+/// The command of the program's arguments. `-` is the name of an input alone.
 fn command_of_program<R: Env + AllocGlobal>(rt: &R) -> Result<Command, Ending> {
     let arguments = env::args(rt)?;
-    Ok(command_of(rt.alloc(), arguments)?)
+    let command = command_of(rt.alloc(), arguments)?;
+    if command.output() == Some("-") {
+        return Err(Ending::Dash);
+    }
+    Ok(command)
 }
 
 fn main(rt: HostRuntime) -> ExitCode {
+    // In this order, since the least number that is free is given.
+    let _in_place_of_closed = (
+        null_if_closed(&rt, "/dev/stdin"),
+        null_if_closed(&rt, "/dev/stdout"),
+        null_if_closed(&rt, "/dev/stderr"),
+    );
     let command = match command_of_program(&rt) {
         Ok(command) => command,
         Err(ending) => return ending.report(&rt, &rt.stderr(), None),

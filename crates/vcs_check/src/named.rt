@@ -6,6 +6,8 @@ ghost use Rattle.vcs_check.specs.Faults.{IsAbout, reason_at_length};
 ghost use Rattle.vcs_check.specs.declared.faults.Reason.TheVariants.{System, TookNothing};
 
 use crate::faults::{FileFault, Reason};
+use crate::output::Output;
+use std::fs::OpenFile;
 use std::io::{self, Read, Write};
 
 /// The most bytes of one input.
@@ -56,6 +58,17 @@ impl<'a, S> Named<'a, S> {
         if let Some(reason) = self.reason {
             *fault = Some(FileFault::new(self.name, reason));
         }
+    }
+}
+
+impl<F: OpenFile> Named<'_, Output<F>> {
+    /// Takes out the bytes of before, if none was written.
+    pub(crate) fn finish(&mut self) -> io::Result<()> {
+        let answer = self.stream.empty();
+        if let Err(error) = &answer {
+            self.reason = Some(Reason::System(*error));
+        }
+        answer
     }
 }
 

@@ -24,6 +24,7 @@ pub use listing::run_inputs;
 pub use making::{InputForm, run_make};
 pub use picture_file::{WriteFault, ppm, rgb};
 pub use reporting::run_report;
-pub use run_error::RunError;
+pub use run_error::{ReadError, RunError};
 pub use status::Status;
+pub use streams::read_all;
 pub use verify_pool::{Gate, NoGate, Ticket};

@@ -27,9 +27,12 @@ pub enum RunError {
 
 /// Why an input was not read to its end.
 #[derive(Clone, Copy)]
-pub(crate) enum ReadError {
+pub enum ReadError {
+    /// A read answered an error.
     Fault,
+    /// The input has more than 16,777,216 bytes.
     TooLong,
+    /// An allocation was refused.
     NoMemory,
 }
 

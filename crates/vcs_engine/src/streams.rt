@@ -13,7 +13,7 @@ const INPUT_LIMIT: usize = 16_777_216;
 const MOST_READS: u32 = 16_777_217;
 
 /// All bytes of an input, in at most 16,777,217 reads. Any error of a read is the end.
-pub(crate) fn read_all<R: Read>(alloc: Global, reader: &mut R) -> Result<Vec<u8>, ReadError>
+pub fn read_all<R: Read>(alloc: Global, reader: &mut R) -> Result<Vec<u8>, ReadError>
     ensures all { IfOk result (λ bytes. ReadsAll (R.remaining reader.old) (R.remaining reader.new) bytes.items) }
     ensures few { IfOk result (λ bytes. length bytes.items ≤ input_limit) }
     ensures too_long { result ≡ Err ReadError.TooLong → IsTooLong (R.remaining reader.old) }

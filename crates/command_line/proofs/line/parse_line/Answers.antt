@@ -1,7 +1,9 @@
-use Rattle.std.proofs.Common.{◌∙◌, map, sym}
+use Rattle.std.proofs.Common.{◌∙◌, map, refl, subst, sym}
 use Rattle.std.proofs.lemmas.Result.{IfErr-weaker, IfOk-weaker}
 use Rattle.clap.specs.Words.{app_of, found_of, rows_of}
-use Rattle.command_line.proofs.Known.{bad_value, both_of, failing, in_both, meets, refused, taken}
+use Rattle.command_line.specs.Meanings.{IsCommand}
+use Rattle.command_line.specs.declared.command.Command.TheVariants.{Stdin}
+use Rattle.command_line.proofs.Known.{bad_value, both_of, failing, in_both, meets, none_of, refused, taken}
 use Rattle.command_line.proofs.Stops.{named, only_without}
 use Rattle.command_line.proofs.line.parse_line.Goals as goal
 
@@ -34,3 +36,23 @@ returns-in-Some-clause-stdin g c =
     let met = meets (app_of c.in_ok-program.program) words c.in-Ok.matches c.in_ok-program.ensures.0 c.in-Ok.ensures.matches in
     let both = both_of _ _ _ c.in-Some.name.now (rows_of (found_of c.in-Some.inner.now)) c.in-Some.ensures.name c.in-Some.ensures.rows in
     IfOk-weaker c.command_of.result _ _ (λ command at. only_without words command none (named words _ _ command (sym met ∙ both) at)) c.command_of.ensures.ok
+
+pub returns-in-Some-clause-ok : goal.returns-in-Some-clause-ok
+returns-in-Some-clause-ok g c =
+    let words = map g.S.AsStr.text c.args.words.now in
+    let met = meets (app_of c.in_ok-program.program) words c.in-Ok.matches c.in_ok-program.ensures.0 c.in-Ok.ensures.matches in
+    let both = both_of _ _ _ c.in-Some.name.now (rows_of (found_of c.in-Some.inner.now)) c.in-Some.ensures.name c.in-Some.ensures.rows in
+    IfOk-weaker c.command_of.result _ _ (λ command at. named words _ _ command (sym met ∙ both) at) c.command_of.ensures.ok
+
+pub returns-clause-stdin : goal.returns-clause-stdin
+returns-clause-stdin g c =
+    let words = map g.S.AsStr.text c.args.words.now in
+    let met = meets (app_of c.in_ok-program.program) words c.in-Ok.matches c.in_ok-program.ensures.0 c.in-Ok.ensures.matches in
+    λ is. sym met ∙ none_of _ _ _ c.in-None.ensures.name c.in-None.ensures.rows
+
+pub returns-clause-ok : goal.returns-clause-ok
+returns-clause-ok g c =
+    let words = map g.S.AsStr.text c.args.words.now in
+    let met = meets (app_of c.in_ok-program.program) words c.in-Ok.matches c.in_ok-program.ensures.0 c.in-Ok.ensures.matches in
+    let none = none_of _ _ _ c.in-None.ensures.name c.in-None.ensures.rows in
+    subst (λ met. IsCommand met Stdin) (sym (sym met ∙ none)) refl

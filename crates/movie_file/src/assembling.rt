@@ -1,0 +1,30 @@
+//! Movies of parts that are known to make one.
+ghost use Rattle.std.specs.Prelude.{◌≡◌};
+ghost use Rattle.movie_file.specs.Movie.{IsMovie};
+
+use crate::checkpoint::Checkpoint;
+use crate::movie::Movie;
+use crate::parts::MovieParts;
+use riot_map::Cart;
+use vcs_machine::{Input, State};
+
+/// The movie of a version, 1 or 2, with this cartridge, start state and checkpoints, and an input
+/// for each frame. It takes no memory.
+pub fn movie_of(
+    version: u16,
+    cart: Cart,
+    start: State,
+    inputs: Vec<Input>,
+    checkpoints: Vec<Checkpoint>,
+) -> Movie
+    requires { IsMovie (record { version = version; cart = cart; start = start; inputs = inputs.items; checkpoints = checkpoints.items }) }
+    ensures { result ≡ record { version = version; cart = cart; start = start; inputs = inputs.items; checkpoints = checkpoints.items } }
+{
+    Movie::from_parts(MovieParts {
+        version,
+        cart,
+        start,
+        inputs,
+        checkpoints,
+    })
+}

@@ -1,0 +1,68 @@
+//! Files that are written.
+ghost use Rattle.std.specs.Prelude.{◌≡◌, ◌⊎◌, Err, OnErr, OnOk};
+ghost use Rattle.vcs_check.specs.declared.commands.Failure.TheVariants.{Run};
+ghost use Rattle.vcs_engine.specs.declared.run_error.RunError.TheVariants.{WriteFault};
+
+use crate::commands::Failure;
+use crate::named::Named;
+use std::fs::OpenFile;
+use std::io::{self, Write};
+use vcs_engine::{RunError, Status};
+
+/// A file that is written. Its bytes of before stay until the first new ones are written: after a
+/// command that comes to no output it is as it was.
+#[derive(Drop)]
+pub(crate) struct Output<F> {
+    file: F,
+    /// Whether it may still have bytes of before.
+    is_old: bool,
+}
+
+impl<F: OpenFile> Output<F> {
+    /// What is open as this file. If `is_old`, its bytes go when the first are written.
+    pub(crate) fn new(file: F, is_old: bool) -> Output<F>
+        ensures file { result.file ≡ file }
+        ensures old { result.is_old ≡ is_old }
+    {
+        Output { file, is_old }
+    }
+
+    /// Takes out the bytes of before, if they are still there.
+    pub(crate) fn empty(&mut self) -> io::Result<()>
+        ensures file { self.new.file ≡ self.old.file }
+    {
+        if self.is_old {
+            self.file.set_len(0)?;
+            self.is_old = false;
+        }
+        Ok(())
+    }
+}
+
+impl<F: Write + OpenFile> Write for Output<F> {
+    ghost contents = { λ output. F.contents output.file };
+
+    fn write(&mut self, buf: &[u8]) -> io::Result<usize> {
+        self.empty()?;
+        self.file.write(buf)
+    }
+
+    fn flush(&mut self) -> io::Result<()> {
+        self.file.flush()
+    }
+}
+
+/// The answer of a command that wrote to this file. If all is done no bytes of before stay, though
+/// nothing was written.
+pub(crate) fn finished<F: OpenFile>(
+    answer: Result<Status, Failure>,
+    output: &mut Named<'_, Output<F>>,
+) -> Result<Status, Failure>
+    ensures ok { OnOk result (result ≡ answer) }
+    ensures err { OnErr result ((result ≡ answer) ⊎ (result ≡ Err (Run WriteFault))) }
+{
+    if answer == Ok(Status::Done) && output.finish().is_err() {
+        return Err(Failure::Run(RunError::WriteFault));
+    }
+    answer
+}

@@ -1,0 +1,94 @@
+-- The run of a cut, and that of its movie.
+use Rattle.std.proofs.Common.{◌≡◌, ℕ, zero, suc, ◌+◌, ◌-◌, ◌*◌, ◌/◌, ◌<◌, ◌≤◌, List, [], ◌∷◌, length, Option, Some, None, refl, sym, ap, subst, ◌∙◌, arith, add-zero}
+use Rattle.std.specs.Prelude.{slice_get, option_and_then}
+use Rattle.std.specs.Option.{option_map}
+use Rattle.vcs_machine.specs.Inputs.{InputData}
+use Rattle.vcs_machine.specs.Outcomes.{frame_of}
+use Rattle.vcs_machine.specs.declared.fields.StateFields.{StateFields}
+use Rattle.movie_file.specs.Judgement.{IsGenuine}
+use Rattle.movie_file.specs.Making.{version_made}
+use Rattle.movie_file.specs.Movie.{MovieData}
+use Rattle.movie_file.specs.Run.{run, frame_after, state_after}
+use Rattle.movie_file.specs.declared.checkpoint.Checkpoint.{Checkpoint}
+use Rattle.view_engine.specs.Cuts.{IsCutOf}
+use Rattle.view_engine.specs.Stretches.{inputs_asked, frames_asked}
+use Rattle.view_engine.proofs.RunSteps.{Ends-below, input_asked}
+
+abbrev found : StateFields → Option StateFields
+found s = Some s
+
+abbrev played : List ℕ → Option InputData → StateFields → Option StateFields
+played cart input s = state_after (option_map (λ i. frame_of cart s i) input)
+
+module _ (m c : MovieData) (first count every : ℕ) (cut : IsCutOf m first count every c) where
+  input_is : (k : ℕ) → k < length c.inputs → slice_get c.inputs (0 + k) ≡ slice_get m.inputs (0 + (first - 1 + k))
+  input_is k less =
+      let a : 0 + k ≡ k = omega arith in
+      let b : 0 + (first - 1 + k) ≡ first - 1 + k = omega arith in
+      let fits : k < frames_asked m first count = subst (λ (is : List InputData). k < length is) cut.inputs_are less in
+      rw (a, b) (ap (λ (is : List InputData). slice_get is k) cut.inputs_are ∙ input_asked m first count k fits)
+
+  -- it is the run from its first frame on
+  pub cut_run : (k : ℕ) → k ≤ length c.inputs → run c c.start 0 k ≡ run m m.start 0 (first - 1 + k)
+  cut_run zero le = rw add-zero (sym cut.start)
+  cut_run (suc k) le =
+      let more : first - 1 + suc k ≡ suc (first - 1 + k) = omega arith in
+      let input = input_is k (omega arith) in
+      let step : option_and_then (played c.cart (slice_get c.inputs (0 + k))) (run c c.start 0 k) ≡ option_and_then (played m.cart (slice_get m.inputs (0 + (first - 1 + k)))) (run m m.start 0 (first - 1 + k)) =
+      ap (λ (cart : List ℕ). option_and_then (played cart (slice_get c.inputs (0 + k))) (run c c.start 0 k)) cut.cart_is
+      ∙ ap (λ (i : Option InputData). option_and_then (played m.cart i) (run c c.start 0 k)) input
+      ∙ ap (option_and_then (played m.cart (slice_get m.inputs (0 + (first - 1 + k))))) (cut_run k (omega arith)) in
+      rw more step
+
+  -- it is sound
+  pub genuine : IsGenuine c
+  genuine i less =
+      let here = Ends-below m (first - 1 + (i + 1)) (first - 1 + length c.inputs) (omega arith) cut.ends in (
+        here.0,
+        cut_run (i + 1) (omega arith) ∙ here.1,
+        λ j k at place.
+            let is : first - 1 + k.frame ≡ first - 1 + (i + 1) = omega arith in
+            let claimed = cut.states j k at in
+            let same : found k.state ≡ found here.0 = sym claimed ∙ ap (λ (n : ℕ). run m m.start 0 n) is ∙ here.1 in cc,
+      )
+
+-- ---- one cut
+
+same_lists : (cs ds : List Checkpoint) → length cs ≡ length ds → ((j : ℕ) (c d : Checkpoint) → slice_get cs j ≡ Some c → slice_get ds j ≡ Some d → c ≡ d) → cs ≡ ds
+same_lists [] [] e same = refl
+same_lists [] (d ∷ ds) e same = absurd (omega arith)
+same_lists (c ∷ cs) [] e same = absurd (omega arith)
+same_lists (c ∷ cs) (d ∷ ds) e same =
+    let first = same 0 c d refl refl in
+    let others = same_lists cs ds (omega arith) (λ j x y at here. same (suc j) x y at here) in cc
+
+abbrev claim : ℕ → StateFields → Checkpoint
+claim frame state = record { frame = frame; state = state }
+
+same_claim : (c d : Checkpoint) → c.frame ≡ d.frame → found c.state ≡ found d.state → c ≡ d
+same_claim c d frames states =
+    let same : c.state ≡ d.state = cc in
+    ap (λ (f : ℕ). claim f c.state) frames ∙ ap (claim d.frame) same
+
+abbrev movie_of : ℕ → List ℕ → StateFields → List InputData → List Checkpoint → MovieData
+movie_of version cart start inputs checkpoints = record { version = version; cart = cart; start = start; inputs = inputs; checkpoints = checkpoints }
+
+pub one_cut : (m c d : MovieData) (first count every : ℕ) → IsCutOf m first count every c → IsCutOf m first count every d → c ≡ d
+one_cut m c d first count every cut again =
+    let carts : c.cart ≡ d.cart = cut.cart_is ∙ sym again.cart_is in
+    let inputs : c.inputs ≡ d.inputs = cut.inputs_are ∙ sym again.inputs_are in
+    let states : found c.start ≡ found d.start = sym cut.start ∙ again.start in
+    let start : c.start ≡ d.start = cc in
+    let version : c.version ≡ d.version = cut.version ∙ ap (λ (cart : List ℕ). version_made (length cart) (length c.inputs)) carts
+    ∙ ap (λ (is : List InputData). version_made (length d.cart) (length is)) inputs ∙ sym again.version in
+    let lengths : length c.checkpoints ≡ length d.checkpoints = cut.count_is ∙ ap (λ (is : List InputData). length is / every) inputs ∙ sym again.count_is in
+    let each = λ (j : ℕ) (k l : Checkpoint) (at : slice_get c.checkpoints j ≡ Some k) (here : slice_get d.checkpoints j ≡ Some l).
+    let place : k.frame ≡ l.frame = cut.places j k at ∙ sym (again.places j l here) in
+    same_claim k l place (sym (cut.states j k at) ∙ ap (λ (n : ℕ). run m m.start 0 (first - 1 + n)) place ∙ again.states j l here)
+    in
+    let checkpoints = same_lists c.checkpoints d.checkpoints lengths each in
+    ap (λ (v : ℕ). movie_of v c.cart c.start c.inputs c.checkpoints) version
+    ∙ ap (λ (cart : List ℕ). movie_of d.version cart c.start c.inputs c.checkpoints) carts
+    ∙ ap (λ (s : StateFields). movie_of d.version d.cart s c.inputs c.checkpoints) start
+    ∙ ap (λ (is : List InputData). movie_of d.version d.cart d.start is c.checkpoints) inputs
+    ∙ ap (λ (cs : List Checkpoint). movie_of d.version d.cart d.start d.inputs cs) checkpoints

@@ -1,0 +1,6 @@
+pub mod ClaimSteps
+pub mod CutMovies
+pub mod CutParts
+pub mod RunPictures
+pub mod RunSteps
+pub mod WrittenPictures

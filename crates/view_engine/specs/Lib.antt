@@ -1,0 +1,5 @@
+pub mod Cuts
+pub mod Drawings
+pub mod Lines
+pub mod Private
+pub mod Stretches

@@ -1,0 +1,195 @@
+//! Movies of some frames of a movie.
+ghost use Rattle.std.specs.Prelude.{◌≡◌, ◌≤◌, ◌<◌, ◌+◌, ◌-◌, ◌%◌, ◌/◌, ◌++◌, [], length, Some, IfOk};
+ghost use Rattle.std.specs.Prelude.{IfErr, OnOk, IsTrue, vec_len, vec_capacity};
+ghost use Rattle.std.specs.List.{AllByRecursion};
+ghost use Rattle.std.specs.NonZero.{non_zero_u32_get};
+ghost use Rattle.vcs_machine.specs.Inputs.{is_input};
+ghost use Rattle.riot_map.specs.Cart.{is_cart_length};
+ghost use Rattle.movie_file.specs.Making.{counts_fit, version_made};
+ghost use Rattle.movie_file.specs.Movie.{IsMovie, IsState};
+ghost use Rattle.movie_file.specs.Private.MakingSteps.{checkpoint_if};
+ghost use Rattle.movie_file.specs.Run.{run};
+ghost use Rattle.view_engine.specs.Cuts.{IsCutOf};
+ghost use Rattle.view_engine.specs.Private.Claims.{Claims, Explains};
+ghost use Rattle.view_engine.specs.Stretches.{Ends, FaultsWithin, frames_asked};
+
+use crate::stretch::{RunFault, frames_asked, play, state_after};
+use movie_file::{
+    Checkpoint, MOST_CHECKPOINTS, MOST_FRAMES, MOST_FRAMES_OF_VERSION_1, Movie, movie_of,
+};
+use riot_map::Cart;
+use std::alloc::{AllocError, AllocFailed, Global};
+use std::num::NonZeroU32;
+use vcs_machine::{FaultKind, Input, State};
+
+/// Why a movie is not cut.
+#[derive(Clone, Copy)]
+pub(crate) enum CutError {
+    /// No frame is left, or there would be too many checkpoints.
+    BadCounts,
+    /// This frame of the movie, counted from 1, faults.
+    Fault { frame: u32, kind: FaultKind },
+    NoMemory,
+}
+
+impl From<RunFault> for CutError {
+    ghost use Rattle.view_engine.specs.declared.cutting.CutError.TheVariants.{Fault};
+
+    ghost from_gives = { λ fault error. error ≡ Fault fault.frame fault.kind };
+
+    fn from(fault: RunFault) -> CutError {
+        CutError::Fault {
+            frame: fault.frame,
+            kind: fault.kind,
+        }
+    }
+}
+
+impl From<AllocError> for CutError {
+    ghost use Rattle.view_engine.specs.declared.cutting.CutError.TheVariants.{NoMemory};
+
+    ghost from_gives = { λ _ error. error ≡ NoMemory };
+
+    fn from(_refused: AllocError) -> CutError {
+        CutError::NoMemory
+    }
+}
+
+/// Whether a movie can have so many frames, and a checkpoint after each `every` of them.
+fn do_counts_fit(frames: u32, every: u32) -> bool
+    ensures { result ≡ counts_fit frames every }
+{
+    1 <= frames
+        && frames <= MOST_FRAMES
+        && 1 <= every
+        && frames / every <= u32::from(MOST_CHECKPOINTS)
+}
+
+/// The version of the movie that is made of a cartridge and so many inputs.
+fn version_made(cart: &Cart, frames: u32) -> u16
+    ensures value { result ≡ version_made (length cart.now) frames }
+    ensures lawful { IsTrue (is_cart_length (length cart.now)) }
+{
+    if cart.has_banks() || frames > MOST_FRAMES_OF_VERSION_1 {
+        2
+    } else {
+        1
+    }
+}
+
+/// Reads a state, which says that it is one.
+fn look_at(state: &State)
+    ensures { IsState state.now }
+{
+    let _fields = state.fields();
+}
+
+/// Reads each input, which says that it is one.
+fn look_at_inputs(inputs: &[Input])
+    ensures { AllByRecursion (λ i. IsTrue (is_input i)) inputs.now }
+{
+    for input in inputs {
+        let _bytes = input.bytes();
+    }
+}
+
+/// A cartridge with the same bytes.
+fn copy_of(alloc: Global, cart: &Cart) -> Result<Cart, AllocError>
+    ensures { IfOk result (λ copy. copy ≡ cart.now) }
+{
+    let bytes = Vec::from_slice(alloc, cart.bytes())?;
+    match Cart::new(bytes) {
+        Ok(copy) => Ok(copy),
+        Err(_) => unreachable!(),
+    }
+}
+
+/// Adds the checkpoint after a frame, if one stands there. It takes no memory.
+fn claim(checkpoints: &mut Vec<Checkpoint>, every: u32, frame: u32, state: &State)
+    requires every { 1 ≤ every }
+    requires room { frame % every ≡ 0
+        → vec_len checkpoints.old < vec_capacity checkpoints.old }
+    ensures items { checkpoints.new.items
+        ≡ checkpoints.old.items ++ checkpoint_if every frame state.now }
+    ensures lawful { IsState state.now }
+    ensures capacity { vec_capacity checkpoints.new ≡ vec_capacity checkpoints.old }
+{
+    look_at(state);
+    if frame % every == 0 {
+        let state = state.copy();
+        checkpoints.push_reserved(Checkpoint { frame, state });
+    }
+}
+
+/// The checkpoints of the frames that follow frame `from`, put into an empty list that has room
+/// for them.
+fn checkpoints_after(
+    alloc: Global,
+    mut checkpoints: Vec<Checkpoint>,
+    movie: &Movie,
+    start: &State,
+    from: u32,
+    frames: u32,
+    every: u32,
+) -> Result<Vec<Checkpoint>, RunFault>
+    requires empty { checkpoints.items ≡ [] }
+    requires within { from + frames ≤ length movie.now.inputs }
+    requires ran { run movie.now movie.now.start 0 from ≡ Some start.now }
+    requires every { 1 ≤ every }
+    requires room { frames / every ≤ vec_capacity checkpoints }
+    ensures ok { IfOk result (λ made. Claims movie.now from every frames made.items) }
+    ensures ends { OnOk result (Ends movie.now (from + frames)) }
+    ensures err { IfErr result (λ fault. FaultsWithin movie.now (from + frames) fault.frame fault.kind) }
+{
+    let most = movie.frames();
+    prove!(most < 262_144);
+    let mut state = start.copy();
+    for k in 0..frames {
+        match play(alloc, movie, from + k, &mut state) {
+            Ok(()) => claim(&mut checkpoints, every, k + 1, &state),
+            Err(kind) => {
+                let frame = from + k + 1;
+                return Err(RunFault { frame, kind });
+            }
+        }
+    }
+    Ok(checkpoints)
+}
+
+/// The movie of `count` frames from `first` on, as many as the movie has, with a checkpoint after
+/// each `every` of them.
+///
+/// `BadCounts` comes first, before any frame is run. `Fault` names the first of the frames up to
+/// the last one of the cut that faults, with its number in the movie.
+pub(crate) fn cut(
+    alloc: Global,
+    movie: &Movie,
+    first: NonZeroU32,
+    count: u32,
+    every: u32,
+) -> Result<Movie, CutError>
+    ensures lawful { IfOk result (λ cut. IsMovie cut) }
+    ensures cut { IfOk result (λ cut. IsCutOf movie.now (non_zero_u32_get first) count every cut) }
+    ensures counts { OnOk result (IsTrue (counts_fit (frames_asked movie.now (non_zero_u32_get first) count) every)) }
+    ensures refused { IfErr result (Explains movie.now (non_zero_u32_get first) count every) }
+{
+    let most = movie.frames();
+    prove!(most < 262_144);
+    let from = first.get() - 1;
+    let frames = frames_asked(movie, first, count);
+    if !do_counts_fit(frames, every) {
+        return Err(CutError::BadCounts);
+    }
+    let start = state_after(alloc, movie, from)?;
+    let Ok(checkpoints) = Vec::with_capacity(alloc, (frames / every) as usize) else {
+        return Err(CutError::NoMemory);
+    };
+    let checkpoints = checkpoints_after(alloc, checkpoints, movie, &start, from, frames, every)?;
+    let asked = &movie.inputs()[from as usize..(from + frames) as usize];
+    let inputs = Vec::from_slice(alloc, asked)?;
+    let cart = copy_of(alloc, movie.cart())?;
+    let version = version_made(&cart, frames);
+    look_at(&start);
+    look_at_inputs(&inputs);
+    Ok(movie_of(version, cart, start, inputs, checkpoints))
+}

@@ -1,0 +1,46 @@
+//! The lines that are written of a look into a run.
+ghost use Rattle.std.specs.Prelude.{◌≡◌, IfOk, string_bytes};
+ghost use Rattle.view_engine.specs.Lines.{line_bytes};
+
+use movie_file::MovieError;
+use std::alloc::{AllocError, Global};
+use std::fmt;
+use vcs_machine::FaultKind;
+
+/// A line of output, without its end.
+#[derive(Clone, Copy)]
+pub(crate) enum Line {
+    Cut { frames: u32, checkpoints: u16 },
+    /// The pictures of so many frames were written.
+    Pictures { frames: u32 },
+    Fault { frame: u32, kind: FaultKind },
+    Refused(MovieError),
+}
+
+impl Line {
+    /// Its text with its end.
+    pub(crate) fn text(self, alloc: Global) -> Result<String, AllocError>
+        ensures { IfOk result (λ text. string_bytes text ≡ line_bytes self) }
+    {
+        format!(in alloc; "{self}\n")
+    }
+}
+
+impl fmt::Display for Line {
+    ghost use Rattle.std.specs.Prelude.{Some};
+    ghost use Rattle.view_engine.specs.Lines.{line_text};
+
+    ghost output = { λ line. Some (line_text line) };
+
+    fn fmt<W: fmt::Write>(&self, f: &mut fmt::Formatter<W>) -> fmt::Result {
+        match *self {
+            Line::Cut {
+                frames,
+                checkpoints,
+            } => write!(f, "cut: {frames} frames, {checkpoints} checkpoints"),
+            Line::Pictures { frames } => write!(f, "pictures: {frames} frames"),
+            Line::Fault { frame, kind } => write!(f, "fault at frame {frame}: {kind}"),
+            Line::Refused(error) => write!(f, "refused: {error}"),
+        }
+    }
+}
