@@ -1,15 +1,19 @@
 //! What the program's commands do, over bytes in place of files.
 
 use crate::failure::{Failure, right};
+use crate::gate::Told;
 use crate::movies::{CONVERTED_LENGTH, LENGTH, conversion, two_frames, two_frames_to_the_end};
 use replay_plan::{Keep, Plan, Workers};
 use std::alloc::Global;
+use std::io::{self, Read};
+use std::num::NonZeroU32;
 use std::sync::Wait;
 use std::thread::Threads;
 use vcs_engine::{
     InputForm, NoGate, RunError, Status, run, run_convert, run_info, run_inputs, run_make,
     run_report,
 };
+use view_engine::{run_cut, run_pictures};
 
 /// The room for a line.
 const ROOM: usize = 64;
@@ -26,7 +30,8 @@ fn failure(error: RunError, is_untouched: bool) -> Failure {
     }
 }
 
-/// Two frames judged by so many workers, with a cut after the first, and their pictures.
+/// Two frames judged by so many workers, with a cut after the first, and their pictures. A gate that
+/// was told of a beginning was told of the end too, whatever came between.
 pub(crate) fn is_judged<R: Threads + Wait + Sync>(
     rt: &R,
     alloc: Global,
@@ -41,6 +46,7 @@ pub(crate) fn is_judged<R: Threads + Wait + Sync>(
     let mut pictures = [0u8; PICTURES];
     let mut line_left = line.as_mut_slice();
     let mut pictures_left = pictures.as_mut_slice();
+    let gate = Told::new();
     let answer = run(
         rt,
         alloc,
@@ -48,8 +54,11 @@ pub(crate) fn is_judged<R: Threads + Wait + Sync>(
         &plan,
         &mut line_left,
         &mut pictures_left,
-        &NoGate,
+        &gate,
     );
+    if !gate.has_ended_as_begun() {
+        return Err(Failure::Wrong);
+    }
     let is_untouched = line_left.len() == ROOM && pictures_left.len() == PICTURES;
     let is_whole = pictures_left.is_empty() && line_left.len() == ROOM - 33;
     match answer {
@@ -180,6 +189,98 @@ pub(crate) fn is_converted(alloc: Global) -> Result<(), Failure> {
                 && is_whole
                 && movie == conversion()
                 && line.starts_with(b"converted: 2 frames, 1 checkpoints\n"),
+        ),
+        Err(error) => Err(failure(error, is_untouched)),
+    }
+}
+
+/// A reader that gives so many zeros, as many a read as there is room for.
+#[derive(Drop)]
+struct Zeros {
+    left: usize,
+}
+
+impl Read for Zeros {
+    fn read(&mut self, buf: &mut [u8]) -> io::Result<usize> {
+        let n = buf.len().min(self.left);
+        self.left -= n;
+        buf[..n].fill(0);
+        Ok(n)
+    }
+}
+
+/// Nine million zeros, which are no movie.
+pub(crate) fn is_refused<R: Threads + Wait + Sync>(rt: &R, alloc: Global) -> Result<(), Failure> {
+    let mut line = [0u8; ROOM];
+    let mut left = line.as_mut_slice();
+    let answer = run(
+        rt,
+        alloc,
+        &mut Zeros { left: 9_000_000 },
+        &Plan::without_pictures(Workers::ONE),
+        &mut left,
+        &mut io::sink(),
+        &NoGate,
+    );
+    let is_untouched = left.len() == ROOM;
+    match answer {
+        Ok(status) => {
+            right(status == Status::Refused && line.starts_with(b"refused: BadMagic\n"))
+        }
+        Err(error) => Err(failure(error, is_untouched)),
+    }
+}
+
+/// The pictures of two frames. Where it is out of memory some of them may be there, each whole.
+pub(crate) fn is_drawn(alloc: Global) -> Result<(), Failure> {
+    let mut pictures = [0u8; PICTURES];
+    let mut line = [0u8; ROOM];
+    let mut pictures_left = pictures.as_mut_slice();
+    let mut line_left = line.as_mut_slice();
+    let answer = run_pictures(
+        alloc,
+        &mut two_frames().as_slice(),
+        NonZeroU32::MIN,
+        3,
+        &mut pictures_left,
+        &mut line_left,
+    );
+    let is_untouched = pictures_left.len() % (PICTURES / 2) == 0 && line_left.len() == ROOM;
+    let is_whole = pictures_left.is_empty() && line_left.len() == ROOM - 19;
+    match answer {
+        Ok(status) => right(
+            status == Status::Done
+                && is_whole
+                && pictures[PICTURES / 2..].starts_with(b"P6\n160 1\n255\n\0")
+                && line.starts_with(b"pictures: 2 frames\n"),
+        ),
+        Err(error) => Err(failure(error, is_untouched)),
+    }
+}
+
+/// Two frames as a movie of their own with a checkpoint after the second, byte by byte.
+pub(crate) fn is_cut_out(alloc: Global) -> Result<(), Failure> {
+    let mut movie = [0u8; LENGTH];
+    let mut line = [0u8; ROOM];
+    let mut movie_left = movie.as_mut_slice();
+    let mut line_left = line.as_mut_slice();
+    let answer = run_cut(
+        alloc,
+        &mut two_frames().as_slice(),
+        NonZeroU32::MIN,
+        3,
+        2,
+        &mut movie_left,
+        &mut line_left,
+    );
+    let is_untouched = movie_left.len() == LENGTH && line_left.len() == ROOM;
+    let is_whole = movie_left.is_empty() && line_left.len() == ROOM - 29;
+    match answer {
+        Ok(status) => right(
+            status == Status::Done
+                && is_whole
+                && movie == two_frames_to_the_end()
+                && line.starts_with(b"cut: 2 frames, 1 checkpoints\n"),
         ),
         Err(error) => Err(failure(error, is_untouched)),
     }

@@ -15,8 +15,10 @@
 
 mod engine;
 mod failure;
+mod gate;
 mod growths;
 mod movies;
+mod order;
 mod segments;
 mod workers;
 
@@ -40,6 +42,10 @@ fn outcome_of<R: Threads + Wait + Sync>(
         "read_movie" => movies::is_read(alloc),
         "write_movie" => movies::is_written(alloc),
         "make_movie" => movies::is_made(alloc),
+        "read_movie_with_bad_state" => order::is_bad_state(alloc),
+        "read_inputs_with_bad_input" => order::is_bad_input(alloc),
+        "make_movie_with_fault" => order::is_faulty_run(alloc),
+        "frame_with_fault" => order::is_faulty_frame(alloc),
         "verify_one" => segments::is_judged_whole(alloc),
         "verify_one_without_pictures" => segments::is_judged_without_pictures(alloc),
         "cuts" => segments::is_cut(alloc),
@@ -54,6 +60,7 @@ fn outcome_of<R: Threads + Wait + Sync>(
         "verify_600_pictures" => workers::is_judged_once(rt, alloc),
         "run" => engine::is_judged(rt, alloc, 1),
         "run_by_two" => engine::is_judged(rt, alloc, 2),
+        "run_of_9_megabytes" => engine::is_refused(rt, alloc),
         "run_make" => engine::is_made(alloc, InputForm::Bytes),
         "run_make_of_text" => engine::is_made(alloc, InputForm::Text),
         "run_inputs" => engine::is_listed(alloc),
@@ -61,6 +68,8 @@ fn outcome_of<R: Threads + Wait + Sync>(
         "run_report_by_two" => engine::is_reported(rt, alloc, 2),
         "run_info" => engine::is_told(alloc),
         "run_convert" => engine::is_converted(alloc),
+        "run_pictures" => engine::is_drawn(alloc),
+        "run_cut" => engine::is_cut_out(alloc),
         _ => return None,
     })
 }

@@ -75,10 +75,10 @@ pub(crate) fn movie(alloc: Global) -> Result<Movie, Failure> {
     Ok(read_movie(alloc, &two_frames())?)
 }
 
-/// The cartridge of its program.
-fn cartridge(alloc: Global) -> Result<Cart, Failure> {
+/// The cartridge of a movie of two frames.
+pub(crate) fn cartridge(alloc: Global, movie: &[u8; LENGTH]) -> Result<Cart, Failure> {
     let mut bytes = Vec::with_capacity(alloc, 2048)?;
-    bytes.extend_from_slice(&two_frames()[14..2062])?;
+    bytes.extend_from_slice(&movie[14..2062])?;
     match Cart::new(bytes) {
         Ok(cart) => Ok(cart),
         Err(_) => Err(Failure::Wrong),
@@ -90,7 +90,7 @@ pub(crate) fn make(alloc: Global, frames: usize, every: u32) -> Result<Movie, Fa
     let Some(idle) = Input::new(0xFF, 0x3F, 0) else {
         return Err(Failure::Wrong);
     };
-    let cart = cartridge(alloc)?;
+    let cart = cartridge(alloc, &two_frames())?;
     let inputs = vec![in alloc; idle; frames]?;
     Ok(make_movie(alloc, cart, inputs, every)?)
 }

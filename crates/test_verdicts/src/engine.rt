@@ -2,12 +2,16 @@
 
 use crate::devices::{FailingReader, FailingWriter, Zeros};
 use crate::expectation::expect_equal;
+use crate::gates::Told;
 use crate::movies::{
-    ENDLESS_FRAMES, SEVEN_FRAMES, first_of_two_false, movie, power_on, timer_part_left, two_frames,
+    ENDLESS_FRAMES, SEVEN_FRAMES, first_of_two_false, movie, power_on, run_of, timer_part_left,
+    two_frames,
 };
+use movie_file::write_movie;
 use replay_plan::{Keep, Plan, Workers};
 use std::alloc::Global;
 use std::io;
+use std::num::NonZeroU16;
 use std::sync::Wait;
 use std::test::Fail;
 use std::thread::Threads;
@@ -283,4 +287,40 @@ fn colours_of_the_palette(rt: HostRuntime) {
     expect_equal(&rt, rgb(0x00), [0, 0, 0]);
     expect_equal(&rt, rgb(0x1E), [232, 232, 168]);
     expect_equal(&rt, rgb(0x8E), [168, 168, 255]);
+}
+
+/// What a gate was told of a run of five frames with a checkpoint after each, cut at every so many.
+fn told<T: Threads + Wait + Sync + AllocGlobal>(rt: &T, every: u16) -> Result<[u64; 3], Fail> {
+    let plan = Plan {
+        every: NonZeroU16::new(every).ok_or("every")?,
+        ..plan()
+    };
+    let mut bytes = Vec::new(rt.alloc());
+    write_movie(&run_of(rt.alloc(), &ENDLESS_FRAMES, 5)?, &mut bytes)?;
+    let gate = Told::new();
+    let _status = run(
+        rt,
+        rt.alloc(),
+        &mut bytes.as_slice(),
+        &plan,
+        &mut io::sink(),
+        &mut io::sink(),
+        &gate,
+    )?;
+    Ok(gate.counts())
+}
+
+#[test]
+fn gate_is_told_of_each_segment(rt: HostRuntime) -> Result<(), Fail> {
+    expect_equal(&rt, told(&rt, 1)?, [6, 6, 1]);
+    Ok(())
+}
+
+#[test]
+fn movie_is_cut_at_every_so_many_checkpoints(rt: HostRuntime) -> Result<(), Fail> {
+    for (every, segments) in [(2, 3), (5, 2), (6, 1)] {
+        let [_, entered, _] = told(&rt, every)?;
+        expect_equal(&rt, entered, segments);
+    }
+    Ok(())
 }

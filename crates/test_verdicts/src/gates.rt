@@ -3,6 +3,7 @@
 use replay_segments::Piece;
 use std::sync::atomic::{AtomicU64, Ordering};
 use std::thread;
+use vcs_engine::CountedGate;
 use verify_pool::{Gate, Ticket};
 
 /// How often the workers at a gate look, all together, before it gives up.
@@ -139,4 +140,51 @@ impl Gate for Meeting {
     }
 
     fn leave(&self, _ticket: &Ticket, _piece: &Piece) {}
+}
+
+/// A gate that adds up the segments that it is told of, and counts its ends and the entries before
+/// them.
+#[derive(Drop)]
+pub(crate) struct Told {
+    pub segments: AtomicU64,
+    pub entered: AtomicU64,
+    pub ended: AtomicU64,
+}
+
+impl Told {
+    pub(crate) fn new() -> Told {
+        Told {
+            segments: AtomicU64::new(0),
+            entered: AtomicU64::new(0),
+            ended: AtomicU64::new(0),
+        }
+    }
+
+    /// The segments that it was told of, those that were entered, and its ends.
+    pub(crate) fn counts(&self) -> [u64; 3] {
+        [
+            self.segments.load(Ordering::SeqCst),
+            self.entered.load(Ordering::SeqCst),
+            self.ended.load(Ordering::SeqCst),
+        ]
+    }
+}
+
+impl Gate for Told {
+    fn enter(&self, _ticket: &Ticket, _segment: u32) {
+        self.entered.fetch_add(1, Ordering::SeqCst);
+    }
+
+    fn leave(&self, _ticket: &Ticket, _piece: &Piece) {}
+}
+
+impl CountedGate for Told {
+    fn begin(&self, segments: u32) {
+        self.segments
+            .fetch_add(u64::from(segments), Ordering::SeqCst);
+    }
+
+    fn end(&self) {
+        self.ended.fetch_add(1, Ordering::SeqCst);
+    }
 }

@@ -135,6 +135,16 @@ fn all_workers_replay_at_once(rt: HostRuntime) -> Result<(), Fail> {
 }
 
 #[test]
+fn two_workers_replay_the_most_segments(rt: HostRuntime) -> Result<(), Fail> {
+    let movie = run_of(rt.alloc(), &ENDLESS_FRAMES, 4095)?;
+    let gate = Meeting::of(2);
+    let verdict = answer_of_all(&rt, rt.alloc(), &movie, 2, &gate)?;
+    expect_equal(&rt, gate.missed.load(Ordering::SeqCst), 0);
+    expect_equal(&rt, picture_count(&verdict), Some(600));
+    Ok(())
+}
+
+#[test]
 fn segment_after_the_last_checkpoint_passes(rt: HostRuntime) -> Result<(), Fail> {
     let genuine = read(rt.alloc(), &two_frames_with_a_last_checkpoint(rt.alloc())?)?;
     for (first, count, wanted) in [(2, 600, 1), (3, 5, 0)] {

@@ -1,0 +1,43 @@
+//! A gate that notes what it is told.
+
+use replay_segments::Piece;
+use std::sync::atomic::{AtomicU64, Ordering};
+use vcs_engine::CountedGate;
+use verify_pool::{Gate, Ticket};
+
+/// A gate that counts how often it is told of a beginning and of an end.
+#[derive(Drop)]
+pub(crate) struct Told {
+    begun: AtomicU64,
+    ended: AtomicU64,
+}
+
+impl Told {
+    pub(crate) fn new() -> Told {
+        Told {
+            begun: AtomicU64::new(0),
+            ended: AtomicU64::new(0),
+        }
+    }
+
+    /// Whether it was told of as many ends as beginnings.
+    pub(crate) fn has_ended_as_begun(&self) -> bool {
+        self.begun.load(Ordering::SeqCst) == self.ended.load(Ordering::SeqCst)
+    }
+}
+
+impl Gate for Told {
+    fn enter(&self, _ticket: &Ticket, _segment: u32) {}
+
+    fn leave(&self, _ticket: &Ticket, _piece: &Piece) {}
+}
+
+impl CountedGate for Told {
+    fn begin(&self, _segments: u32) {
+        self.begun.fetch_add(1, Ordering::SeqCst);
+    }
+
+    fn end(&self) {
+        self.ended.fetch_add(1, Ordering::SeqCst);
+    }
+}

@@ -1,0 +1,63 @@
+//! What is refused for another reason where memory is there: a call takes its room before it looks
+//! at what it may refuse, so a refused growth is the answer whatever is wrong behind it.
+
+use crate::failure::{Failure, OUT_OF_MEMORY};
+use crate::movies::{LENGTH, cartridge, two_frames};
+use movie_file::{MakeError, MovieError, make_movie, read_inputs, read_movie};
+use std::alloc::Global;
+use vcs_machine::{FrameError, Input, State, frame};
+
+/// The movie of two frames with 02, which is no opcode, where its program begins.
+fn without_opcode() -> [u8; LENGTH] {
+    let mut bytes = two_frames();
+    bytes[14] = 0x02;
+    bytes
+}
+
+/// A start state whose P has bit 4, which no status has.
+pub(crate) fn is_bad_state(alloc: Global) -> Result<(), Failure> {
+    let mut bytes = two_frames();
+    bytes[2066] = 0x14;
+    match read_movie(alloc, &bytes) {
+        Err(MovieError::BadState(0)) => Ok(()),
+        Err(MovieError::NoMemory) => Err(OUT_OF_MEMORY),
+        _ => Err(Failure::Wrong),
+    }
+}
+
+/// A list whose first input has a third button.
+pub(crate) fn is_bad_input(alloc: Global) -> Result<(), Failure> {
+    match read_inputs(alloc, &[0xFF, 0x3F, 4]) {
+        Err(MovieError::BadInput(1)) => Ok(()),
+        Err(MovieError::NoMemory) => Err(OUT_OF_MEMORY),
+        _ => Err(Failure::Wrong),
+    }
+}
+
+/// A movie to be made of a run whose first frame faults.
+pub(crate) fn is_faulty_run(alloc: Global) -> Result<(), Failure> {
+    let Some(idle) = Input::new(0xFF, 0x3F, 0) else {
+        return Err(Failure::Wrong);
+    };
+    let cart = cartridge(alloc, &without_opcode())?;
+    let inputs = vec![in alloc; idle; 2]?;
+    match make_movie(alloc, cart, inputs, 1) {
+        Err(MakeError::Fault { frame: 1, kind: _ }) => Ok(()),
+        Err(MakeError::NoMemory) => Err(OUT_OF_MEMORY),
+        _ => Err(Failure::Wrong),
+    }
+}
+
+/// A frame that faults, with its picture.
+pub(crate) fn is_faulty_frame(alloc: Global) -> Result<(), Failure> {
+    let Some(idle) = Input::new(0xFF, 0x3F, 0) else {
+        return Err(Failure::Wrong);
+    };
+    let cart = cartridge(alloc, &without_opcode())?;
+    let mut state = State::power_on(&cart);
+    match frame(alloc, &cart, &mut state, idle, true) {
+        Err(FrameError::Fault(_)) => Ok(()),
+        Err(FrameError::NoMemory) => Err(OUT_OF_MEMORY),
+        Ok(_) => Err(Failure::Wrong),
+    }
+}
