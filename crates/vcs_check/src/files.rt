@@ -148,14 +148,16 @@ pub(crate) fn create<'a, R: Files>(
 }
 
 /// Opens `/dev/null` in place of a standard stream that is closed, so that no file of a command gets
-/// its number, and is written as the stream. The file has to stay open.
-pub(crate) fn null_if_closed<R: Files>(rt: &R, stream: &str) -> Option<R::File> {
+/// its number, and is read or written as the stream. It is open for what nobody does with the stream,
+/// so each read of the one that is read fails, and each write of the others. The file has to stay
+/// open.
+pub(crate) fn null_if_closed<R: Files>(rt: &R, stream: &str, is_read: bool) -> Option<R::File> {
     if fs::metadata(rt, stream).is_ok() {
         return None;
     }
     OpenOptions::new()
-        .read(true)
-        .write(true)
+        .read(!is_read)
+        .write(is_read)
         .open(rt, "/dev/null")
         .ok()
 }

@@ -120,9 +120,9 @@ fn command_of_program<R: Env + AllocGlobal>(rt: &R) -> Result<Command, Ending> {
 fn main(rt: HostRuntime) -> ExitCode {
     // In this order, since the least number that is free is given.
     let _in_place_of_closed = (
-        null_if_closed(&rt, "/dev/stdin"),
-        null_if_closed(&rt, "/dev/stdout"),
-        null_if_closed(&rt, "/dev/stderr"),
+        null_if_closed(&rt, "/dev/stdin", true),
+        null_if_closed(&rt, "/dev/stdout", false),
+        null_if_closed(&rt, "/dev/stderr", false),
     );
     let command = match command_of_program(&rt) {
         Ok(command) => command,
