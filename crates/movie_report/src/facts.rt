@@ -12,7 +12,6 @@ ghost use Rattle.movie_report.specs.Facts.{start_text, verdict_text, report_text
 
 use crate::checkpoints::checkpoint_facts;
 use crate::differences::{Comparison, differences};
-use crate::hexadecimal::{Byte, Word};
 use hex::encode;
 use md5::Md5;
 use mos_cpu::Cpu;
@@ -22,7 +21,7 @@ use riot_map::Cart;
 use sha1::Sha1;
 use sha2::Sha256;
 use std::alloc::{AllocError, Global};
-use vcs_machine::{FaultKind, State};
+use vcs_machine::{FaultKind, HexByte, HexWord, State};
 
 /// The lines of a cartridge's length and digests.
 fn cartridge_facts(alloc: Global, cart: &Cart) -> Result<String, AllocError>
@@ -68,12 +67,12 @@ fn registers_line(alloc: Global, cpu: &Cpu) -> Result<String, AllocError>
 {
     format!(in alloc;
         "registers: A {}, X {}, Y {}, S {}, P {}, PC {}\n",
-        Byte(cpu.a),
-        Byte(cpu.x),
-        Byte(cpu.y),
-        Byte(cpu.s),
-        Byte(cpu.p),
-        Word(cpu.pc)
+        HexByte(cpu.a),
+        HexByte(cpu.x),
+        HexByte(cpu.y),
+        HexByte(cpu.s),
+        HexByte(cpu.p),
+        HexWord(cpu.pc)
     )
 }
 

@@ -4,7 +4,6 @@
 mod checkpoints;
 mod differences;
 mod facts;
-mod hexadecimal;
 mod numbers;
 
 pub use facts::report;

@@ -3,8 +3,8 @@ ghost use Rattle.std.specs.Prelude.{◌≡◌, ◌<◌, slice_index_or};
 ghost use Rattle.movie_report.specs.Private.Places.{state_number_at, no_place};
 ghost use Rattle.movie_report.specs.Numbers.{processor_numbers, other_numbers};
 
-use crate::hexadecimal::Byte;
 use std::fmt;
+use vcs_machine::HexByte;
 
 /// The processor's numbers, with their lengths in bytes.
 const PROCESSOR: [(&str, usize); 6] = [("A", 1), ("X", 1), ("Y", 1), ("S", 1), ("P", 1), ("PC", 2)];
@@ -138,7 +138,7 @@ impl fmt::Display for Number {
             let (name, _) = processor_number(self.place);
             write!(f, "{name}")
         } else if self.place < OTHERS_AT {
-            write!(f, "memory {}", Byte(0x80 + (self.place - MEMORY_AT) as u8))
+            write!(f, "memory {}", HexByte(0x80 + (self.place - MEMORY_AT) as u8))
         } else {
             let (name, _) = other_number(self.place - OTHERS_AT);
             write!(f, "{name}")

@@ -4,6 +4,7 @@ pub mod BankLemmas
 pub mod BeamLaws
 pub mod DebtLemmas
 pub mod FrameOutcomes
+pub mod LoggedLemmas
 pub mod OneStop
 pub mod PictureTable
 pub mod PollLemmas

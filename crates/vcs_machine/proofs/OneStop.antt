@@ -18,7 +18,7 @@ module _ {B : Type 0} (rules : Rules B) where
   abbrev pub IsLong : Type 0
   IsLong = (m next : Machine B) → turn rules m ≡ Went next → m.cycles + 2 ≤ next.cycles
 
-  reaches-suc : (start here next : Machine B) (n : ℕ) → Reaches rules start n here → (0 < n → is_over rules here ≡ false)
+  pub reaches-suc : (start here next : Machine B) (n : ℕ) → Reaches rules start n here → (0 < n → is_over rules here ≡ false)
       → turn rules here ≡ Went next → Reaches rules start (suc n) next
   reaches-suc start here next n r going went = record {
     reached = rw r.reached went;

@@ -2,6 +2,7 @@ pub mod Consoles
 pub mod Faults
 pub mod Frame
 pub mod Inputs
+pub mod Instructions
 pub mod Outcomes
 pub mod Pictures
 pub mod Private

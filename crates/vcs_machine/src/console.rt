@@ -25,6 +25,7 @@ use tia_core::{Effect, Paint, Tia};
 const WSYNC: u8 = 2;
 
 /// A console in a frame, whose pixels go to a sink.
+#[derive(Drop)]
 pub struct Console<'a, S: Paint> {
     socket: Socket<'a>,
     devices: Devices<S>,
@@ -139,6 +140,7 @@ impl<'a, S: Paint> Bus for Console<'a, S> {
 
 impl<'a, S: Paint> Console<'a, S> {
     ghost use Rattle.vcs_machine.specs.Consoles.{after_tia_write};
+    ghost use Rattle.vcs_machine.specs.Instructions.{byte_at};
     ghost use Rattle.vcs_machine.specs.Outcomes.{console_of, state_left};
 
     /// The console of a state as a frame begins: the pins and the buttons are those of the input.
@@ -253,6 +255,31 @@ impl<'a, S: Paint> Console<'a, S> {
         self.awaits_line = false;
         self.has_event = self.ended;
         cycles
+    }
+
+    /// The selected bank of the cartridge.
+    pub fn bank(&self) -> u8
+        ensures { result ≡ self.now.bank }
+    {
+        self.socket.bank
+    }
+
+    /// An instruction's byte, or 0 if a register of a device would answer.
+    pub fn byte_at(&self, address: u16) -> u8
+        ensures { result ≡ byte_at (meaning_of S.drawn) self.now address }
+    {
+        self.peek(address).unwrap_or(0)
+    }
+
+    /// The scanline of the frame, counted from 0, and the cycle of it at which the beam stands.
+    #[tactic(auto, unfolding(riot_map::specs::Riot::after_cycles))]
+    pub fn beam(&mut self) -> (u16, u8)
+        ensures bus { self.new ≡ self.old }
+        ensures line { result.0 ≡ self.old.tia.line }
+        ensures cycle { result.1 ≡ self.old.tia.fields.clock / 3 }
+    {
+        self.devices.settle();
+        (self.devices.tia.line(), self.devices.tia.beam() / 3)
     }
 
     /// Whether VSYNC has fallen in this frame.

@@ -1,6 +1,7 @@
 //! Why a frame did not end.
 ghost use Rattle.std.specs.Prelude.{◌≡◌, ◌↔◌, IsTrue};
 
+use crate::hexadecimal::{HexByte, HexWord};
 use mos_cpu::CpuFault;
 use std::fmt;
 use thiserror::Error;
@@ -16,38 +17,6 @@ pub enum FaultKind {
     Overlong,
 }
 
-/// A byte as two capital hexadecimal digits.
-#[derive(Clone, Copy)]
-struct Hex2(u8);
-
-impl fmt::Display for Hex2 {
-    ghost use Rattle.std.specs.Prelude.{Some};
-    ghost use Rattle.vcs_machine.specs.Faults.{hex2};
-
-    ghost output = { λ h. Some (hex2 h.0) };
-
-    fn fmt<W: fmt::Write>(&self, f: &mut fmt::Formatter<W>) -> fmt::Result {
-        let byte = self.0;
-        write!(f, "{byte:02X}")
-    }
-}
-
-/// An address as four capital hexadecimal digits.
-#[derive(Clone, Copy)]
-struct Hex4(u16);
-
-impl fmt::Display for Hex4 {
-    ghost use Rattle.std.specs.Prelude.{Some};
-    ghost use Rattle.vcs_machine.specs.Faults.{hex4};
-
-    ghost output = { λ h. Some (hex4 h.0) };
-
-    fn fmt<W: fmt::Write>(&self, f: &mut fmt::Formatter<W>) -> fmt::Result {
-        let [high, low] = self.0.to_be_bytes();
-        write!(f, "{}{}", Hex2(high), Hex2(low))
-    }
-}
-
 impl fmt::Display for FaultKind {
     ghost use Rattle.std.specs.Prelude.{Some};
     ghost use Rattle.vcs_machine.specs.Faults.{fault_text};
@@ -59,10 +28,10 @@ impl fmt::Display for FaultKind {
             FaultKind::BadOpcode { opcode, at } => write!(
                 f,
                 "bad opcode {} at {}",
-                Hex2(opcode),
-                Hex4(at)
+                HexByte(opcode),
+                HexWord(at)
             ),
-            FaultKind::FetchOutside { at } => write!(f, "fetch outside at {}", Hex4(at)),
+            FaultKind::FetchOutside { at } => write!(f, "fetch outside at {}", HexWord(at)),
             FaultKind::Overlong => write!(f, "overlong"),
         }
     }

@@ -3,22 +3,28 @@
 
 mod console;
 mod devices;
+mod executed;
 mod fault;
 mod fields;
 mod frames;
+mod hexadecimal;
 mod input;
 mod laws;
+mod logged;
 mod picture;
 mod pictures;
 mod polls;
 mod run;
 mod socket;
 mod state;
+mod stepping;
 mod unchanged;
 
+pub use executed::{DataAccess, Executed};
 pub use fault::{FaultKind, FrameError, Halt};
 pub use fields::StateFields;
 pub use frames::{frame, halt};
+pub use hexadecimal::{HexByte, HexWord};
 pub use input::Input;
 pub use laws::{
     law_of_banks, law_of_frame_lengths, law_of_one_stop, law_of_waits, law_of_whole_cycles,
@@ -26,3 +32,4 @@ pub use laws::{
 pub use picture::{MOST_ROWS, Picture};
 pub use pictures::Pictures;
 pub use state::State;
+pub use stepping::Stepping;

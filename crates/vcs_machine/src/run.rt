@@ -12,7 +12,7 @@ use mos_cpu::{Cpu, load, step};
 use tia_core::Paint;
 
 /// Cycles after which a frame that has not ended is too long.
-const TOO_MANY_CYCLES: u32 = 24_320;
+pub const TOO_MANY_CYCLES: u32 = 24_320;
 
 /// Passes the rounds of a loop that waits for the timer, if the processor is at its branch, and they
 /// surely go on and begin before the frame is too long. It answers the processor, and the cycles of

@@ -4,9 +4,9 @@ use std::fmt;
 
 /// A byte, as two digits.
 #[derive(Clone, Copy)]
-pub(crate) struct Byte(pub(crate) u8);
+pub struct HexByte(pub u8);
 
-impl fmt::Display for Byte {
+impl fmt::Display for HexByte {
     ghost use Rattle.std.specs.Prelude.{Some};
     ghost use Rattle.vcs_machine.specs.Faults.{hex2};
 
@@ -20,9 +20,9 @@ impl fmt::Display for Byte {
 
 /// Two bytes, as four digits.
 #[derive(Clone, Copy)]
-pub(crate) struct Word(pub(crate) u16);
+pub struct HexWord(pub u16);
 
-impl fmt::Display for Word {
+impl fmt::Display for HexWord {
     ghost use Rattle.std.specs.Prelude.{Some};
     ghost use Rattle.vcs_machine.specs.Faults.{hex4};
 
@@ -30,6 +30,6 @@ impl fmt::Display for Word {
 
     fn fmt<W: fmt::Write>(&self, f: &mut fmt::Formatter<W>) -> fmt::Result {
         let [high, low] = self.0.to_be_bytes();
-        write!(f, "{}{}", Byte(high), Byte(low))
+        write!(f, "{}{}", HexByte(high), HexByte(low))
     }
 }

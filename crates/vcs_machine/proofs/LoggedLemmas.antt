@@ -1,0 +1,123 @@
+-- A bus that lists data accesses lists those of an instruction, with their bytes.
+use Rattle.std.proofs.Common.{◌≡◌, ℕ, zero, suc, ◌+◌, ◌-◌, ◌<◌, ◌≤◌, List, [], ◌∷◌, ◌++◌, length}
+use Rattle.std.proofs.Common.{Result, Ok, Err, true, refl, sym, ap, ◌∙◌, arith, append_assoc, append-nil}
+use Rattle.std.specs.Prelude.{IfOk, fold, nat_lt}
+use Rattle.std.proofs.lemmas.Bool.Decides.{nat_tests}
+use Rattle.std.proofs.lemmas.List.{length-append}
+use Rattle.mos_cpu.specs.Accesses.{StoredByte, Use, Nothing, Reads, Stores, Modifies, Pushes, Pulls}
+use Rattle.mos_cpu.specs.Accesses.{accesses_by as accesses_by_use, accesses_of, instruction_cycles}
+use Rattle.mos_cpu.specs.Accesses.{pulls, pushes, use_of}
+use Rattle.mos_cpu.specs.Buses.{Meaning, Respects}
+use Rattle.mos_cpu.specs.Execution.{Progress, after_access, after_transfer, at_start, step_by, step_of}
+use Rattle.mos_cpu.specs.Operands.{instruction_at}
+use Rattle.mos_cpu.specs.Registers.{Registers}
+use Rattle.mos_cpu.specs.Timing.{IsTimed, least_of}
+use Rattle.mos_cpu.specs.declared.access.Access.{Access}
+use Rattle.mos_cpu.specs.declared.access.Transfer.{Transfer}
+use Rattle.mos_cpu.specs.declared.access.Transfer.TheVariants.{Read, Write}
+use Rattle.mos_cpu.specs.declared.fault.CpuFault.{CpuFault}
+use Rattle.mos_cpu.specs.declared.instruction.Instruction.{Instruction}
+use Rattle.mos_cpu.specs.declared.instruction.Operand.{Operand}
+use Rattle.mos_cpu.specs.declared.instruction.Operand.TheVariants.{Register, Value, Place}
+use Rattle.mos_cpu.specs.declared.operation.Operation.{Operation}
+use Rattle.mos_cpu.proofs.AlongMaps.{decoded-along, step_of-along}
+use Rattle.mos_cpu.proofs.StepLaws.{cycles_of-timed, decoded-timed}
+use Rattle.vcs_machine.specs.Instructions.{accesses_by, data_accesses, with_byte, with_bytes}
+use Rattle.vcs_machine.specs.Private.Logged.{Logged, logging}
+use Rattle.vcs_machine.specs.declared.executed.DataAccess.{DataAccess}
+
+-- ---- an instruction has at most eight accesses
+pushes-length : (first : ℕ) (r : Registers) (n : ℕ) (held : List StoredByte) → length (pushes first r n held) ≡ length held
+pushes-length first r n [] = refl
+pushes-length first r n (what ∷ rest) = ap suc (pushes-length first r (n + 1) rest)
+
+pulls-length : (s n count : ℕ) → length (pulls s n count) ≡ count
+pulls-length s n zero = refl
+pulls-length s n (suc more) = ap suc (pulls-length s (n + 1) more)
+
+few_by : (how : Use) (operand : Operand) (r : Registers) (cycles : ℕ) → least_of how ≤ 7
+    → length (accesses_by_use how operand r cycles) ≤ 8
+few_by Nothing operand r cycles h = omega arith
+few_by Reads Register r cycles h = omega arith
+few_by Reads (Value b) r cycles h = omega arith
+few_by Reads (Place at crossed) r cycles h = omega arith
+few_by (Stores what) Register r cycles h = omega arith
+few_by (Stores what) (Value b) r cycles h = omega arith
+few_by (Stores what) (Place at crossed) r cycles h = omega arith
+few_by Modifies Register r cycles h = omega arith
+few_by Modifies (Value b) r cycles h = omega arith
+few_by Modifies (Place at crossed) r cycles h = omega arith
+few_by (Pushes first rest) operand r cycles h = let same = pushes-length first r 0 rest in omega (arith, same, h)
+few_by (Pulls count) operand r cycles h = let same = pulls-length r.s 1 count in omega (arith, same, h)
+
+few : (i : Instruction) (r : Registers) → IsTimed i.row → length (accesses_of i r (instruction_cycles i r.p)) ≤ 8
+few i r timed =
+    let room = (cycles_of-timed i r.p timed).2 in
+    let most = (cycles_of-timed i r.p timed).1 in
+    few_by (use_of i.row.operation) i.operand r (instruction_cycles i r.p) (omega (arith, room, most))
+
+-- ---- what is listed
+module _ {S : Type 0} (m : Meaning S) where
+  -- The same without the list, and with it.
+  abbrev pub plain : Progress (Logged S) → Progress S
+  plain g = record { bus = g.bus.bus; cycle = g.cycle; bytes = g.bytes }
+
+  abbrev listed : Progress S → List DataAccess → Progress (Logged S)
+  listed g accesses = record { bus = record { bus = g.bus; accesses = accesses }; cycle = g.cycle; bytes = g.bytes }
+
+  one : (o : Operation) (p : ℕ) (g : Progress (Logged S)) (cycle address : ℕ) (t : Transfer) → length g.bus.accesses < 8
+      → after_transfer (logging m) o p g cycle address t
+      ≡ listed (after_transfer m o p (plain g) cycle address t) (g.bus.accesses ++ with_byte m o p (plain g) cycle address t ∷ [])
+  unfolding logging
+  one o p g cycle address Read room =
+      let fits : nat_lt (length g.bus.accesses) 8 ≡ true = grind (arith, nat_tests) in rw fits refl
+  one o p g cycle address (Write source) room =
+      let fits : nat_lt (length g.bus.accesses) 8 ≡ true = grind (arith, nat_tests) in rw fits refl
+
+  all : (o : Operation) (p : ℕ) (g : Progress (Logged S)) (accesses : List Access) → length g.bus.accesses + length accesses ≤ 8
+      → (fold (after_access (logging m) o p) g accesses).bus.accesses ≡ g.bus.accesses ++ with_bytes m o p (plain g) accesses
+  all o p g [] room = sym (append-nil g.bus.accesses)
+  all o p g (access ∷ more) room =
+      let byte = with_byte m o p (plain g) access.cycle access.address access.transfer in
+      let next = listed (after_access m o p (plain g) access) (g.bus.accesses ++ byte ∷ []) in
+      let longer = length-append g.bus.accesses (byte ∷ []) in
+      ap (λ (q : Progress (Logged S)). (fold (after_access (logging m) o p) q more).bus.accesses)
+      (one o p g access.cycle access.address access.transfer (omega (arith, room)))
+      ∙ all o p next more (omega (arith, room, longer))
+      ∙ append_assoc g.bus.accesses (byte ∷ []) (with_bytes m o p (plain next) more)
+
+  abbrev pub unlisted : S → Logged S
+  unlisted s = record { bus = s; accesses = [] }
+
+  pub logging-respects : Respects (logging m) m (λ l. l.bus)
+  unfolding logging
+  logging-respects = record {
+    passed = λ l n. refl;
+    read_value = λ l at. refl;
+    after_read = λ l at. refl;
+    after_write = λ l at v. refl;
+    peeked = λ l at. refl;
+    peeked_zero = λ l at. refl;
+  }
+
+  by_instruction : (r : Registers) (s : S) (d : Result Instruction CpuFault) → IfOk d (λ i. IsTimed i.row)
+      → (step_by (logging m) r (unlisted s) d).bus.accesses ≡ accesses_by m r s d
+  unfolding logging
+  by_instruction r s (Err fault) timed = refl
+  by_instruction r s (Ok i) timed =
+      all i.row.operation r.p (at_start (unlisted s)) (accesses_of i r (instruction_cycles i r.p)) (let short = few i r timed in omega (arith, short))
+
+  -- The list after an instruction, if it was empty before.
+  pub logged-accesses : (r : Registers) (s : S) → (step_of (logging m) r (unlisted s)).bus.accesses ≡ data_accesses m r s
+  unfolding data_accesses
+  logged-accesses r s =
+      ap (λ (d : Result Instruction CpuFault). (step_by (logging m) r (unlisted s) d).bus.accesses)
+      (sym (decoded-along (logging m) m (λ l. l.bus) logging-respects r (unlisted s)))
+      ∙ by_instruction r s (instruction_at m s r) (decoded-timed m s r)
+
+  -- What an instruction answers and leaves on the bus below.
+  pub logged-step : (r : Registers) (l : Logged S) (answer : Result ℕ CpuFault) (after : Registers) (bus : Logged S)
+      → answer ≡ (step_of (logging m) r l).answer → after ≡ (step_of (logging m) r l).registers → bus ≡ (step_of (logging m) r l).bus
+      → step_of m r l.bus ≡ record { answer = answer; registers = after; bus = bus.bus }
+  logged-step r l answer after bus a b c =
+      step_of-along (logging m) m (λ l. l.bus) logging-respects r l ∙ rw (a, b, c) refl

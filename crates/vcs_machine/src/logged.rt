@@ -1,0 +1,61 @@
+//! A console whose processor's data accesses are listed.
+use crate::console::Console;
+use crate::executed::{DataAccess, MOST_ACCESSES};
+use arrayvec::ArrayVec;
+use mos_cpu::Bus;
+use tia_core::NoPaint;
+
+/// A console that draws nothing, and the data accesses that were made on it.
+#[derive(Drop)]
+pub struct Logged<'a> {
+    pub console: Console<'a, NoPaint>,
+    pub accesses: ArrayVec<DataAccess, MOST_ACCESSES>,
+}
+
+impl<'a> Bus for Logged<'a> {
+    ghost use Rattle.vcs_machine.specs.Consoles.{meaning_of};
+    ghost use Rattle.vcs_machine.specs.Instructions.{Undrawn, with_pixel_lost};
+    ghost use Rattle.vcs_machine.specs.Private.Logged.{Logged as LoggedOf, logging};
+
+    ghost State = { LoggedOf Undrawn };
+
+    ghost state = { λ l. record { bus = l.console; accesses = l.accesses.items } };
+
+    ghost meaning = { logging (meaning_of with_pixel_lost) };
+
+    #[tactic(auto, unfolding(crate::specs::Private::Logged::logging))]
+    fn pass(&mut self, cycles: u8) {
+        self.console.pass(cycles);
+    }
+
+    #[tactic(auto, unfolding(crate::specs::Private::Logged::logging))]
+    fn read(&mut self, addr: u16) -> u8 {
+        let byte = self.console.read(addr);
+        let _ = self.accesses.try_push(DataAccess {
+            is_write: false,
+            address: addr,
+            byte,
+        });
+        byte
+    }
+
+    #[tactic(auto, unfolding(crate::specs::Private::Logged::logging))]
+    fn write(&mut self, addr: u16, value: u8) {
+        self.console.write(addr, value);
+        let _ = self.accesses.try_push(DataAccess {
+            is_write: true,
+            address: addr,
+            byte: value,
+        });
+    }
+
+    #[tactic(auto, unfolding(crate::specs::Private::Logged::logging))]
+    fn peek(&self, addr: u16) -> Option<u8> {
+        self.console.peek(addr)
+    }
+
+    #[tactic(auto, unfolding(crate::specs::Private::Logged::logging))]
+    fn peek_zero(&self, addr: u8) -> u8 {
+        self.console.peek_zero(addr)
+    }
+}
