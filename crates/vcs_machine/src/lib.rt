@@ -14,6 +14,7 @@ mod polls;
 mod run;
 mod socket;
 mod state;
+mod timing;
 mod unchanged;
 
 pub use fault::{FaultKind, FrameError, Halt};
@@ -26,3 +27,4 @@ pub use laws::{
 pub use picture::{MOST_ROWS, Picture};
 pub use pictures::Pictures;
 pub use state::State;
+pub use timing::{TimedFrame, timed_frame};
