@@ -1,7 +1,9 @@
 -- What a frame does, from how it stops.
 use Rattle.std.proofs.Common.{◌≡◌, ℕ, ◌+◌, ◌*◌, ◌/◌, ◌%◌, ◌≤◌, IsTrue, Result, Ok, Err, List, []}
-use Rattle.std.proofs.Common.{refl, ap, ◌∙◌, arith}
-use Rattle.std.specs.Prelude.{IfOk, IfErr}
+use Rattle.std.proofs.Common.{refl, sym, ap, ◌∙◌, arith}
+use Rattle.std.specs.Prelude.{IfOk, IfErr, length, map}
+use Rattle.std.specs.List.{range_with_len}
+use Rattle.std.proofs.lemmas.List.FromFn.{length-map-range_with_len}
 use Rattle.mos_cpu.specs.Registers.{Registers}
 use Rattle.tia_core.specs.Clock.{Pixel}
 use Rattle.vcs_machine.specs.Consoles.{Console, console_rules, with_pixel_logged}
@@ -9,8 +11,8 @@ use Rattle.vcs_machine.specs.Faults.{stop_with}
 use Rattle.vcs_machine.specs.Frame.{Machine, Ended, Stop, machine_at, stop_of}
 use Rattle.vcs_machine.specs.Inputs.{InputData}
 use Rattle.vcs_machine.specs.Outcomes.{Played, Failed, frame_of, outcome_of, machine_of, state_left}
-use Rattle.vcs_machine.specs.Outcomes.{Halts}
-use Rattle.vcs_machine.specs.Pictures.{picture_of, rows_of}
+use Rattle.vcs_machine.specs.Outcomes.{Halts, PlaysOn, cycles_of}
+use Rattle.vcs_machine.specs.Pictures.{colour_after, picture_of, rows_of}
 use Rattle.vcs_machine.specs.States.{is_state, line_cycle_of}
 use Rattle.vcs_machine.specs.declared.fault.FaultKind.{FaultKind}
 use Rattle.vcs_machine.specs.declared.fault.FaultKind.TheVariants.{BadOpcode, FetchOutside}
@@ -27,6 +29,18 @@ unfolding frame_of
 played cart s after i here stops at =
     ap (λ (stop : Stop (Console (List Pixel))). outcome_of (line_cycle_of s) stop) stops
     ∙ ap (λ (f : StateFields). Played f (picture_of (rows_of (line_cycle_of s) here.cycles) here.bus.sink)) at
+
+-- The cycles of a frame that ends are those that it was played for,
+pub played-cycles : {S : Type 0} (drawn : S → ℕ → ℕ → ℕ → S) (cart : List ℕ) (s after : StateFields) (i : InputData) (sink sink_after : S) (cycles : ℕ)
+    → PlaysOn drawn cart s i sink after sink_after cycles → cycles ≡ cycles_of cart s i
+unfolding cycles_of
+played-cycles drawn cart s after i sink sink_after cycles h =
+    sym h.4 ∙ ap (λ (stop : Stop (Console (List Pixel))). (machine_at stop).cycles) (sym h.1)
+
+-- and its picture has as many rows as are counted for it.
+pub length-picture_of : (rows : ℕ) (pixels : List Pixel) → length (picture_of rows pixels) ≡ rows
+unfolding picture_of
+length-picture_of rows pixels = length-map-range_with_len (λ line. map (λ x. colour_after 0 pixels line x) (range_with_len 0 160)) 0 rows
 
 outcome-halted : (line_cycle : ℕ) (kind : FaultKind) (m : Machine (Console (List Pixel))) → outcome_of line_cycle (stop_with kind m) ≡ Failed kind (state_left m)
 outcome-halted line_cycle (BadOpcode opcode at) m = refl

@@ -5,7 +5,7 @@ use Rattle.tia_core.specs.TiaState.{tia_of as tia_state_of, with_fire, at_frame_
 use Rattle.tia_core.specs.Clock.{Pixel, sink_after_pixels}
 use Rattle.vcs_machine.specs.Consoles.{Console, console_rules, with_pixel_logged}
 use Rattle.vcs_machine.specs.Faults.{kind_of, stop_with}
-use Rattle.vcs_machine.specs.Frame.{Machine, Stop, Ended, Overlong, Faulted, stop_of}
+use Rattle.vcs_machine.specs.Frame.{Machine, Stop, Ended, Overlong, Faulted, machine_at, stop_of}
 use Rattle.vcs_machine.specs.Inputs.{InputData, is_pressed}
 use Rattle.vcs_machine.specs.Pictures.{Rows, picture_of, rows_of}
 use Rattle.vcs_machine.specs.States.{line_cycle_of}
@@ -55,6 +55,10 @@ outcome_of line_cycle (Faulted fault m) = Failed (kind_of fault) (state_left m)
 -- What a frame on a cartridge does to a state, with this input.
 unfoldable pub frame_of : List ℕ → StateFields → InputData → FrameOutcome
 frame_of cart s i = outcome_of (line_cycle_of s) (stop_of (console_rules with_pixel_logged) (machine_of cart s i []))
+
+-- The cycles that a frame has taken when it stops, waits included.
+unfoldable pub cycles_of : List ℕ → StateFields → InputData → ℕ
+cycles_of cart s i = (machine_at (stop_of (console_rules with_pixel_logged) (machine_of cart s i []))).cycles
 
 -- A frame's error, and the state that it leaves.
 abbrev pub FailsAs : FrameOutcome → FrameError → StateFields → Type 0

@@ -12,15 +12,16 @@ ghost use Rattle.vcs_machine.specs.Pictures.{Rows};
 use crate::console::Console;
 use crate::fault::{FrameError, Halt};
 use crate::input::Input;
-use crate::picture::{Picture, rows};
+use crate::picture::Picture;
 use crate::run::run_frame;
 use crate::state::State;
+use crate::timing::timed_frame;
 use riot_map::Cart;
 use std::alloc::Global;
 use tia_core::{NoPaint, Paint};
 
 /// A frame from a state, whose pixels go to a sink; it answers the sink, and its cycles.
-fn frame_onto<S: Paint + Drop>(
+pub(crate) fn frame_onto<S: Paint + Drop>(
     cart: &Cart,
     state: &mut State,
     input: Input,
@@ -61,19 +62,9 @@ pub fn frame(
     ensures memory { result ≡ Err FrameError.NoMemory → keep ≡ true }
     ensures refused { result ≡ Err FrameError.NoMemory → state.new ≡ state.old }
 {
-    if !keep {
-        return match frame_onto(cart, state, input, NoPaint) {
-            Ok(_) => Ok(None),
-            Err(halt) => Err(FrameError::Fault(halt.kind)),
-        };
-    }
-    let line_cycle = state.line_cycle();
-    let Ok(blank) = Picture::blank(alloc) else {
-        return Err(FrameError::NoMemory);
-    };
-    match frame_onto(cart, state, input, blank) {
-        Ok((picture, cycles)) => Ok(Some(picture.cut(rows(line_cycle, cycles)))),
-        Err(halt) => Err(FrameError::Fault(halt.kind)),
+    match timed_frame(alloc, cart, state, input, keep) {
+        Ok(timed) => Ok(timed.picture),
+        Err(error) => Err(error),
     }
 }
 

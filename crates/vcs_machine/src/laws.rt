@@ -6,12 +6,16 @@ ghost use Rattle.riot_map.specs.Cart.{has_banks};
 ghost use Rattle.tia_core.specs.Clock.{Pixel};
 ghost use Rattle.vcs_machine.specs.Consoles.{Console, console_rules, with_pixel_logged, meaning_of};
 ghost use Rattle.vcs_machine.specs.Consoles.{after_wait, wait_cycles};
+ghost use Rattle.vcs_machine.specs.Faults.{stop_with};
 ghost use Rattle.vcs_machine.specs.Frame.{Rules, Machine, Stop, Ended, machine_at, StopsAs};
 ghost use Rattle.vcs_machine.specs.Frame.{most_frame_cycles, stop_of, turn, turns, Went};
 ghost use Rattle.vcs_machine.specs.Inputs.{InputData};
-ghost use Rattle.vcs_machine.specs.Outcomes.{frame_of, left_by, machine_of, state_left};
-ghost use Rattle.vcs_machine.specs.Pictures.{most_rows, rows_of};
+ghost use Rattle.vcs_machine.specs.Instructions.{StopsAfter, Undrawn, undrawn_of, undrawn_rules};
+ghost use Rattle.vcs_machine.specs.Outcomes.{Failed, Played, cycles_of, frame_of, left_by};
+ghost use Rattle.vcs_machine.specs.Outcomes.{machine_of, state_left};
+ghost use Rattle.vcs_machine.specs.Pictures.{Rows, most_rows, rows_of};
 ghost use Rattle.vcs_machine.specs.States.{is_state, line_cycle_of};
+ghost use Rattle.vcs_machine.specs.declared.fault.FaultKind.{FaultKind};
 ghost use Rattle.vcs_machine.specs.declared.fields.StateFields.{StateFields};
 
 /// A law: on any bus a frame stops in one way, at the least number of instructions at which it can
@@ -59,4 +63,15 @@ pub const fn law_of_frame_lengths()
 pub const fn law_of_banks()
     ensures { (cart : List ℕ) (s : StateFields) (i : InputData) → has_banks (length cart) ≡ false
         → (left_by (frame_of cart s i)).bank ≡ s.bank }
+{}
+
+/// A law: a frame that is executed one instruction at a time, and draws nothing, leaves what any
+/// frame leaves, and takes as many cycles.
+pub const fn law_of_stepping()
+    ensures ended { (cart : List ℕ) (s : StateFields) (i : InputData) (count : ℕ) (here : Machine Undrawn)
+        → StopsAfter undrawn_rules (undrawn_of cart s i) count (Ended here)
+        → ((rows : Rows) × (frame_of cart s i ≡ Played (state_left here) rows)) × (cycles_of cart s i ≡ here.cycles) }
+    ensures failed { (cart : List ℕ) (s : StateFields) (i : InputData) (count : ℕ) (kind : FaultKind) (here : Machine Undrawn)
+        → StopsAfter undrawn_rules (undrawn_of cart s i) count (stop_with kind here)
+        → frame_of cart s i ≡ Failed kind (state_left here) }
 {}

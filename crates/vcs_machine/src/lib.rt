@@ -18,6 +18,7 @@ mod run;
 mod socket;
 mod state;
 mod stepping;
+mod timing;
 mod unchanged;
 
 pub use executed::{DataAccess, Executed};
@@ -27,9 +28,11 @@ pub use frames::{frame, halt};
 pub use hexadecimal::{HexByte, HexWord};
 pub use input::Input;
 pub use laws::{
-    law_of_banks, law_of_frame_lengths, law_of_one_stop, law_of_waits, law_of_whole_cycles,
+    law_of_banks, law_of_frame_lengths, law_of_one_stop, law_of_stepping, law_of_waits,
+    law_of_whole_cycles,
 };
 pub use picture::{MOST_ROWS, Picture};
 pub use pictures::Pictures;
 pub use state::State;
 pub use stepping::Stepping;
+pub use timing::{TimedFrame, timed_frame};

@@ -5,12 +5,14 @@ ghost use Rattle.vcs_machine.specs.Faults.{kind_of};
 ghost use Rattle.vcs_machine.specs.Frame.{Failed, Went, is_over, overlong_cycles, turn};
 ghost use Rattle.vcs_machine.specs.Instructions.{executed_at, undrawn_of, undrawn_rules};
 ghost use Rattle.vcs_machine.specs.Instructions.{with_pixel_lost};
+ghost use Rattle.vcs_machine.specs.Pictures.{rows_of};
 
 use crate::console::Console;
 use crate::executed::Executed;
 use crate::fault::FaultKind;
 use crate::input::Input;
 use crate::logged::Logged;
+use crate::picture::rows;
 use crate::run::TOO_MANY_CYCLES;
 use crate::state::State;
 use arrayvec::ArrayVec;
@@ -29,15 +31,15 @@ pub struct Stepping<'a> {
 }
 
 impl<'a> Model for Stepping<'a> {
-    ghost use Rattle.std.specs.Prelude.{◌≡◌, []};
-    ghost use Rattle.vcs_machine.specs.Frame.{Machine};
+    ghost use Rattle.std.specs.Prelude.{◌≡◌, ◌≤◌, []};
+    ghost use Rattle.vcs_machine.specs.Frame.{Machine, most_frame_cycles};
     ghost use Rattle.vcs_machine.specs.Instructions.{Undrawn};
 
     ghost Value = { Machine Undrawn };
 
     ghost view = { λ s. record { registers = s.cpu; bus = s.bus.console; cycles = s.cycles } };
 
-    ghost invariant = { λ s. s.bus.accesses.items ≡ [] };
+    ghost invariant = { λ s. (s.bus.accesses.items ≡ []) × (s.cycles ≤ most_frame_cycles) };
 }
 
 impl<'a> Stepping<'a> {
@@ -62,6 +64,13 @@ impl<'a> Stepping<'a> {
         self.cycles
     }
 
+    /// The rows of the picture of a frame that began at this cycle of its scanline, if it ends here.
+    pub fn rows(&self, line_cycle: u8) -> u16
+        ensures { result ≡ rows_of line_cycle self.now.cycles }
+    {
+        rows(line_cycle, self.cycles)
+    }
+
     /// Whether the frame's end has come: VSYNC has fallen in it.
     pub fn has_ended(&self) -> bool
         ensures { result ≡ self.now.bus.ended }
@@ -77,8 +86,8 @@ impl<'a> Stepping<'a> {
         self.has_ended() || self.cycles >= TOO_MANY_CYCLES
     }
 
-    /// Executes one instruction with its wait after WSYNC, in a frame that is not over. A faulty one
-    /// changes nothing.
+    /// Executes one instruction with its wait after WSYNC, in a frame that is not too long. A faulty
+    /// one changes nothing.
     pub fn next(&mut self) -> Result<Executed, FaultKind>
         requires { self.old.cycles < overlong_cycles }
         ensures went { OnOk result (turn undrawn_rules self.old ≡ Went self.new) }

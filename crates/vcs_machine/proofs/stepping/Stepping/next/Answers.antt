@@ -57,7 +57,7 @@ returns-clause-executed c =
     let m : Machine Undrawn = record { registers = c.self.inside.cpu; bus = c.beam-line.new.self; cycles = c.self.inside.cycles } in
     let at : m ≡ c.args.self.now = ap (λ (bus : Undrawn). before_with c.self.inside.cpu c.self.inside.cycles bus) c.beam-line.ensures.bus ∙ c.self.view_is in
     let listed = logged-accesses M c.self.inside.cpu c.beam-line.new.self in
-    let empty : l ≡ record { bus = c.beam-line.new.self; accesses = [] } = ap (λ (xs : List DataAccess). logged_with c.beam-line.new.self xs) c.self.invariant in
+    let empty : l ≡ record { bus = c.beam-line.new.self; accesses = [] } = ap (λ (xs : List DataAccess). logged_with c.beam-line.new.self xs) c.self.invariant.0 in
     let accesses : c.replace-accesses.result.items ≡ data_accesses M c.self.inside.cpu c.beam-line.new.self =
     rw c.replace-accesses.ensures.value
     (ap (λ (x : Logged Undrawn). x.accesses) c.in-Ok.ensures.bus
