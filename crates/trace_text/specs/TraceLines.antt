@@ -44,13 +44,16 @@ verb is_write = if is_write then codes "write" else codes "read"
 abbrev pub access_text : DataAccess → List ℕ
 access_text a = codes "  " ++ (verb a.is_write ++ (codes " " ++ (hex4 a.address ++ (codes " " ++ hex2 a.byte))))
 
--- The line without the accesses. Where the beam was, and the registers, are those before the
--- instruction.
+-- Where the beam is: the scanline, and the cycle of it.
+abbrev pub beam_text : ℕ → ℕ → List ℕ
+beam_text line cycle = right 3 (decimal line) ++ (codes " " ++ right 2 (decimal cycle))
+
+-- The line without the accesses. All of it is as before the instruction.
 abbrev pub instruction_text : Bool → ExecutedData → List ℕ
 instruction_text has_banks e =
-    right 3 (decimal e.line) ++ (codes " " ++ (right 2 (decimal e.cycle) ++ (codes "  " ++ (hex4 e.registers.pc ++ (codes "  "
+    beam_text e.line e.cycle ++ (codes "  " ++ (hex4 e.registers.pc ++ (codes "  "
     ++ (code_text e.registers.pc e.opcode e.low e.high (row_of e.opcode) ++ (codes "  "
-    ++ (registers_text e.registers ++ bank_text has_banks e.bank))))))))
+    ++ (registers_text e.registers ++ bank_text has_banks e.bank))))))
 
 -- The line, with its end.
 abbrev pub trace_line : Bool → ExecutedData → List ℕ

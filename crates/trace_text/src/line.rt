@@ -1,9 +1,7 @@
 //! The line of an instruction.
-ghost use Rattle.std.specs.Prelude.{◌≡◌, ◌++◌, IfOk, codes, string_bytes};
-ghost use Rattle.std.specs.Fmt.{decimal};
+ghost use Rattle.std.specs.Prelude.{◌≡◌, IfOk, string_bytes};
 ghost use Rattle.mos_cpu.specs.Opcodes.{row_of};
-ghost use Rattle.trace_text.specs.Columns.{right};
-ghost use Rattle.trace_text.specs.TraceLines.{access_text, bank_text, code_text};
+ghost use Rattle.trace_text.specs.TraceLines.{access_text, bank_text, beam_text, code_text};
 ghost use Rattle.trace_text.specs.TraceLines.{instruction_text, registers_text, trace_line};
 
 use crate::assembly::{InstructionBytes, OperandText};
@@ -23,7 +21,7 @@ struct Beam {
 impl fmt::Display for Beam {
     ghost use Rattle.std.specs.Prelude.{Some};
 
-    ghost output = { λ b. Some (right 3 (decimal b.line) ++ (codes " " ++ right 2 (decimal b.cycle))) };
+    ghost output = { λ b. Some (beam_text b.line b.cycle) };
 
     fn fmt<W: fmt::Write>(&self, f: &mut fmt::Formatter<W>) -> fmt::Result {
         write!(f, "{:>3} {:>2}", self.line, self.cycle)

@@ -108,7 +108,7 @@ module _ {B : Type 0} (rules : Rules B) where
   fails-next start here fault f = rw f.reaches.reached f.fails
 
   -- No turn that went follows one that failed.
-  none-after : (start a here : Machine B) (fault : CpuFault) (f : Faults rules start here fault) (m : ℕ) → turns rules m start ≡ Went a → f.count < m → ⊥
+  pub none-after : (start a here : Machine B) (fault : CpuFault) (f : Faults rules start here fault) (m : ℕ) → turns rules m start ≡ Went a → f.count < m → ⊥
   none-after start a here fault f m reached gt =
       let failed = failed-on start (suc f.count) fault (fails-next start here fault f) (m - suc f.count) in
       let at : m - suc f.count + suc f.count ≡ m = omega arith in

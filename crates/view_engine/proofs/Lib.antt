@@ -3,4 +3,6 @@ pub mod CutMovies
 pub mod CutParts
 pub mod RunPictures
 pub mod RunSteps
+pub mod TraceSteps
+pub mod TracedFrames
 pub mod WrittenPictures

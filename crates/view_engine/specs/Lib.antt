@@ -3,3 +3,4 @@ pub mod Drawings
 pub mod Lines
 pub mod Private
 pub mod Stretches
+pub mod Traces

@@ -2,3 +2,4 @@
 -- can be read without them.
 pub mod Claims
 pub mod Stops
+pub mod Tracing

@@ -1,5 +1,5 @@
 //! Engines that look into the run of a movie, whatever it claims: from the bytes of a movie to a
-//! movie of some of its frames, or to their pictures.
+//! movie of some of its frames, to their pictures, or to the instructions of one.
 #![tactic(auto)]
 
 mod cuts;
@@ -8,7 +8,9 @@ mod drawing;
 mod laws;
 mod line;
 mod stretch;
+mod tracing;
 
 pub use cuts::run_cut;
 pub use drawing::run_pictures;
 pub use laws::law_of_cuts;
+pub use tracing::run_trace;
