@@ -1,6 +1,9 @@
 pub mod ClaimSteps
 pub mod CutMovies
 pub mod CutParts
+pub mod RunLines
 pub mod RunPictures
 pub mod RunSteps
+pub mod StandingCheckpoints
+pub mod WrittenLines
 pub mod WrittenPictures

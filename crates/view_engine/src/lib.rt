@@ -1,14 +1,18 @@
 //! Engines that look into the run of a movie, whatever it claims: from the bytes of a movie to a
-//! movie of some of its frames, or to their pictures.
+//! movie of some of its frames, to their pictures, or to a line for each of them.
 #![tactic(auto)]
 
 mod cuts;
 mod cutting;
+mod describing;
 mod drawing;
+mod frame_line;
+mod hexadecimal;
 mod laws;
 mod line;
 mod stretch;
 
 pub use cuts::run_cut;
+pub use describing::run_frames;
 pub use drawing::run_pictures;
 pub use laws::law_of_cuts;

@@ -13,6 +13,8 @@ pub(crate) enum Line {
     Cut { frames: u32, checkpoints: u16 },
     /// The pictures of so many frames were written.
     Pictures { frames: u32 },
+    /// How many cycles a frame took, and how many rows its picture has.
+    Frame { frame: u32, cycles: u32, rows: u16 },
     Fault { frame: u32, kind: FaultKind },
     Refused(MovieError),
 }
@@ -39,6 +41,11 @@ impl fmt::Display for Line {
                 checkpoints,
             } => write!(f, "cut: {frames} frames, {checkpoints} checkpoints"),
             Line::Pictures { frames } => write!(f, "pictures: {frames} frames"),
+            Line::Frame {
+                frame,
+                cycles,
+                rows,
+            } => write!(f, "frame {frame}: {cycles} cycles, {rows} rows"),
             Line::Fault { frame, kind } => write!(f, "fault at frame {frame}: {kind}"),
             Line::Refused(error) => write!(f, "refused: {error}"),
         }
