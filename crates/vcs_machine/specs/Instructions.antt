@@ -79,11 +79,11 @@ executed_at drawn m =
     }
 
 -- ---- one after another
-module _ {B : Type 0} (rules : Rules B) where
-  abbrev pub machine_in : Turn B → List (Machine B)
-  machine_in (Failed fault) = []
-  machine_in (Went m) = m ∷ []
+abbrev pub machine_in : {B : Type 0} → Turn B → List (Machine B)
+machine_in (Failed fault) = []
+machine_in (Went m) = m ∷ []
 
+module _ {B : Type 0} (rules : Rules B) where
   -- The machines at which the first so many instructions of a frame begin.
   abbrev pub begun : Machine B → ℕ → List (Machine B)
   begun start zero = []

@@ -4,10 +4,10 @@ use Rattle.std.specs.Prelude.{slice_get, IsTrue, ◌||◌}
 use Rattle.std.proofs.lemmas.Bool.{eqb-true, eqb-false}
 use Rattle.std.proofs.lemmas.List.{append-nil, length-append}
 use Rattle.std.proofs.lemmas.Nat.{le-div, div_below}
-use Rattle.std.proofs.Math.Nat.{div-mul-le_self, add-mul, mul_comm}
+use Rattle.std.proofs.Math.Nat.{add-mul, mul_comm}
 use Rattle.riot_map.specs.Cart.{has_banks}
 use Rattle.vcs_machine.specs.declared.fields.StateFields.{StateFields}
-use Rattle.movie_file.specs.Movie.{MovieData, IsMovie, IsState, IsStateWith, AreCheckpoints}
+use Rattle.movie_file.specs.Movie.{MovieData, IsState, IsStateWith, AreCheckpoints}
 use Rattle.movie_file.specs.Private.MakingSteps.{checkpoint_if}
 use Rattle.movie_file.specs.Record.{fits_bank}
 use Rattle.movie_file.specs.Run.{run}

@@ -1,5 +1,5 @@
 -- The run of a cut, and that of its movie.
-use Rattle.std.proofs.Common.{◌≡◌, ℕ, zero, suc, ◌+◌, ◌-◌, ◌*◌, ◌/◌, ◌<◌, ◌≤◌, List, [], ◌∷◌, length, Option, Some, None, refl, sym, ap, subst, ◌∙◌, arith, add-zero}
+use Rattle.std.proofs.Common.{◌≡◌, ℕ, zero, suc, ◌+◌, ◌-◌, ◌/◌, ◌<◌, ◌≤◌, List, [], ◌∷◌, length, Option, Some, refl, sym, ap, subst, ◌∙◌, arith, add-zero}
 use Rattle.std.specs.Prelude.{slice_get, option_and_then}
 use Rattle.std.specs.Option.{option_map}
 use Rattle.vcs_machine.specs.Inputs.{InputData}
@@ -8,10 +8,10 @@ use Rattle.vcs_machine.specs.declared.fields.StateFields.{StateFields}
 use Rattle.movie_file.specs.Judgement.{IsGenuine}
 use Rattle.movie_file.specs.Making.{version_made}
 use Rattle.movie_file.specs.Movie.{MovieData}
-use Rattle.movie_file.specs.Run.{run, frame_after, state_after}
+use Rattle.movie_file.specs.Run.{run, state_after}
 use Rattle.movie_file.specs.declared.checkpoint.Checkpoint.{Checkpoint}
 use Rattle.view_engine.specs.Cuts.{IsCutOf}
-use Rattle.view_engine.specs.Stretches.{inputs_asked, frames_asked}
+use Rattle.view_engine.specs.Stretches.{frames_asked}
 use Rattle.view_engine.proofs.RunSteps.{Ends-below, input_asked}
 
 abbrev found : StateFields → Option StateFields

@@ -1,6 +1,6 @@
 -- The parts of a cut make a movie, and that is the cut.
-use Rattle.std.proofs.Common.{◌≡◌, ℕ, ◌+◌, ◌-◌, ◌≤◌, List, length, take, drop, Some, refl, sym, ap, subst, ◌∙◌, arith}
-use Rattle.std.specs.Prelude.{IsTrue, min, slice_range}
+use Rattle.std.proofs.Common.{◌≡◌, ℕ, ◌+◌, ◌-◌, List, length, take, drop, Some, ap, ◌∙◌, arith}
+use Rattle.std.specs.Prelude.{IsTrue, slice_range}
 use Rattle.std.specs.List.{AllByRecursion}
 use Rattle.std.proofs.lemmas.List.{length-take, take_min}
 use Rattle.riot_map.specs.Cart.{is_cart_length}

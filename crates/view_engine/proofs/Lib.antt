@@ -1,8 +1,11 @@
 pub mod ClaimSteps
 pub mod CutMovies
 pub mod CutParts
+pub mod RunLines
 pub mod RunPictures
 pub mod RunSteps
+pub mod StandingCheckpoints
 pub mod TraceSteps
 pub mod TracedFrames
+pub mod WrittenLines
 pub mod WrittenPictures

@@ -1,9 +1,8 @@
 -- The one unbroken run of a movie, a frame further.
-use Rattle.std.proofs.Common.{◌≡◌, ℕ, zero, suc, ◌+◌, ◌-◌, ◌<◌, ◌≤◌, List, length, take, drop, Option, Some, None, refl, sym, ap, subst, ◌∙◌, arith, add-one, add-zero, ◌⊎◌, inl, inr, IsSome}
-use Rattle.std.specs.Prelude.{slice_get, option_and_then, min}
-use Rattle.std.specs.Option.{option_map}
+use Rattle.std.proofs.Common.{◌≡◌, ℕ, zero, suc, ◌+◌, ◌-◌, ◌<◌, ◌≤◌, length, drop, Option, Some, None, refl, sym, ap, subst, ◌∙◌, arith, add-one, add-zero, ◌⊎◌, inl, inr, IsSome}
+use Rattle.std.specs.Prelude.{slice_get, min}
 use Rattle.std.proofs.lemmas.Bool.{cases_lt}
-use Rattle.std.proofs.lemmas.Option.{slice_get_within, slice_get_past, slice_get-get_or}
+use Rattle.std.proofs.lemmas.Option.{slice_get-get_or}
 use Rattle.std.proofs.lemmas.List.{length-take, length-drop, get_or-take, get_or-drop}
 use Rattle.vcs_machine.specs.Inputs.{InputData}
 use Rattle.vcs_machine.specs.Outcomes.{FrameOutcome, Played, Failed, FailsAs, frame_of}
@@ -14,7 +13,7 @@ use Rattle.vcs_machine.specs.declared.fault.FrameError.TheVariants.{Fault, NoMem
 use Rattle.vcs_machine.specs.declared.fields.StateFields.{StateFields}
 use Rattle.movie_file.specs.Judgement.{FaultsAt}
 use Rattle.movie_file.specs.Movie.{MovieData}
-use Rattle.movie_file.specs.Run.{run, frame_after, state_after}
+use Rattle.movie_file.specs.Run.{run, frame_after}
 use Rattle.movie_file.proofs.RunLemmas.{run-fault}
 use Rattle.replay_segments.proofs.RunStateLemmas.{IsSome-run-below}
 use Rattle.view_engine.specs.Private.Stops.{PicturesFail}

@@ -4,7 +4,7 @@ use Rattle.std.proofs.lemmas.Bool.{cases_lt}
 use Rattle.std.proofs.lemmas.Bool.Decides.{nat_tests}
 use Rattle.std.proofs.lemmas.List.{append-nil}
 use Rattle.std.proofs.lemmas.List.Concat.{flat_map-append, flat_map-cons}
-use Rattle.std.specs.Prelude.{Err, Result, nat_le, ◌||◌}
+use Rattle.std.specs.Prelude.{nat_le, ◌||◌}
 use Rattle.std.specs.Io.KnownBytes.{Appends, Keeps}
 use Rattle.mos_cpu.specs.declared.fault.CpuFault.{CpuFault}
 use Rattle.mos_cpu.specs.declared.fault.CpuFault.TheVariants.{BadOpcode, FetchOutside}
@@ -43,7 +43,7 @@ more_begun start n zero = ([], rw (add-zero, append-nil) refl)
 more_begun start n (suc d) =
     let before = more_begun start n d in
     let next : n + suc d ≡ suc (n + d) = omega arith in
-    let last = machine_in R (turns R (n + d) start) in
+    let last = machine_in (turns R (n + d) start) in
     (before.0 ++ last, rw next (ap (λ (w : List (Machine Undrawn)). w ++ last) before.1 ∙ append_assoc (begun R start n) before.0 last))
 
 pub lines_begin : (banks : Bool) (start : Machine Undrawn) (n count : ℕ) → n ≤ count
@@ -182,7 +182,3 @@ either_true false y e f = e
 pub long_of : (m : Machine Undrawn) → is_over R m ≡ true → m.bus.ended ≡ false → 24320 ≤ m.cycles
 unfolding console_rules
 long_of m e f = let long = either_true (R.ended m.bus) (nat_le 24320 m.cycles) e f in grind (arith, nat_tests)
-
--- Of two errors.
-pub same_error : {T E : Type 0} (x y : E) → ◌≡◌ {A = Result T E} (Err x) (Err y) → x ≡ y
-same_error x y e = cc

@@ -1,5 +1,5 @@
 -- Cutting a movie: a movie of its own of some of its frames. This project's own.
-use Rattle.std.specs.Prelude.{◌≡◌, ◌⊎◌, ℕ, ◌+◌, ◌-◌, ◌*◌, ◌/◌, List, [], length, IsTrue, Result, Ok, Err, Some, slice_get}
+use Rattle.std.specs.Prelude.{◌≡◌, ◌⊎◌, ℕ, ◌+◌, ◌-◌, ◌*◌, ◌/◌, [], length, IsTrue, Result, Ok, Err, Some, slice_get}
 use Rattle.vcs_machine.specs.declared.fault.FaultKind.{FaultKind}
 use Rattle.movie_file.specs.Judgement.{IsGenuine}
 use Rattle.movie_file.specs.Making.{counts_fit, version_made}

@@ -1,10 +1,8 @@
 -- What is written of the pictures of a movie's run, and the status. This project's own.
 use Rattle.std.specs.Prelude.{◌≡◌, ◌⊎◌, ◌≤◌, ℕ, ◌-◌, List, [], Option, Result, Ok, Err}
 use Rattle.std.specs.Io.KnownBytes.{Appends, Keeps}
-use Rattle.vcs_machine.specs.Pictures.{Rows}
 use Rattle.vcs_machine.specs.declared.fault.FaultKind.{FaultKind}
 use Rattle.movie_file.specs.Movie.{MovieData}
-use Rattle.movie_file.specs.Reading.{movie_at}
 use Rattle.movie_file.specs.declared.error.MovieError.{MovieError}
 use Rattle.picture_file.specs.PictureBytes.{pictures_bytes}
 use Rattle.vcs_engine.specs.Answers.{Answer}

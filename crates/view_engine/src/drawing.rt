@@ -46,7 +46,7 @@ impl Stop {
     ghost use Rattle.view_engine.specs.Private.Stops.{stop_of};
 
     /// Why there is no picture of this frame, counted from 1.
-    fn of_frame(frame: u32, error: FrameError) -> Stop
+    pub(crate) fn of_frame(frame: u32, error: FrameError) -> Stop
         ensures { result ≡ stop_of frame error }
     {
         match error {

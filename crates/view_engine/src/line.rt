@@ -1,10 +1,15 @@
 //! The lines that are written of a look into a run.
-ghost use Rattle.std.specs.Prelude.{◌≡◌, IfOk, string_bytes};
+ghost use Rattle.std.specs.Prelude.{◌≡◌, Err, IfOk, OnOk, string_bytes};
+ghost use Rattle.std.specs.Io.KnownBytes.{Appends, Keeps};
+ghost use Rattle.picture_file.specs.Prefixes.{AppendsPrefix};
 ghost use Rattle.view_engine.specs.Lines.{line_bytes};
 
+use crate::drawing::DrawError;
 use movie_file::MovieError;
+use picture_file::write_bytes;
 use std::alloc::{AllocError, Global};
 use std::fmt;
+use std::io::Write;
 use vcs_machine::FaultKind;
 
 /// A line of output, without its end.
@@ -52,5 +57,20 @@ impl fmt::Display for Line {
             Line::NoFrame(frame) => write!(f, "refused: NoFrame {frame}"),
             Line::Refused(error) => write!(f, "refused: {error}"),
         }
+    }
+}
+
+/// Writes a line as the last one.
+pub(crate) fn write_last<L: Write>(alloc: Global, line: Line, lines: &mut L) -> Result<(), DrawError>
+    ensures ok { OnOk result (Appends (L.contents lines.old) (L.contents lines.new) (line_bytes line)) }
+    ensures memory { result ≡ Err DrawError.NoMemory → Keeps (L.contents lines.old) (L.contents lines.new) }
+    ensures fault { result ≡ Err DrawError.WriteFault → AppendsPrefix (L.contents lines.old) (L.contents lines.new) (line_bytes line) }
+{
+    let Ok(text) = line.text(alloc) else {
+        return Err(DrawError::NoMemory);
+    };
+    match write_bytes(text.as_bytes(), lines) {
+        Ok(()) => Ok(()),
+        Err(_) => Err(DrawError::WriteFault),
     }
 }

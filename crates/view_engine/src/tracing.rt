@@ -14,7 +14,7 @@ ghost use Rattle.view_engine.specs.Private.Tracing.{stop_at};
 ghost use Rattle.view_engine.specs.Traces.{AppendsInstructions, Traces, TracesOf, lines_of};
 
 use crate::drawing::DrawError;
-use crate::line::Line;
+use crate::line::{Line, write_last};
 use crate::stretch::state_after;
 use movie_file::{Movie, MovieError, read_movie};
 use picture_file::write_bytes;
@@ -24,21 +24,6 @@ use std::num::NonZeroU32;
 use trace_text::trace_line;
 use vcs_engine::{RunError, Status, read_all};
 use vcs_machine::{Executed, FaultKind, State, Stepping};
-
-/// Writes a line as the last one.
-fn write_last<L: Write>(alloc: Global, line: Line, lines: &mut L) -> Result<(), DrawError>
-    ensures ok { OnOk result (Appends (L.contents lines.old) (L.contents lines.new) (line_bytes line)) }
-    ensures memory { result ≡ Err DrawError.NoMemory → Keeps (L.contents lines.old) (L.contents lines.new) }
-    ensures fault { result ≡ Err DrawError.WriteFault → AppendsPrefix (L.contents lines.old) (L.contents lines.new) (line_bytes line) }
-{
-    let Ok(text) = line.text(alloc) else {
-        return Err(DrawError::NoMemory);
-    };
-    match write_bytes(text.as_bytes(), lines) {
-        Ok(()) => Ok(()),
-        Err(_) => Err(DrawError::WriteFault),
-    }
-}
 
 /// Writes the line of an instruction.
 fn write_instruction<L: Write>(

@@ -4,7 +4,7 @@ use Rattle.std.specs.NonZero.{non_zero_u32_get}
 use Rattle.movie_file.specs.Reading.{movie_at}
 use Rattle.vcs_engine.specs.declared.run_error.RunError.TheVariants.{WriteFault}
 use Rattle.view_engine.specs.Traces.{Traces}
-use Rattle.view_engine.proofs.TraceSteps.{same_error}
+use Rattle.view_engine.proofs.WrittenLines.{same_error}
 use Rattle.view_engine.proofs.TracedFrames.{only_write_fault}
 use Rattle.view_engine.proofs.tracing.run_trace.Goals as goal
 

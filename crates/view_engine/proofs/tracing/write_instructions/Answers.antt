@@ -8,7 +8,8 @@ use Rattle.vcs_machine.specs.Frame.{Faulted, is_over}
 use Rattle.vcs_machine.specs.Instructions.{ExecutedData, undrawn_rules}
 use Rattle.view_engine.specs.declared.drawing.DrawError.TheVariants.{NoMemory, WriteFault}
 use Rattle.view_engine.proofs.TraceSteps.{ended_here, faulted_here, halts_as, long_of, one_written, overlong_here}
-use Rattle.view_engine.proofs.TraceSteps.{part_written, same_error, short_of, some_written}
+use Rattle.view_engine.proofs.TraceSteps.{part_written, short_of, some_written}
+use Rattle.view_engine.proofs.WrittenLines.{same_error}
 use Rattle.view_engine.proofs.tracing.write_instructions.Goals as goal
 
 pub loop-alloc-smaller : goal.loop-alloc-smaller
