@@ -1,3 +1,4 @@
 pub mod Commands
 pub mod Endings
 pub mod Faults
+pub mod Progress

@@ -13,6 +13,7 @@ mod files;
 mod named;
 mod output;
 mod progress;
+mod stage;
 
 ghost use Rattle.std.specs.Prelude.{◌≡◌, Err, IsSome};
 ghost use Rattle.vcs_check.specs.Commands.{IsAnswered, IsQuiet, StartsThreads, Writes};
