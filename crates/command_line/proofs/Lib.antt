@@ -1,3 +1,4 @@
+pub mod Addresses
 pub mod Getters
 pub mod Known
 pub mod Stops

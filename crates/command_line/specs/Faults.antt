@@ -4,8 +4,8 @@ use Rattle.clap.specs.Words.{IsAmong, Row, Text, fault_of, subcommand_of}
 use Rattle.clap.specs.declared.error.kind.ErrorKind.{ErrorKind}
 use Rattle.clap.specs.declared.error.kind.ErrorKind.TheVariants.{DisplayHelp, DisplayVersion}
 use Rattle.clap.specs.declared.error.kind.ErrorKind.TheVariants.{OutOfMemory}
-use Rattle.command_line.specs.Meanings.{HasNumbers}
-use Rattle.command_line.specs.Table.{Listed, cut_listed, drawing_listed, make_listed}
+use Rattle.command_line.specs.Meanings.{HasAddresses, HasNumbers}
+use Rattle.command_line.specs.Table.{Listed, cut_listed, drawing_listed, frames_listed, make_listed}
 use Rattle.command_line.specs.Table.{program_app, report_listed, verify_listed}
 use Rattle.command_line.specs.declared.command.LineFault.{LineFault}
 use Rattle.command_line.specs.declared.command.LineFault.TheVariants.{Usage, Help, Memory}
@@ -29,6 +29,13 @@ IsOutOfRange listed rows (Usage text) = HasNumbers listed rows → ⊥
 IsOutOfRange listed rows (Help text) = ⊥
 IsOutOfRange listed rows Memory = Unit {0}
 
+-- The answer to the values of `frames` of which a number is outside of its range, or a word writes no
+-- address, or there are too many addresses.
+abbrev pub IsNoFrames : List Row → LineFault → Type 0
+IsNoFrames rows (Usage text) = HasNumbers frames_listed rows → HasAddresses rows → ⊥
+IsNoFrames rows (Help text) = ⊥
+IsNoFrames rows Memory = Unit {0}
+
 -- `clap` finds a mistake or a request of this kind in the words, and this is the answer to it.
 abbrev pub IsFound : List Text → LineFault → Type 0
 IsFound words fault =
@@ -43,7 +50,8 @@ abbrev pub HasBadValue : Text → List Row → LineFault → Type 0
 HasBadValue name rows Memory = Unit {0}
 HasBadValue name rows fault = IsBadValue verify_listed name rows fault
     ⊎ (IsBadValue report_listed name rows fault ⊎ (IsBadValue make_listed name rows fault
-    ⊎ (IsBadValue drawing_listed name rows fault ⊎ IsBadValue cut_listed name rows fault)))
+    ⊎ (IsBadValue drawing_listed name rows fault ⊎ (IsBadValue cut_listed name rows fault
+    ⊎ ((name ≡ frames_listed.name) × IsNoFrames rows fault)))))
 
 -- The answer to words that are no command. Memory may run out at any words.
 abbrev pub IsRefusal : List Text → LineFault → Type 0

@@ -1,19 +1,24 @@
 -- Which command the words of a command line are. This project's own.
 use Rattle.std.specs.Prelude.{◌≡◌, ◌≢◌, ◌↔◌, ◌≤◌, ℕ, Bool, true, List, [], ◌∷◌, Option, Some, None, codes}
-use Rattle.std.specs.Prelude.{is_some, option_map, string_bytes, unwrap_or}
+use Rattle.std.specs.Prelude.{Ok, is_some, length, map, option_map, string_bytes, unwrap_or}
 use Rattle.std.specs.NonZero.{non_zero_u16_get, non_zero_u32_get}
 use Rattle.std.specs.Str.Parse.{IsNumeral, digits_value, without_leading_plus}
-use Rattle.clap.specs.Words.{Row, Text, first_of, one_of}
+use Rattle.clap.specs.Words.{Row, Text, all_of, first_of, one_of}
+use Rattle.hex.specs.Hex.{decode_sized}
+use Rattle.replay_plan.specs.Limits.{most_watches}
 use Rattle.replay_plan.specs.declared.plan.Plan.{Plan}
+use Rattle.replay_plan.specs.declared.watches.Address.{Address}
+use Rattle.replay_plan.specs.declared.watches.Details.{Details}
 use Rattle.command_line.specs.Table.{Argument, Kind, Listed, asked_row, commands, checkpoints_row}
 use Rattle.command_line.specs.Table.{count_row}
-use Rattle.command_line.specs.Table.{cuts_row, file_row, first_row, inputs_row, new_row, old_row}
+use Rattle.command_line.specs.Table.{cuts_row, digests_row, file_row, first_row, inputs_row, new_row}
+use Rattle.command_line.specs.Table.{old_row, watch_row}
 use Rattle.command_line.specs.Table.{needed_number, number, out_row, pictures_row, rom_row}
 use Rattle.command_line.specs.Table.{text_row, workers_row}
 use Rattle.command_line.specs.declared.command.Command.{Command}
 use Rattle.command_line.specs.declared.command.Command.TheVariants.{Stdin, Verify, Report, Make}
 use Rattle.command_line.specs.declared.command.Command.TheVariants.{Info, Inputs, Convert}
-use Rattle.command_line.specs.declared.command.Command.TheVariants.{Pictures, Cut}
+use Rattle.command_line.specs.declared.command.Command.TheVariants.{Frames, Pictures, Cut}
 
 -- The number that a text writes in decimal digits, of which the first may follow a plus.
 abbrev pub number_in : Text → ℕ
@@ -33,6 +38,20 @@ pub record IsPlan (rows : List Row) (pictures : Bool) (plan : Plan) : Type 0 whe
   pub every : number_of cuts_row rows ≡ Some (non_zero_u16_get plan.every)
   pub first : number_of first_row rows ≡ Some plan.keep.first
   pub count : pictures ≡ true → number_of count_row rows ≡ Some plan.keep.count
+
+-- The words of an argument that may be there more than once, in order.
+abbrev pub words_of : Argument → List Row → List Text
+words_of argument rows = unwrap_or (all_of argument.name rows) []
+
+-- Words that write these addresses, each in two hexadecimal digits. That each is one of the memory
+-- is in its type.
+abbrev pub AreAddresses : List Text → List Address → Type 0
+AreAddresses words addresses = map (λ word. decode_sized word 1) words ≡ map (λ (a : Address). Ok (a.number ∷ [])) addresses
+
+-- What `frames` tells of each frame.
+pub record AreDetails (rows : List Row) (details : Details) : Type 0 where
+  pub watches : AreAddresses (words_of watch_row rows) details.watches
+  pub digests : (details.digests ≡ true) ↔ (one_of digests_row.name rows ≡ Some (codes "true"))
 
 -- The table has no command of this name.
 abbrev pub IsUnlisted : Text → List Listed → Type 0
@@ -62,6 +81,10 @@ IsCommandAt name rows (Inputs file) =
 IsCommandAt name rows (Convert older newer) =
     (name ≡ codes "convert") × (string_bytes older ≡ word_of old_row rows)
     × (string_bytes newer ≡ word_of new_row rows)
+IsCommandAt name rows (Frames file first count details) =
+    (name ≡ codes "frames") × (string_bytes file ≡ word_of file_row rows)
+    × (number_of first_row rows ≡ Some (non_zero_u32_get first))
+    × (number_of asked_row rows ≡ Some count) × AreDetails rows details
 IsCommandAt name rows (Pictures file first count out) =
     (name ≡ codes "pictures") × (string_bytes file ≡ word_of file_row rows)
     × (number_of first_row rows ≡ Some (non_zero_u32_get first))
@@ -102,3 +125,8 @@ SuitsEach (argument ∷ more) rows =
 -- Each number of a command is in its range.
 abbrev pub HasNumbers : Listed → List Row → Type 0
 HasNumbers listed rows = SuitsEach listed.arguments rows
+
+-- Each word after `--watch` writes an address of the memory, and there are at most 16 of them.
+abbrev pub HasAddresses : List Row → Type 0
+HasAddresses rows =
+    (addresses : List Address) × AreAddresses (words_of watch_row rows) addresses × (length addresses ≤ most_watches)

@@ -6,12 +6,13 @@ use Rattle.clap.specs.Simple.{new_shape}
 use Rattle.clap.specs.declared.builder.Arg.{Arg}
 use Rattle.clap.specs.declared.builder.Command.{Command}
 use Rattle.clap.specs.declared.builder.Command.TheViews.{out-Command}
-use Rattle.clap.specs.declared.builder.action.ArgAction.TheVariants.{Set, SetTrue}
+use Rattle.clap.specs.declared.builder.action.ArgAction.TheVariants.{Append, Set, SetTrue}
 use Rattle.clap.specs.declared.builder.value_parser.ValueParser.TheVariants.{Signed}
 
 -- What an argument is: a word that stands by its place and has to be there; an option with a word;
 -- the same if it has to be there; an option with a number, from the least to the most, and the text
--- that stands for it if it isn't there; the same if it has to be there; an option without a word.
+-- that stands for it if it isn't there; the same if it has to be there; an option without a word; an
+-- option with a word that may be there more than once.
 pub data Kind : Type 0 where
   operand : Kind
   word : Kind
@@ -19,6 +20,7 @@ pub data Kind : Type 0 where
   number : ℕ → ℕ → Text → Kind
   needed_number : ℕ → ℕ → Kind
   switch : Kind
+  repeated_word : Kind
 
 -- An argument of a command.
 pub record Argument : Type 0 where
@@ -73,6 +75,12 @@ old_row = record { name = codes "old"; kind = operand }
 abbrev pub new_row : Argument
 new_row = record { name = codes "new"; kind = operand }
 
+abbrev pub watch_row : Argument
+watch_row = record { name = codes "watch"; kind = repeated_word }
+
+abbrev pub digests_row : Argument
+digests_row = record { name = codes "digests"; kind = switch }
+
 -- The commands, with their rows in the order of help.
 abbrev pub verify_listed : Listed
 verify_listed = record {
@@ -98,6 +106,12 @@ listing_listed = record { name = codes "inputs"; arguments = file_row ∷ [] }
 abbrev pub convert_listed : Listed
 convert_listed = record { name = codes "convert"; arguments = old_row ∷ new_row ∷ [] }
 
+abbrev pub frames_listed : Listed
+frames_listed = record {
+  name = codes "frames";
+  arguments = file_row ∷ first_row ∷ asked_row ∷ watch_row ∷ digests_row ∷ [];
+}
+
 abbrev pub drawing_listed : Listed
 drawing_listed = record {
   name = codes "pictures";
@@ -114,7 +128,7 @@ cut_listed = record {
 abbrev pub commands : List Listed
 commands =
     verify_listed ∷ report_listed ∷ make_listed ∷ info_listed ∷ listing_listed ∷ convert_listed
-    ∷ drawing_listed ∷ cut_listed ∷ []
+    ∷ frames_listed ∷ drawing_listed ∷ cut_listed ∷ []
 
 -- ---- the same as `clap` reads it
 
@@ -136,6 +150,7 @@ rule_as (number least most default) name =
     record (with_number least most name) { defaults = default ∷ [] }
 rule_as (needed_number least most) name = record (with_number least most name) { required = true }
 rule_as switch name = record (new_rule name) { long = Some name; action = Some SetTrue }
+rule_as repeated_word name = record (with_word name) { action = Some Append }
 
 -- An argument of the table.
 abbrev pub rule_for : Argument → Rule

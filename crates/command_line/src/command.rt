@@ -2,7 +2,7 @@
 ghost use Rattle.std.specs.Prelude.{◌≡◌};
 ghost use Rattle.command_line.specs.declared.command.LineFault.TheVariants.{Memory};
 
-use replay_plan::{Plan, Workers};
+use replay_plan::{Details, Plan, Workers};
 use std::alloc::AllocError;
 use std::num::NonZeroU32;
 
@@ -47,6 +47,16 @@ pub enum Command {
     Convert {
         old: String,
         new: String,
+    },
+    /// Say of some frames of a movie how long they were, and where its checkpoints are false.
+    Frames {
+        file: String,
+        /// The first of the frames, counted from 1.
+        first: NonZeroU32,
+        /// How many they are; the movie may have fewer.
+        count: u32,
+        /// What else is told of each.
+        details: Details,
     },
     /// Write the pictures of some frames of a movie.
     Pictures {

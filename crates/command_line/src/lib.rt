@@ -2,6 +2,7 @@
 #![tactic(auto)]
 
 mod command;
+mod frames;
 mod line;
 mod parser;
 

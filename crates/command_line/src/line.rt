@@ -13,9 +13,10 @@ ghost use Rattle.command_line.specs.declared.command.Command.TheVariants.{Stdin}
 ghost use Rattle.command_line.specs.Table.{program_app, verify_listed, report_listed, make_listed};
 ghost use Rattle.command_line.specs.Table.{workers_row, cuts_row, first_row, count_row};
 ghost use Rattle.command_line.specs.Table.{asked_row, checkpoints_row, cut_listed, drawing_listed};
-ghost use Rattle.command_line.specs.Table.{pictures_row, text_row};
+ghost use Rattle.command_line.specs.Table.{pictures_row};
 
 use crate::command::{Command, LineFault};
+use crate::frames::frames_of;
 use crate::parser::program;
 use clap::ArgMatches;
 use clap::error::ErrorKind;
@@ -25,7 +26,11 @@ use std::convert::AsStr;
 use std::num::{NonZeroU16, NonZeroU32};
 
 /// The word of an argument, or the empty text.
-fn text_of(alloc: Global, matches: &ArgMatches<'_>, name: &str) -> Result<String, AllocError>
+pub(crate) fn text_of(
+    alloc: Global,
+    matches: &ArgMatches<'_>,
+    name: &str,
+) -> Result<String, AllocError>
     ensures { IfOk result (λ text. string_bytes text
         ≡ unwrap_or (first_of name.now (rows_of (found_of matches.now))) (codes "")) }
 {
@@ -137,12 +142,12 @@ fn checkpoints_of(matches: &ArgMatches<'_>) -> Option<NonZeroU32>
     NonZeroU32::new(matches.get_one::<u32>("every")?)
 }
 
-/// Whether the inputs of `make` are text.
-fn is_text(matches: &ArgMatches<'_>) -> bool
+/// Whether an option without a word is there.
+pub(crate) fn is_given(matches: &ArgMatches<'_>, name: &str) -> bool
     ensures { (result ≡ true)
-        ↔ (one_of text_row.name (rows_of (found_of matches.now)) ≡ Some (codes "true")) }
+        ↔ (one_of name.now (rows_of (found_of matches.now)) ≡ Some (codes "true")) }
 {
-    matches.get_one::<bool>("text").unwrap_or(false)
+    matches.get_one::<bool>(name).unwrap_or(false)
 }
 
 /// The command `make`.
@@ -154,7 +159,7 @@ fn make_of(alloc: Global, matches: &ArgMatches<'_>) -> Result<Command, LineFault
     let rom = text_of(alloc, matches, "rom")?;
     let inputs = text_of(alloc, matches, "inputs")?;
     let out = text_of(alloc, matches, "out")?;
-    let text = is_text(matches);
+    let text = is_given(matches, "text");
     let Some(every) = checkpoints_of(matches) else {
         return Err(out_of_range(alloc));
     };
@@ -167,8 +172,8 @@ fn make_of(alloc: Global, matches: &ArgMatches<'_>) -> Result<Command, LineFault
     })
 }
 
-/// The first frame that `pictures` and `cut` ask for.
-fn first_of_frames(matches: &ArgMatches<'_>) -> Option<NonZeroU32>
+/// The first frame that `frames`, `pictures` and `cut` ask for.
+pub(crate) fn first_of_frames(matches: &ArgMatches<'_>) -> Option<NonZeroU32>
     ensures some { IfSome result (λ first. number_of first_row
         (rows_of (found_of matches.now)) ≡ Some (non_zero_u32_get first)) }
     ensures none { IfNone result (Suits first_row.kind
@@ -177,8 +182,8 @@ fn first_of_frames(matches: &ArgMatches<'_>) -> Option<NonZeroU32>
     NonZeroU32::new(matches.get_one::<u32>("first")?)
 }
 
-/// How many frames `pictures` and `cut` ask for.
-fn count_of_frames(matches: &ArgMatches<'_>) -> Option<u32>
+/// How many frames `frames`, `pictures` and `cut` ask for.
+pub(crate) fn count_of_frames(matches: &ArgMatches<'_>) -> Option<u32>
     ensures some { IfSome result (λ count. number_of asked_row
         (rows_of (found_of matches.now)) ≡ Some count) }
     ensures none { IfNone result (Suits asked_row.kind
@@ -250,7 +255,7 @@ fn fault_of(alloc: Global, error: &clap::Error) -> LineFault
 }
 
 /// A number that `clap` let through outside of its range, which its parser doesn't.
-fn out_of_range(alloc: Global) -> LineFault
+pub(crate) fn out_of_range(alloc: Global) -> LineFault
     ensures { IsMistake result }
 {
     match String::from_str(alloc, "error: a number is out of its range\n") {
@@ -279,6 +284,7 @@ fn command_of(alloc: Global, name: &str, matches: &ArgMatches<'_>) -> Result<Com
             old: text_of(alloc, matches, "old")?,
             new: text_of(alloc, matches, "new")?,
         }),
+        "frames" => frames_of(alloc, matches),
         "pictures" => drawing_of(alloc, matches),
         "cut" => cut_of(alloc, matches),
         _ => Ok(Command::Stdin),

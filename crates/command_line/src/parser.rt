@@ -8,7 +8,7 @@ ghost use Rattle.command_line.specs.Table.{inputs_row, text_row, checkpoints_row
 ghost use Rattle.command_line.specs.Table.{old_row, new_row, verify_listed, report_listed};
 ghost use Rattle.command_line.specs.Table.{make_listed, info_listed, listing_listed};
 ghost use Rattle.command_line.specs.Table.{asked_row, convert_listed, cut_listed, drawing_listed};
-ghost use Rattle.command_line.specs.Table.{program_app};
+ghost use Rattle.command_line.specs.Table.{digests_row, frames_listed, program_app, watch_row};
 
 use clap::{Arg, ArgAction, Command, value_parser};
 use replay_plan::{MOST_KEPT, MOST_WORKERS};
@@ -244,7 +244,7 @@ fn convert<'a>(alloc: Global) -> Result<Command<'a>, AllocError>
         .arg(new(alloc))
 }
 
-/// `--first F` of `pictures` and `cut`.
+/// `--first F` of `frames`, `pictures` and `cut`.
 fn from<'a>(alloc: Global) -> Arg<'a>
     ensures { IsRow first_row result }
 {
@@ -256,7 +256,7 @@ fn from<'a>(alloc: Global) -> Arg<'a>
         .default_value("1")
 }
 
-/// `--count N` of `pictures` and `cut`.
+/// `--count N` of `frames`, `pictures` and `cut`.
 fn asked<'a>(alloc: Global) -> Arg<'a>
     ensures { IsRow asked_row result }
 {
@@ -266,6 +266,40 @@ fn asked<'a>(alloc: Global) -> Arg<'a>
         .help("How many frames, as many as the movie has, 0 to 4294967295")
         .value_parser(value_parser!(u32).range(0..=4294967295))
         .default_value("4294967295")
+}
+
+/// `--watch AA` of `frames`.
+fn watch<'a>(alloc: Global) -> Arg<'a>
+    ensures { IsRow watch_row result }
+{
+    Arg::new(alloc, "watch")
+        .long("watch")
+        .value_name("AA")
+        .help("Show the byte at address AA of the memory, 80 to FF; at most 16 times")
+        .action(ArgAction::Append)
+}
+
+/// `--digests` of `frames`.
+fn digests<'a>(alloc: Global) -> Arg<'a>
+    ensures { IsRow digests_row result }
+{
+    Arg::new(alloc, "digests")
+        .long("digests")
+        .help("Show the SHA-256 of the state's record and of the picture's file")
+        .action(ArgAction::SetTrue)
+}
+
+/// `frames FILE`, with its options.
+fn frames_of<'a>(alloc: Global) -> Result<Command<'a>, AllocError>
+    ensures { IfOk result (IsListed frames_listed) }
+{
+    Command::new(alloc, "frames")
+        .about("Say how long frames were, and where checkpoints are false, line by line")
+        .arg(movie(alloc))?
+        .arg(from(alloc))?
+        .arg(asked(alloc))?
+        .arg(watch(alloc))?
+        .arg(digests(alloc))
 }
 
 /// `--out PPM` of `pictures`.
@@ -345,6 +379,7 @@ pub(crate) fn program<'a>(alloc: Global) -> Result<Command<'a>, AllocError>
         .subcommand(info(alloc)?)?
         .subcommand(inputs(alloc)?)?
         .subcommand(convert(alloc)?)?
+        .subcommand(frames_of(alloc)?)?
         .subcommand(pictures_of(alloc)?)?
         .subcommand(cut(alloc)?)
 }

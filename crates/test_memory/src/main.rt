@@ -13,6 +13,7 @@
 //! contracts and are not.
 #![tactic(auto)]
 
+mod describing;
 mod engine;
 mod failure;
 mod gate;
@@ -68,6 +69,8 @@ fn outcome_of<R: Threads + Wait + Sync>(
         "run_report_by_two" => engine::is_reported(rt, alloc, 2),
         "run_info" => engine::is_told(alloc),
         "run_convert" => engine::is_converted(alloc),
+        "run_frames" => describing::is_described(alloc, false),
+        "run_frames_with_digests" => describing::is_described(alloc, true),
         "run_pictures" => engine::is_drawn(alloc),
         "run_cut" => engine::is_cut_out(alloc),
         _ => return None,

@@ -3,6 +3,8 @@
 #![tactic(auto)]
 
 #[cfg(test)]
+mod describing;
+#[cfg(test)]
 mod desk;
 #[cfg(test)]
 mod devices;

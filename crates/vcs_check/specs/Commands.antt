@@ -7,7 +7,7 @@ use Rattle.std.specs.Io.KnownBytes.{Appends, Keeps}
 use Rattle.command_line.specs.declared.command.Command.{Command}
 use Rattle.command_line.specs.declared.command.Command.TheVariants.{Stdin, Verify, Report, Make}
 use Rattle.command_line.specs.declared.command.Command.TheVariants.{Info, Inputs, Convert}
-use Rattle.command_line.specs.declared.command.Command.TheVariants.{Pictures, Cut}
+use Rattle.command_line.specs.declared.command.Command.TheVariants.{Frames, Pictures, Cut}
 use Rattle.movie_file.specs.Reading.{movie_at}
 use Rattle.replay_plan.specs.declared.keep.Keep.{Keep}
 use Rattle.vcs_check.specs.declared.commands.Failure.{Failure}
@@ -22,10 +22,11 @@ use Rattle.vcs_engine.specs.Reports.{Reports}
 use Rattle.vcs_engine.specs.Streams.{ReadsAll}
 use Rattle.vcs_engine.specs.declared.making.InputForm.{InputForm}
 use Rattle.vcs_engine.specs.declared.making.InputForm.TheVariants.{Bytes, Text}
-use Rattle.vcs_engine.specs.declared.run_error.RunError.TheVariants.{WriteFault}
+use Rattle.vcs_engine.specs.declared.run_error.RunError.TheVariants.{NoMemory, WriteFault}
 use Rattle.vcs_engine.specs.declared.status.Status.{Status}
 use Rattle.view_engine.specs.Cuts.{Cuts}
 use Rattle.view_engine.specs.Drawings.{Draws}
+use Rattle.view_engine.specs.FrameLines.{Describes}
 
 -- With a status, a line was written of which this holds, and nothing else.
 abbrev pub Writes : Option (List ℕ) → Option (List ℕ) → (Status → List ℕ → Type 0) → Result Status Failure → Type 0
@@ -34,6 +35,11 @@ Writes old new Says result = IfOk result (λ status. (line : List ℕ) × Says s
 -- After an error other than a failed write, nothing was written.
 abbrev pub IsQuiet : Option (List ℕ) → Option (List ℕ) → Result Status Failure → Type 0
 IsQuiet old new result = OnErr result (result ≢ Err (Run WriteFault) → Keeps old new)
+
+-- The same of a command that writes as the run goes on: if memory runs out, what was written stays.
+abbrev pub IsQuietUntilFull : Option (List ℕ) → Option (List ℕ) → Result Status Failure → Type 0
+IsQuietUntilFull old new result =
+    OnErr result (result ≢ Err (Run WriteFault) → result ≢ Err (Run NoMemory) → Keeps old new)
 
 -- The line of these bytes' verdict, with these pictures kept.
 abbrev pub IsVerified : Keep → List ℕ → Status → List ℕ → Type 0
@@ -81,6 +87,8 @@ IsAnswered (Make rom inputs text every out) old new status line = Keeps old new 
 IsAnswered (Info file) old new status line = (input : List ℕ) × ReadsFile (string_bytes file) old new input × IsInformation input status line
 IsAnswered (Inputs file) old new status line = (input : List ℕ) × ReadsFile (string_bytes file) old new input × Lists (movie_at input) status line
 IsAnswered (Convert older newer) old new status line = Keeps old new × IsConverted status line
+IsAnswered (Frames file first count details) old new status line =
+    (input : List ℕ) × ReadsFile (string_bytes file) old new input × Describes (movie_at input) details (non_zero_u32_get first) count status line
 IsAnswered (Pictures file first count out) old new status line =
     (input : List ℕ) × ReadsFile (string_bytes file) old new input × IsDrawn (non_zero_u32_get first) count input status line
 IsAnswered (Cut file first count every out) old new status line =
@@ -95,5 +103,11 @@ StartsThreads (Make rom inputs text every out) = ⊥
 StartsThreads (Info file) = ⊥
 StartsThreads (Inputs file) = ⊥
 StartsThreads (Convert older newer) = ⊥
+StartsThreads (Frames file first count details) = ⊥
 StartsThreads (Pictures file first count out) = ⊥
 StartsThreads (Cut file first count every out) = ⊥
+
+-- What a command wrote before an error.
+abbrev pub KeepsQuiet : Command → Option (List ℕ) → Option (List ℕ) → Result Status Failure → Type 0
+KeepsQuiet (Frames file first count details) old new result = IsQuietUntilFull old new result
+KeepsQuiet other old new result = IsQuiet old new result

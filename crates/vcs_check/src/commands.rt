@@ -26,7 +26,7 @@ use vcs_engine::{
 use view_engine::{run_cut, run_pictures};
 
 /// The name of a file that is standard input.
-const STANDARD_INPUT: &str = "-";
+pub(crate) const STANDARD_INPUT: &str = "-";
 
 /// Why a command did not reach its end, as the program prints it after `error: `.
 #[derive(Clone, Copy, Debug, PartialEq, Eq, Error)]

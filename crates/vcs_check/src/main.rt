@@ -10,13 +10,14 @@ mod commands;
 mod ending;
 mod faults;
 mod files;
+mod frames;
 mod named;
 mod output;
 mod progress;
 mod stage;
 
 ghost use Rattle.std.specs.Prelude.{◌≡◌, Err, IsSome};
-ghost use Rattle.vcs_check.specs.Commands.{IsAnswered, IsQuiet, StartsThreads, Writes};
+ghost use Rattle.vcs_check.specs.Commands.{IsAnswered, KeepsQuiet, StartsThreads, Writes};
 ghost use Rattle.vcs_engine.specs.declared.run_error.RunError.TheVariants.{NoThread};
 
 use command_line::{Command, LineFault, parse_line};
@@ -27,6 +28,7 @@ use commands::{
 use ending::Ending;
 use faults::FileFault;
 use files::{STANDARD_INPUT, STANDARD_OUTPUT, null_if_closed};
+use frames::frames;
 use named::Named;
 use progress::Progress;
 use replay_plan::Plan;
@@ -62,7 +64,7 @@ fn answer_command<
     gate: &G,
 ) -> Result<Status, Failure>
     ensures ok { Writes (W.contents line.old) (W.contents line.new) (IsAnswered command.now (I.remaining input.old) (I.remaining input.new)) result }
-    ensures quiet { IsQuiet (W.contents line.old) (W.contents line.new) result }
+    ensures quiet { KeepsQuiet command.now (W.contents line.old) (W.contents line.new) result }
     ensures no_thread { result ≡ Err (Failure.Run NoThread) → StartsThreads command.now }
     ensures named { result ≡ Err Failure.Open → IsSome fault.new }
 {
@@ -92,6 +94,12 @@ fn answer_command<
         Command::Info { file } => info(rt, input, file, line, fault),
         Command::Inputs { file } => inputs(rt, input, file, line, fault),
         Command::Convert { old, new } => convert(rt, old, new, line, fault),
+        Command::Frames {
+            file,
+            first,
+            count,
+            details,
+        } => frames(rt, input, file, *first, *count, details, line, fault),
         Command::Pictures {
             file,
             first,

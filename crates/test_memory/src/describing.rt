@@ -1,0 +1,56 @@
+//! What the program tells of frames, over bytes in place of files.
+
+use crate::failure::{Failure, right};
+use crate::movies::two_frames;
+use replay_plan::{Address, Details, Watches};
+use std::alloc::Global;
+use std::num::NonZeroU32;
+use vcs_engine::{RunError, Status};
+use view_engine::run_frames;
+
+/// The room for two lines with digests.
+const ROOM: usize = 512;
+
+/// The lines of the two frames, with the byte at 80.
+const LINES: &str = "frame 1: 13 cycles, 1 rows, checkpoint 1 true, memory 80 02
+frame 2: 16 cycles, 1 rows, memory 80 02
+";
+
+/// The same with digests: of the records of 188 bytes, and of a picture's file with a row of zeros.
+const LINES_WITH_DIGESTS: &str =
+    "frame 1: 13 cycles, 1 rows, checkpoint 1 true, memory 80 02, state 02a4b0a7ede45c26b131b7877dd25eaaf9bc28859b4c95bd0c3a3d226318cf60, picture 4409125736b791ebfbe7f4b5965102771b94973613b155995c4cb26f34875114
+frame 2: 16 cycles, 1 rows, memory 80 02, state f2a70320d91e4670e162fcbe768faf0da7e880d9031e2c58461dc2d3a3ff6b53, picture 4409125736b791ebfbe7f4b5965102771b94973613b155995c4cb26f34875114
+";
+
+/// What is told of two frames. Where it is out of memory some of the lines may be there, each whole.
+pub(crate) fn is_described(alloc: Global, digests: bool) -> Result<(), Failure> {
+    let wanted = if digests { LINES_WITH_DIGESTS } else { LINES };
+    let mut watches = Watches::none();
+    let address = Address::new(0x80).ok_or(Failure::Wrong)?;
+    if watches.add(address).is_err() {
+        return Err(Failure::Wrong);
+    }
+    let mut lines = [0u8; ROOM];
+    let mut left = lines.as_mut_slice();
+    let answer = run_frames(
+        alloc,
+        &mut two_frames().as_slice(),
+        &Details { watches, digests },
+        NonZeroU32::MIN,
+        3,
+        &mut left,
+    );
+    let written = &lines[..ROOM - left.len()];
+    match answer {
+        Ok(status) => right(status == Status::Done && written == wanted.as_bytes()),
+        Err(RunError::NoMemory) if is_whole_lines(wanted.as_bytes(), written) => {
+            Err(Failure::Run(RunError::NoMemory))
+        }
+        Err(_) => Err(Failure::Wrong),
+    }
+}
+
+/// Whether some bytes are the first so many lines of a text.
+fn is_whole_lines(text: &[u8], lines: &[u8]) -> bool {
+    text.starts_with(lines) && (lines.is_empty() || lines.ends_with(b"\n"))
+}
