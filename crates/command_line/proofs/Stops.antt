@@ -204,7 +204,7 @@ built_met a words off bare none =
 
 program_met : (words : List Text) → fault_of program_app words ≡ [] → IfSome (subcommand_of program_app words) (λ met. IsMet (built program_app) met.0)
 program_met words none =
-    built_met (built program_app) (argument_words program_app words) refl (refl, (refl, (refl, (refl, (refl, (refl, (refl, (refl, (refl, (refl, tt)))))))))) (none_first _ _ none)
+    built_met (built program_app) (argument_words program_app words) refl (refl, (refl, (refl, (refl, (refl, (refl, (refl, (refl, (refl, (refl, (refl, tt))))))))))) (none_first _ _ none)
 
 -- No command of the table was met only where none was.
 unlisted : (name : Text) → IsMet (built program_app) name → IsUnlisted name commands → ⊥
@@ -227,8 +227,11 @@ unlisted name met clear = elim met.0 [
                 | inr more ↦ elim more [
                   | inl is ↦ clear.1.1.1.1.1.1.1.1.0 is
                   | inr more ↦ elim more [
-                    | inl is ↦ met.1 is
-                    | inr none ↦ none
+                    | inl is ↦ clear.1.1.1.1.1.1.1.1.1.0 is
+                    | inr more ↦ elim more [
+                      | inl is ↦ met.1 is
+                      | inr none ↦ none
+                    ]
                   ]
                 ]
               ]

@@ -6,7 +6,7 @@ use Rattle.clap.specs.declared.error.kind.ErrorKind.TheVariants.{DisplayHelp, Di
 use Rattle.clap.specs.declared.error.kind.ErrorKind.TheVariants.{OutOfMemory}
 use Rattle.command_line.specs.Meanings.{HasAddresses, HasNumbers}
 use Rattle.command_line.specs.Table.{Listed, cut_listed, drawing_listed, frames_listed, make_listed}
-use Rattle.command_line.specs.Table.{program_app, report_listed, verify_listed}
+use Rattle.command_line.specs.Table.{program_app, report_listed, trace_listed, verify_listed}
 use Rattle.command_line.specs.declared.command.LineFault.{LineFault}
 use Rattle.command_line.specs.declared.command.LineFault.TheVariants.{Usage, Help, Memory}
 
@@ -51,7 +51,7 @@ HasBadValue name rows Memory = Unit {0}
 HasBadValue name rows fault = IsBadValue verify_listed name rows fault
     ⊎ (IsBadValue report_listed name rows fault ⊎ (IsBadValue make_listed name rows fault
     ⊎ (IsBadValue drawing_listed name rows fault ⊎ (IsBadValue cut_listed name rows fault
-    ⊎ ((name ≡ frames_listed.name) × IsNoFrames rows fault)))))
+    ⊎ (IsBadValue trace_listed name rows fault ⊎ ((name ≡ frames_listed.name) × IsNoFrames rows fault))))))
 
 -- The answer to words that are no command. Memory may run out at any words.
 abbrev pub IsRefusal : List Text → LineFault → Type 0

@@ -11,14 +11,15 @@ use Rattle.replay_plan.specs.declared.watches.Address.{Address}
 use Rattle.replay_plan.specs.declared.watches.Details.{Details}
 use Rattle.command_line.specs.Table.{Argument, Kind, Listed, asked_row, commands, checkpoints_row}
 use Rattle.command_line.specs.Table.{count_row}
-use Rattle.command_line.specs.Table.{cuts_row, digests_row, file_row, first_row, inputs_row, new_row}
+use Rattle.command_line.specs.Table.{cuts_row, digests_row, file_row, first_row, frame_row}
+use Rattle.command_line.specs.Table.{inputs_row, new_row}
 use Rattle.command_line.specs.Table.{old_row, watch_row}
 use Rattle.command_line.specs.Table.{needed_number, number, out_row, pictures_row, rom_row}
 use Rattle.command_line.specs.Table.{text_row, workers_row}
 use Rattle.command_line.specs.declared.command.Command.{Command}
 use Rattle.command_line.specs.declared.command.Command.TheVariants.{Stdin, Verify, Report, Make}
 use Rattle.command_line.specs.declared.command.Command.TheVariants.{Info, Inputs, Convert}
-use Rattle.command_line.specs.declared.command.Command.TheVariants.{Frames, Pictures, Cut}
+use Rattle.command_line.specs.declared.command.Command.TheVariants.{Frames, Pictures, Cut, Trace}
 
 -- The number that a text writes in decimal digits, of which the first may follow a plus.
 abbrev pub number_in : Text → ℕ
@@ -95,6 +96,9 @@ IsCommandAt name rows (Cut file first count every out) =
     × (number_of asked_row rows ≡ Some count)
     × (number_of checkpoints_row rows ≡ Some (non_zero_u32_get every))
     × (string_bytes out ≡ word_of out_row rows)
+IsCommandAt name rows (Trace file frame) =
+    (name ≡ codes "trace") × (string_bytes file ≡ word_of file_row rows)
+    × (number_of frame_row rows ≡ Some (non_zero_u32_get frame))
 
 -- The command of the words at which `clap` met this command's name, with the values that it found
 -- there. Without a name it judges standard input.

@@ -69,6 +69,9 @@ checkpoints_row = record { name = codes "every"; kind = needed_number 1 42949672
 abbrev pub out_row : Argument
 out_row = record { name = codes "out"; kind = needed_word }
 
+abbrev pub frame_row : Argument
+frame_row = record { name = codes "frame"; kind = needed_number 1 4294967295 }
+
 abbrev pub old_row : Argument
 old_row = record { name = codes "old"; kind = operand }
 
@@ -118,6 +121,9 @@ drawing_listed = record {
   arguments = file_row ∷ out_row ∷ first_row ∷ asked_row ∷ [];
 }
 
+abbrev pub trace_listed : Listed
+trace_listed = record { name = codes "trace"; arguments = file_row ∷ frame_row ∷ [] }
+
 abbrev pub cut_listed : Listed
 cut_listed = record {
   name = codes "cut";
@@ -128,7 +134,7 @@ cut_listed = record {
 abbrev pub commands : List Listed
 commands =
     verify_listed ∷ report_listed ∷ make_listed ∷ info_listed ∷ listing_listed ∷ convert_listed
-    ∷ frames_listed ∷ drawing_listed ∷ cut_listed ∷ []
+    ∷ frames_listed ∷ drawing_listed ∷ cut_listed ∷ trace_listed ∷ []
 
 -- ---- the same as `clap` reads it
 

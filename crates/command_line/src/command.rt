@@ -78,6 +78,12 @@ pub enum Command {
         every: NonZeroU32,
         out: String,
     },
+    /// Print each instruction of a frame of a movie, whatever the movie claims.
+    Trace {
+        file: String,
+        /// The frame, counted from 1.
+        frame: NonZeroU32,
+    },
 }
 
 impl Command {

@@ -13,7 +13,7 @@ ghost use Rattle.command_line.specs.declared.command.Command.TheVariants.{Stdin}
 ghost use Rattle.command_line.specs.Table.{program_app, verify_listed, report_listed, make_listed};
 ghost use Rattle.command_line.specs.Table.{workers_row, cuts_row, first_row, count_row};
 ghost use Rattle.command_line.specs.Table.{asked_row, checkpoints_row, cut_listed, drawing_listed};
-ghost use Rattle.command_line.specs.Table.{pictures_row};
+ghost use Rattle.command_line.specs.Table.{frame_row, pictures_row, trace_listed};
 
 use crate::command::{Command, LineFault};
 use crate::frames::frames_of;
@@ -240,6 +240,29 @@ fn cut_of(alloc: Global, matches: &ArgMatches<'_>) -> Result<Command, LineFault>
     })
 }
 
+/// The frame that `trace` asks for.
+fn frame_of(matches: &ArgMatches<'_>) -> Option<NonZeroU32>
+    ensures some { IfSome result (λ frame. number_of frame_row
+        (rows_of (found_of matches.now)) ≡ Some (non_zero_u32_get frame)) }
+    ensures none { IfNone result (Suits frame_row.kind
+        (one_of frame_row.name (rows_of (found_of matches.now))) → ⊥) }
+{
+    NonZeroU32::new(matches.get_one::<u32>("frame")?)
+}
+
+/// The command `trace`.
+fn trace_of(alloc: Global, matches: &ArgMatches<'_>) -> Result<Command, LineFault>
+    ensures kept { IfOk result KeepsWhatIsTaken }
+    ensures ok { IfOk result (IsCommandAt (codes "trace") (rows_of (found_of matches.now))) }
+    ensures err { IfErr result (IsOutOfRange trace_listed (rows_of (found_of matches.now))) }
+{
+    let file = text_of(alloc, matches, "file")?;
+    let Some(frame) = frame_of(matches) else {
+        return Err(out_of_range(alloc));
+    };
+    Ok(Command::Trace { file, frame })
+}
+
 /// What `clap` says of arguments that are no command, or that ask for help.
 fn fault_of(alloc: Global, error: &clap::Error) -> LineFault
     ensures { IsAnswerTo (kind_of error.now) result }
@@ -287,6 +310,7 @@ fn command_of(alloc: Global, name: &str, matches: &ArgMatches<'_>) -> Result<Com
         "frames" => frames_of(alloc, matches),
         "pictures" => drawing_of(alloc, matches),
         "cut" => cut_of(alloc, matches),
+        "trace" => trace_of(alloc, matches),
         _ => Ok(Command::Stdin),
     }
 }

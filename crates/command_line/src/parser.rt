@@ -8,7 +8,8 @@ ghost use Rattle.command_line.specs.Table.{inputs_row, text_row, checkpoints_row
 ghost use Rattle.command_line.specs.Table.{old_row, new_row, verify_listed, report_listed};
 ghost use Rattle.command_line.specs.Table.{make_listed, info_listed, listing_listed};
 ghost use Rattle.command_line.specs.Table.{asked_row, convert_listed, cut_listed, drawing_listed};
-ghost use Rattle.command_line.specs.Table.{digests_row, frames_listed, program_app, watch_row};
+ghost use Rattle.command_line.specs.Table.{digests_row, frame_row, frames_listed, program_app};
+ghost use Rattle.command_line.specs.Table.{trace_listed, watch_row};
 
 use clap::{Arg, ArgAction, Command, value_parser};
 use replay_plan::{MOST_KEPT, MOST_WORKERS};
@@ -363,6 +364,28 @@ fn cut<'a>(alloc: Global) -> Result<Command<'a>, AllocError>
         .arg(asked(alloc))
 }
 
+/// `--frame K` of `trace`.
+fn frame<'a>(alloc: Global) -> Arg<'a>
+    ensures { IsRow frame_row result }
+{
+    Arg::new(alloc, "frame")
+        .long("frame")
+        .value_name("K")
+        .help("The frame, 1 to 4294967295")
+        .required(true)
+        .value_parser(value_parser!(u32).range(1..=4294967295))
+}
+
+/// `trace FILE`, with its option.
+fn trace<'a>(alloc: Global) -> Result<Command<'a>, AllocError>
+    ensures { IfOk result (IsListed trace_listed) }
+{
+    Command::new(alloc, "trace")
+        .about("Print each instruction of a frame, line by line")
+        .arg(movie(alloc))?
+        .arg(frame(alloc))
+}
+
 /// The program with all of its commands. Without one it judges standard input.
 pub(crate) fn program<'a>(alloc: Global) -> Result<Command<'a>, AllocError>
     ensures { IfOk result (λ command. (app_of command ≡ program_app)
@@ -381,5 +404,6 @@ pub(crate) fn program<'a>(alloc: Global) -> Result<Command<'a>, AllocError>
         .subcommand(convert(alloc)?)?
         .subcommand(frames_of(alloc)?)?
         .subcommand(pictures_of(alloc)?)?
-        .subcommand(cut(alloc)?)
+        .subcommand(cut(alloc)?)?
+        .subcommand(trace(alloc)?)
 }

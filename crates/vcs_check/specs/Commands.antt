@@ -7,7 +7,7 @@ use Rattle.std.specs.Io.KnownBytes.{Appends, Keeps}
 use Rattle.command_line.specs.declared.command.Command.{Command}
 use Rattle.command_line.specs.declared.command.Command.TheVariants.{Stdin, Verify, Report, Make}
 use Rattle.command_line.specs.declared.command.Command.TheVariants.{Info, Inputs, Convert}
-use Rattle.command_line.specs.declared.command.Command.TheVariants.{Frames, Pictures, Cut}
+use Rattle.command_line.specs.declared.command.Command.TheVariants.{Frames, Pictures, Cut, Trace}
 use Rattle.movie_file.specs.Reading.{movie_at}
 use Rattle.replay_plan.specs.declared.keep.Keep.{Keep}
 use Rattle.vcs_check.specs.declared.commands.Failure.{Failure}
@@ -27,6 +27,7 @@ use Rattle.vcs_engine.specs.declared.status.Status.{Status}
 use Rattle.view_engine.specs.Cuts.{Cuts}
 use Rattle.view_engine.specs.Drawings.{Draws}
 use Rattle.view_engine.specs.FrameLines.{Describes}
+use Rattle.view_engine.specs.Traces.{Traces}
 
 -- With a status, a line was written of which this holds, and nothing else.
 abbrev pub Writes : Option (List ℕ) → Option (List ℕ) → (Status → List ℕ → Type 0) → Result Status Failure → Type 0
@@ -93,6 +94,8 @@ IsAnswered (Pictures file first count out) old new status line =
     (input : List ℕ) × ReadsFile (string_bytes file) old new input × IsDrawn (non_zero_u32_get first) count input status line
 IsAnswered (Cut file first count every out) old new status line =
     (input : List ℕ) × ReadsFile (string_bytes file) old new input × IsCut (non_zero_u32_get first) count (non_zero_u32_get every) input status line
+IsAnswered (Trace file frame) old new status line =
+    (input : List ℕ) × ReadsFile (string_bytes file) old new input × Traces (movie_at input) (non_zero_u32_get frame) status line
 
 -- More than one worker judges: only `verify` and `report` with more than one start threads.
 abbrev pub StartsThreads : Command → Type 0
@@ -106,8 +109,10 @@ StartsThreads (Convert older newer) = ⊥
 StartsThreads (Frames file first count details) = ⊥
 StartsThreads (Pictures file first count out) = ⊥
 StartsThreads (Cut file first count every out) = ⊥
+StartsThreads (Trace file frame) = ⊥
 
 -- What a command wrote before an error.
 abbrev pub KeepsQuiet : Command → Option (List ℕ) → Option (List ℕ) → Result Status Failure → Type 0
 KeepsQuiet (Frames file first count details) old new result = IsQuietUntilFull old new result
+KeepsQuiet (Trace file frame) old new result = IsQuietUntilFull old new result
 KeepsQuiet other old new result = IsQuiet old new result

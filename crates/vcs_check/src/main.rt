@@ -15,6 +15,7 @@ mod named;
 mod output;
 mod progress;
 mod stage;
+mod trace;
 
 ghost use Rattle.std.specs.Prelude.{◌≡◌, Err, IsSome};
 ghost use Rattle.vcs_check.specs.Commands.{IsAnswered, KeepsQuiet, StartsThreads, Writes};
@@ -39,6 +40,7 @@ use std::process::ExitCode;
 use std::rt::Files;
 use std::sync::Wait;
 use std::thread::Threads;
+use trace::trace;
 use vcs_engine::{CountedGate, Status};
 
 /// The command of the arguments.
@@ -113,6 +115,7 @@ fn answer_command<
             every,
             out,
         } => cut(rt, input, file, *first, *count, *every, out, line, fault),
+        Command::Trace { file, frame } => trace(rt, input, file, *frame, line, fault),
     }
 }
 

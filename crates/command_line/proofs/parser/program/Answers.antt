@@ -3,7 +3,7 @@ use Rattle.std.proofs.lemmas.Result.{IfOk-weaker}
 use Rattle.clap.specs.Words.{App, app_of, new_app, with_subcommand}
 use Rattle.clap.specs.Simple.{app_of_fields}
 use Rattle.clap.specs.declared.builder.Command.TheViews.{out-Command}
-use Rattle.command_line.specs.Table.{shape_for, verify_listed, report_listed, make_listed, info_listed, listing_listed, convert_listed, drawing_listed, frames_listed}
+use Rattle.command_line.specs.Table.{shape_for, verify_listed, report_listed, make_listed, info_listed, listing_listed, convert_listed, drawing_listed, frames_listed, cut_listed}
 use Rattle.command_line.proofs.parser.program.Goals as goal
 
 abbrev versioned : App → App
@@ -39,6 +39,8 @@ returns c =
     let local6 : (out-Command c.in_ok-subcommand-7.field-0).has_globals ≡ false = c.in_ok-subcommand-7.ensures.globals ∙ ap₂ (λ x y. x || y) local5 c.in_ok-frames_of.ensures.1 in
     let with_pictures_of : app_of c.in_ok-subcommand-8.field-0 ≡ with_subcommand (with_subcommand (with_subcommand (with_subcommand (with_subcommand (with_subcommand (with_subcommand (with_subcommand bare (shape_for verify_listed)) (shape_for report_listed)) (shape_for make_listed)) (shape_for info_listed)) (shape_for listing_listed)) (shape_for convert_listed)) (shape_for frames_listed)) (shape_for drawing_listed) = c.in_ok-subcommand-8.ensures.shape c.in_ok-pictures_of.ensures.1 ∙ ap₂ with_subcommand with_frames_of c.in_ok-pictures_of.ensures.0 in
     let local7 : (out-Command c.in_ok-subcommand-8.field-0).has_globals ≡ false = c.in_ok-subcommand-8.ensures.globals ∙ ap₂ (λ x y. x || y) local6 c.in_ok-pictures_of.ensures.1 in
-    IfOk-weaker c.subcommand-9.result _ _
-    (λ r added. (added.shape c.in_ok-cut.ensures.1 ∙ ap₂ with_subcommand with_pictures_of c.in_ok-cut.ensures.0, added.globals ∙ ap₂ (λ x y. x || y) local7 c.in_ok-cut.ensures.1))
-    c.subcommand-9.ensures
+    let with_cut : app_of c.in_ok-subcommand-9.field-0 ≡ with_subcommand (with_subcommand (with_subcommand (with_subcommand (with_subcommand (with_subcommand (with_subcommand (with_subcommand (with_subcommand bare (shape_for verify_listed)) (shape_for report_listed)) (shape_for make_listed)) (shape_for info_listed)) (shape_for listing_listed)) (shape_for convert_listed)) (shape_for frames_listed)) (shape_for drawing_listed)) (shape_for cut_listed) = c.in_ok-subcommand-9.ensures.shape c.in_ok-cut.ensures.1 ∙ ap₂ with_subcommand with_pictures_of c.in_ok-cut.ensures.0 in
+    let local8 : (out-Command c.in_ok-subcommand-9.field-0).has_globals ≡ false = c.in_ok-subcommand-9.ensures.globals ∙ ap₂ (λ x y. x || y) local7 c.in_ok-cut.ensures.1 in
+    IfOk-weaker c.subcommand-10.result _ _
+    (λ r added. (added.shape c.in_ok-trace.ensures.1 ∙ ap₂ with_subcommand with_cut c.in_ok-trace.ensures.0, added.globals ∙ ap₂ (λ x y. x || y) local8 c.in_ok-trace.ensures.1))
+    c.subcommand-10.ensures
