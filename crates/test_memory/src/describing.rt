@@ -51,6 +51,6 @@ pub(crate) fn is_described(alloc: Global, digests: bool) -> Result<(), Failure> 
 }
 
 /// Whether some bytes are the first so many lines of a text.
-fn is_whole_lines(text: &[u8], lines: &[u8]) -> bool {
+pub(crate) fn is_whole_lines(text: &[u8], lines: &[u8]) -> bool {
     text.starts_with(lines) && (lines.is_empty() || lines.ends_with(b"\n"))
 }

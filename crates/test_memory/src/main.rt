@@ -21,6 +21,7 @@ mod growths;
 mod movies;
 mod order;
 mod segments;
+mod tracing;
 mod workers;
 
 use failure::Failure;
@@ -71,6 +72,7 @@ fn outcome_of<R: Threads + Wait + Sync>(
         "run_convert" => engine::is_converted(alloc),
         "run_frames" => describing::is_described(alloc, false),
         "run_frames_with_digests" => describing::is_described(alloc, true),
+        "run_trace" => tracing::is_traced(alloc),
         "run_pictures" => engine::is_drawn(alloc),
         "run_cut" => engine::is_cut_out(alloc),
         _ => return None,

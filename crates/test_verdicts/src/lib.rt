@@ -25,6 +25,8 @@ mod reports;
 #[cfg(test)]
 mod segments;
 #[cfg(test)]
+mod tracing;
+#[cfg(test)]
 mod verdicts;
 #[cfg(test)]
 mod versions;

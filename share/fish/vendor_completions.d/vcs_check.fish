@@ -12,6 +12,7 @@ complete -c vcs_check -n __fish_use_subcommand -f -a convert -d 'write a movie a
 complete -c vcs_check -n __fish_use_subcommand -f -a frames -d 'say how frames were'
 complete -c vcs_check -n __fish_use_subcommand -f -a pictures -d 'write the pictures of frames'
 complete -c vcs_check -n __fish_use_subcommand -f -a cut -d 'write frames as a movie of its own'
+complete -c vcs_check -n __fish_use_subcommand -f -a trace -d 'print the instructions of a frame'
 complete -c vcs_check -n __fish_use_subcommand -f -a help -d 'print help'
 complete -c vcs_check -n __fish_use_subcommand -s V -l version -d 'print version'
 complete -c vcs_check -s h -l help -d 'print help'
@@ -30,4 +31,5 @@ __vcs_check_option cut -l every -x -d 'claim the state after every E frames'
 __vcs_check_option cut -l out -r -F -d 'the movie'
 __vcs_check_option frames,pictures,cut -l first -x -d 'the first frame'
 __vcs_check_option frames,pictures,cut -l count -x -d 'how many frames'
+__vcs_check_option trace -l frame -x -d 'the frame'
 functions -e __vcs_check_option
