@@ -40,7 +40,8 @@ pub(crate) fn is_described(alloc: Global, digests: bool) -> Result<(), Failure> 
         3,
         &mut left,
     );
-    let written = &lines[..ROOM - left.len()];
+    let count = ROOM - left.len();
+    let written = &lines[..count];
     match answer {
         Ok(status) => right(status == Status::Done && written == wanted.as_bytes()),
         Err(RunError::NoMemory) if is_whole_lines(wanted.as_bytes(), written) => {
