@@ -75,6 +75,7 @@ fn outcome_of<R: Threads + Wait + Sync>(
         "run_trace" => tracing::is_traced(alloc),
         "run_pictures" => engine::is_drawn(alloc),
         "run_cut" => engine::is_cut_out(alloc),
+        "run_cut_with_fault" => order::is_faulty_cut(alloc),
         _ => return None,
     })
 }

@@ -5,7 +5,11 @@ use crate::failure::{Failure, OUT_OF_MEMORY};
 use crate::movies::{LENGTH, cartridge, two_frames};
 use movie_file::{MakeError, MovieError, make_movie, read_inputs, read_movie};
 use std::alloc::Global;
+use std::io;
+use std::num::NonZeroU32;
+use vcs_engine::{RunError, Status};
 use vcs_machine::{FrameError, Input, State, frame};
+use view_engine::run_cut;
 
 /// The movie of two frames with 02, which is no opcode, where its program begins.
 fn without_opcode() -> [u8; LENGTH] {
@@ -59,5 +63,25 @@ pub(crate) fn is_faulty_frame(alloc: Global) -> Result<(), Failure> {
         Err(FrameError::Fault(_)) => Ok(()),
         Err(FrameError::NoMemory) => Err(OUT_OF_MEMORY),
         Ok(_) => Err(Failure::Wrong),
+    }
+}
+
+/// A cut from the second frame on of a movie whose first frame faults. It takes no room for its
+/// checkpoints, since the frames before it come first.
+pub(crate) fn is_faulty_cut(alloc: Global) -> Result<(), Failure> {
+    let second = NonZeroU32::new(2).ok_or(Failure::Wrong)?;
+    let status = run_cut(
+        alloc,
+        &mut without_opcode().as_slice(),
+        second,
+        1,
+        1,
+        &mut io::sink(),
+        &mut io::sink(),
+    );
+    match status {
+        Ok(Status::Fault) => Ok(()),
+        Err(RunError::NoMemory) => Err(OUT_OF_MEMORY),
+        _ => Err(Failure::Wrong),
     }
 }
