@@ -14,7 +14,6 @@ use Rattle.mos_cpu.specs.declared.access.Transfer.TheVariants.{Read, Write}
 use Rattle.mos_cpu.specs.declared.fault.CpuFault.{CpuFault}
 use Rattle.mos_cpu.specs.declared.instruction.Instruction.{Instruction}
 use Rattle.mos_cpu.specs.declared.operation.Operation.{Operation}
-use Rattle.tia_core.specs.declared.paint.NoPaint.{NoPaint}
 use Rattle.vcs_machine.specs.Consoles.{Console, console_rules, meaning_of}
 use Rattle.vcs_machine.specs.Frame.{Failed, Machine, Reaches, Rules, Stop, StopsAs, Turn, Went}
 use Rattle.vcs_machine.specs.Frame.{machine_at, turns}
@@ -22,6 +21,7 @@ use Rattle.vcs_machine.specs.Inputs.{InputData}
 use Rattle.vcs_machine.specs.Outcomes.{machine_of}
 use Rattle.vcs_machine.specs.declared.executed.DataAccess.{DataAccess}
 use Rattle.vcs_machine.specs.declared.fields.StateFields.{StateFields}
+use Rattle.vcs_machine.specs.declared.logged.NoPixels.{NoPixels}
 
 module _ {S : Type 0} (m : Meaning S) where
   -- The access with its byte: the one that is read, or the one that the operation writes.
@@ -95,9 +95,9 @@ module _ {B : Type 0} (rules : Rules B) where
 
 -- ---- on a console that draws nothing
 abbrev pub Undrawn : Type 0
-Undrawn = Console NoPaint
+Undrawn = Console NoPixels
 
-abbrev pub with_pixel_lost : NoPaint → ℕ → ℕ → ℕ → NoPaint
+abbrev pub with_pixel_lost : NoPixels → ℕ → ℕ → ℕ → NoPixels
 with_pixel_lost sink line x colour = sink
 
 abbrev pub undrawn_rules : Rules Undrawn

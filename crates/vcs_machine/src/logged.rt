@@ -3,12 +3,27 @@ use crate::console::Console;
 use crate::executed::{DataAccess, MOST_ACCESSES};
 use arrayvec::ArrayVec;
 use mos_cpu::Bus;
-use tia_core::NoPaint;
+use tia_core::Paint;
+
+/// A sink that keeps nothing. It is a type of its own, beside `NoPaint`, so that a stepped frame
+/// shares no function with the loop of a frame: those that are called once are compiled into it.
+#[derive(Clone, Copy)]
+pub struct NoPixels;
+
+impl Paint for NoPixels {
+    ghost drawn = { λ s _ _ _. s };
+
+    fn put(&mut self, _line: u16, _x: u8, _colour: u8) {}
+
+    fn keeps(&self) -> bool {
+        false
+    }
+}
 
 /// A console that draws nothing, and the data accesses that were made on it.
 #[derive(Drop)]
 pub struct Logged<'a> {
-    pub console: Console<'a, NoPaint>,
+    pub console: Console<'a, NoPixels>,
     pub accesses: ArrayVec<DataAccess, MOST_ACCESSES>,
 }
 

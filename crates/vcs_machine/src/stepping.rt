@@ -11,7 +11,7 @@ use crate::console::Console;
 use crate::executed::Executed;
 use crate::fault::FaultKind;
 use crate::input::Input;
-use crate::logged::Logged;
+use crate::logged::{Logged, NoPixels};
 use crate::picture::rows;
 use crate::run::TOO_MANY_CYCLES;
 use crate::state::State;
@@ -20,7 +20,6 @@ use mos_cpu::{Cpu, step};
 use riot_map::Cart;
 use std::marker::Model;
 use std::mem;
-use tia_core::NoPaint;
 
 /// A frame on a cartridge that goes on one instruction at a time, and draws nothing.
 #[derive(Drop)]
@@ -50,7 +49,7 @@ impl<'a> Stepping<'a> {
         Stepping {
             cpu: state.cpu(),
             bus: Logged {
-                console: Console::begin(cart, state, input, NoPaint),
+                console: Console::begin(cart, state, input, NoPixels),
                 accesses: ArrayVec::new(),
             },
             cycles: 0,
