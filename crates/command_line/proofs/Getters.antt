@@ -11,7 +11,8 @@ use Rattle.clap.specs.Matches.{ReadsOne, one_text, first_value}
 use Rattle.clap.specs.Words.{Text, one_of, rows_of, first_of, found_of}
 use Rattle.clap.specs.declared.ArgMatches.{ArgMatches}
 use Rattle.clap.proofs.WalkLemmas.{one_text-rows, first_value-rows}
-use Rattle.command_line.specs.Meanings.{IsNumberIn, number_in}
+use Rattle.command_line.specs.Meanings.{number_in}
+use Rattle.command_line.specs.Private.Numbers.{IsNumberIn}
 
 -- How an unsigned type of k bits reads a text.
 abbrev pub Gives : ℕ → Text → Result ℕ ParseIntError → Type 0

@@ -1,4 +1,6 @@
 pub mod Addresses
+pub mod Found
 pub mod Getters
 pub mod Known
+pub mod Numbers
 pub mod Stops

@@ -7,23 +7,14 @@ use Rattle.clap.specs.Words.{App, Row, Rule, Shape, Text, fault_of, subcommand_o
 use Rattle.clap.specs.Walk.{Held, Names, Outcome, Step, Waiting, Walk, after_flag, arg_by_long, bundle, long_met, short_or_plain, after_step, answers_to, arg_by_index, done, idle, long_or_other, next, nothing_held, option, plain, plain_word, positional, refused, stop_after, subcommand, subcommand_met, subcommand_or_other, to_positional, trailing, value, waits, walk_from, walked, walked_from, word_met}
 use Rattle.clap.specs.Simple.{argument_words, built, entered, label_of, names_of, rows_at}
 use Rattle.clap.specs.Faults.{other_fault, step_fault, turn_fault, walk_fault, word_fault}
-use Rattle.clap.specs.Kinds.{Kinds, or_else}
+use Rattle.clap.specs.Kinds.{or_else}
 use Rattle.clap.specs.declared.error.ErrorKind.{ErrorKind}
 use Rattle.clap.specs.Lexer.{long_of, short_of}
+use Rattle.command_line.proofs.Found.{none_first, none_then}
 use Rattle.command_line.specs.Meanings.{IsCommand, IsCommandAt, IsUnlisted}
 use Rattle.command_line.specs.Table.{commands, program_app}
 use Rattle.command_line.specs.declared.command.Command.{Command}
 use Rattle.command_line.specs.declared.command.Command.TheVariants.{Stdin}
-
--- ---- lists of kinds
-
-none_first : (a b : Kinds) → or_else a b ≡ [] → a ≡ []
-none_first [] b h = refl
-none_first (k ∷ ks) b h = h
-
-none_then : (a b : Kinds) → or_else a b ≡ [] → b ≡ []
-none_then [] b h = h
-none_then (k ∷ ks) b h = cc
 
 -- ---- what a word is
 

@@ -4,9 +4,8 @@ use Rattle.clap.specs.Words.{IsAmong, Row, Text, fault_of, subcommand_of}
 use Rattle.clap.specs.declared.error.kind.ErrorKind.{ErrorKind}
 use Rattle.clap.specs.declared.error.kind.ErrorKind.TheVariants.{DisplayHelp, DisplayVersion}
 use Rattle.clap.specs.declared.error.kind.ErrorKind.TheVariants.{OutOfMemory}
-use Rattle.command_line.specs.Meanings.{HasAddresses, HasNumbers}
-use Rattle.command_line.specs.Table.{Listed, cut_listed, drawing_listed, frames_listed, make_listed}
-use Rattle.command_line.specs.Table.{program_app, report_listed, trace_listed, verify_listed}
+use Rattle.command_line.specs.Meanings.{HasAddresses}
+use Rattle.command_line.specs.Table.{frames_listed, program_app}
 use Rattle.command_line.specs.declared.command.LineFault.{LineFault}
 use Rattle.command_line.specs.declared.command.LineFault.TheVariants.{Usage, Help, Memory}
 
@@ -18,21 +17,10 @@ IsAnswerTo kind (Usage text) =
 IsAnswerTo kind (Help text) = (kind ≡ DisplayHelp) ⊎ (kind ≡ DisplayVersion)
 IsAnswerTo kind Memory = Unit {0}
 
--- The answer is no help.
-abbrev pub IsMistake : LineFault → Type 0
-IsMistake (Help text) = ⊥
-IsMistake fault = Unit {0}
-
--- The answer to the values of a command of which a number is outside of its range.
-abbrev pub IsOutOfRange : Listed → List Row → LineFault → Type 0
-IsOutOfRange listed rows (Usage text) = HasNumbers listed rows → ⊥
-IsOutOfRange listed rows (Help text) = ⊥
-IsOutOfRange listed rows Memory = Unit {0}
-
--- The answer to the values of `frames` of which a number is outside of its range, or a word writes no
--- address, or there are too many addresses.
+-- The answer to the values of `frames` of which a word writes no address, or there are too many
+-- addresses.
 abbrev pub IsNoFrames : List Row → LineFault → Type 0
-IsNoFrames rows (Usage text) = HasNumbers frames_listed rows → HasAddresses rows → ⊥
+IsNoFrames rows (Usage text) = HasAddresses rows → ⊥
 IsNoFrames rows (Help text) = ⊥
 IsNoFrames rows Memory = Unit {0}
 
@@ -41,17 +29,10 @@ abbrev pub IsFound : List Text → LineFault → Type 0
 IsFound words fault =
     (kind : ErrorKind) × IsAmong kind (fault_of program_app words) × IsAnswerTo kind fault
 
--- The same, of the command of this name in the table.
-abbrev pub IsBadValue : Listed → Text → List Row → LineFault → Type 0
-IsBadValue listed name rows fault = (name ≡ listed.name) × IsOutOfRange listed rows fault
-
 -- The answer to the values of the command of this name, if there is no command.
 abbrev pub HasBadValue : Text → List Row → LineFault → Type 0
 HasBadValue name rows Memory = Unit {0}
-HasBadValue name rows fault = IsBadValue verify_listed name rows fault
-    ⊎ (IsBadValue report_listed name rows fault ⊎ (IsBadValue make_listed name rows fault
-    ⊎ (IsBadValue drawing_listed name rows fault ⊎ (IsBadValue cut_listed name rows fault
-    ⊎ (IsBadValue trace_listed name rows fault ⊎ ((name ≡ frames_listed.name) × IsNoFrames rows fault))))))
+HasBadValue name rows fault = (name ≡ frames_listed.name) × IsNoFrames rows fault
 
 -- The answer to words that are no command. Memory may run out at any words.
 abbrev pub IsRefusal : List Text → LineFault → Type 0

@@ -2,19 +2,19 @@
 use Rattle.std.specs.Prelude.{◌≡◌, ◌≢◌, ◌↔◌, ◌≤◌, ℕ, Bool, true, List, [], ◌∷◌, Option, Some, None, codes}
 use Rattle.std.specs.Prelude.{Ok, is_some, length, map, option_map, string_bytes, unwrap_or}
 use Rattle.std.specs.NonZero.{non_zero_u16_get, non_zero_u32_get}
-use Rattle.std.specs.Str.Parse.{IsNumeral, digits_value, without_leading_plus}
+use Rattle.std.specs.Str.Parse.{digits_value, without_leading_plus}
 use Rattle.clap.specs.Words.{Row, Text, all_of, first_of, one_of}
 use Rattle.hex.specs.Hex.{decode_sized}
 use Rattle.replay_plan.specs.Limits.{most_watches}
 use Rattle.replay_plan.specs.declared.plan.Plan.{Plan}
 use Rattle.replay_plan.specs.declared.watches.Address.{Address}
 use Rattle.replay_plan.specs.declared.watches.Details.{Details}
-use Rattle.command_line.specs.Table.{Argument, Kind, Listed, asked_row, commands, checkpoints_row}
+use Rattle.command_line.specs.Table.{Argument, Listed, asked_row, commands, checkpoints_row}
 use Rattle.command_line.specs.Table.{count_row}
 use Rattle.command_line.specs.Table.{cuts_row, digests_row, file_row, first_row, frame_row}
 use Rattle.command_line.specs.Table.{inputs_row, new_row}
 use Rattle.command_line.specs.Table.{old_row, watch_row}
-use Rattle.command_line.specs.Table.{needed_number, number, out_row, pictures_row, rom_row}
+use Rattle.command_line.specs.Table.{out_row, pictures_row, rom_row}
 use Rattle.command_line.specs.Table.{text_row, workers_row}
 use Rattle.command_line.specs.declared.command.Command.{Command}
 use Rattle.command_line.specs.declared.command.Command.TheVariants.{Stdin, Verify, Report, Make}
@@ -105,30 +105,6 @@ IsCommandAt name rows (Trace file frame) =
 abbrev pub IsCommand : Option (Text × List Row) → Command → Type 0
 IsCommand None command = command ≡ Stdin
 IsCommand (Some met) command = IsCommandAt met.0 met.1 command
-
--- ---- numbers outside of their ranges
-
--- A text is there, and writes a number from `least` to `most`.
-abbrev pub IsNumberIn : ℕ → ℕ → Option Text → Type 0
-IsNumberIn least most None = ⊥
-IsNumberIn least most (Some text) =
-    IsNumeral 10 (without_leading_plus text) × (least ≤ number_in text) × (number_in text ≤ most)
-
--- The text suits the kind of argument: a number is in its range.
-abbrev pub Suits : Kind → Option Text → Type 0
-Suits (number least most default) text = IsNumberIn least most text
-Suits (needed_number least most) text = IsNumberIn least most text
-Suits other text = Unit {0}
-
--- The same of each argument of a list.
-abbrev pub SuitsEach : List Argument → List Row → Type 0
-SuitsEach [] rows = Unit {0}
-SuitsEach (argument ∷ more) rows =
-    Suits argument.kind (one_of argument.name rows) × SuitsEach more rows
-
--- Each number of a command is in its range.
-abbrev pub HasNumbers : Listed → List Row → Type 0
-HasNumbers listed rows = SuitsEach listed.arguments rows
 
 -- Each word after `--watch` writes an address of the memory, and there are at most 16 of them.
 abbrev pub HasAddresses : List Row → Type 0

@@ -5,14 +5,16 @@ ghost use Rattle.clap.specs.Words.{found_of, rows_of};
 ghost use Rattle.hex.specs.Hex.{decode_sized};
 ghost use Rattle.replay_plan.specs.Limits.{most_watches};
 ghost use Rattle.replay_plan.specs.declared.watches.Address.{Address};
-ghost use Rattle.command_line.specs.Faults.{IsMistake, IsNoFrames};
+ghost use Rattle.command_line.specs.Faults.{IsNoFrames};
+ghost use Rattle.command_line.specs.Private.Mistakes.{IsMistake};
+ghost use Rattle.command_line.specs.Private.Numbers.{HasNumbers};
 ghost use Rattle.command_line.specs.Meanings.{AreAddresses, HasAddresses, IsCommandAt};
 ghost use Rattle.command_line.specs.Meanings.{words_of};
 ghost use Rattle.command_line.specs.Pictures.{KeepsWhatIsTaken};
-ghost use Rattle.command_line.specs.Table.{watch_row};
+ghost use Rattle.command_line.specs.Table.{frames_listed, watch_row};
 
 use crate::command::{Command, LineFault};
-use crate::line::{count_of_frames, first_of_frames, is_given, out_of_range, text_of};
+use crate::line::{count_of_frames, first_of_frames, is_given, text_of};
 use clap::ArgMatches;
 use hex::FromHex;
 use replay_plan::{Address, Details, Watches};
@@ -69,6 +71,7 @@ fn no_addresses(alloc: Global) -> LineFault
 
 /// The command `frames`.
 pub(crate) fn frames_of(alloc: Global, matches: &ArgMatches<'_>) -> Result<Command, LineFault>
+    requires { HasNumbers frames_listed (rows_of (found_of matches.now)) }
     ensures kept { IfOk result KeepsWhatIsTaken }
     ensures ok { IfOk result (IsCommandAt (codes "frames") (rows_of (found_of matches.now))) }
     ensures err { IfErr result (IsNoFrames (rows_of (found_of matches.now))) }
@@ -76,10 +79,10 @@ pub(crate) fn frames_of(alloc: Global, matches: &ArgMatches<'_>) -> Result<Comma
     let file = text_of(alloc, matches, "file")?;
     let digests = is_given(matches, "digests");
     let Some(first) = first_of_frames(matches) else {
-        return Err(out_of_range(alloc));
+        unreachable!()
     };
     let Some(count) = count_of_frames(matches) else {
-        return Err(out_of_range(alloc));
+        unreachable!()
     };
     let Some(watches) = watches_of(matches) else {
         return Err(no_addresses(alloc));

@@ -4,10 +4,9 @@ ghost use Rattle.std.specs.Prelude.{IfErr, IfOk, IfNone, IfSome, string_bytes};
 ghost use Rattle.std.specs.NonZero.{non_zero_u16_get, non_zero_u32_get};
 ghost use Rattle.clap.specs.Words.{fault_of as faults_at, found_of, kind_of, rows_of, subcommand_of};
 ghost use Rattle.clap.specs.Words.{first_of, one_of};
-ghost use Rattle.command_line.specs.Faults.{HasBadValue, IsAnswerTo, IsMistake, IsOutOfRange};
-ghost use Rattle.command_line.specs.Faults.{IsRefusal};
-ghost use Rattle.command_line.specs.Meanings.{HasNumbers, IsCommand, IsCommandAt, IsPlan};
-ghost use Rattle.command_line.specs.Meanings.{Suits, number_of};
+ghost use Rattle.command_line.specs.Faults.{HasBadValue, IsAnswerTo, IsRefusal};
+ghost use Rattle.command_line.specs.Meanings.{IsCommand, IsCommandAt, IsPlan, number_of};
+ghost use Rattle.command_line.specs.Private.Numbers.{HasNumbers, HasNumbersOf, Suits};
 ghost use Rattle.command_line.specs.Pictures.{KeepsWhatIsTaken};
 ghost use Rattle.command_line.specs.declared.command.Command.TheVariants.{Stdin};
 ghost use Rattle.command_line.specs.Table.{program_app, verify_listed, report_listed, make_listed};
@@ -102,15 +101,15 @@ fn pictures_of(alloc: Global, matches: &ArgMatches<'_>) -> Result<Option<String>
 }
 
 /// The command `verify`.
-fn verify_of(alloc: Global, matches: &ArgMatches<'_>) -> Result<Command, LineFault>
+fn verify_of(alloc: Global, matches: &ArgMatches<'_>) -> Result<Command, AllocError>
+    requires { HasNumbers verify_listed (rows_of (found_of matches.now)) }
     ensures kept { IfOk result KeepsWhatIsTaken }
     ensures ok { IfOk result (IsCommandAt (codes "verify") (rows_of (found_of matches.now))) }
-    ensures err { IfErr result (IsOutOfRange verify_listed (rows_of (found_of matches.now))) }
 {
     let file = text_of(alloc, matches, "file")?;
     let pictures = pictures_of(alloc, matches)?;
     let Some(plan) = plan_of(matches, pictures.is_some()) else {
-        return Err(out_of_range(alloc));
+        unreachable!()
     };
     Ok(Command::Verify {
         file,
@@ -120,14 +119,14 @@ fn verify_of(alloc: Global, matches: &ArgMatches<'_>) -> Result<Command, LineFau
 }
 
 /// The command `report`.
-fn report_of(alloc: Global, matches: &ArgMatches<'_>) -> Result<Command, LineFault>
+fn report_of(alloc: Global, matches: &ArgMatches<'_>) -> Result<Command, AllocError>
+    requires { HasNumbers report_listed (rows_of (found_of matches.now)) }
     ensures kept { IfOk result KeepsWhatIsTaken }
     ensures ok { IfOk result (IsCommandAt (codes "report") (rows_of (found_of matches.now))) }
-    ensures err { IfErr result (IsOutOfRange report_listed (rows_of (found_of matches.now))) }
 {
     let file = text_of(alloc, matches, "file")?;
     let Some(workers) = workers_of(matches) else {
-        return Err(out_of_range(alloc));
+        unreachable!()
     };
     Ok(Command::Report { file, workers })
 }
@@ -151,17 +150,17 @@ pub(crate) fn is_given(matches: &ArgMatches<'_>, name: &str) -> bool
 }
 
 /// The command `make`.
-fn make_of(alloc: Global, matches: &ArgMatches<'_>) -> Result<Command, LineFault>
+fn make_of(alloc: Global, matches: &ArgMatches<'_>) -> Result<Command, AllocError>
+    requires { HasNumbers make_listed (rows_of (found_of matches.now)) }
     ensures kept { IfOk result KeepsWhatIsTaken }
     ensures ok { IfOk result (IsCommandAt (codes "make") (rows_of (found_of matches.now))) }
-    ensures err { IfErr result (IsOutOfRange make_listed (rows_of (found_of matches.now))) }
 {
     let rom = text_of(alloc, matches, "rom")?;
     let inputs = text_of(alloc, matches, "inputs")?;
     let out = text_of(alloc, matches, "out")?;
     let text = is_given(matches, "text");
     let Some(every) = checkpoints_of(matches) else {
-        return Err(out_of_range(alloc));
+        unreachable!()
     };
     Ok(Command::Make {
         rom,
@@ -193,18 +192,18 @@ pub(crate) fn count_of_frames(matches: &ArgMatches<'_>) -> Option<u32>
 }
 
 /// The command `pictures`.
-fn drawing_of(alloc: Global, matches: &ArgMatches<'_>) -> Result<Command, LineFault>
+fn drawing_of(alloc: Global, matches: &ArgMatches<'_>) -> Result<Command, AllocError>
+    requires { HasNumbers drawing_listed (rows_of (found_of matches.now)) }
     ensures kept { IfOk result KeepsWhatIsTaken }
     ensures ok { IfOk result (IsCommandAt (codes "pictures") (rows_of (found_of matches.now))) }
-    ensures err { IfErr result (IsOutOfRange drawing_listed (rows_of (found_of matches.now))) }
 {
     let file = text_of(alloc, matches, "file")?;
     let out = text_of(alloc, matches, "out")?;
     let Some(first) = first_of_frames(matches) else {
-        return Err(out_of_range(alloc));
+        unreachable!()
     };
     let Some(count) = count_of_frames(matches) else {
-        return Err(out_of_range(alloc));
+        unreachable!()
     };
     Ok(Command::Pictures {
         file,
@@ -215,21 +214,21 @@ fn drawing_of(alloc: Global, matches: &ArgMatches<'_>) -> Result<Command, LineFa
 }
 
 /// The command `cut`.
-fn cut_of(alloc: Global, matches: &ArgMatches<'_>) -> Result<Command, LineFault>
+fn cut_of(alloc: Global, matches: &ArgMatches<'_>) -> Result<Command, AllocError>
+    requires { HasNumbers cut_listed (rows_of (found_of matches.now)) }
     ensures kept { IfOk result KeepsWhatIsTaken }
     ensures ok { IfOk result (IsCommandAt (codes "cut") (rows_of (found_of matches.now))) }
-    ensures err { IfErr result (IsOutOfRange cut_listed (rows_of (found_of matches.now))) }
 {
     let file = text_of(alloc, matches, "file")?;
     let out = text_of(alloc, matches, "out")?;
     let Some(first) = first_of_frames(matches) else {
-        return Err(out_of_range(alloc));
+        unreachable!()
     };
     let Some(count) = count_of_frames(matches) else {
-        return Err(out_of_range(alloc));
+        unreachable!()
     };
     let Some(every) = checkpoints_of(matches) else {
-        return Err(out_of_range(alloc));
+        unreachable!()
     };
     Ok(Command::Cut {
         file,
@@ -251,14 +250,14 @@ fn frame_of(matches: &ArgMatches<'_>) -> Option<NonZeroU32>
 }
 
 /// The command `trace`.
-fn trace_of(alloc: Global, matches: &ArgMatches<'_>) -> Result<Command, LineFault>
+fn trace_of(alloc: Global, matches: &ArgMatches<'_>) -> Result<Command, AllocError>
+    requires { HasNumbers trace_listed (rows_of (found_of matches.now)) }
     ensures kept { IfOk result KeepsWhatIsTaken }
     ensures ok { IfOk result (IsCommandAt (codes "trace") (rows_of (found_of matches.now))) }
-    ensures err { IfErr result (IsOutOfRange trace_listed (rows_of (found_of matches.now))) }
 {
     let file = text_of(alloc, matches, "file")?;
     let Some(frame) = frame_of(matches) else {
-        return Err(out_of_range(alloc));
+        unreachable!()
     };
     Ok(Command::Trace { file, frame })
 }
@@ -277,26 +276,17 @@ fn fault_of(alloc: Global, error: &clap::Error) -> LineFault
     }
 }
 
-/// A number that `clap` let through outside of its range, which its parser doesn't.
-pub(crate) fn out_of_range(alloc: Global) -> LineFault
-    ensures { IsMistake result }
-{
-    match String::from_str(alloc, "error: a number is out of its range\n") {
-        Ok(text) => LineFault::Usage { text },
-        Err(_) => LineFault::Memory,
-    }
-}
-
-/// The command of this name, of which `clap` found some values.
+/// The command of this name, of which `clap` found some values, each number in its range.
 fn command_of(alloc: Global, name: &str, matches: &ArgMatches<'_>) -> Result<Command, LineFault>
+    requires { HasNumbersOf name.now (rows_of (found_of matches.now)) }
     ensures kept { IfOk result KeepsWhatIsTaken }
     ensures ok { IfOk result (IsCommandAt name.now (rows_of (found_of matches.now))) }
     ensures err { IfErr result (HasBadValue name.now (rows_of (found_of matches.now))) }
 {
     match name {
-        "verify" => verify_of(alloc, matches),
-        "report" => report_of(alloc, matches),
-        "make" => make_of(alloc, matches),
+        "verify" => Ok(verify_of(alloc, matches)?),
+        "report" => Ok(report_of(alloc, matches)?),
+        "make" => Ok(make_of(alloc, matches)?),
         "info" => Ok(Command::Info {
             file: text_of(alloc, matches, "file")?,
         }),
@@ -308,17 +298,17 @@ fn command_of(alloc: Global, name: &str, matches: &ArgMatches<'_>) -> Result<Com
             new: text_of(alloc, matches, "new")?,
         }),
         "frames" => frames_of(alloc, matches),
-        "pictures" => drawing_of(alloc, matches),
-        "cut" => cut_of(alloc, matches),
-        "trace" => trace_of(alloc, matches),
+        "pictures" => Ok(drawing_of(alloc, matches)?),
+        "cut" => Ok(cut_of(alloc, matches)?),
+        "trace" => Ok(trace_of(alloc, matches)?),
         _ => Ok(Command::Stdin),
     }
 }
 
 /// The command of some arguments, of which the first is the program's name.
 ///
-/// If they name no command it is `Command::Stdin`. Each number is tried by `clap`, and once more
-/// here, since its type promises its range.
+/// If they name no command it is `Command::Stdin`. `clap` tries each number, so that each is in its
+/// range here.
 pub fn parse_line<S: AsStr>(alloc: Global, words: &[S]) -> Result<Command, LineFault>
     ensures kept { IfOk result KeepsWhatIsTaken }
     ensures taken { IfOk result (λ _. faults_at program_app (map S.text words.now) ≡ []) }

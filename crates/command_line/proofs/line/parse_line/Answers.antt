@@ -4,6 +4,7 @@ use Rattle.clap.specs.Words.{app_of, found_of, rows_of}
 use Rattle.command_line.specs.Meanings.{IsCommand}
 use Rattle.command_line.specs.declared.command.Command.TheVariants.{Stdin}
 use Rattle.command_line.proofs.Known.{bad_value, both_of, failing, in_both, meets, none_of, refused, taken}
+use Rattle.command_line.proofs.Numbers.{numbers_met}
 use Rattle.command_line.proofs.Stops.{named, only_without}
 use Rattle.command_line.proofs.line.parse_line.Goals as goal
 
@@ -11,6 +12,14 @@ pub returns-in-Err-clause-err : goal.returns-in-Err-clause-err
 returns-in-Err-clause-err g c =
     let words = map g.S.AsStr.text c.args.words.now in
     refused words _ c.fault_of.result (failing (app_of c.in_ok-program.program) words c.in-Err.error c.in_ok-program.ensures.0 c.in-Err.ensures.kinds) c.fault_of.ensures
+
+pub command_of-requires : goal.command_of-requires
+command_of-requires g c =
+    let words = map g.S.AsStr.text c.args.words.now in
+    let none = taken (app_of c.in_ok-program.program) words c.in_ok-program.ensures.0 c.in-Ok.ensures.kinds in
+    let met = meets (app_of c.in_ok-program.program) words c.in-Ok.matches c.in_ok-program.ensures.0 c.in-Ok.ensures.matches in
+    let both = both_of _ _ _ c.in-Some.name.now (rows_of (found_of c.in-Some.inner.now)) c.in-Some.ensures.name c.in-Some.ensures.rows in
+    numbers_met words c.in-Some.name.now (rows_of (found_of c.in-Some.inner.now)) none (sym met ∙ both)
 
 pub returns-in-Some-clause-taken : goal.returns-in-Some-clause-taken
 returns-in-Some-clause-taken g c =

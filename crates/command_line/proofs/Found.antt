@@ -1,0 +1,408 @@
+-- Where the parse of a command finds no mistake, what was found for a number is in its range.
+use Rattle.std.proofs.Common.{◌≡◌, ◌∙◌, ◌&&◌, ◌||◌, ◌<◌, ◌==◌, ◌++◌, ℕ, Bool, true, false, zero, suc, cond, drop, length, List, [], ◌∷◌, Option, Some, None, if◌then◌else◌, is_some, sym, subst, refl, ap, unwrap_or, true≢false, arith}
+use Rattle.std.specs.Prelude.{◌+◌, min, find, fold, pos, slice_get, encode_utf8}
+use Rattle.std.specs.Option.{option_map_or}
+use Rattle.std.specs.Str.{bytes_eq, chars}
+use Rattle.std.specs.Str.Parse.{IsNumeral, starts_with_minus, without_leading_plus}
+use Rattle.std.proofs.lemmas.Bool.{ne_eqb}
+use Rattle.std.proofs.lemmas.Int.{ints}
+use Rattle.std.proofs.lemmas.Slice.Eq.{bytes_eq-Decides}
+use Rattle.std.proofs.lemmas.Str.Parse.{digit_from_value}
+use Rattle.clap.specs.Words.{Row, Rule, Shape, Text}
+use Rattle.clap.specs.Walk.{Held, Names, Outcome, Step, Waiting, Walk, action_of, after_flag, after_step, arg_by_id, arg_by_index, arg_by_long, arg_by_short, at_row, attached_value, bundle, bundle_met, bundle_step, count_of, done, flag_met, has_row, idle, is_empty, is_pending, long_met, long_or_other, more_values, most_values, new_count, next, option, option_met, option_word, plain, plain_word, positional, positional_held, reacted, reading_by, refused, settled, settled_rows, short_met, short_or_plain, subcommand, subcommand_met, subcommand_or_other, takes_several, takes_values, to_positional, trailing, used, used_as, used_by_id, value, values_or_missing, waits, walked, walked_from, with_count, with_default, with_values, without, default_rows, word_met}
+use Rattle.clap.specs.declared.error.ErrorKind.TheVariants as kind
+use Rattle.clap.specs.Faults.{action_fault, bundle_fault, bundle_step_fault, default_fault, defaults_fault, flag_word_fault, flags_fault, given_default_fault, long_fault, option_fault, other_fault, positional_fault, react_fault, settle_fault, short_fault, step_fault, stray_fault, turn_fault, use_fault, values_fault, walk_fault, word_fault}
+use Rattle.clap.specs.Kinds.{Kinds, or_else, range_kinds, request_kinds, value_kinds, values_kinds}
+use Rattle.clap.specs.Values.{IsSignedIn, refused_kind}
+use Rattle.clap.specs.declared.error.ErrorKind.{ErrorKind}
+use Rattle.clap.specs.Lexer.{long_of, short_of, without_minus}
+use Rattle.clap.specs.ValueTests.{accepts}
+use Rattle.clap.specs.Facts.{unwrap_or_range}
+use Rattle.clap.specs.declared.builder.action.ArgAction.{ArgAction}
+use Rattle.clap.specs.declared.builder.action.ArgAction.TheVariants as action
+use Rattle.clap.specs.declared.builder.value_parser.Reading.{Reading}
+use Rattle.clap.specs.declared.builder.value_parser.Reading.TheVariants as reading
+use Rattle.clap.specs.declared.builder.value_parser.ValueParser.TheVariants as vp
+use Rattle.clap.specs.declared.parser.matches.ValueSource.{ValueSource}
+use Rattle.clap.specs.declared.parser.matches.ValueSource.TheVariants.{CommandLine, DefaultValue}
+use Rattle.clap.proofs.ValueTestLemmas.{accepts-Accepts}
+use Rattle.command_line.specs.Private.Numbers.{IsNumberIn}
+
+-- ---- lists of kinds
+
+pub none_first : (a b : Kinds) → or_else a b ≡ [] → a ≡ []
+none_first [] b h = refl
+none_first (k ∷ ks) b h = h
+
+pub none_then : (a b : Kinds) → or_else a b ≡ [] → b ≡ []
+none_then [] b h = h
+none_then (k ∷ ks) b h = cc
+
+-- ---- the number that a text writes
+
+without_minus_is : (t : Text) → without_minus t ≡ cond (starts_with_minus t) (drop 1 t) t
+without_minus_is [] = refl
+without_minus_is (x ∷ xs) = go (x == 45)
+  where
+    go : (b : Bool) → unwrap_or (cond b (Some xs) None) (x ∷ xs) ≡ cond b xs (x ∷ xs)
+    go true = refl
+    go false = refl
+
+no_plus : (ds : Text) → IsNumeral 10 ds → without_leading_plus ds ≡ ds
+no_plus [] h = refl
+no_plus (d ∷ ds) h =
+    let plus : (d == 43) ≡ false = ne_eqb _ _ (λ e. omega (arith, digit_from_value d h.1.0)) in
+    ap (λ (b : Bool). drop (cond b 1 0) (d ∷ ds)) plus
+
+in_range : (least most : ℕ) (t : Text) → IsSignedIn (pos least) (pos most) t → IsNumberIn least most (Some (without_minus t))
+in_range least most t passed = subst (λ (u : Text). IsNumberIn least most (Some u)) (sym (without_minus_is t)) (go (starts_with_minus t) refl)
+  where
+    go : (b : Bool) → starts_with_minus t ≡ b → IsNumberIn least most (Some (cond (starts_with_minus t) (drop 1 t) t))
+    go true minus =
+        let low = rw minus at passed.2 in
+        let numeral : IsNumeral 10 (drop 1 t) = rw minus at passed.0 in
+        let same = no_plus (drop 1 t) numeral in
+        rw (minus, same) (numeral, omega (arith, ints), omega (arith, ints))
+    go false minus =
+        let low = rw minus at passed.2 in
+        let high = rw minus at passed.3 in
+        let numeral = rw minus at passed.0 in
+        rw minus (numeral, omega (arith, ints), omega (arith, ints))
+
+module _ (id : Text) (least most : ℕ) where
+  -- ---- the argument, and what was found for it
+
+  -- The argument is an option with one number in the range.
+  pub record IsNumberRule (a : Rule) : Type 0 where
+    pub action : a.action ≡ Some action.Set
+    pub range : a.range ≡ Some (record { start_inclusive = 1; end_inclusive = 1 })
+    pub parser : a.parser ≡ Some (vp.Signed (pos least) (pos most))
+
+  abbrev pub IsOwn : Rule → Type 0
+  IsOwn a = bytes_eq a.id id ≡ true → IsNumberRule a
+
+  abbrev pub AreOwn : List Rule → Type 0
+  AreOwn [] = Unit {0}
+  AreOwn (a ∷ more) = IsOwn a × AreOwn more
+
+  found_own : (p : Rule → Bool) (c : List Rule) (a : Rule) → AreOwn c → find p c ≡ Some a → IsOwn a
+  found_own p [] a own is = cc
+  found_own p (x ∷ more) a own is = go (p x) refl (found_own p more a own.1)
+    where
+      go : (b : Bool) → p x ≡ b → (find p more ≡ Some a → IsOwn a) → IsOwn a
+      go true e later =
+          let same : Some x ≡ Some a = rw e at is in
+          let it : x ≡ a = ap (λ (o : Option Rule). unwrap_or o x) same in
+          subst IsOwn it own.0
+      go false e later =
+          let rest : find p more ≡ Some a = rw e at is in
+          later rest
+
+  -- Each text writes a number in the range.
+  abbrev AreIn : List Text → Type 0
+  AreIn [] = Unit {0}
+  AreIn (v ∷ more) = IsNumberIn least most (Some (without_minus v)) × AreIn more
+
+  abbrev pub IsFilled : List Text → Reading → Type 0
+  IsFilled values how = (0 < length values) × AreIn values × (how ≡ reading.WithoutMinus)
+
+  abbrev pub IsGood : Row → Type 0
+  IsGood r = IsFilled r.values r.reading
+
+  abbrev pub AreGood : List Row → Type 0
+  AreGood [] = Unit {0}
+  AreGood (r ∷ rs) = (bytes_eq r.id id ≡ true → IsGood r) × AreGood rs
+
+  both_in : (xs ys : List Text) → AreIn xs → AreIn ys → AreIn (xs ++ ys)
+  both_in [] ys a b = b
+  both_in (x ∷ xs) ys a b = (a.0, both_in xs ys a.1 b)
+
+  longer : (xs ys : List Text) → 0 < length ys → 0 < length (xs ++ ys)
+  longer [] ys h = h
+  longer (x ∷ xs) ys h = omega arith
+
+  both_good : (xs ys : List Row) → AreGood xs → AreGood ys → AreGood (xs ++ ys)
+  both_good [] ys a b = b
+  both_good (x ∷ xs) ys a b = (a.0, both_good xs ys a.1 b)
+
+  at_good : (name : Text) (change : Row → List Row) (missing rows : List Row)
+      → ((r : Row) → bytes_eq r.id name ≡ true → (bytes_eq r.id id ≡ true → IsGood r) → AreGood (change r)) → AreGood missing
+      → AreGood rows → AreGood (at_row name change missing rows)
+  at_good name change missing [] each none good = none
+  at_good name change missing (r ∷ rs) each none good = go (bytes_eq r.id name) refl (at_good name change missing rs each none good.1)
+    where
+      go : (b : Bool) → bytes_eq r.id name ≡ b → AreGood (at_row name change missing rs) → AreGood (if b then change r ++ rs else r ∷ at_row name change missing rs)
+      go true e later = both_good (change r) rs (each r e good.0) good.1
+      go false e later = (good.0, later)
+
+  -- A row that answers to two names has both.
+  same_name : (r : Row) (name : Text) → bytes_eq r.id name ≡ true → bytes_eq r.id id ≡ true → bytes_eq name id ≡ true
+  same_name r name is own = subst (λ (t : Text). bytes_eq t id ≡ true) ((bytes_eq-Decides r.id name).0 is) own
+
+  without_good : (name : Text) (rows : List Row) → AreGood rows → AreGood (without name rows)
+  without_good name rows good = at_good name (λ _. []) [] rows (λ r is g. tt) tt good
+
+  values_good : (name : Text) (how : Reading) (s : ValueSource) (values : List Text) (rows : List Row)
+      → (bytes_eq name id ≡ true → IsFilled values how) → AreGood rows → AreGood (with_values name how s values rows)
+  values_good name how s values rows filled good = at_good name (more_values s values) _ rows
+      (λ r is g. (λ own. let now = g own in let new = filled (same_name r name is own) in (longer r.values values new.0, both_in r.values values now.1 new.1, now.2), tt))
+      (filled, tt) good
+
+  count_good : (name : Text) (how : Reading) (s : ValueSource) (n : ℕ) (rows : List Row) → bytes_eq name id ≡ false
+      → AreGood rows → AreGood (with_count name how s n rows)
+  count_good name how s n rows other good = at_good name (new_count s n) _ rows
+      (λ r is g. (λ own. absurd (true≢false (sym (same_name r name is own) ∙ other)), tt))
+      ((λ own. absurd (true≢false (sym own ∙ other))), tt) good
+
+  -- ---- one use of an argument
+
+  other_used : (x : ArgAction) (name : Text) (how : Reading) (values : List Text) (rows : List Row) → bytes_eq name id ≡ false
+      → AreGood rows → AreGood (used_as x name how values rows)
+  other_used action.Set name how values rows other good =
+      values_good name how CommandLine values (without name rows) (λ own. absurd (true≢false (sym own ∙ other))) (without_good name rows good)
+  other_used action.SetTrue name how values rows other good =
+      values_good name how CommandLine values (without name rows) (λ own. absurd (true≢false (sym own ∙ other))) (without_good name rows good)
+  other_used action.SetFalse name how values rows other good =
+      values_good name how CommandLine values (without name rows) (λ own. absurd (true≢false (sym own ∙ other))) (without_good name rows good)
+  other_used action.Append name how values rows other good =
+      values_good name how CommandLine values rows (λ own. absurd (true≢false (sym own ∙ other))) good
+  other_used action.Count name how [] rows other good =
+      count_good name how CommandLine (min (count_of name rows + 1) 255) (without name rows) other (without_good name rows good)
+  other_used action.Count name how (v ∷ vs) rows other good =
+      values_good name how CommandLine (v ∷ vs) (without name rows) (λ own. absurd (true≢false (sym own ∙ other))) (without_good name rows good)
+  other_used action.Help name how values rows other good = good
+  other_used action.HelpShort name how values rows other good = good
+  other_used action.HelpLong name how values rows other good = good
+  other_used action.Version name how values rows other good = good
+
+  accepted : (case : Bool) (v : Text) → value_kinds case (vp.Signed (pos least) (pos most)) v ≡ [] → accepts case (vp.Signed (pos least) (pos most)) v ≡ true
+  accepted case v none = go (accepts case (vp.Signed (pos least) (pos most)) v) (refused_kind (vp.Signed (pos least) (pos most))) none
+    where
+      go : (b : Bool) → (k : ErrorKind) → (if b then [] else k ∷ []) ≡ [] → b ≡ true
+      go true k h = refl
+      go false k h = cc
+
+  values_in : (case : Bool) (values : List Text) → values_kinds case (vp.Signed (pos least) (pos most)) values ≡ [] → AreIn values
+  values_in case [] none = tt
+  values_in case (v ∷ vs) none = (
+    in_range least most v (accepts-Accepts case (vp.Signed (pos least) (pos most)) v (accepted case v (none_first _ _ none))),
+    values_in case vs (none_then _ _ none),
+  )
+
+  fault_free : (a : Rule) (values : List Text) → IsNumberRule a → values_fault a values ≡ [] → AreIn values
+  fault_free a values rule none =
+      let as_numbers : values_kinds a.ignore_case (vp.Signed (pos least) (pos most)) values ≡ [] = rw rule.parser at none in
+      values_in a.ignore_case values as_numbers
+
+  reads : (a : Rule) → IsNumberRule a → reading_by a ≡ reading.WithoutMinus
+  reads a rule = rw rule.parser refl
+
+  own_used : (a : Rule) (again : Bool) (values : List Text) (rows : List Row) → IsNumberRule a → use_fault again a values rows ≡ []
+      → AreGood rows → AreGood (used a values rows)
+  own_used a again [] rows rule none good =
+      let first : range_kinds (unwrap_or_range a.range).start_inclusive (most_values a) 0 ≡ [] = none_first _ _ none in
+      let bad : range_kinds 1 1 0 ≡ [] = rw rule.range at first in
+      cc
+  own_used a again (v ∷ vs) rows rule none good =
+      let acted : action_fault (action_of a) again a (v ∷ vs) rows ≡ [] = none_then (range_kinds (unwrap_or_range a.range).start_inclusive (most_values a) (length (v ∷ vs))) _ none in
+      let set : action_fault action.Set again a (v ∷ vs) rows ≡ [] = rw rule.action at acted in
+      let some : 0 < length (v ∷ vs) = omega arith in
+      let fine = fault_free a (v ∷ vs) rule (none_then _ _ set) in
+      rw rule.action
+      (values_good a.id (reading_by a) CommandLine (v ∷ vs) (without a.id rows) (λ own. (some, fine, reads a rule)) (without_good a.id rows good))
+
+  used_good : (a : Rule) (again : Bool) (values : List Text) (rows : List Row) → IsOwn a → use_fault again a values rows ≡ []
+      → AreGood rows → AreGood (used a values rows)
+  used_good a again values rows own none good = go (bytes_eq a.id id) refl
+    where
+      go : (b : Bool) → bytes_eq a.id id ≡ b → AreGood (used a values rows)
+      go true e = own_used a again values rows (own e) none good
+      go false e = other_used (action_of a) a.id (reading_by a) (values_or_missing a values) rows e good
+
+  -- ---- the walk
+
+  settle_good : (c : List Rule) (again : Bool) (pending : Option (Text × List Text)) (rows : List Row) → AreOwn c
+      → option_map_or (λ p. option_map_or (λ a. use_fault again a p.1 rows) (arg_by_id c p.0) []) pending [] ≡ []
+      → AreGood rows → AreGood (settled_rows c pending rows)
+  settle_good c again None rows own none good = good
+  settle_good c again (Some p) rows own none good = go (arg_by_id c p.0) refl none
+    where
+      go : (o : Option Rule) → arg_by_id c p.0 ≡ o → option_map_or (λ a. use_fault again a p.1 rows) o [] ≡ [] → AreGood (used_by_id o p.1 rows)
+      go None e n = good
+      go (Some a) e n = used_good a again p.1 rows (found_own _ c a own e) n good
+
+  pub settled_good : (c : List Rule) (again : Bool) (h : Held) → AreOwn c → settle_fault c again h ≡ [] → AreGood h.rows → AreGood (settled c h).rows
+  settled_good c again h own none good = settle_good c again h.pending h.rows own none good
+
+  reacted_good : (c : List Rule) (again : Bool) (a : Rule) (values : List Text) (h : Held) → AreOwn c → IsOwn a → react_fault c again a values h ≡ []
+      → AreGood h.rows → AreGood (reacted c a values h).rows
+  reacted_good c again a values h own mine none good =
+      used_good a again values (settled c h).rows mine (none_then _ _ none) (settled_good c again h own (none_first _ _ none) good)
+
+  option_good : (c : List Rule) (again : Bool) (a : Rule) (v : Option Text) (h : Held) → AreOwn c → IsOwn a → option_fault c again a v h ≡ []
+      → AreGood h.rows → AreGood (option_met c a v h).0.rows
+  option_good c again a (Some v) h own mine none good = reacted_good c again a (v ∷ []) h own mine none good
+  option_good c again a None h own mine none good = settled_good c again h own none good
+
+  flag_good : (c : List Rule) (again : Bool) (a : Rule) (v : Option Text) (h : Held) → AreOwn c → IsOwn a
+      → (if is_some v then kind.TooManyValues ∷ [] else react_fault c again a [] h) ≡ [] → AreGood h.rows → AreGood (flag_met c a v h).0.rows
+  flag_good c again a (Some v) h own mine none good = good
+  flag_good c again a None h own mine none good = reacted_good c again a [] h own mine none good
+
+  long_good : (c : List Rule) (again : Bool) (o : Option Rule) (v : Option Text) (h : Held) → AreOwn c → ((a : Rule) → o ≡ Some a → IsOwn a)
+      → long_fault c again o v h ≡ [] → AreGood h.rows → AreGood (long_met c o v h).0.rows
+  long_good c again None v h own mine none good = good
+  long_good c again (Some a) v h own mine none good = go (takes_values a) none
+    where
+      go : (b : Bool) → (if b then option_fault c again a v h else (if is_some v then kind.TooManyValues ∷ [] else react_fault c again a [] h)) ≡ []
+          → AreGood (if b then option_met c a v h else flag_met c a v h).0.rows
+      go true n = option_good c again a v h own (mine a refl) n good
+      go false n = flag_good c again a v h own (mine a refl) n good
+
+  short_good : (c : List Rule) (again : Bool) (o : Option Rule) (rest : Text) (h : Held) (after : Held → Held × Outcome) (fault : Held → Kinds)
+      → AreOwn c → ((a : Rule) → o ≡ Some a → IsOwn a) → ((x : Held) → fault x ≡ [] → AreGood x.rows → AreGood (after x).0.rows)
+      → short_fault c again o rest h fault ≡ [] → AreGood h.rows → AreGood (short_met c o rest h after).0.rows
+  short_good c again None rest h after fault own mine later none good = good
+  short_good c again (Some a) rest h after fault own mine later none good = go (takes_values a) none
+    where
+      go : (b : Bool)
+          → (if b then option_fault c again a (attached_value rest) h else or_else (react_fault c again a [] h) (fault (reacted c a [] h))) ≡ []
+          → AreGood (if b then option_met c a (attached_value rest) h else after (reacted c a [] h)).0.rows
+      go true n = option_good c again a (attached_value rest) h own (mine a refl) n good
+      go false n = later (reacted c a [] h) (none_then _ _ n) (reacted_good c again a [] h own (mine a refl) (none_first _ _ n) good)
+
+  bundle_good : (c : List Rule) (again : Bool) (k : ℕ) (flags : Text) (skip : ℕ) (so_far : Outcome) (h : Held) → AreOwn c
+      → flags_fault c again k flags skip h ≡ [] → AreGood h.rows → AreGood (bundle_met c k flags skip so_far h).0.rows
+  unfolding bundle_met flags_fault
+  bundle_good c again zero flags skip so_far h own none good = good
+  bundle_good c again (suc k) flags skip so_far h own none good =
+      go (λ f s o x n g. bundle_good c again k f s o x own n g) (slice_get (chars flags) 0) skip none
+    where
+      go : ((f : Text) (s : ℕ) (o : Outcome) (x : Held) → flags_fault c again k f s x ≡ [] → AreGood x.rows → AreGood (bundle_met c k f s o x).0.rows)
+          → (first : Option ℕ) (s : ℕ) → bundle_step_fault c again first flags s h (flags_fault c again k) ≡ []
+          → AreGood (bundle_step c first flags s so_far h (bundle_met c k)).0.rows
+      go later None s n = good
+      go later (Some x) zero n =
+          let rest = drop (length (encode_utf8 x)) flags in
+          short_good c again (arg_by_short c x) rest h (bundle_met c k rest 0 done) (flags_fault c again k rest 0) own
+          (λ a e. found_own _ c a own e) (λ y f g. later rest 0 done y f g) n good
+      go later (Some x) (suc s) n = later (drop (length (encode_utf8 x)) flags) s so_far h n good
+
+  -- A word that is no flag changes no row.
+  plain_good : (c : List Rule) (waiting : Waiting) (word : Text) (h : Held) → AreGood h.rows → AreGood (plain_word c waiting word h).0.rows
+  plain_good c idle word h good = good
+  plain_good c positional word h good = good
+  plain_good c (option name) word h good = go (arg_by_id c name)
+    where
+      go : (o : Option Rule) → AreGood (option_word o name word h).0.rows
+      go None = good
+      go (Some a) = good
+
+  after_good : (c : List Rule) (waiting : Waiting) (word : Text) (h : Held) (o : Outcome) → AreGood h.rows → AreGood (after_flag c waiting word h o).0.rows
+  after_good c waiting word h done good = good
+  after_good c waiting word h (waits name) good = good
+  after_good c waiting word h plain good = plain_good c waiting word h good
+  after_good c waiting word h refused good = plain_good c waiting word h good
+
+  flag_word_good : (c : List Rule) (again : Bool) (waiting : Waiting) (word : Text) (o : Option (Text × Option Text)) (h : Held) → AreOwn c
+      → flag_word_fault c again o word h ≡ [] → AreGood h.rows → AreGood (long_or_other c waiting word o h).0.rows
+  flag_word_good c again waiting word (Some p) h own none good =
+      after_good c waiting word (long_met c (arg_by_long c p.0) p.1 h).0 (long_met c (arg_by_long c p.0) p.1 h).1
+      (long_good c again (arg_by_long c p.0) p.1 h own (λ a e. found_own _ c a own e) none good)
+  flag_word_good c again waiting word None h own none good = go (short_of word) none
+    where
+      go : (o : Option Text) → option_map_or (λ flags. bundle_fault c again flags h) o [] ≡ [] → AreGood (short_or_plain c waiting word o h).0.rows
+      go (Some flags) n = after_good c waiting word (bundle c flags h).0 (bundle c flags h).1
+          (bundle_good c again (length flags) flags h.skip plain (record h { skip = 0 }) own n good)
+      go None n = plain_good c waiting word h good
+
+  -- ---- one word
+
+  word_good : (s : Shape) (names : Names) (b : Bool) (waiting : Waiting) (position : ℕ) (word : Text) (h : Held) → AreOwn s.rules
+      → word_fault s names b waiting word h ≡ [] → AreGood h.rows → AreGood (word_met s.rules names b waiting position word h).0.rows
+  word_good s names true waiting position word h own none good = good
+  word_good s names false waiting position word h own none good = go (subcommand_met names waiting word) none
+    where
+      dashes : (b : Bool) → (if b then [] else flag_word_fault s.rules s.args_override_self (long_of word) word h) ≡ []
+          → AreGood (if b then (h, trailing position) else long_or_other s.rules waiting word (long_of word) h).0.rows
+      dashes true n = good
+      dashes false n = flag_word_good s.rules s.args_override_self waiting word (long_of word) h own n good
+
+      go : (o : Option Text) → other_fault s o word h ≡ [] → AreGood (subcommand_or_other s.rules o waiting position word h).0.rows
+      go (Some name) n = good
+      go None n = dashes (bytes_eq word (45 ∷ 45 ∷ [])) n
+
+  positional_good : (c : List Rule) (again : Bool) (a : Rule) (word : Text) (h : Held) → AreOwn c → positional_fault c again a h ≡ []
+      → AreGood h.rows → AreGood (positional_held c a word h).rows
+  positional_good c again a word h own none good = go (is_pending a h.pending && takes_several a) none
+    where
+      go : (b : Bool) → (if b then [] else settle_fault c again h) ≡ [] → AreGood (if b then h else settled c h).rows
+      go true n = good
+      go false n = settled_good c again h own n good
+
+  value_good : (s : Shape) (word : Text) (w : Walk) (h : Held) → AreOwn s.rules → step_fault s w.position h value ≡ []
+      → AreGood h.rows → AreGood (to_positional s.rules (arg_by_index s.rules w.position) word w h).held.rows
+  value_good s word w h own none good = go (arg_by_index s.rules w.position) none
+    where
+      go : (o : Option Rule) → option_map_or (λ a. positional_fault s.rules s.args_override_self a h) o (stray_fault s) ≡ []
+          → AreGood (to_positional s.rules o word w h).held.rows
+      go None n = good
+      go (Some a) n = positional_good s.rules s.args_override_self a word h own n good
+
+  step_good : (s : Shape) (word : Text) (w : Walk) (h : Held) (step : Step) → AreOwn s.rules → step_fault s w.position h step ≡ []
+      → AreGood h.rows → AreGood (after_step s.rules word w h step).held.rows
+  step_good s word w h (next waiting) own none good = good
+  step_good s word w h (trailing position) own none good = good
+  step_good s word w h (subcommand name) own none good = good
+  step_good s word w h value own none good = value_good s word w h own none good
+
+  turn_good : (s : Shape) (names : Names) (w : Walk) (word : Text) → AreOwn s.rules → turn_fault s names w word ≡ []
+      → AreGood w.held.rows → AreGood (walked s.rules names w word).held.rows
+  unfolding walked
+  turn_good s names w word own none good = go w.stopped none
+    where
+      go : (o : Option (Text × List Text))
+          → (if is_some o then [] else or_else (word_fault s names w.is_trailing w.waiting word w.held)
+          (step_fault s w.position (word_met s.rules names w.is_trailing w.waiting w.position word w.held).0
+          (word_met s.rules names w.is_trailing w.waiting w.position word w.held).1)) ≡ []
+          → AreGood (walked_from s.rules names o w word).held.rows
+      go (Some p) n = good
+      go None n =
+          let met = word_met s.rules names w.is_trailing w.waiting w.position word w.held in
+          step_good s word w met.0 met.1 own (none_then _ _ n)
+          (word_good s names w.is_trailing w.waiting w.position word w.held own (none_first _ _ n) good)
+
+  -- ---- all words, and the defaults
+
+  pub walk_good : (s : Shape) (names : Names) (w : Walk) (words : List Text) → AreOwn s.rules → walk_fault s names w words ≡ []
+      → AreGood w.held.rows → AreGood (fold (walked s.rules names) w words).held.rows
+  unfolding walk_fault
+  walk_good s names w [] own none good = good
+  walk_good s names w (word ∷ rest) own none good =
+      walk_good s names (walked s.rules names w word) rest own (none_then (turn_fault s names w word) _ none)
+      (turn_good s names w word own (none_first (turn_fault s names w word) _ none) good)
+
+  default_good : (a : Rule) (rows : List Row) → IsOwn a → default_fault rows a ≡ [] → AreGood rows → AreGood (with_default rows a)
+  default_good a rows own none good = go (has_row a.id rows) none
+    where
+      texts_good : (texts : List Text) → (if is_empty texts then [] else given_default_fault a texts) ≡ []
+          → AreGood (default_rows a.id (reading_by a) texts rows)
+      texts_good [] n = good
+      texts_good (v ∷ vs) n =
+          let some : is_empty (v ∷ vs) ≡ false = ne_eqb _ _ (λ e. omega arith) in
+          let fault : given_default_fault a (v ∷ vs) ≡ [] = rw some at n in
+          let length_some : 0 < length (v ∷ vs) = omega arith in
+          values_good a.id (reading_by a) DefaultValue (v ∷ vs) rows
+          (λ mine. (length_some, fault_free a (v ∷ vs) (own mine) (none_then (request_kinds (action_of a)) (values_fault a (v ∷ vs)) fault), reads a (own mine))) good
+
+      go : (b : Bool) → (if b || is_empty a.defaults then [] else given_default_fault a a.defaults) ≡ []
+          → AreGood (if b then rows else default_rows a.id (reading_by a) a.defaults rows)
+      go true n = good
+      go false n = texts_good a.defaults n
+
+  pub defaults_good : (c : List Rule) (rows : List Row) → AreOwn c → defaults_fault rows c ≡ [] → AreGood rows → AreGood (fold with_default rows c)
+  unfolding defaults_fault
+  defaults_good [] rows own none good = good
+  defaults_good (a ∷ more) rows own none good =
+      defaults_good more (with_default rows a) own.1 (none_then (default_fault rows a) _ none)
+      (default_good a rows own.0 (none_first (default_fault rows a) _ none) good)
