@@ -138,7 +138,11 @@ impl fmt::Display for Number {
             let (name, _) = processor_number(self.place);
             write!(f, "{name}")
         } else if self.place < OTHERS_AT {
-            write!(f, "memory {}", HexByte(0x80 + (self.place - MEMORY_AT) as u8))
+            write!(
+                f,
+                "memory {}",
+                HexByte(0x80 + (self.place - MEMORY_AT) as u8)
+            )
         } else {
             let (name, _) = other_number(self.place - OTHERS_AT);
             write!(f, "{name}")

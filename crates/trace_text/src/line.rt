@@ -163,7 +163,11 @@ fn instruction_text(
         has_banks,
         bank: executed.bank,
     };
-    format!(in alloc; "{beam}  {}  {code}  {}{bank}", HexWord(cpu.pc), Registers(cpu))
+    format!(in alloc;
+        "{beam}  {}  {code}  {}{bank}",
+        HexWord(cpu.pc),
+        Registers(cpu)
+    )
 }
 
 /// The line of an instruction in a trace, with its line feed. `has_banks` is whether the cartridge

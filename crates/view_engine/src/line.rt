@@ -61,7 +61,11 @@ impl fmt::Display for Line {
 }
 
 /// Writes a line as the last one.
-pub(crate) fn write_last<L: Write>(alloc: Global, line: Line, lines: &mut L) -> Result<(), DrawError>
+pub(crate) fn write_last<L: Write>(
+    alloc: Global,
+    line: Line,
+    lines: &mut L,
+) -> Result<(), DrawError>
     ensures ok { OnOk result (Appends (L.contents lines.old) (L.contents lines.new) (line_bytes line)) }
     ensures memory { result ≡ Err DrawError.NoMemory → Keeps (L.contents lines.old) (L.contents lines.new) }
     ensures fault { result ≡ Err DrawError.WriteFault → AppendsPrefix (L.contents lines.old) (L.contents lines.new) (line_bytes line) }
