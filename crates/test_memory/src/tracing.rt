@@ -30,7 +30,8 @@ pub(crate) fn is_traced(alloc: Global) -> Result<(), Failure> {
         NonZeroU32::MIN,
         &mut left,
     );
-    let written = &lines[..ROOM - left.len()];
+    let count = ROOM - left.len();
+    let written = &lines[..count];
     match answer {
         Ok(status) => right(status == Status::Done && written == LINES.as_bytes()),
         Err(RunError::NoMemory) if is_whole_lines(LINES.as_bytes(), written) => {
