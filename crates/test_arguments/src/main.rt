@@ -100,7 +100,7 @@ fn answer(rt: &impl Print, alloc: Global, line: &str) -> io::Result<()> {
 }
 
 fn main(rt: HostRuntime) -> ExitCode {
-    let mut room = [0u8; 4096];
+    let mut room = [0u8; 8192];
     let Ok(length) = rt.stdin().read(&mut room) else {
         return ExitCode::FAILURE;
     };

@@ -40,7 +40,7 @@ pub(crate) fn is_described(alloc: Global, digests: bool) -> Result<(), Failure> 
         3,
         &mut left,
     );
-    let count = ROOM - left.len();
+    let count = ROOM.saturating_sub(left.len());
     let written = &lines[..count];
     match answer {
         Ok(status) => right(status == Status::Done && written == wanted.as_bytes()),

@@ -30,7 +30,7 @@ pub(crate) fn is_traced(alloc: Global) -> Result<(), Failure> {
         NonZeroU32::MIN,
         &mut left,
     );
-    let count = ROOM - left.len();
+    let count = ROOM.saturating_sub(left.len());
     let written = &lines[..count];
     match answer {
         Ok(status) => right(status == Status::Done && written == LINES.as_bytes()),
