@@ -1,6 +1,7 @@
 -- What can be held in a frame: fifteen names, each of one bit of an input. The bits are those of
 -- the Stella Programmer's Guide, the names this project's own.
-use Rattle.std.specs.Prelude.{ℕ, ◌^◌, ◌<◌, Bool, true, false, not, ◌==◌, List, [], ◌∷◌, codes}
+use Rattle.std.specs.Prelude.{ℕ, ◌^◌, ◌<◌, Bool, true, false, not, ◌==◌, ◌&&◌, List, [], ◌∷◌}
+use Rattle.std.specs.Prelude.{codes}
 use Rattle.std.specs.Prelude.{bit_or, bit_xor, filter, fold, IsTrue, if◌then◌else◌}
 use Rattle.std.specs.Int.{bit_at}
 use Rattle.vcs_machine.specs.Inputs.{InputData, is_input}
@@ -53,6 +54,10 @@ is_same_port _ _ = false
 -- an input in which nothing is held
 abbrev pub idle : InputData
 idle = record { swcha = 0xFF; swchb = 0x3F; buttons = 0 }
+
+-- whether nothing is held in an input
+abbrev pub is_idle : InputData → Bool
+is_idle c = (c.swcha == idle.swcha) && (c.swchb == idle.swchb) && (c.buttons == idle.buttons)
 
 -- the bit of a name in the byte of a port: none if another port has it
 abbrev pub bit_in : Port → Name → ℕ

@@ -1,6 +1,6 @@
 //! What is held in a frame.
 ghost use Rattle.std.specs.Prelude.{◌≡◌, ◌<◌, bit_and, bit_or, bit_xor};
-ghost use Rattle.input_text.specs.Names.{idle, bit_in};
+ghost use Rattle.input_text.specs.Names.{idle, is_idle, bit_in};
 ghost use Rattle.input_text.specs.declared.name.Port.TheVariants.{Swcha, Swchb, Buttons};
 
 use crate::name::{Name, Port};
@@ -8,6 +8,15 @@ use vcs_machine::Input;
 
 /// The pins and buttons of a frame in which nothing is held.
 const IDLE: [u8; 3] = [0xFF, 0x3F, 0x00];
+
+/// Whether nothing is held in a frame: each joystick, button and switch is at rest, colour is
+/// selected, and both difficulty switches are at B.
+pub fn is_idle(input: &Input) -> bool
+    ensures { result ≡ is_idle input.now }
+{
+    let [swcha, swchb, buttons] = input.bytes();
+    swcha == IDLE[0] && swchb == IDLE[1] && buttons == IDLE[2]
+}
 
 /// The names that are held in a frame, as the bits that they turn over.
 #[derive(Clone, Copy)]
