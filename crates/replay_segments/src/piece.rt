@@ -59,6 +59,18 @@ impl Piece {
         matches!(self.outcome, Outcome::Judged(Verdict::Genuine { .. }))
     }
 
+    /// What is said of its segment; None if an allocation was refused.
+    pub fn verdict(&self) -> Option<&Verdict>
+        ensures some { IfSome result (λ v. self.now.outcome ≡ Outcome.Judged v.now) }
+        ensures none { IfNone result (self.now.outcome ≡ Outcome.NoMemory) }
+        ensures lawful { IsPiece self.now }
+    {
+        match &self.outcome {
+            Outcome::Judged(verdict) => Some(verdict),
+            Outcome::NoMemory => None,
+        }
+    }
+
     /// The verdict of a segment that did not pass.
     pub(crate) fn bad(&self) -> Option<Verdict>
         ensures bad { IfSome result (λ v. (self.now.outcome ≡ Outcome.Judged v) × IsFalse (passed self.now.outcome)) }
