@@ -1,4 +1,6 @@
 pub mod CheckpointLemmas
 pub mod DifferenceLemmas
-pub mod FactLemmas
+pub mod HeldLemmas
+pub mod ListLemmas
 pub mod NumberLemmas
+pub mod SignLemmas

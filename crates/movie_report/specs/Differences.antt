@@ -1,4 +1,4 @@
--- The numbers in which two state records differ, and their lines. This project's own.
+-- The numbers in which two state records differ. This project's own.
 use Rattle.std.specs.Prelude.{ℕ, List, [], ◌∷◌, ◌++◌, codes, take, drop, if◌then◌else◌}
 use Rattle.std.specs.List.{flat_map}
 use Rattle.std.specs.Str.{bytes_eq}
@@ -6,6 +6,8 @@ use Rattle.hex.specs.Hex.{encode_upper}
 use Rattle.movie_report.specs.Numbers.{NumberData, state_numbers}
 use Rattle.movie_report.specs.declared.differences.Comparison.{Comparison}
 use Rattle.movie_report.specs.declared.differences.Comparison.TheVariants.{Start, Claim}
+use Rattle.movie_report.specs.declared.notation.Notation.{Notation}
+use Rattle.movie_report.specs.declared.notation.Notation.TheVariants.{Lines, Json}
 
 -- A number of two records: its name, and its bytes in each.
 pub record Pair : Type 0 where
@@ -19,17 +21,32 @@ number_pairs [] a b = []
 number_pairs (n ∷ ns) a b =
     record { name = n.name; first = take n.length a; second = take n.length b } ∷ number_pairs ns (drop n.length a) (drop n.length b)
 
--- The line of a number that differs.
-abbrev pub difference_line : Comparison → Pair → List ℕ
-difference_line Start pair =
+-- What is said of a number that differs: a line, or an element of an array after those before it.
+abbrev pub difference_text : Notation → Comparison → Pair → List ℕ
+difference_text Lines Start pair =
     codes "start " ++ (pair.name ++ (codes ": " ++ (encode_upper pair.first ++ (codes ", at power-on " ++ (encode_upper pair.second ++ 10 ∷ [])))))
-difference_line Claim pair =
+difference_text Lines Claim pair =
     pair.name ++ (codes ": claimed " ++ (encode_upper pair.first ++ (codes ", found " ++ (encode_upper pair.second ++ 10 ∷ []))))
+difference_text Json Start pair =
+    codes ",{\"number\":\"" ++ (pair.name ++ (codes "\",\"start\":\"" ++ (encode_upper pair.first ++ (codes "\",\"power_on\":\"" ++ (encode_upper pair.second ++ codes "\"}")))))
+difference_text Json Claim pair =
+    codes ",{\"number\":\"" ++ (pair.name ++ (codes "\",\"claimed\":\"" ++ (encode_upper pair.first ++ (codes "\",\"found\":\"" ++ (encode_upper pair.second ++ codes "\"}")))))
 
--- If its bytes are the same it has none.
-abbrev pub line_if_different : Comparison → Pair → List ℕ
-line_if_different comparison pair = if bytes_eq pair.first pair.second then [] else difference_line comparison pair
+-- If its bytes are the same, nothing.
+abbrev pub text_if_different : Notation → Comparison → Pair → List ℕ
+text_if_different notation comparison pair = if bytes_eq pair.first pair.second then [] else difference_text notation comparison pair
 
--- The lines of two records, in the record's order.
-unfoldable pub differences_text : Comparison → List ℕ → List ℕ → List ℕ
-differences_text comparison a b = flat_map (line_if_different comparison) (number_pairs state_numbers a b)
+-- What is said of the numbers of two records, in the record's order.
+unfoldable pub pairs_text : Notation → Comparison → List ℕ → List ℕ → List ℕ
+pairs_text notation comparison a b = flat_map (text_if_different notation comparison) (number_pairs state_numbers a b)
+
+-- The name of the array.
+abbrev pub array_name : Comparison → List ℕ
+array_name Start = codes "start_differs"
+array_name Claim = codes "differs"
+
+-- The lines, or the array, in which no comma stands before the first element.
+abbrev pub differences_text : Notation → Comparison → List ℕ → List ℕ → List ℕ
+differences_text Lines comparison a b = pairs_text Lines comparison a b
+differences_text Json comparison a b =
+    codes ",\"" ++ (array_name comparison ++ (codes "\":[" ++ (drop 1 (pairs_text Json comparison a b) ++ codes "]")))

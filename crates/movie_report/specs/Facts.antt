@@ -1,14 +1,17 @@
 -- The facts of a movie and its verdict. This project's own.
-use Rattle.std.specs.Prelude.{ℕ, ◌-◌, List, [], ◌∷◌, ◌++◌, length, codes, Option, Some, None}
+use Rattle.std.specs.Prelude.{◌≡◌, ℕ, ◌+◌, ◌-◌, ◌==◌, List, [], ◌∷◌, ◌++◌, length, codes, Option, Some, None}
 use Rattle.std.specs.Prelude.{slice_get, if◌then◌else◌}
 use Rattle.std.specs.Fmt.{decimal}
 use Rattle.std.specs.Str.{bytes_eq}
 use Rattle.hex.specs.Hex.{encode_lower}
+use Rattle.input_text.specs.Names.{is_idle}
 use Rattle.md5.specs.Md5.{md5}
 use Rattle.sha1.specs.Sha1.{sha1}
 use Rattle.sha2.specs.Sha256.{sha256}
 use Rattle.mos_cpu.specs.Registers.{Registers}
-use Rattle.vcs_machine.specs.Faults.{hex2, hex4}
+use Rattle.riot_map.specs.Cart.{has_banks}
+use Rattle.vcs_machine.specs.Faults.{fault_text, hex2, hex4}
+use Rattle.vcs_machine.specs.Inputs.{InputData}
 use Rattle.vcs_machine.specs.States.{state_at_power_on, line_cycle_of}
 use Rattle.vcs_machine.specs.declared.fields.StateFields.{StateFields}
 use Rattle.movie_file.specs.Movie.{MovieData}
@@ -22,49 +25,104 @@ use Rattle.replay_segments.specs.declared.verdict.Verdict.TheVariants.{Genuine, 
 use Rattle.replay_segments.specs.declared.verdict.Verdict.TheVariants.{Fault}
 use Rattle.movie_report.specs.CheckpointFacts.{checkpoints_text}
 use Rattle.movie_report.specs.Differences.{differences_text}
+use Rattle.movie_report.specs.Notations.{number_fact, word_fact}
+use Rattle.movie_report.specs.Segments.{HasSegments}
 use Rattle.movie_report.specs.declared.differences.Comparison.TheVariants.{Start, Claim}
+use Rattle.movie_report.specs.declared.notation.Notation.{Notation}
+use Rattle.movie_report.specs.declared.notation.Notation.TheVariants.{Lines, Json}
 
--- The length of a cartridge, and its digests.
-abbrev pub cartridge_text : List ℕ → List ℕ
-cartridge_text cart =
-    (codes "cartridge: " ++ (decimal (length cart) ++ (codes " bytes" ++ 10 ∷ [])))
-    ++ ((codes "md5: " ++ (encode_lower (md5 cart) ++ 10 ∷ []))
-    ++ ((codes "sha1: " ++ (encode_lower (sha1 cart) ++ 10 ∷ []))
-    ++ (codes "sha256: " ++ (encode_lower (sha256 cart) ++ 10 ∷ []))))
+-- The bank scheme by which a cartridge is played.
+abbrev pub banks_of : List ℕ → List ℕ
+banks_of cart = if has_banks (length cart) then codes "F8" else codes "none"
+
+-- The length of a cartridge, its digests, and its bank scheme.
+abbrev pub cartridge_text : Notation → List ℕ → List ℕ
+cartridge_text notation cart =
+    number_fact notation (codes "cartridge") (codes "cartridge: ") (length cart) (codes " bytes")
+    ++ (word_fact notation (codes "md5") (codes "md5: ") (encode_lower (md5 cart))
+    ++ (word_fact notation (codes "sha1") (codes "sha1: ") (encode_lower (sha1 cart))
+    ++ (word_fact notation (codes "sha256") (codes "sha256: ") (encode_lower (sha256 cart))
+    ++ word_fact notation (codes "banks") (codes "banks: ") (banks_of cart))))
 
 -- Whether a start state is that of power-on, and in which numbers it differs from that: of the
 -- records of both.
-abbrev pub start_text : List ℕ → List ℕ → List ℕ
-start_text start power =
-    if bytes_eq start power then codes "start: power-on" ++ 10 ∷ []
-    else codes "start: not power-on" ++ (10 ∷ differences_text Start start power)
+abbrev pub start_text : Notation → List ℕ → List ℕ → List ℕ
+start_text notation start power =
+    if bytes_eq start power then word_fact notation (codes "start") (codes "start: ") (codes "power-on")
+    else word_fact notation (codes "start") (codes "start: ") (codes "not power-on") ++ differences_text notation Start start power
+
+-- The number of the last of some frames in which anything is held, if the first of them has number
+-- `before` + 1; `last` if there is none.
+abbrev pub last_held : ℕ → ℕ → List InputData → ℕ
+last_held last before [] = last
+last_held last before (input ∷ inputs) = last_held (if is_idle input then last else before + 1) (before + 1) inputs
+
+-- That of the frames of a movie: 0 if there is none.
+abbrev pub held_text : Notation → ℕ → List ℕ
+held_text Lines frame =
+    if frame == 0 then codes "last input: none" ++ 10 ∷ []
+    else codes "last input: frame " ++ (decimal frame ++ 10 ∷ [])
+held_text Json frame =
+    if frame == 0 then codes ",\"last_input\":null" else codes ",\"last_input\":" ++ decimal frame
+
+-- What the movie is, of whose file these are the bytes, and which program says so.
+abbrev pub movie_text : Notation → List ℕ → List ℕ → MovieData → List ℕ
+movie_text notation program bytes m =
+    number_fact notation (codes "version") (codes "movie version: ") m.version []
+    ++ (number_fact notation (codes "frames") (codes "movie frames: ") (length m.inputs) []
+    ++ (word_fact notation (codes "movie_sha256") (codes "movie sha256: ") (encode_lower (sha256 bytes))
+    ++ (held_text notation (last_held 0 0 m.inputs)
+    ++ word_fact notation (codes "program") (codes "program: ") program)))
 
 -- In which numbers a claimed state differs from that of the run.
-abbrev pub claim_text : Option Checkpoint → Option StateFields → List ℕ
-claim_text (Some c) (Some found) = differences_text Claim (record_of c.state) (record_of found)
-claim_text c None = []
-claim_text None found = []
+abbrev pub claim_text : Notation → Option Checkpoint → Option StateFields → List ℕ
+claim_text notation (Some c) (Some found) = differences_text notation Claim (record_of c.state) (record_of found)
+claim_text notation c None = []
+claim_text notation None found = []
 
 -- The processor's registers, with the flags as in a state record.
-abbrev pub registers_text : Registers → List ℕ
-registers_text c =
+abbrev pub registers_text : Notation → Registers → List ℕ
+registers_text Lines c =
     codes "registers: A " ++ (hex2 c.a ++ (codes ", X " ++ (hex2 c.x ++ (codes ", Y " ++ (hex2 c.y ++ (codes ", S " ++ (hex2 c.s
     ++ (codes ", P " ++ (hex2 c.p ++ (codes ", PC " ++ (hex4 c.pc ++ 10 ∷ [])))))))))))
+registers_text Json c =
+    codes ",\"registers\":{\"A\":\"" ++ (hex2 c.a ++ (codes "\",\"X\":\"" ++ (hex2 c.x ++ (codes "\",\"Y\":\"" ++ (hex2 c.y
+    ++ (codes "\",\"S\":\"" ++ (hex2 c.s ++ (codes "\",\"P\":\"" ++ (hex2 c.p ++ (codes "\",\"PC\":\"" ++ (hex4 c.pc ++ codes "\"}")))))))))))
+
+-- The place of the beam: the scanline of the frame, and the cycle of that.
+abbrev pub beam_text : Notation → ℕ → ℕ → List ℕ
+beam_text Lines scanline cycle = codes "beam: scanline " ++ (decimal scanline ++ (codes ", cycle " ++ (decimal cycle ++ 10 ∷ [])))
+beam_text Json scanline cycle = codes ",\"scanline\":" ++ (decimal scanline ++ (codes ",\"cycle\":" ++ decimal cycle))
 
 -- What a frame left that faults: the registers, and where the beam is.
-abbrev pub left_text : Option LeftState → List ℕ
-left_text None = []
-left_text (Some left) =
-    registers_text left.state.cpu
-    ++ (codes "beam: scanline " ++ (decimal left.scanline
-    ++ (codes ", cycle " ++ (decimal (line_cycle_of left.state) ++ 10 ∷ []))))
+abbrev pub left_text : Notation → Option LeftState → List ℕ
+left_text notation None = []
+left_text notation (Some left) = registers_text notation left.state.cpu ++ beam_text notation left.scanline (line_cycle_of left.state)
 
 -- What is to be said of a verdict.
-abbrev pub verdict_text : MovieData → Verdict → List ℕ
-verdict_text m (Genuine kept) = []
-verdict_text m (FalseCheckpoint number frame) = claim_text (slice_get m.checkpoints (number - 1)) (run m m.start 0 frame)
-verdict_text m (Fault frame kind) = left_text (left_at m frame)
+abbrev pub verdict_text : Notation → MovieData → Verdict → List ℕ
+verdict_text notation m (Genuine kept) = []
+verdict_text notation m (FalseCheckpoint number frame) = claim_text notation (slice_get m.checkpoints (number - 1)) (run m m.start 0 frame)
+verdict_text notation m (Fault frame kind) = left_text notation (left_at m frame)
 
-abbrev pub report_text : MovieData → Verdict → List ℕ
-report_text m verdict =
-    cartridge_text m.cart ++ (start_text (record_of m.start) (record_of (state_at_power_on m.cart)) ++ (checkpoints_text m ++ verdict_text m verdict))
+-- How a report begins: lines follow the line of the verdict, and an object names it.
+abbrev pub head_text : Notation → Verdict → List ℕ
+head_text Lines verdict = []
+head_text Json (Genuine kept) = codes "{\"verdict\":\"genuine\""
+head_text Json (FalseCheckpoint number frame) =
+    codes "{\"verdict\":\"false checkpoint\",\"checkpoint\":" ++ (decimal number ++ (codes ",\"frame\":" ++ decimal frame))
+head_text Json (Fault frame kind) =
+    codes "{\"verdict\":\"fault\",\"frame\":" ++ (decimal frame ++ (codes ",\"fault\":\"" ++ (fault_text kind ++ codes "\"")))
+
+-- How it ends.
+abbrev pub end_text : Notation → List ℕ
+end_text Lines = []
+end_text Json = codes "}" ++ 10 ∷ []
+
+-- A report of the movie that these bytes are and of its verdict, by a program of this name.
+abbrev pub IsReport : Notation → List ℕ → List ℕ → MovieData → Verdict → List ℕ → Type 0
+IsReport notation program bytes m verdict text =
+    (segments : List ℕ) × HasSegments notation m verdict segments
+    × (text ≡ head_text notation verdict ++ (cartridge_text notation m.cart
+    ++ (start_text notation (record_of m.start) (record_of (state_at_power_on m.cart))
+    ++ (checkpoints_text notation m ++ (movie_text notation program bytes m ++ (verdict_text notation m verdict ++ (segments ++ end_text notation)))))))

@@ -1,7 +1,8 @@
 //! The facts of a movie's checkpoints.
 ghost use Rattle.std.specs.Prelude.{◌≡◌, IfOk, string_bytes};
-ghost use Rattle.movie_report.specs.CheckpointFacts.{checkpoints_text, gaps_from, largest};
+ghost use Rattle.movie_report.specs.CheckpointFacts.{checkpoints_text, gaps_from, largest, rest_text};
 
+use crate::notation::{Notation, NumberFact};
 use movie_file::Movie;
 use std::alloc::{AllocError, Global};
 
@@ -19,23 +20,55 @@ fn largest_gap(movie: &Movie) -> u32
     gap
 }
 
-/// The lines of how many checkpoints there are, and where they stand.
-pub(crate) fn checkpoint_facts(alloc: Global, movie: &Movie) -> Result<String, AllocError>
-    ensures { IfOk result (λ text. string_bytes text ≡ checkpoints_text movie.now) }
+/// How many frames come after the last checkpoint.
+fn rest(alloc: Global, notation: Notation, frames: u32) -> Result<String, AllocError>
+    ensures { IfOk result (λ text. string_bytes text ≡ rest_text notation frames) }
+{
+    let (name, before) = ("after_last_checkpoint", "after the last checkpoint: ");
+    format!(in alloc; "{}", NumberFact(notation, name, before, frames, " frames"))
+}
+
+/// How many checkpoints there are, and where they stand.
+pub(crate) fn checkpoint_facts(
+    alloc: Global,
+    notation: Notation,
+    movie: &Movie,
+) -> Result<String, AllocError>
+    ensures { IfOk result (λ text. string_bytes text ≡ checkpoints_text notation movie.now) }
 {
     let frames = movie.frames();
     let count = movie.checkpoints();
+    let counted = NumberFact(
+        notation,
+        "checkpoints",
+        "checkpoints: ",
+        u32::from(count),
+        "",
+    );
     if count == 0 {
-        return format!(in alloc;
-            "checkpoints: {count}\nafter the last checkpoint: {frames} frames\n"
-        );
+        let rest = rest(alloc, notation, frames)?;
+        return format!(in alloc; "{counted}{rest}");
     }
     let first = movie.checkpoint(1).frame;
     let last = movie.checkpoint(count).frame;
     let gap = largest_gap(movie);
-    let after = frames - last;
+    let rest = rest(alloc, notation, frames - last)?;
     format!(in alloc;
-        "checkpoints: {count}\nfirst checkpoint: frame {first}\nlast checkpoint: frame {last}\n\
-         largest gap: {gap} frames\nafter the last checkpoint: {after} frames\n"
+        "{counted}{}{}{}{rest}",
+        NumberFact(
+            notation,
+            "first_checkpoint",
+            "first checkpoint: frame ",
+            first,
+            ""
+        ),
+        NumberFact(
+            notation,
+            "last_checkpoint",
+            "last checkpoint: frame ",
+            last,
+            ""
+        ),
+        NumberFact(notation, "largest_gap", "largest gap: ", gap, " frames")
     )
 }

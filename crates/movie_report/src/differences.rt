@@ -1,9 +1,11 @@
 //! The numbers in which two state records differ.
-ghost use Rattle.std.specs.Prelude.{◌≡◌, ◌<◌, IfOk, string_bytes};
-ghost use Rattle.movie_report.specs.Differences.{difference_line, differences_text};
-ghost use Rattle.movie_report.specs.Differences.{line_if_different};
+ghost use Rattle.std.specs.Prelude.{◌≡◌, ◌<◌, IfOk, string_bytes, drop};
+ghost use Rattle.movie_report.specs.Differences.{array_name, difference_text, differences_text};
+ghost use Rattle.movie_report.specs.Differences.{pairs_text, text_if_different};
+ghost use Rattle.movie_report.specs.Private.Elements.{AreElements};
 ghost use Rattle.movie_report.specs.Private.Places.{state_number_at};
 
+use crate::notation::Notation;
 use crate::numbers::{COUNT, Number};
 use hex::encode_upper;
 use std::alloc::{AllocError, Global};
@@ -21,52 +23,74 @@ pub(crate) enum Comparison {
 }
 
 impl Comparison {
-    /// The line of a number whose bytes differ.
-    fn line(
+    /// The name of the array of its differences.
+    fn array_name(self) -> &'static str
+        ensures { result.now ≡ array_name self }
+    {
+        match self {
+            Comparison::Start => "start_differs",
+            Comparison::Claim => "differs",
+        }
+    }
+
+    /// What is said of a number whose bytes differ.
+    fn difference(
         self,
         alloc: Global,
+        notation: Notation,
         number: Number,
         first: &[u8],
         second: &[u8],
     ) -> Result<String, AllocError>
-        ensures { IfOk result (λ line. string_bytes line
-            ≡ difference_line self (record { name = (state_number_at number.place).name; first = first.now; second = second.now })) }
+        ensures { IfOk result (λ text. string_bytes text ≡ difference_text notation self
+            (record { name = (state_number_at number.place).name; first = first.now; second = second.now })) }
     {
         let first = encode_upper(alloc, first)?;
         let second = encode_upper(alloc, second)?;
-        match self {
-            Comparison::Start => format!(in alloc;
+        match (notation, self) {
+            (Notation::Lines, Comparison::Start) => format!(in alloc;
                 "start {number}: {first}, at power-on {second}\n"
             ),
-            Comparison::Claim => format!(in alloc; "{number}: claimed {first}, found {second}\n"),
+            (Notation::Lines, Comparison::Claim) => format!(in alloc;
+                "{number}: claimed {first}, found {second}\n"
+            ),
+            (Notation::Json, Comparison::Start) => format!(in alloc;
+                ",{{\"number\":\"{number}\",\"start\":\"{first}\",\"power_on\":\"{second}\"}}"
+            ),
+            (Notation::Json, Comparison::Claim) => format!(in alloc;
+                ",{{\"number\":\"{number}\",\"claimed\":\"{first}\",\"found\":\"{second}\"}}"
+            ),
         }
     }
-    /// The line of a number if its bytes differ, and else nothing.
-    fn line_if_different(
+
+    /// The same if its bytes differ, and else nothing.
+    fn text_if_different(
         self,
         alloc: Global,
+        notation: Notation,
         number: Number,
         first: &[u8],
         second: &[u8],
     ) -> Result<String, AllocError>
-        ensures { IfOk result (λ line. string_bytes line
-            ≡ line_if_different self (record { name = (state_number_at number.place).name; first = first.now; second = second.now })) }
+        ensures { IfOk result (λ text. string_bytes text ≡ text_if_different notation self
+            (record { name = (state_number_at number.place).name; first = first.now; second = second.now })) }
     {
         if first == second {
             return Ok(String::new(alloc));
         }
-        self.line(alloc, number, first, second)
+        self.difference(alloc, notation, number, first, second)
     }
 }
 
-/// The lines of the numbers in which two records differ, in the order of a record.
-pub(crate) fn differences(
+/// What is said of the numbers in which two records differ, in the order of a record.
+fn pairs(
     alloc: Global,
+    notation: Notation,
     comparison: Comparison,
     first: &[u8; RECORD_LENGTH],
     second: &[u8; RECORD_LENGTH],
 ) -> Result<String, AllocError>
-    ensures { IfOk result (λ text. string_bytes text ≡ differences_text comparison first.now second.now) }
+    ensures { IfOk result (λ text. string_bytes text ≡ pairs_text notation comparison first.now second.now) }
 {
     let mut text = String::new(alloc);
     let mut at = 0;
@@ -74,9 +98,43 @@ pub(crate) fn differences(
         let number = Number::at(place);
         let end = at + number.len();
         prove!(end <= RECORD_LENGTH);
-        let line = comparison.line_if_different(alloc, number, &first[at..end], &second[at..end])?;
-        text.push_str(&line)?;
+        let (first, second) = (&first[at..end], &second[at..end]);
+        let piece = comparison.text_if_different(alloc, notation, number, first, second)?;
+        text.push_str(&piece)?;
         at = end;
     }
     Ok(text)
+}
+
+/// Elements of an array, without the comma before the first.
+fn without_comma(text: &str) -> &str
+    requires { AreElements text.now }
+    ensures { result.now ≡ drop 1 text.now }
+{
+    match text.split_at_checked(1) {
+        Some((_, rest)) => rest,
+        None => "",
+    }
+}
+
+/// The lines, or the array, of the numbers in which two records differ.
+pub(crate) fn differences(
+    alloc: Global,
+    notation: Notation,
+    comparison: Comparison,
+    first: &[u8; RECORD_LENGTH],
+    second: &[u8; RECORD_LENGTH],
+) -> Result<String, AllocError>
+    ensures { IfOk result (λ text. string_bytes text
+        ≡ differences_text notation comparison first.now second.now) }
+{
+    let pairs = pairs(alloc, notation, comparison, first, second)?;
+    match notation {
+        Notation::Lines => Ok(pairs),
+        Notation::Json => {
+            let name = comparison.array_name();
+            let elements = without_comma(&pairs);
+            format!(in alloc; ",\"{name}\":[{elements}]")
+        }
+    }
 }

@@ -4,6 +4,9 @@
 mod checkpoints;
 mod differences;
 mod facts;
+mod notation;
 mod numbers;
+mod segments;
 
 pub use facts::report;
+pub use notation::Notation;
