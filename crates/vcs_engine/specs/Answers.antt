@@ -1,9 +1,12 @@
 -- What a command writes of the bytes that it read, and its status. This project's own.
-use Rattle.std.specs.Prelude.{◌≡◌, ℕ, List, [], length}
+use Rattle.std.specs.Prelude.{◌≡◌, ℕ, List, [], ◌∷◌, ◌++◌, codes, length}
 use Rattle.vcs_machine.specs.Pictures.{Rows}
 use Rattle.movie_file.specs.Movie.{MovieData}
 use Rattle.movie_file.specs.Spelling.{spelling}
+use Rattle.movie_file.specs.MovieError.{refusal_text}
 use Rattle.movie_file.specs.declared.error.MovieError.{MovieError}
+use Rattle.movie_report.specs.declared.notation.Notation.{Notation}
+use Rattle.movie_report.specs.declared.notation.Notation.TheVariants.{Lines, Json}
 use Rattle.vcs_engine.specs.Lines.{line_bytes}
 use Rattle.vcs_engine.specs.declared.line.Line.{Line}
 use Rattle.vcs_engine.specs.declared.line.Line.TheVariants as lines
@@ -25,6 +28,12 @@ line_answer status line = record { status = status; line = line_bytes line; movi
 -- the line that bytes are refused,
 abbrev pub refusal : MovieError → Answer
 refusal error = line_answer statuses.Refused (lines.Refused error)
+
+-- the same as an object of JSON,
+abbrev pub refusal_in : Notation → MovieError → Answer
+refusal_in Lines error = refusal error
+refusal_in Json error =
+    record { status = statuses.Refused; line = codes "{\"verdict\":\"refused\",\"refusal\":\"" ++ (refusal_text error ++ (codes "\"}" ++ 10 ∷ [])); movie = []; pictures = [] }
 
 -- and a movie with a line of how many frames and checkpoints it has.
 abbrev pub movie_answer : (ℕ → ℕ → Line) → MovieData → Answer

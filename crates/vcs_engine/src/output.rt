@@ -1,8 +1,8 @@
 //! What a run writes for the bytes of a movie.
-ghost use Rattle.std.specs.Prelude.{◌≡◌, ◌≤◌, Err, IfOk, OnErr};
+ghost use Rattle.std.specs.Prelude.{◌≡◌, ◌≤◌, Err, IfOk, OnErr, string_bytes};
 ghost use Rattle.std.specs.Io.KnownBytes.{Appends};
 ghost use Rattle.picture_file.specs.PictureBytes.{pictures_bytes};
-ghost use Rattle.vcs_engine.specs.Answers.{refusal};
+ghost use Rattle.vcs_engine.specs.Answers.{refusal, refusal_in};
 ghost use Rattle.vcs_engine.specs.Lines.{line_bytes};
 ghost use Rattle.vcs_engine.specs.Outputs.{Tells, verdict_answer};
 ghost use Rattle.vcs_engine.specs.Streams.{WritesPart};
@@ -13,6 +13,7 @@ use crate::line::Line;
 use crate::run_error::JudgeError;
 use crate::status::Status;
 use movie_file::{Movie, MovieError, read_movie};
+use movie_report::Notation;
 use picture_file::{WriteFault, write_bytes, write_pictures};
 use replay_plan::Plan;
 use replay_segments::{Cuts, Verdict};
@@ -23,6 +24,22 @@ use std::sync::Wait;
 use std::thread::Threads;
 use vcs_machine::Pictures;
 use verify_pool::{VerifyError, verify};
+
+/// That bytes are no movie, with the text's end.
+pub(crate) fn refusal_text(
+    alloc: Global,
+    notation: Notation,
+    error: MovieError,
+) -> Result<String, AllocError>
+    ensures { IfOk result (λ text. string_bytes text ≡ (refusal_in notation error).line) }
+{
+    match notation {
+        Notation::Lines => Line::Refused(error).text(alloc),
+        Notation::Json => format!(in alloc;
+            "{{\"verdict\":\"refused\",\"refusal\":\"{error}\"}}\n"
+        ),
+    }
+}
 
 /// The status and the line of a movie with this verdict.
 pub(crate) fn line_of(movie: &Movie, verdict: &Verdict) -> (Status, Line)

@@ -6,13 +6,12 @@ ghost use Rattle.vcs_engine.specs.Reports.{Reports};
 ghost use Rattle.vcs_engine.specs.Streams.{ReadsAll, IsTooLong};
 
 use crate::counted_gate::CountedGate;
-use crate::line::Line;
-use crate::output::{line_of, verdict_of};
+use crate::output::{line_of, refusal_text, verdict_of};
 use crate::run_error::{JudgeError, RunError};
 use crate::status::Status;
 use crate::streams::read_all;
 use movie_file::{MovieError, read_movie};
-use movie_report::report;
+use movie_report::{Notation, report};
 use picture_file::write_bytes;
 use replay_plan::Plan;
 use std::alloc::Global;
@@ -26,28 +25,38 @@ fn status_and_text<T: Threads + Wait + Sync, G: CountedGate + Sync>(
     alloc: Global,
     bytes: &[u8],
     plan: &Plan,
+    notation: Notation,
+    program: &str,
     gate: &G,
 ) -> Result<(Status, String), JudgeError>
-    ensures told { IfOk result (λ told. Reports bytes.now told.0 (string_bytes told.1)) }
+    ensures told { IfOk result (λ told.
+        Reports notation program.now bytes.now told.0 (string_bytes told.1)) }
     ensures no_thread { result ≡ Err JudgeError.NoThread → 2 ≤ plan.now.workers.number }
 {
     let movie = match read_movie(alloc, bytes) {
         Ok(movie) => movie,
         Err(MovieError::NoMemory) => return Err(JudgeError::NoMemory),
-        Err(error) => return Ok((Status::Refused, Line::Refused(error).text(alloc)?)),
+        Err(error) => return Ok((Status::Refused, refusal_text(alloc, notation, error)?)),
     };
     let verdict = verdict_of(rt, alloc, &movie, plan, gate)?;
-    let facts = report(alloc, &movie, &verdict)?;
+    let facts = report(alloc, notation, program, bytes, &movie, &verdict)?;
     let (status, line) = line_of(&movie, &verdict);
-    let mut text = line.text(alloc)?;
-    text.push_str(&facts)?;
-    Ok((status, text))
+    match notation {
+        Notation::Lines => {
+            let mut text = line.text(alloc)?;
+            text.push_str(&facts)?;
+            Ok((status, text))
+        }
+        Notation::Json => Ok((status, facts)),
+    }
 }
 
-/// Reads a movie, judges it by the plan's workers, and writes its line and then facts about it,
-/// each on a line.
+/// Reads a movie, judges it by the plan's workers, and writes its verdict and facts about it: the
+/// line of the verdict and then a line for each fact, or an object of JSON with a line feed. The
+/// program's name, which is one of the facts, has no quotation mark, backslash or control character.
 ///
-/// A movie that is refused is a line and `Status::Refused`. No picture is written. After ReadFault,
+/// A movie that is refused is a line or an object that says so, and `Status::Refused`. No picture is
+/// written. After ReadFault,
 /// TooLong, NoMemory and NoThread nothing was written; after WriteFault the writer has got a prefix
 /// of the text. At most 16,777,217 reads are made. With more than one worker it joins the threads
 /// that it starts.
@@ -59,14 +68,16 @@ pub fn run_report<T: Threads + Wait + Sync, R: Read, W: Write, G: CountedGate + 
     alloc: Global,
     movie: &mut R,
     plan: &Plan,
+    notation: Notation,
+    program: &str,
     text: &mut W,
     gate: &G,
 ) -> Result<Status, RunError>
     // The output is that of the bytes read, and nothing else.
     ensures ok { IfOk result (λ status. (input : List ℕ) × (output : List ℕ) × ReadsAll (R.remaining movie.old) (R.remaining movie.new) input
-        × Reports input status output × Appends (W.contents text.old) (W.contents text.new) output) }
+        × Reports notation program.now input status output × Appends (W.contents text.old) (W.contents text.new) output) }
     ensures write_fault { result ≡ Err RunError.WriteFault → (input : List ℕ) × (status : Status) × (output : List ℕ)
-        × ReadsAll (R.remaining movie.old) (R.remaining movie.new) input × Reports input status output
+        × ReadsAll (R.remaining movie.old) (R.remaining movie.new) input × Reports notation program.now input status output
         × AppendsPrefix (W.contents text.old) (W.contents text.new) output }
 
     // What was written after the other errors.
@@ -75,7 +86,7 @@ pub fn run_report<T: Threads + Wait + Sync, R: Read, W: Write, G: CountedGate + 
     ensures no_thread { result ≡ Err RunError.NoThread → 2 ≤ plan.now.workers.number }
 {
     let bytes = read_all(alloc, movie)?;
-    let (status, output) = status_and_text(rt, alloc, &bytes, plan, gate)?;
+    let (status, output) = status_and_text(rt, alloc, &bytes, plan, notation, program, gate)?;
     write_bytes(output.as_bytes(), text)?;
     Ok(status)
 }
