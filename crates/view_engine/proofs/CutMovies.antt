@@ -2,15 +2,17 @@
 use Rattle.std.proofs.Common.{◌≡◌, ℕ, zero, suc, ◌+◌, ◌-◌, ◌/◌, ◌<◌, ◌≤◌, List, [], ◌∷◌, length, Option, Some, refl, sym, ap, subst, ◌∙◌, arith, add-zero}
 use Rattle.std.specs.Prelude.{slice_get, option_and_then}
 use Rattle.std.specs.Option.{option_map}
+use Rattle.std.proofs.lemmas.List.{take_all}
 use Rattle.vcs_machine.specs.Inputs.{InputData}
 use Rattle.vcs_machine.specs.Outcomes.{frame_of}
 use Rattle.vcs_machine.specs.declared.fields.StateFields.{StateFields}
 use Rattle.movie_file.specs.Judgement.{IsGenuine}
 use Rattle.movie_file.specs.Making.{version_made}
-use Rattle.movie_file.specs.Movie.{MovieData}
+use Rattle.movie_file.specs.Movie.{MovieData, IsMovie}
 use Rattle.movie_file.specs.Run.{run, state_after}
 use Rattle.movie_file.specs.declared.checkpoint.Checkpoint.{Checkpoint}
-use Rattle.view_engine.specs.Cuts.{IsCutOf}
+use Rattle.movie_file.proofs.CheckpointLemmas.{checkpoint_in_range}
+use Rattle.view_engine.specs.Cuts.{ClaimsEvery, IsCutOf}
 use Rattle.view_engine.specs.Stretches.{frames_asked}
 use Rattle.view_engine.proofs.RunSteps.{Ends-below, input_asked}
 
@@ -92,3 +94,23 @@ one_cut m c d first count every cut again =
     ∙ ap (λ (s : StateFields). movie_of d.version d.cart s c.inputs c.checkpoints) start
     ∙ ap (λ (is : List InputData). movie_of d.version d.cart d.start is c.checkpoints) inputs
     ∙ ap (λ (cs : List Checkpoint). movie_of d.version d.cart d.start d.inputs cs) checkpoints
+
+-- ---- the old claims
+
+pub old_claims : (m c : MovieData) (count every : ℕ) → IsMovie m → IsGenuine m → ClaimsEvery m every → length m.inputs ≤ count → IsCutOf m 1 count every c
+    → c.checkpoints ≡ m.checkpoints
+old_claims m c count every movie true old all cut =
+    let inputs : c.inputs ≡ m.inputs = cut.inputs_are ∙ take_all count m.inputs all in
+    let lengths : length c.checkpoints ≡ length m.checkpoints = cut.count_is ∙ ap (λ (is : List InputData). length is / every) inputs ∙ sym old.count_is in
+    let each = λ (j : ℕ) (k l : Checkpoint) (at : slice_get c.checkpoints j ≡ Some k) (here : slice_get m.checkpoints j ≡ Some l).
+    let place : k.frame ≡ l.frame = cut.places j k at ∙ sym (old.places j l here) in
+    let within = checkpoint_in_range (length m.cart) m.checkpoints 0 (length m.inputs) j l movie.checkpoints here in
+    let sound = true (l.frame - 1) (omega (arith, within)) in
+    let last : l.frame - 1 + 1 ≡ l.frame = omega (arith, within) in
+    let plain : 1 - 1 + k.frame ≡ l.frame = omega arith in
+    let whole : l.frame ≡ 0 + (l.frame - 1) + 1 = omega (arith, within) in
+    let state : l.state ≡ sound.0 = sound.2 j l here whole in
+    let ran : run m m.start 0 l.frame ≡ Some sound.0 = ap (λ (n : ℕ). run m m.start 0 n) (sym last) ∙ sound.1 in
+    same_claim k l place (sym (cut.states j k at) ∙ ap (λ (n : ℕ). run m m.start 0 n) plain ∙ ran ∙ ap found (sym state))
+    in
+    same_lists c.checkpoints m.checkpoints lengths each

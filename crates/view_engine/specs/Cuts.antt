@@ -30,6 +30,11 @@ pub record IsCutOf (m : MovieData) (first count every : ℕ) (c : MovieData) : T
   pub places : (j : ℕ) (k : Checkpoint) → slice_get c.checkpoints j ≡ Some k → k.frame ≡ every * (j + 1)
   pub states : (j : ℕ) (k : Checkpoint) → slice_get c.checkpoints j ≡ Some k → run m m.start 0 (first - 1 + k.frame) ≡ Some k.state
 
+-- The checkpoints of a movie stand after every so many of its frames.
+pub record ClaimsEvery (m : MovieData) (every : ℕ) : Type 0 where
+  pub count_is : length m.checkpoints ≡ length m.inputs / every
+  pub places : (j : ℕ) (k : Checkpoint) → slice_get m.checkpoints j ≡ Some k → k.frame ≡ every * (j + 1)
+
 -- A line alone,
 abbrev pub line_answer : Status → Line → Answer
 line_answer status line = record { status = status; line = line_bytes line; movie = []; pictures = [] }

@@ -40,7 +40,7 @@ pub(crate) fn checkpoints_before(movie: &Movie, from: u16, frame: u32) -> u16
     count
 }
 
-/// What is told of the checkpoint after a frame, if one stands there. `next` is the index of the
+/// What a line says of the checkpoint after its frame, if one stands there. `next` is the index of the
 /// first that is not before the frame.
 fn told_checkpoint(
     alloc: Global,
@@ -68,7 +68,7 @@ fn told_checkpoint(
     }
 }
 
-/// What is told of the memory.
+/// What a line says of the memory.
 fn told_memory(alloc: Global, watches: &Watches, state: &State) -> Result<String, AllocError>
     ensures { IfOk result (λ text. string_bytes text ≡ flat_map (byte_text state.now) watches.now) }
 {

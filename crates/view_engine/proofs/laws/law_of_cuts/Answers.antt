@@ -1,4 +1,4 @@
-use Rattle.view_engine.proofs.CutMovies.{cut_run, genuine, one_cut}
+use Rattle.view_engine.proofs.CutMovies.{cut_run, genuine, old_claims, one_cut}
 use Rattle.view_engine.proofs.laws.law_of_cuts.Goals as goal
 
 pub returns-clause-run : goal.returns-clause-run
@@ -9,3 +9,6 @@ returns-clause-genuine c = λ m c first count every cut. genuine m c first count
 
 pub returns-clause-one_cut : goal.returns-clause-one_cut
 returns-clause-one_cut c = one_cut
+
+pub returns-clause-old_claims : goal.returns-clause-old_claims
+returns-clause-old_claims c = old_claims
