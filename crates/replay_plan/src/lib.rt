@@ -1,5 +1,5 @@
 //! How a movie is to be judged: by how many workers, where it is cut, and which pictures are kept;
-//! and what is to be told of its frames. Each number is in its range by its type.
+//! and what a line about one of its frames says. Each number is in its range by its type.
 #![tactic(auto)]
 
 mod keep;

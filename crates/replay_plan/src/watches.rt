@@ -42,7 +42,7 @@ impl Model for Watches {
 #[derive(Clone, Copy, Debug, PartialEq, Eq)]
 pub struct TooManyWatches;
 
-/// What is told of each frame beside its length and its checkpoint.
+/// What the line about a frame says beside its length and its checkpoint.
 #[derive(Debug, Drop)]
 pub struct Details {
     /// The addresses whose bytes are shown.
