@@ -234,11 +234,11 @@ program_has : HaveNumbers (built program_app).subs
 program_has = (
   (λ words none. (tt, (number_there (codes "workers") 1 64 _ words (λ h. absurd (true≢false (sym h)), (λ h. record { action = refl; range = refl; parser = refl }, (λ h. absurd (true≢false (sym h)), (λ h. absurd (true≢false (sym h)), (λ h. absurd (true≢false (sym h)), (λ h. absurd (true≢false (sym h)), (λ h. absurd (true≢false (sym h)), tt))))))) (inl (inr (inl (refl, refl)))) none, (number_there (codes "every") 1 65535 _ words (λ h. absurd (true≢false (sym h)), (λ h. absurd (true≢false (sym h)), (λ h. record { action = refl; range = refl; parser = refl }, (λ h. absurd (true≢false (sym h)), (λ h. absurd (true≢false (sym h)), (λ h. absurd (true≢false (sym h)), (λ h. absurd (true≢false (sym h)), tt))))))) (inl (inr (inr (inl (refl, refl))))) none, (number_there (codes "first") 1 4294967295 _ words (λ h. absurd (true≢false (sym h)), (λ h. absurd (true≢false (sym h)), (λ h. absurd (true≢false (sym h)), (λ h. record { action = refl; range = refl; parser = refl }, (λ h. absurd (true≢false (sym h)), (λ h. absurd (true≢false (sym h)), (λ h. absurd (true≢false (sym h)), tt))))))) (inl (inr (inr (inr (inl (refl, refl)))))) none, (number_there (codes "count") 0 600 _ words (λ h. absurd (true≢false (sym h)), (λ h. absurd (true≢false (sym h)), (λ h. absurd (true≢false (sym h)), (λ h. absurd (true≢false (sym h)), (λ h. record { action = refl; range = refl; parser = refl }, (λ h. absurd (true≢false (sym h)), (λ h. absurd (true≢false (sym h)), tt))))))) (inl (inr (inr (inr (inr (inl (refl, refl))))))) none, (tt, tt))))))),
   (
-    (λ words none. (tt, (number_there (codes "workers") 1 64 _ words (λ h. absurd (true≢false (sym h)), (λ h. record { action = refl; range = refl; parser = refl }, (λ h. absurd (true≢false (sym h)), tt))) (inl (inr (inl (refl, refl)))) none, tt))),
+    (λ words none. (tt, (number_there (codes "workers") 1 64 _ words (λ h. absurd (true≢false (sym h)), (λ h. record { action = refl; range = refl; parser = refl }, (λ h. absurd (true≢false (sym h)), (λ h. absurd (true≢false (sym h)), tt)))) (inl (inr (inl (refl, refl)))) none, (tt, tt)))),
     (
       (λ words none. (tt, (tt, (tt, (number_there (codes "every") 1 4294967295 _ words (λ h. absurd (true≢false (sym h)), (λ h. absurd (true≢false (sym h)), (λ h. absurd (true≢false (sym h)), (λ h. record { action = refl; range = refl; parser = refl }, (λ h. absurd (true≢false (sym h)), (λ h. absurd (true≢false (sym h)), tt)))))) (inr (inr (inr (inr (inl (refl, refl)))))) none, (tt, tt)))))),
       (
-        (λ words none. (tt, tt)),
+        (λ words none. (tt, (tt, tt))),
         (
           (λ words none. (tt, tt)),
           (

@@ -12,7 +12,7 @@ use Rattle.replay_plan.specs.declared.watches.Details.{Details}
 use Rattle.command_line.specs.Table.{Argument, Listed, asked_row, commands, checkpoints_row}
 use Rattle.command_line.specs.Table.{count_row}
 use Rattle.command_line.specs.Table.{cuts_row, digests_row, file_row, first_row, frame_row}
-use Rattle.command_line.specs.Table.{inputs_row, new_row}
+use Rattle.command_line.specs.Table.{inputs_row, json_row, new_row}
 use Rattle.command_line.specs.Table.{old_row, watch_row}
 use Rattle.command_line.specs.Table.{out_row, pictures_row, rom_row}
 use Rattle.command_line.specs.Table.{text_row, workers_row}
@@ -66,17 +66,19 @@ IsCommandAt name rows (Verify file plan pictures) =
     (name ≡ codes "verify") × (string_bytes file ≡ word_of file_row rows)
     × IsPlan rows (is_some pictures) plan
     × (option_map string_bytes pictures ≡ first_of pictures_row.name rows)
-IsCommandAt name rows (Report file workers) =
+IsCommandAt name rows (Report file workers json) =
     (name ≡ codes "report") × (string_bytes file ≡ word_of file_row rows)
     × (number_of workers_row rows ≡ Some workers.number)
+    × ((json ≡ true) ↔ (one_of json_row.name rows ≡ Some (codes "true")))
 IsCommandAt name rows (Make rom inputs text every out) =
     (name ≡ codes "make") × (string_bytes rom ≡ word_of rom_row rows)
     × (string_bytes inputs ≡ word_of inputs_row rows)
     × ((text ≡ true) ↔ (one_of text_row.name rows ≡ Some (codes "true")))
     × (number_of checkpoints_row rows ≡ Some (non_zero_u32_get every))
     × (string_bytes out ≡ word_of out_row rows)
-IsCommandAt name rows (Info file) =
+IsCommandAt name rows (Info file json) =
     (name ≡ codes "info") × (string_bytes file ≡ word_of file_row rows)
+    × ((json ≡ true) ↔ (one_of json_row.name rows ≡ Some (codes "true")))
 IsCommandAt name rows (Inputs file) =
     (name ≡ codes "inputs") × (string_bytes file ≡ word_of file_row rows)
 IsCommandAt name rows (Convert older newer) =

@@ -84,6 +84,9 @@ watch_row = record { name = codes "watch"; kind = repeated_word }
 abbrev pub digests_row : Argument
 digests_row = record { name = codes "digests"; kind = switch }
 
+abbrev pub json_row : Argument
+json_row = record { name = codes "json"; kind = switch }
+
 -- The commands, with their rows in the order of help.
 abbrev pub verify_listed : Listed
 verify_listed = record {
@@ -92,7 +95,7 @@ verify_listed = record {
 }
 
 abbrev pub report_listed : Listed
-report_listed = record { name = codes "report"; arguments = file_row ∷ workers_row ∷ [] }
+report_listed = record { name = codes "report"; arguments = file_row ∷ workers_row ∷ json_row ∷ [] }
 
 abbrev pub make_listed : Listed
 make_listed = record {
@@ -101,7 +104,7 @@ make_listed = record {
 }
 
 abbrev pub info_listed : Listed
-info_listed = record { name = codes "info"; arguments = file_row ∷ [] }
+info_listed = record { name = codes "info"; arguments = file_row ∷ json_row ∷ [] }
 
 abbrev pub listing_listed : Listed
 listing_listed = record { name = codes "inputs"; arguments = file_row ∷ [] }

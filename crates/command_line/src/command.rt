@@ -24,6 +24,8 @@ pub enum Command {
         file: String,
         /// How many threads replay it.
         workers: Workers,
+        /// Whether it is written as an object of JSON, and else as lines.
+        json: bool,
     },
     /// Make a movie of a cartridge and the inputs of its frames.
     Make {
@@ -38,6 +40,8 @@ pub enum Command {
     /// Say what a movie holds.
     Info {
         file: String,
+        /// Whether it is written as an object of JSON, and else as a line.
+        json: bool,
     },
     /// Print the inputs of a movie as text.
     Inputs {
@@ -55,7 +59,7 @@ pub enum Command {
         first: NonZeroU32,
         /// How many they are; the movie may have fewer.
         count: u32,
-        /// What else is told of each.
+        /// What else the line about each says.
         details: Details,
     },
     /// Write the pictures of some frames of a movie.

@@ -5,6 +5,8 @@ mod command;
 mod frames;
 mod line;
 mod parser;
+mod version;
 
 pub use command::{Command, LineFault};
 pub use line::parse_line;
+pub use version::program_name;

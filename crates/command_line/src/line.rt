@@ -125,10 +125,15 @@ fn report_of(alloc: Global, matches: &ArgMatches<'_>) -> Result<Command, AllocEr
     ensures ok { IfOk result (IsCommandAt (codes "report") (rows_of (found_of matches.now))) }
 {
     let file = text_of(alloc, matches, "file")?;
+    let json = is_given(matches, "json");
     let Some(workers) = workers_of(matches) else {
         unreachable!()
     };
-    Ok(Command::Report { file, workers })
+    Ok(Command::Report {
+        file,
+        workers,
+        json,
+    })
 }
 
 /// The frames between the checkpoints of `make` and `cut`.
@@ -262,6 +267,16 @@ fn trace_of(alloc: Global, matches: &ArgMatches<'_>) -> Result<Command, AllocErr
     Ok(Command::Trace { file, frame })
 }
 
+/// The command `info`.
+fn info_of(alloc: Global, matches: &ArgMatches<'_>) -> Result<Command, AllocError>
+    ensures kept { IfOk result KeepsWhatIsTaken }
+    ensures ok { IfOk result (IsCommandAt (codes "info") (rows_of (found_of matches.now))) }
+{
+    let file = text_of(alloc, matches, "file")?;
+    let json = is_given(matches, "json");
+    Ok(Command::Info { file, json })
+}
+
 /// What `clap` says of arguments that are no command, or that ask for help.
 fn fault_of(alloc: Global, error: &clap::Error) -> LineFault
     ensures { IsAnswerTo (kind_of error.now) result }
@@ -287,9 +302,7 @@ fn command_of(alloc: Global, name: &str, matches: &ArgMatches<'_>) -> Result<Com
         "verify" => Ok(verify_of(alloc, matches)?),
         "report" => Ok(report_of(alloc, matches)?),
         "make" => Ok(make_of(alloc, matches)?),
-        "info" => Ok(Command::Info {
-            file: text_of(alloc, matches, "file")?,
-        }),
+        "info" => Ok(info_of(alloc, matches)?),
         "inputs" => Ok(Command::Inputs {
             file: text_of(alloc, matches, "file")?,
         }),

@@ -8,9 +8,11 @@ ghost use Rattle.command_line.specs.Table.{inputs_row, text_row, checkpoints_row
 ghost use Rattle.command_line.specs.Table.{old_row, new_row, verify_listed, report_listed};
 ghost use Rattle.command_line.specs.Table.{make_listed, info_listed, listing_listed};
 ghost use Rattle.command_line.specs.Table.{asked_row, convert_listed, cut_listed, drawing_listed};
+ghost use Rattle.command_line.specs.Table.{json_row};
 ghost use Rattle.command_line.specs.Table.{digests_row, frame_row, frames_listed, program_app};
 ghost use Rattle.command_line.specs.Table.{trace_listed, watch_row};
 
+use crate::version::{VERSION, VERSIONS};
 use clap::{Arg, ArgAction, Command, value_parser};
 use replay_plan::{MOST_KEPT, MOST_WORKERS};
 use std::alloc::{AllocError, Global};
@@ -32,11 +34,6 @@ Examples:
   gunzip < run.a26m.gz | vcs_check verify -
   vcs_check make game.rom play.txt --text --every 60 --out run.a26m";
 
-/// What `--version` prints after the program's name.
-const VERSIONS: &str = "1.1.0
-movies: versions 1 and 2
-machine: revision 1 of its rules";
-
 /// A movie that is read.
 fn movie<'a>(alloc: Global) -> Arg<'a>
     ensures { IsRow file_row result }
@@ -57,6 +54,16 @@ fn workers<'a>(alloc: Global) -> Arg<'a>
         .help("How many threads replay the movie, 1 to 64")
         .value_parser(value_parser!(u8).range(1..=i64::from(MOST_WORKERS)))
         .default_value("1")
+}
+
+/// `--json` of `report` and `info`.
+fn json<'a>(alloc: Global) -> Arg<'a>
+    ensures { IsRow json_row result }
+{
+    Arg::new(alloc, "json")
+        .long("json")
+        .help("Write one object of JSON in place of lines")
+        .action(ArgAction::SetTrue)
 }
 
 /// `--every N` of `verify`.
@@ -127,7 +134,8 @@ fn report<'a>(alloc: Global) -> Result<Command<'a>, AllocError>
     Command::new(alloc, "report")
         .about("Judge a movie, and say what a judge asks next")
         .arg(movie(alloc))?
-        .arg(workers(alloc))
+        .arg(workers(alloc))?
+        .arg(json(alloc))
 }
 
 /// `--every N` of `make`.
@@ -203,7 +211,8 @@ fn info<'a>(alloc: Global) -> Result<Command<'a>, AllocError>
 {
     Command::new(alloc, "info")
         .about("Say what a movie holds")
-        .arg(movie(alloc))
+        .arg(movie(alloc))?
+        .arg(json(alloc))
 }
 
 /// `inputs FILE`.
@@ -392,7 +401,7 @@ pub(crate) fn program<'a>(alloc: Global) -> Result<Command<'a>, AllocError>
         × ((out-Command command).has_globals ≡ false)) }
 {
     Command::new(alloc, "vcs_check")
-        .version("1.1.0")
+        .version(VERSION)
         .long_version(VERSIONS)
         .about("Judge movies of the Atari 2600")
         .after_help(MORE)
