@@ -4,17 +4,20 @@ use Rattle.std.specs.Prelude.{◌≡◌, ◌≢◌, ◌≤◌, ℕ, Bool, if◌t
 use Rattle.std.specs.Prelude.{IfOk, OnErr, codes, string_bytes}
 use Rattle.std.specs.NonZero.{non_zero_u32_get}
 use Rattle.std.specs.Io.KnownBytes.{Appends, Keeps}
+use Rattle.command_line.specs.Program.{program_name}
 use Rattle.command_line.specs.declared.command.Command.{Command}
 use Rattle.command_line.specs.declared.command.Command.TheVariants.{Stdin, Verify, Report, Make}
 use Rattle.command_line.specs.declared.command.Command.TheVariants.{Info, Inputs, Convert}
 use Rattle.command_line.specs.declared.command.Command.TheVariants.{Frames, Pictures, Cut, Trace}
 use Rattle.movie_file.specs.Reading.{movie_at}
+use Rattle.movie_report.specs.declared.notation.Notation.{Notation}
+use Rattle.movie_report.specs.declared.notation.Notation.TheVariants.{Lines, Json}
 use Rattle.replay_plan.specs.declared.keep.Keep.{Keep}
 use Rattle.vcs_check.specs.declared.commands.Failure.{Failure}
 use Rattle.vcs_check.specs.declared.commands.Failure.TheVariants.{Run}
 use Rattle.vcs_engine.specs.Answers.{Answer, Shows}
 use Rattle.vcs_engine.specs.Conversions.{conversion_of}
-use Rattle.vcs_engine.specs.Information.{information_of}
+use Rattle.vcs_engine.specs.Information.{information_in}
 use Rattle.vcs_engine.specs.Listings.{Lists}
 use Rattle.vcs_engine.specs.Makings.{Makes}
 use Rattle.vcs_engine.specs.Outputs.{Tells}
@@ -51,9 +54,9 @@ abbrev pub IsMade : InputForm → ℕ → Status → List ℕ → Type 0
 IsMade form every status line =
     (rom : List ℕ) × (old new : Option (List ℕ)) × (answer : Answer) × Makes form rom old new every answer × Shows answer status line
 
--- The line about these bytes.
-abbrev pub IsInformation : List ℕ → Status → List ℕ → Type 0
-IsInformation input status line = Shows (information_of (movie_at input)) status line
+-- What these bytes hold.
+abbrev pub IsInformation : Notation → List ℕ → Status → List ℕ → Type 0
+IsInformation notation input status line = Shows (information_in notation (movie_at input)) status line
 
 -- The line of a conversion of some bytes.
 abbrev pub IsConverted : Status → List ℕ → Type 0
@@ -66,6 +69,10 @@ IsDrawn first count input status line = (answer : Answer) × Draws (movie_at inp
 -- and that of a movie of those frames, with a checkpoint after every so many of them.
 abbrev pub IsCut : ℕ → ℕ → ℕ → List ℕ → Status → List ℕ → Type 0
 IsCut first count every input status line = (answer : Answer) × Cuts (movie_at input) first count every answer × Shows answer status line
+
+-- How a command writes that is asked for JSON, or isn't.
+abbrev pub notation_of : Bool → Notation
+notation_of json = if json then Json else Lines
 
 -- How the inputs of a command that makes a movie are written.
 abbrev pub form_of : Bool → InputForm
@@ -83,9 +90,11 @@ IsAnswered Stdin old new status line =
     (input : List ℕ) × ReadsAll old new input × ((keep : Keep) × (keep.count ≡ 0) × IsVerified keep input status line)
 IsAnswered (Verify file plan pictures) old new status line =
     (input : List ℕ) × ReadsFile (string_bytes file) old new input × IsVerified plan.keep input status line
-IsAnswered (Report file workers) old new status line = (input : List ℕ) × ReadsFile (string_bytes file) old new input × Reports input status line
+IsAnswered (Report file workers json) old new status line =
+    (input : List ℕ) × ReadsFile (string_bytes file) old new input × Reports (notation_of json) program_name input status line
 IsAnswered (Make rom inputs text every out) old new status line = Keeps old new × IsMade (form_of text) (non_zero_u32_get every) status line
-IsAnswered (Info file) old new status line = (input : List ℕ) × ReadsFile (string_bytes file) old new input × IsInformation input status line
+IsAnswered (Info file json) old new status line =
+    (input : List ℕ) × ReadsFile (string_bytes file) old new input × IsInformation (notation_of json) input status line
 IsAnswered (Inputs file) old new status line = (input : List ℕ) × ReadsFile (string_bytes file) old new input × Lists (movie_at input) status line
 IsAnswered (Convert older newer) old new status line = Keeps old new × IsConverted status line
 IsAnswered (Frames file first count details) old new status line =
@@ -101,9 +110,9 @@ IsAnswered (Trace file frame) old new status line =
 abbrev pub StartsThreads : Command → Type 0
 StartsThreads Stdin = ⊥
 StartsThreads (Verify file plan pictures) = 2 ≤ plan.workers.number
-StartsThreads (Report file workers) = 2 ≤ workers.number
+StartsThreads (Report file workers json) = 2 ≤ workers.number
 StartsThreads (Make rom inputs text every out) = ⊥
-StartsThreads (Info file) = ⊥
+StartsThreads (Info file json) = ⊥
 StartsThreads (Inputs file) = ⊥
 StartsThreads (Convert older newer) = ⊥
 StartsThreads (Frames file first count details) = ⊥

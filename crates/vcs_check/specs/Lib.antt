@@ -1,4 +1,5 @@
 pub mod Commands
 pub mod Endings
 pub mod Faults
+pub mod Hints
 pub mod Progress

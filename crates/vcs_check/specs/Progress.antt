@@ -1,4 +1,4 @@
--- What a terminal is told of a judgement. This project's own.
+-- What a terminal shows of a judgement. This project's own.
 use Rattle.std.specs.Prelude.{◌≡◌, ◌≤◌, ◌+◌, ℕ, List, ◌++◌, Option, Some, None, IfSome, IsSomeAnd}
 use Rattle.std.specs.Prelude.{codes, min, option_map, replicate}
 use Rattle.std.specs.Fmt.{decimal}

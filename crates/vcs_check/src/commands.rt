@@ -1,16 +1,20 @@
 //! What each command does with files.
 ghost use Rattle.std.specs.Prelude.{◌≡◌, ◌≢◌, ◌≤◌, List, ℕ, Err, OnErr, IsSome};
 ghost use Rattle.std.specs.NonZero.{non_zero_u16_get, non_zero_u32_get};
-ghost use Rattle.vcs_check.specs.Commands.{form_of, IsConverted, IsInformation, IsVerified, IsMade};
+ghost use Rattle.vcs_check.specs.Commands.{form_of, notation_of, IsConverted, IsInformation};
+ghost use Rattle.vcs_check.specs.Commands.{IsVerified, IsMade};
 ghost use Rattle.vcs_check.specs.Commands.{IsCut, IsDrawn, IsQuiet, ReadsFile, Writes};
+ghost use Rattle.command_line.specs.Program.{program_name};
 ghost use Rattle.movie_file.specs.Reading.{movie_at};
 ghost use Rattle.vcs_engine.specs.Listings.{Lists};
 ghost use Rattle.vcs_engine.specs.Reports.{Reports};
 ghost use Rattle.vcs_engine.specs.Streams.{ReadsAll};
 
 use crate::faults::FileFault;
-use crate::files::{Identity, create, open};
+use crate::files::{Identity, create_whole, open, open_beside};
 use crate::output::finished;
+use crate::replacing::Whole;
+use command_line::program_name;
 use replay_plan::{Plan, Workers};
 use std::alloc::Global;
 use std::io::{self, BufWriter, Read, Write};
@@ -20,8 +24,8 @@ use std::sync::Wait;
 use std::thread::Threads;
 use thiserror::Error;
 use vcs_engine::{
-    CountedGate, InputForm, RunError, Status, run, run_convert, run_info, run_inputs, run_make,
-    run_report,
+    CountedGate, InputForm, Notation, RunError, Status, run, run_convert, run_information,
+    run_inputs, run_make, run_report,
 };
 use view_engine::{run_cut, run_pictures};
 
@@ -180,15 +184,15 @@ pub(crate) fn verify_with_pictures<
 {
     if file == STANDARD_INPUT {
         let identity = Identity::of_standard_input(rt, fault)?;
-        let mut pictures = create(rt, pictures, &[identity], fault)?;
+        let mut pictures = create_whole(rt, pictures, &[identity], Whole::Flushed, fault)?;
         let answer = judge_with_pictures(rt, input, plan, &mut pictures, line, gate);
         let answer = finished(answer, &mut pictures);
         pictures.tell(fault);
         return answer;
     }
-    let mut movie = open(rt, file, fault)?;
+    let mut movie = open_beside(rt, file, pictures, fault)?;
     let identity = Identity::of(&movie, fault)?;
-    let mut pictures = create(rt, pictures, &[identity], fault)?;
+    let mut pictures = create_whole(rt, pictures, &[identity], Whole::Flushed, fault)?;
     let answer = judge_with_pictures(rt, &mut movie, plan, &mut pictures, line, gate);
     let answer = finished(answer, &mut pictures);
     movie.tell(fault);
@@ -208,23 +212,54 @@ pub(crate) fn report<
     input: &mut I,
     file: &'a str,
     plan: &Plan,
+    notation: Notation,
     text: &mut W,
     fault: &mut Option<FileFault<'a>>,
     gate: &G,
 ) -> Result<Status, Failure>
     ensures ok { Writes (W.contents text.old) (W.contents text.new) (λ status output.
-        (bytes : List ℕ) × ReadsFile file.now (I.remaining input.old) (I.remaining input.new) bytes × Reports bytes status output) result }
+        (bytes : List ℕ) × ReadsFile file.now (I.remaining input.old) (I.remaining input.new) bytes
+        × Reports notation program_name bytes status output) result }
     ensures quiet { IsQuiet (W.contents text.old) (W.contents text.new) result }
     ensures no_thread { result ≡ Err (Failure.Run RunError.NoThread) → 2 ≤ plan.now.workers.number }
     ensures named { result ≡ Err Failure.Open → IsSome fault.new }
 {
     if file == STANDARD_INPUT {
-        return Ok(run_report(rt, rt.alloc(), input, plan, text, gate)?);
+        return Ok(run_report(
+            rt,
+            rt.alloc(),
+            input,
+            plan,
+            notation,
+            program_name(),
+            text,
+            gate,
+        )?);
     }
     let mut movie = open(rt, file, fault)?;
-    let answer = run_report(rt, rt.alloc(), &mut movie, plan, text, gate);
+    let answer = run_report(
+        rt,
+        rt.alloc(),
+        &mut movie,
+        plan,
+        notation,
+        program_name(),
+        text,
+        gate,
+    );
     movie.tell(fault);
     Ok(answer?)
+}
+
+/// The notation of a command that is asked for JSON, or isn't.
+pub(crate) fn notation_of(json: bool) -> Notation
+    ensures { result ≡ notation_of json }
+{
+    if json {
+        Notation::Json
+    } else {
+        Notation::Lines
+    }
 }
 
 /// The form of inputs that are text, or else bytes.
@@ -254,10 +289,10 @@ pub(crate) fn make<'a, R: Files + AllocGlobal, W: Write>(
     ensures no_thread { result ≢ Err (Failure.Run RunError.NoThread) }
     ensures named { result ≡ Err Failure.Open → IsSome fault.new }
 {
-    let mut rom = open(rt, rom, fault)?;
-    let mut inputs = open(rt, inputs, fault)?;
+    let mut rom = open_beside(rt, rom, out, fault)?;
+    let mut inputs = open_beside(rt, inputs, out, fault)?;
     let identities = [Identity::of(&rom, fault)?, Identity::of(&inputs, fault)?];
-    let mut movie = create(rt, out, &identities, fault)?;
+    let mut movie = create_whole(rt, out, &identities, Whole::Written, fault)?;
     let answer = run_make(
         rt.alloc(),
         &mut rom,
@@ -278,20 +313,22 @@ pub(crate) fn info<'a, R: Files + AllocGlobal, I: Read, W: Write>(
     rt: &R,
     input: &mut I,
     file: &'a str,
+    notation: Notation,
     line: &mut W,
     fault: &mut Option<FileFault<'a>>,
 ) -> Result<Status, Failure>
     ensures ok { Writes (W.contents line.old) (W.contents line.new) (λ status text.
-        (bytes : List ℕ) × ReadsFile file.now (I.remaining input.old) (I.remaining input.new) bytes × IsInformation bytes status text) result }
+        (bytes : List ℕ) × ReadsFile file.now (I.remaining input.old) (I.remaining input.new) bytes
+        × IsInformation notation bytes status text) result }
     ensures quiet { IsQuiet (W.contents line.old) (W.contents line.new) result }
     ensures no_thread { result ≢ Err (Failure.Run RunError.NoThread) }
     ensures named { result ≡ Err Failure.Open → IsSome fault.new }
 {
     if file == STANDARD_INPUT {
-        return Ok(run_info(rt.alloc(), input, line)?);
+        return Ok(run_information(rt.alloc(), notation, input, line)?);
     }
     let mut movie = open(rt, file, fault)?;
-    let answer = run_info(rt.alloc(), &mut movie, line);
+    let answer = run_information(rt.alloc(), notation, &mut movie, line);
     movie.tell(fault);
     Ok(answer?)
 }
@@ -332,9 +369,9 @@ pub(crate) fn convert<'a, R: Files + AllocGlobal, W: Write>(
     ensures no_thread { result ≢ Err (Failure.Run RunError.NoThread) }
     ensures named { result ≡ Err Failure.Open → IsSome fault.new }
 {
-    let mut movie = open(rt, old, fault)?;
+    let mut movie = open_beside(rt, old, new, fault)?;
     let identity = Identity::of(&movie, fault)?;
-    let mut converted = create(rt, new, &[identity], fault)?;
+    let mut converted = create_whole(rt, new, &[identity], Whole::Written, fault)?;
     let answer = run_convert(rt.alloc(), &mut movie, &mut converted, line);
     movie.tell(fault);
     converted.tell(fault);
@@ -358,10 +395,7 @@ fn draw<M: Read, P: Write + Drop, W: Write>(
     ensures read { result ≢ Err Failure.Open }
 {
     let mut pictures = with_buffer(alloc, pictures)?;
-    let answer = run_pictures(alloc, movie, first, count, &mut pictures, line);
-    // Pictures that were written before an error stay.
-    let _flushed = pictures.flush();
-    Ok(answer?)
+    Ok(run_pictures(alloc, movie, first, count, &mut pictures, line)?)
 }
 
 /// Writes the pictures of frames of the movie of a file to another.
@@ -384,15 +418,15 @@ pub(crate) fn pictures<'a, R: Files + AllocGlobal, I: Read, W: Write>(
 {
     if file == STANDARD_INPUT {
         let identity = Identity::of_standard_input(rt, fault)?;
-        let mut pictures = create(rt, out, &[identity], fault)?;
+        let mut pictures = create_whole(rt, out, &[identity], Whole::Flushed, fault)?;
         let answer = draw(rt.alloc(), input, first, count, &mut pictures, line);
         let answer = finished(answer, &mut pictures);
         pictures.tell(fault);
         return answer;
     }
-    let mut movie = open(rt, file, fault)?;
+    let mut movie = open_beside(rt, file, out, fault)?;
     let identity = Identity::of(&movie, fault)?;
-    let mut pictures = create(rt, out, &[identity], fault)?;
+    let mut pictures = create_whole(rt, out, &[identity], Whole::Flushed, fault)?;
     let answer = draw(rt.alloc(), &mut movie, first, count, &mut pictures, line);
     let answer = finished(answer, &mut pictures);
     movie.tell(fault);
@@ -422,14 +456,14 @@ pub(crate) fn cut<'a, R: Files + AllocGlobal, I: Read, W: Write>(
     let every = every.get();
     if file == STANDARD_INPUT {
         let identity = Identity::of_standard_input(rt, fault)?;
-        let mut new = create(rt, out, &[identity], fault)?;
+        let mut new = create_whole(rt, out, &[identity], Whole::Written, fault)?;
         let answer = run_cut(rt.alloc(), input, first, count, every, &mut new, line);
         new.tell(fault);
         return Ok(answer?);
     }
-    let mut movie = open(rt, file, fault)?;
+    let mut movie = open_beside(rt, file, out, fault)?;
     let identity = Identity::of(&movie, fault)?;
-    let mut new = create(rt, out, &[identity], fault)?;
+    let mut new = create_whole(rt, out, &[identity], Whole::Written, fault)?;
     let answer = run_cut(rt.alloc(), &mut movie, first, count, every, &mut new, line);
     movie.tell(fault);
     new.tell(fault);

@@ -4,6 +4,7 @@ ghost use Rattle.std.specs.Prelude.{◌≡◌};
 use crate::commands::Failure;
 use crate::faults::{FileFault, Reason};
 use crate::files::STANDARD_OUTPUT;
+use crate::shown::Shown;
 use command_line::LineFault;
 use std::io::{self, Eprint, IsTerminal};
 use std::process::ExitCode;
@@ -55,8 +56,32 @@ impl Ending {
         }
     }
 
+    /// Shows it on a terminal, with a line after it that says more: the fault of a file, or what to
+    /// write in place of the arguments. No character of an argument or a name controls the terminal.
+    fn show<R: Eprint>(&self, rt: &R, fault: Option<FileFault<'_>>) {
+        if let Ending::Usage { text } = self {
+            let lines = Shown::lines(text);
+            let _printed = eprint!(rt; "{lines}");
+            if text.contains("'-o'") {
+                let _printed = eprintln!(rt;
+                    "-o: --out names what is written, and --pictures of verify"
+                );
+            }
+            return;
+        }
+        let _printed = eprint!(rt; "{self}");
+        if let Ending::NotUtf8 = self {
+            let _printed = eprintln!(rt;
+                "a file of any name can be standard input, as in verify - < FILE"
+            );
+        }
+        if let Some(fault) = fault {
+            let _printed = eprintln!(rt; "{fault}");
+        }
+    }
+
     /// Prints it, help on standard output and all else on standard error, and answers the exit
-    /// status. If standard error is a terminal, the fault of a file stands on a line after it.
+    /// status. If standard error is a terminal, it may have a second line.
     pub(crate) fn report<R: Print + Eprint, E: IsTerminal>(
         self,
         rt: &R,
@@ -70,11 +95,10 @@ impl Ending {
             },
             other => (other, fault),
         };
-        let _printed = eprint!(rt; "{ending}");
-        if let Some(fault) = fault {
-            if standard_error.is_terminal() {
-                let _printed = eprintln!(rt; "{fault}");
-            }
+        if standard_error.is_terminal() {
+            ending.show(rt, fault);
+        } else {
+            let _printed = eprint!(rt; "{ending}");
         }
         ExitCode::from(ending.code())
     }

@@ -2,7 +2,8 @@
 ghost use Rattle.std.specs.Prelude.{◌≡◌, Some};
 ghost use Rattle.vcs_check.specs.Faults.{IsAbout};
 
-use std::io;
+use crate::shown::Shown;
+use std::{fmt, io};
 use thiserror::Error;
 
 /// Why a file failed, as the program prints it after the file's name.
@@ -32,8 +33,7 @@ impl From<io::Error> for Reason {
 }
 
 /// A file, by the name that the command line has of it, and why it failed.
-#[derive(Clone, Copy, Debug, Error)]
-#[error("{file}: {reason}")]
+#[derive(Clone, Copy, Debug)]
 pub(crate) struct FileFault<'a> {
     file: &'a str,
     reason: Reason,
@@ -44,5 +44,13 @@ impl<'a> FileFault<'a> {
         ensures { IsAbout file.now reason (Some result) }
     {
         FileFault { file, reason }
+    }
+}
+
+impl fmt::Display for FileFault<'_> {
+    fn fmt<W: fmt::Write>(&self, f: &mut fmt::Formatter<W>) -> fmt::Result {
+        let file = Shown::name(self.file);
+        let reason = self.reason;
+        write!(f, "{file}: {reason}")
     }
 }

@@ -1,11 +1,14 @@
 //! The files that a command reads and writes.
-ghost use Rattle.std.specs.Prelude.{◌≡◌, Err, OnErr, codes};
+ghost use Rattle.std.specs.Prelude.{◌≡◌, ◌⊎◌, Err, IsSome, OnErr, codes};
 ghost use Rattle.vcs_check.specs.Faults.{Names};
+ghost use Rattle.vcs_check.specs.declared.commands.Failure.TheVariants.{Run};
+ghost use Rattle.vcs_engine.specs.declared.run_error.RunError.TheVariants.{NoMemory};
 
 use crate::commands::Failure;
 use crate::faults::{FileFault, Reason};
 use crate::named::Named;
 use crate::output::Output;
+use crate::replacing::{Replacing, Whole};
 use std::fs::{self, Metadata, OpenFile, OpenOptions};
 use std::io;
 use std::os::unix::fs::{FileTypeExt, MetadataExt};
@@ -41,6 +44,33 @@ pub(crate) fn open<'a, R: Files>(
     }
 }
 
+/// Whether two names lead to one pipe.
+fn is_one_pipe<R: Files>(rt: &R, name: &str, other: &str) -> bool {
+    match (fs::metadata(rt, name), fs::metadata(rt, other)) {
+        (Ok(pipe), Ok(other)) => {
+            pipe.file_type().is_fifo() && Identity::new(&pipe) == Identity::new(&other)
+        }
+        _ => false,
+    }
+}
+
+/// Opens an input of a command that has this output. If both are one pipe, which would wait for
+/// itself, or if the input can't be opened, `fault` says why.
+pub(crate) fn open_beside<'a, R: Files>(
+    rt: &R,
+    name: &'a str,
+    output: &'a str,
+    fault: &mut Option<FileFault<'a>>,
+) -> Result<Named<'a, R::File>, Failure>
+    ensures error { OnErr result (result ≡ Err Failure.Open) }
+    ensures named { OnErr result (IsSome fault.new) }
+{
+    if is_one_pipe(rt, name, output) {
+        return Err(cannot_open(fault, output, Reason::IsInput));
+    }
+    open(rt, name, fault)
+}
+
 /// What tells a file from all others, under whatever names it is opened.
 #[derive(Clone, Copy, PartialEq, Eq)]
 pub(crate) struct Identity {
@@ -49,7 +79,7 @@ pub(crate) struct Identity {
 }
 
 impl Identity {
-    fn new(metadata: &Metadata) -> Identity {
+    pub(crate) fn new(metadata: &Metadata) -> Identity {
         Identity {
             device: metadata.dev(),
             inode: metadata.ino(),
@@ -104,8 +134,8 @@ fn is_standard_output<R: Files>(rt: &R, identity: Identity) -> bool {
         })
 }
 
-/// Opens an output, which is created if it isn't there. Pipes, terminals and other devices that keep
-/// nothing may be inputs, and standard streams, as well.
+/// Opens an output, which is created if it isn't there. Terminals and other devices that keep nothing
+/// may be inputs, and they and pipes standard streams, as well.
 fn open_output<R: Files>(
     rt: &R,
     name: &str,
@@ -114,14 +144,13 @@ fn open_output<R: Files>(
     let file = OpenOptions::new().write(true).create(true).open(rt, name)?;
     let metadata = file.metadata()?;
     let file_type = metadata.file_type();
-    if metadata.is_file() || file_type.is_block_device() {
-        let identity = Identity::new(&metadata);
-        if inputs.contains(&identity) {
-            return Err(Reason::IsInput);
-        }
-        if is_standard_output(rt, identity) {
-            return Err(Reason::IsOutput);
-        }
+    let keeps = metadata.is_file() || file_type.is_block_device();
+    let identity = Identity::new(&metadata);
+    if (keeps || file_type.is_fifo()) && inputs.contains(&identity) {
+        return Err(Reason::IsInput);
+    }
+    if keeps && is_standard_output(rt, identity) {
+        return Err(Reason::IsOutput);
     }
     Ok(Output::new(file, metadata.is_file()))
 }
@@ -130,21 +159,39 @@ fn open_output<R: Files>(
 /// written.
 ///
 /// If it is one of the inputs of the command, which are open, or standard output or standard error,
-/// nothing is touched, and the answer is `Failure::Open`. Pipes, terminals and other devices that
-/// keep nothing may be those as well. If it can't be opened, or is one of those, `fault` says why.
-pub(crate) fn create<'a, R: Files>(
+/// nothing is touched, and the answer is `Failure::Open`. Terminals and other devices that keep
+/// nothing may be those as well, and pipes standard streams. If it can't be opened, or is one of
+/// those, `fault` says why.
+fn create<'a, R: Files>(
     rt: &R,
     name: &'a str,
     inputs: &[Identity],
     fault: &mut Option<FileFault<'a>>,
-) -> Result<Named<'a, Output<R::File>>, Failure>
+) -> Result<Output<R::File>, Failure>
     ensures error { OnErr result (result ≡ Err Failure.Open) }
     ensures named { OnErr result (Names name.now fault.new) }
 {
     match open_output(rt, name, inputs) {
-        Ok(file) => Ok(Named::new(name, file)),
+        Ok(file) => Ok(file),
         Err(reason) => Err(cannot_open(fault, name, reason)),
     }
+}
+
+/// Opens an output as `create` does. From its first write on it is whole or as it was, if it can be
+/// replaced; `whole` says when it is whole. Without memory for names the answer is an error too.
+pub(crate) fn create_whole<'a, 'b, R: Files + AllocGlobal>(
+    rt: &'b R,
+    name: &'a str,
+    inputs: &[Identity],
+    whole: Whole,
+    fault: &mut Option<FileFault<'a>>,
+) -> Result<Named<'a, Replacing<'b, R>>, Failure>
+    ensures error { OnErr result ((result ≡ Err Failure.Open) ⊎ (result ≡ Err (Run NoMemory))) }
+    ensures named { result ≡ Err Failure.Open → Names name.now fault.new }
+{
+    let output = create(rt, name, inputs, fault)?;
+    let replacing = Replacing::new(rt, rt.alloc(), name, output, whole)?;
+    Ok(Named::new(name, replacing))
 }
 
 /// Opens `/dev/null` in place of a standard stream that is closed, so that no file of a command gets

@@ -1,4 +1,4 @@
-//! What is told of frames of the movie of a file.
+//! The lines about frames of the movie of a file.
 ghost use Rattle.std.specs.Prelude.{◌≡◌, ◌≢◌, List, ℕ, Err, IsSome};
 ghost use Rattle.std.specs.NonZero.{non_zero_u32_get};
 ghost use Rattle.movie_file.specs.Reading.{movie_at};

@@ -11,10 +11,18 @@ mod ending;
 mod faults;
 mod files;
 mod frames;
+mod hint;
 mod named;
 mod output;
+mod places;
 mod progress;
+mod refusals;
+mod remarks;
+mod replacing;
+mod shown;
+mod size_limit;
 mod stage;
+mod state_rules;
 mod trace;
 
 ghost use Rattle.std.specs.Prelude.{◌≡◌, Err, IsSome};
@@ -23,8 +31,8 @@ ghost use Rattle.vcs_engine.specs.declared.run_error.RunError.TheVariants.{NoThr
 
 use command_line::{Command, LineFault, parse_line};
 use commands::{
-    Failure, convert, cut, form_of, info, inputs, make, pictures, plan_of_standard_input, report,
-    verify, verify_with_pictures, verify_without_pictures,
+    Failure, convert, cut, form_of, info, inputs, make, notation_of, pictures,
+    plan_of_standard_input, report, verify, verify_with_pictures, verify_without_pictures,
 };
 use ending::Ending;
 use faults::FileFault;
@@ -32,7 +40,9 @@ use files::{STANDARD_INPUT, STANDARD_OUTPUT, null_if_closed};
 use frames::frames;
 use named::Named;
 use progress::Progress;
+use remarks::remark;
 use replay_plan::Plan;
+use size_limit::{Limited, Room};
 use std::alloc::Global;
 use std::env::{self, Args, Env};
 use std::io::{self, IsTerminal, Read, Write};
@@ -82,9 +92,22 @@ fn answer_command<
             }
             None => verify(rt, input, file, plan, line, fault, gate),
         },
-        Command::Report { file, workers } => {
+        Command::Report {
+            file,
+            workers,
+            json,
+        } => {
             let plan = Plan::without_pictures(*workers);
-            report(rt, input, file, &plan, line, fault, gate)
+            report(
+                rt,
+                input,
+                file,
+                &plan,
+                notation_of(*json),
+                line,
+                fault,
+                gate,
+            )
         }
         Command::Make {
             rom,
@@ -93,7 +116,7 @@ fn answer_command<
             every,
             out,
         } => make(rt, rom, inputs, form_of(*text), *every, out, line, fault),
-        Command::Info { file } => info(rt, input, file, line, fault),
+        Command::Info { file, json } => info(rt, input, file, notation_of(*json), line, fault),
         Command::Inputs { file } => inputs(rt, input, file, line, fault),
         Command::Convert { old, new } => convert(rt, old, new, line, fault),
         Command::Frames {
@@ -141,11 +164,15 @@ fn main(rt: HostRuntime) -> ExitCode {
         Err(ending) => return ending.report(&rt, &rt.stderr(), None),
     };
     let mut input = Named::new(STANDARD_INPUT, rt.stdin());
-    let mut line = Named::new(STANDARD_OUTPUT, io::writer(&rt));
+    let room = Room::of_standard_output(&rt);
+    let mut line = Named::new(STANDARD_OUTPUT, Limited::new(io::writer(&rt), room));
     let mut fault = None;
     let progress = Progress::new(&rt, rt.stderr().is_terminal());
     match answer_command(&rt, &mut input, &mut line, &command, &mut fault, &progress) {
-        Ok(status) => ExitCode::from(status.code()),
+        Ok(status) => {
+            remark(&rt, &rt.stderr(), &command, status);
+            ExitCode::from(status.code())
+        }
         Err(failure) => {
             input.tell(&mut fault);
             line.tell(&mut fault);

@@ -6,9 +6,9 @@ ghost use Rattle.vcs_check.specs.Faults.{IsAbout, reason_at_length};
 ghost use Rattle.vcs_check.specs.declared.faults.Reason.TheVariants.{System, TookNothing};
 
 use crate::faults::{FileFault, Reason};
-use crate::output::Output;
-use std::fs::OpenFile;
+use crate::replacing::Replacing;
 use std::io::{self, Read, Write};
+use std::rt::Files;
 
 /// The most bytes of one input.
 const INPUT_LIMIT: u64 = 16_777_216;
@@ -61,7 +61,7 @@ impl<'a, S> Named<'a, S> {
     }
 }
 
-impl<F: OpenFile> Named<'_, Output<F>> {
+impl<R: Files> Named<'_, Replacing<'_, R>> {
     /// Takes out the bytes of before, if none was written.
     pub(crate) fn finish(&mut self) -> io::Result<()> {
         let answer = self.stream.empty();

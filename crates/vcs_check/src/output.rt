@@ -5,8 +5,10 @@ ghost use Rattle.vcs_engine.specs.declared.run_error.RunError.TheVariants.{Write
 
 use crate::commands::Failure;
 use crate::named::Named;
-use std::fs::OpenFile;
+use crate::replacing::Replacing;
+use std::fs::{Metadata, OpenFile};
 use std::io::{self, Write};
+use std::rt::Files;
 use vcs_engine::{RunError, Status};
 
 /// A file that is written. Its bytes of before stay until the first new ones are written: after a
@@ -25,6 +27,11 @@ impl<F: OpenFile> Output<F> {
         ensures old { result.is_old ≡ is_old }
     {
         Output { file, is_old }
+    }
+
+    /// What the system says of the file.
+    pub(crate) fn metadata(&self) -> io::Result<Metadata> {
+        self.file.metadata()
     }
 
     /// Takes out the bytes of before, if they are still there.
@@ -54,9 +61,9 @@ impl<F: Write + OpenFile> Write for Output<F> {
 
 /// The answer of a command that wrote to this file. If all is done no bytes of before stay, though
 /// nothing was written.
-pub(crate) fn finished<F: OpenFile>(
+pub(crate) fn finished<R: Files>(
     answer: Result<Status, Failure>,
-    output: &mut Named<'_, Output<F>>,
+    output: &mut Named<'_, Replacing<'_, R>>,
 ) -> Result<Status, Failure>
     ensures ok { OnOk result (result ≡ answer) }
     ensures err { OnErr result ((result ≡ answer) ⊎ (result ≡ Err (Run WriteFault))) }

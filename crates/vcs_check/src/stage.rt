@@ -1,4 +1,4 @@
-//! How far a judgement has come, and what a terminal is told of it.
+//! How far a judgement has come, and what a terminal shows of it.
 ghost use Rattle.std.specs.Prelude.{◌≡◌, ◌↔◌, ◌<◌, ◌≤◌, length, true, IfSome, Some};
 ghost use Rattle.vcs_check.specs.Progress.{IsAdvanced, IsCounted, IsDue, IsOfAtMost};
 ghost use Rattle.vcs_check.specs.Progress.{begun_of, last_notice, notice_text};

@@ -1,0 +1,79 @@
+//! Places in the bytes of a movie file, whatever they hold.
+ghost use Rattle.std.specs.Prelude.{◌≡◌, ◌<◌, ◌≤◌, ◌^◌, slice_index};
+
+/// The bytes of a header.
+pub(crate) const HEADER: usize = 14;
+
+/// A byte, or 0 after the last one.
+pub(crate) fn byte_at(bytes: &[u8], at: usize) -> u8
+    ensures { result ≡ slice_index bytes.now at }
+{
+    match bytes.get(at) {
+        Some(byte) => *byte,
+        None => 0,
+    }
+}
+
+/// The number of two bytes.
+pub(crate) fn two_at(bytes: &[u8], at: usize) -> u16 {
+    u16::from_be_bytes([byte_at(bytes, at), byte_at(bytes, at.saturating_add(1))])
+}
+
+/// The number of four bytes.
+pub(crate) fn four_at(bytes: &[u8], at: usize) -> u32 {
+    let high = two_at(bytes, at);
+    let low = two_at(bytes, at.saturating_add(2));
+    (u32::from(high) << 16) | u32::from(low)
+}
+
+/// What the header of a file says.
+#[derive(Clone, Copy)]
+pub(crate) struct Places {
+    pub(crate) version: u16,
+    pub(crate) cartridge: u16,
+    pub(crate) frames: u32,
+    pub(crate) checkpoints: u16,
+}
+
+impl Places {
+    pub(crate) fn of(bytes: &[u8]) -> Places {
+        Places {
+            version: two_at(bytes, 4),
+            cartridge: two_at(bytes, 6),
+            frames: four_at(bytes, 8),
+            checkpoints: two_at(bytes, 12),
+        }
+    }
+
+    /// The bytes of a state record.
+    pub(crate) fn record(self) -> usize
+        ensures { result ≤ 188 }
+    {
+        if self.version == 1 { 187 } else { 188 }
+    }
+
+    /// Where the start state is.
+    pub(crate) fn start(self) -> usize
+        ensures { result < 2 ^ 17 }
+    {
+        HEADER + usize::from(self.cartridge)
+    }
+
+    /// Where the input of a frame is, counted from 0.
+    pub(crate) fn input(self, frame: u64) -> usize {
+        let inputs = (frame as usize).saturating_mul(3);
+        (self.start() + self.record()).saturating_add(inputs)
+    }
+
+    /// Where a checkpoint is, counted from 0.
+    pub(crate) fn checkpoint(self, number: u16) -> usize {
+        let checkpoints = usize::from(number).saturating_mul(4 + self.record());
+        self.input(u64::from(self.frames))
+            .saturating_add(checkpoints)
+    }
+
+    /// Where the file ends.
+    pub(crate) fn end(self) -> usize {
+        self.checkpoint(self.checkpoints)
+    }
+}

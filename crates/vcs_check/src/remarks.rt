@@ -1,0 +1,154 @@
+//! What a terminal is told after an answer: why something was refused, and what no checkpoint
+//! claims. Files are read again for it, so that nothing before is another on a terminal.
+
+use crate::commands;
+use crate::files::STANDARD_INPUT;
+use crate::hint::Hint;
+use crate::places::Places;
+use crate::refusals::{hint_of, hint_of_inputs, hint_of_rom, hint_of_text};
+use crate::shown::Shown;
+use command_line::Command;
+use movie_file::{read_inputs, read_movie};
+use riot_map::Cart;
+use std::fs;
+use std::io::{Eprint, IsTerminal};
+use std::num::NonZeroU32;
+use std::rt::Files;
+use vcs_engine::{Status, read_all};
+
+/// What a file holds, if it is a regular file, which can be read again.
+fn read_again<R: Files + AllocGlobal>(rt: &R, path: &str) -> Option<Vec<u8>> {
+    let Ok(metadata) = fs::metadata(rt, path) else {
+        return None;
+    };
+    if !metadata.is_file() {
+        return None;
+    }
+    let Ok(mut file) = fs::open(rt, path) else {
+        return None;
+    };
+    read_all(rt.alloc(), &mut file).ok()
+}
+
+/// What is wrong with a movie. Of one that can be read it is what it holds.
+fn hint_of_movie<R: Files + AllocGlobal>(rt: &R, path: &str) -> Option<Hint> {
+    let bytes = read_again(rt, path)?;
+    match read_movie(rt.alloc(), &bytes) {
+        Ok(movie) => Some(Hint::Holds {
+            version: movie.version(),
+            frames: movie.frames(),
+        }),
+        Err(error) => hint_of(&bytes, error),
+    }
+}
+
+/// What is wrong with inputs of a cartridge.
+fn hint_of_list<R: Files + AllocGlobal>(
+    rt: &R,
+    path: &str,
+    is_text: bool,
+    every: NonZeroU32,
+) -> Option<Hint> {
+    let bytes = read_again(rt, path)?;
+    if is_text {
+        return hint_of_text(&bytes);
+    }
+    match read_inputs(rt.alloc(), &bytes) {
+        Ok(inputs) => Some(Hint::Counts {
+            frames: inputs.len(),
+            every: every.get(),
+        }),
+        Err(error) => hint_of_inputs(&bytes, error),
+    }
+}
+
+/// The file that keeps a movie from being made, and what is wrong with it.
+fn hint_of_making<'a, R: Files + AllocGlobal>(
+    rt: &R,
+    rom: &'a str,
+    inputs: &'a str,
+    is_text: bool,
+    every: NonZeroU32,
+) -> Option<(&'a str, Hint)> {
+    let cartridge = read_again(rt, rom)?;
+    if Cart::is_length(cartridge.len()) {
+        let hint = hint_of_list(rt, inputs, is_text, every)?;
+        return Some((inputs, hint));
+    }
+    match fs::metadata(rt, inputs) {
+        Ok(metadata) if Cart::is_length(metadata.len() as usize) => {
+            Some((inputs, Hint::Exchanged))
+        }
+        _ => Some((rom, hint_of_rom(&cartridge))),
+    }
+}
+
+/// Which file of a command was refused, and what is wrong with it.
+fn hint_of_refusal<'a, R: Files + AllocGlobal>(
+    rt: &R,
+    command: &'a Command,
+) -> Option<(&'a str, Hint)> {
+    let file = match command {
+        Command::Make {
+            rom,
+            inputs,
+            text,
+            every,
+            ..
+        } => return hint_of_making(rt, rom, inputs, *text, *every),
+        Command::Convert { old, .. } => return Some((old, hint_of_movie(rt, old)?)),
+        Command::Stdin => commands::STANDARD_INPUT,
+        Command::Verify { file, .. }
+        | Command::Report { file, .. }
+        | Command::Info { file, .. }
+        | Command::Inputs { file, .. }
+        | Command::Frames { file, .. }
+        | Command::Pictures { file, .. }
+        | Command::Cut { file, .. }
+        | Command::Trace { file, .. } => file,
+    };
+    if file == commands::STANDARD_INPUT {
+        return Some((STANDARD_INPUT, hint_of_movie(rt, "/dev/stdin")?));
+    }
+    Some((file, hint_of_movie(rt, file)?))
+}
+
+/// Which frames at the end of a movie that was written no checkpoint follows, if any.
+fn hint_of_last_claim<'a, R: Files + AllocGlobal>(
+    rt: &R,
+    command: &'a Command,
+) -> Option<(&'a str, Hint)> {
+    let (out, every) = match command {
+        Command::Make { out, every, .. } | Command::Cut { out, every, .. } => (out, every),
+        _ => return None,
+    };
+    let last = Places::of(&read_again(rt, out)?).frames;
+    let after = last % every.get();
+    if after == 0 {
+        return None;
+    }
+    let first = last - after + 1;
+    Some((out, Hint::Unclaimed { first, last }))
+}
+
+/// Tells a terminal which file was refused and why, and which frames of a movie that was written no
+/// checkpoint follows. If standard error is no terminal nothing is read or written.
+pub(crate) fn remark<R: Files + AllocGlobal + Eprint, E: IsTerminal>(
+    rt: &R,
+    standard_error: &E,
+    command: &Command,
+    status: Status,
+) {
+    if !standard_error.is_terminal() {
+        return;
+    }
+    let found = match status {
+        Status::Refused => hint_of_refusal(rt, command),
+        Status::Done => hint_of_last_claim(rt, command),
+        Status::False | Status::Fault => None,
+    };
+    if let Some((name, hint)) = found {
+        let name = Shown::name(name);
+        let _printed = eprintln!(rt; "{name}: {hint}");
+    }
+}
