@@ -22,7 +22,7 @@ const LINES_WITH_DIGESTS: &str =
 frame 2: 16 cycles, 1 rows, memory 80 02, state f2a70320d91e4670e162fcbe768faf0da7e880d9031e2c58461dc2d3a3ff6b53, picture 4409125736b791ebfbe7f4b5965102771b94973613b155995c4cb26f34875114
 ";
 
-/// What is told of two frames. Where it is out of memory some of the lines may be there, each whole.
+/// The lines about two frames. Where it is out of memory some of the lines may be there, each whole.
 pub(crate) fn is_described(alloc: Global, digests: bool) -> Result<(), Failure> {
     let wanted = if digests { LINES_WITH_DIGESTS } else { LINES };
     let mut watches = Watches::none();

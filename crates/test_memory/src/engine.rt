@@ -2,7 +2,10 @@
 
 use crate::failure::{Failure, right};
 use crate::gate::Told;
-use crate::movies::{CONVERTED_LENGTH, LENGTH, conversion, two_frames, two_frames_to_the_end};
+use crate::movies::{
+    CONVERTED_LENGTH, LENGTH, conversion, two_frames, two_frames_to_the_end,
+    two_frames_with_a_false_claim,
+};
 use replay_plan::{Keep, Plan, Workers};
 use std::alloc::Global;
 use std::io::{self, Read};
@@ -10,8 +13,8 @@ use std::num::NonZeroU32;
 use std::sync::Wait;
 use std::thread::Threads;
 use vcs_engine::{
-    InputForm, NoGate, RunError, Status, run, run_convert, run_info, run_inputs, run_make,
-    run_report,
+    InputForm, NoGate, Notation, RunError, Status, run, run_convert, run_info, run_information,
+    run_inputs, run_make, run_report,
 };
 use view_engine::{run_cut, run_pictures};
 
@@ -134,8 +137,28 @@ pub(crate) fn is_listed(alloc: Global) -> Result<(), Failure> {
 }
 
 /// The length of the report of two frames: a line of the verdict, one for the length of the
-/// cartridge, three digests, and six of the start and the checkpoints.
-const REPORT: usize = 33 + 22 + 38 + 47 + 73 + 16 + 15 + 26 + 25 + 22 + 36;
+/// cartridge, three digests, its bank scheme, six lines of the start and the checkpoints, and five of
+/// the movie.
+const REPORT: usize = 33
+    + 22
+    + 38
+    + 47
+    + 73
+    + 12
+    + 16
+    + 15
+    + 26
+    + 25
+    + 22
+    + 36
+    + 17
+    + 16
+    + 79
+    + 17
+    + 19;
+
+/// The room for a report.
+const REPORT_ROOM: usize = 1024;
 
 /// Two frames judged by so many workers, and their report.
 pub(crate) fn is_reported<R: Threads + Wait + Sync>(
@@ -145,24 +168,85 @@ pub(crate) fn is_reported<R: Threads + Wait + Sync>(
 ) -> Result<(), Failure> {
     let workers = Workers::new(workers).ok_or(Failure::Wrong)?;
     let plan = Plan::without_pictures(workers);
-    let mut text = [0u8; 512];
+    let mut text = [0u8; REPORT_ROOM];
     let mut left = text.as_mut_slice();
     let answer = run_report(
         rt,
         alloc,
         &mut two_frames().as_slice(),
         &plan,
+        Notation::Lines,
+        "vcs_check",
         &mut left,
         &NoGate,
     );
-    let is_untouched = left.len() == 512;
-    let is_whole = left.len() == 512 - REPORT;
+    let is_untouched = left.len() == REPORT_ROOM;
+    let is_whole = left.len() == REPORT_ROOM - REPORT;
     match answer {
         Ok(status) => right(
             status == Status::Done
                 && is_whole
                 && text.starts_with(
                     b"genuine: 2 frames, 1 checkpoints\ncartridge: 2048 bytes\nmd5: 2062825b",
+                ),
+        ),
+        Err(error) => Err(failure(error, is_untouched)),
+    }
+}
+
+/// A false movie of two segments, and its report as JSON. The second segment passes, since its frame
+/// stores what the claim has otherwise.
+pub(crate) fn is_reported_false<R: Threads + Wait + Sync>(
+    rt: &R,
+    alloc: Global,
+) -> Result<(), Failure> {
+    let plan = Plan::without_pictures(Workers::ONE);
+    let mut text = [0u8; REPORT_ROOM];
+    let mut left = text.as_mut_slice();
+    let answer = run_report(
+        rt,
+        alloc,
+        &mut two_frames_with_a_false_claim().as_slice(),
+        &plan,
+        Notation::Json,
+        "vcs_check",
+        &mut left,
+        &NoGate,
+    );
+    let left = left.len();
+    let written = text.split_at(REPORT_ROOM.saturating_sub(left)).0;
+    match answer {
+        Ok(status) => right(
+            status == Status::False
+                && written.starts_with(
+                    b"{\"verdict\":\"false checkpoint\",\"checkpoint\":1,\"frame\":1,\"cartridge\":2048,",
+                )
+                && written.ends_with(
+                    b",\"differs\":[{\"number\":\"memory 80\",\"claimed\":\"07\",\"found\":\"02\"}],\"segments\":\"X.\"}\n",
+                ),
+        ),
+        Err(error) => Err(failure(error, left == REPORT_ROOM)),
+    }
+}
+
+/// What the movie of two frames holds, as JSON.
+pub(crate) fn is_told_as_json(alloc: Global) -> Result<(), Failure> {
+    let mut text = [0u8; ROOM];
+    let mut left = text.as_mut_slice();
+    let answer = run_information(
+        alloc,
+        Notation::Json,
+        &mut two_frames().as_slice(),
+        &mut left,
+    );
+    let is_untouched = left.len() == ROOM;
+    let is_whole = left.len() == ROOM - 58;
+    match answer {
+        Ok(status) => right(
+            status == Status::Done
+                && is_whole
+                && text.starts_with(
+                    b"{\"version\":1,\"cartridge\":2048,\"frames\":2,\"checkpoints\":1}\n",
                 ),
         ),
         Err(error) => Err(failure(error, is_untouched)),

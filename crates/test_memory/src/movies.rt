@@ -58,6 +58,13 @@ pub(crate) fn two_frames_to_the_end() -> [u8; LENGTH] {
     bytes
 }
 
+/// Two frames of which the checkpoint claims 07 at address 80, where each frame stores 02.
+pub(crate) fn two_frames_with_a_false_claim() -> [u8; LENGTH] {
+    let mut bytes = two_frames();
+    bytes[2266] = 7;
+    bytes
+}
+
 /// The movie of two frames in version 2: another version, and a last byte of each state, the bank,
 /// which is 0.
 pub(crate) fn conversion() -> [u8; CONVERTED_LENGTH] {

@@ -1,4 +1,4 @@
-//! What is told of frames, over memory and over devices that fail.
+//! The lines about frames, over memory and over devices that fail.
 
 use crate::devices::{FailingReader, FailingWriter};
 use crate::expectation::expect_equal;

@@ -1,32 +1,30 @@
 //! Reports of movies, by their first and last lines: a text of some hundred bytes keeps the prover
 //! for minutes. Whole reports, with digests, are compared by `ci/cases`.
 
-use crate::movies::{ENDLESS_FRAMES, SEVEN_FRAMES, after_frame, movie, power_on, read, two};
-use movie_file::Movie;
-use movie_report::report;
+use crate::movies::{ENDLESS_FRAMES, SEVEN_FRAMES, after_frame, movie, power_on, read, two_frames};
+use movie_report::{Notation, report};
 use replay_plan::Keep;
 use replay_segments::verify_one;
 use std::alloc::Global;
 use std::test::Fail;
 
-/// The report of a movie with its verdict.
-fn report_of(alloc: Global, movie: &Movie) -> Result<String, Fail> {
-    let verdict = verify_one(alloc, movie, Keep::new(1, 0)?)?;
-    Ok(report(alloc, movie, &verdict)?)
+/// The report of a movie with its verdict, by a program p.
+fn report_of(alloc: Global, bytes: &[u8]) -> Result<String, Fail> {
+    let movie = read(alloc, bytes)?;
+    let verdict = verify_one(alloc, &movie, Keep::NONE)?;
+    Ok(report(alloc, Notation::Lines, "p", bytes, &movie, &verdict)?)
 }
 
 #[test]
 fn genuine_movie_has_its_facts(rt: HostRuntime) -> Result<(), Fail> {
-    let genuine = two(rt.alloc())?;
-    let text = report_of(rt.alloc(), &genuine)?;
+    let text = report_of(rt.alloc(), &two_frames(rt.alloc())?)?;
     assert!(rt; text.as_str().starts_with("cartridge: 2048 bytes\nmd5: "));
-    assert!(rt;
-        text.as_str().ends_with("largest gap: 1 frames\nafter the last checkpoint: 1 frames\n")
-    );
+    assert!(rt; text.as_str().ends_with("\nlast input: none\nprogram: p\n"));
     Ok(())
 }
 
-/// The second checkpoint claims another PC, and another byte at address 82.
+/// The second checkpoint claims another PC, and another byte at address 82. From there BEQ leads to
+/// a BRK, whose vector is a register of the TIA.
 #[test]
 fn false_checkpoint_has_each_number_that_differs(rt: HostRuntime) -> Result<(), Fail> {
     let mut wrong = after_frame(0xE3, 0x1D);
@@ -34,9 +32,11 @@ fn false_checkpoint_has_each_number_that_differs(rt: HostRuntime) -> Result<(), 
     wrong[9] = 0x01;
     let claims = [after_frame(0xF3, 0x0D), wrong];
     let bytes = movie(rt.alloc(), &ENDLESS_FRAMES, &power_on(), 5, 1, &claims)?;
-    let text = report_of(rt.alloc(), &read(rt.alloc(), &bytes)?)?;
+    let text = report_of(rt.alloc(), &bytes)?;
     assert!(rt;
-        text.as_str().ends_with("PC: claimed F00C, found F00A\nmemory 82: claimed 01, found 00\n")
+        text.as_str().ends_with(
+            "PC: claimed F00C, found F00A\nmemory 82: claimed 01, found 00\nsegments: .XF\n"
+        )
     );
     Ok(())
 }
@@ -49,11 +49,10 @@ fn fault_has_its_registers_and_its_beam(rt: HostRuntime) -> Result<(), Fail> {
     let mut start = power_on();
     start[185] = 35;
     let bytes = movie(rt.alloc(), &SEVEN_FRAMES, &start, 7, 1, &[])?;
-    let text = report_of(rt.alloc(), &read(rt.alloc(), &bytes)?)?;
+    let text = report_of(rt.alloc(), &bytes)?;
     assert!(rt;
-        text.as_str().ends_with(
-            "registers: A 00, X 07, Y 00, S FF, P 07, PC F010\nbeam: scanline 1, cycle 4\n"
-        )
+        text.as_str()
+            .ends_with("PC F010\nbeam: scanline 1, cycle 4\nsegments: F\n")
     );
     Ok(())
 }
