@@ -16,7 +16,8 @@ NONE = "not judged"
 
 
 class Verdict(TypedDict):
-    """What was answered of one movie. Where it isn't judged, 'line' says why."""
+    """What was answered of one movie. Its facts are the object that 'vcs_check report --json' printed, and its line is that of
+    the verdict; of a movie that isn't judged there are no facts, and the line says why."""
 
     path: str
     digest: str | None
@@ -32,6 +33,25 @@ class Verdict(TypedDict):
 
 class Damaged(Exception):
     """A file of verdicts has a line that is none."""
+
+
+def line_of(facts: dict[str, Any]) -> str:
+    """The line of the verdict in these facts, as 'vcs_check verify' prints it."""
+    kind = facts["verdict"]
+    if kind == KINDS[0]:
+        return f"genuine: {facts['frames']} frames, {facts['checkpoints']} checkpoints"
+    if kind == KINDS[1]:
+        return f"false checkpoint {facts['checkpoint']} at frame {facts['frame']}"
+    if kind == KINDS[2]:
+        return f"fault at frame {facts['frame']}: {facts['fault']}"
+    if kind == KINDS[3]:
+        return f"refused: {facts['refusal']}"
+    raise ValueError("no such verdict")
+
+
+def is_judged(verdict: Verdict) -> bool:
+    """Whether this is the verdict of a program whose facts have the names that are known here, which they have since 1.2.0."""
+    return verdict["verdict"] in KINDS and verdict["facts"].get("verdict") == verdict["verdict"]
 
 
 def spelled(verdict: Verdict) -> bytes:
