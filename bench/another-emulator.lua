@@ -1,6 +1,8 @@
--- What bench/another-emulator has MAME do: it plays the file 'inputs', three numbers a frame as a movie has them, and
--- writes the file 'states', a line a frame: what processor, memory, RIOT, TIA and cartridge hold at the frame's end. Of as many
--- frames as PICTURES says it also writes 'writes', a line for each write to the TIA, and 'pictures', each after its frame's number.
+-- What bench/another-emulator and bench/another-trace have MAME do: it plays the file 'inputs', three numbers a frame as a movie
+-- has them, and writes the file 'states', a line a frame: what processor, memory, RIOT, TIA and cartridge hold at the frame's end.
+-- Of as many frames as PICTURES says it also writes 'writes', a line for each write to the TIA, and 'pictures', each after its
+-- frame's number. Of each frame K that TRACED names it writes 'trace-K', a line for each instruction as MAME's debugger has it,
+-- and 'accesses-K', a line for each access of the processor.
 
 local machine = manager.machine
 local processor = machine.devices[":maincpu"]
@@ -35,13 +37,12 @@ local function read_inputs()
   return inputs
 end
 
--- A function for the selected bank, which MAME doesn't show: it looks where the two differ. None without banks.
-local function bank_reader()
+-- MAME doesn't show the selected bank. An address at which the two differ, and the byte of the second; none without banks.
+local function difference_of_banks()
   local rom = machine.memory.regions[":cartslot:cart:rom"]
   for place = 0, rom.size == 8192 and 0x0FF7 or -1 do
-    if rom:read_u8(place) ~= rom:read_u8(0x1000 + place) then
-      return function() return space:read_u8(0x1000 + place) == rom:read_u8(0x1000 + place) and 1 or 0 end
-    end
+    local byte = rom:read_u8(0x1000 + place)
+    if rom:read_u8(place) ~= byte then return 0x1000 + place, byte end
   end
 end
 
@@ -58,9 +59,11 @@ local function state_line(numbers, bank)
   return table.concat(words, " ") .. " memory=" .. table.concat(bytes) .. "\n"
 end
 
--- What docs/MACHINE.md says of power-on by a rule of its own, and MAME has otherwise: the second of two banks is
+-- What docs/MACHINE.md says of power-on by a rule of its own, and MAME has otherwise: the processor's registers (of S, MAME's
+-- processor takes three when it is reset, and bits 5 and 4 of P are always set in it), the second of two banks is
 -- selected, the timer has an interval of 1024 cycles and one to go, and no collision has been.
 local function power_on(numbers)
+  for name, value in pairs({A = 0, X = 0, Y = 0, SP = 0x0102, P = 0x34}) do processor.state[name].value = value end
   space:read_u8(0x1FF9)
   space:write_u8(0x0297, 0)
   for name, item in pairs(numbers) do
@@ -69,7 +72,8 @@ local function power_on(numbers)
 end
 
 local inputs = read_inputs()
-local numbers, bank = saved_numbers(), bank_reader()
+local numbers, place_of_bank, byte_of_second = saved_numbers(), difference_of_banks()
+local bank = place_of_bank and function() return space:read_u8(place_of_bank) == byte_of_second and 1 or 0 end
 local states = io.open("states", "w")
 local frame, written = 1, 0 -- and what was last written to VSYNC
 states:setvbuf("line")
@@ -85,6 +89,31 @@ emu.register_frame_done(function()
   while shown > 0 and moments[shown] > cycles() - 238 * 76 do shown = shown - 1 end
   if shown <= wanted then pictures:write(string.pack("<I4", shown), bytes) end
 end)
+
+-- The frames that are traced, and where the accesses of the one that is played now go, if it is among them.
+local traced, accesses = {}, nil
+for number in (os.getenv("TRACED") or ""):gmatch("%d+") do traced[tonumber(number)] = true end
+local line_of_a_trace = '{tracelog "%d %02X %02X %02X A=%02X X=%02X Y=%02X S=%02X P=%02X ' .. (bank and "B=%d " or "")
+  .. '",totalcycles,b@pc,b@(pc+1),b@(pc+2),a,x,y,sp & ff,p & cf'
+  .. (bank and string.format(",b@%X == %X}", place_of_bank, byte_of_second) or "}")
+
+local function begin_frame()
+  if accesses then
+    accesses:close()
+    machine.debugger:command("trace off,maincpu")
+  end
+  accesses = traced[frame] and io.open("accesses-" .. frame, "w")
+  if accesses then
+    machine.debugger:command("trace trace-" .. frame .. ",maincpu,noloop," .. line_of_a_trace)
+  end
+end
+
+local function access(kind, address, byte)
+  if accesses then accesses:write(string.format("%d %s %04X %02X\n", cycles(), kind, address, byte)) end
+end
+
+if machine.debugger then machine.debugger.execution_state = "run" end
+begin_frame()
 
 -- What follows is global, so that MAME keeps it. MAME itself looks at what is held once in a frame of its own, wherever
 -- the program then is; so what is held is put in where the program reads it, a bit of a port if it is an input.
@@ -110,6 +139,7 @@ WatchOfVsync = space:install_write_tap(0x0000, 0x0000, "vsync", function(_, byte
   states:write(state_line(numbers, bank))
   moments[frame] = cycles()
   frame = frame + 1
+  begin_frame()
   if frame > #inputs then
     inputs[frame] = inputs[frame - 1]
     for _, file in ipairs({states, pictures, writes}) do file:close() end
@@ -123,3 +153,9 @@ WatchOfWrites = space:install_write_tap(0x0000, 0x003F, "writes", function(addre
   if frame > wanted then return end
   writes:write(cycles(), " ", address & 0x3F, " ", byte, "\n")
 end)
+
+-- So are these: a write is written down before it ends a frame, and a read with the byte that the functions above make of it.
+if next(traced) then
+  WatchOfAllReads = space:install_read_tap(0x0000, 0x1FFF, "reads", function(address, byte) access("read", address, byte) end)
+  WatchOfAllWrites = space:install_write_tap(0x0000, 0x1FFF, "all", function(address, byte) access("write", address, byte) end)
+end
