@@ -1,15 +1,20 @@
--- From what a command's function answers to what the command does.
+-- From what a question or a movie to be made is answered to what the command does.
 use Rattle.std.proofs.Common.{◌≡◌, ℕ, Bool, List, refl, subst, Result, Ok, Err, Option, Some, None}
-use Rattle.std.proofs.Common.{String, Global, string_bytes}
+use Rattle.std.proofs.Common.{String, Global, codes, string_bytes}
 use Rattle.std.specs.NonZero.{non_zero_u32_get}
 use Rattle.std.specs.declared.num.NonZeroU32.{NonZeroU32}
 use Rattle.std.specs.Io.KnownBytes.{Keeps}
-use Rattle.command_line.specs.declared.command.Command.TheVariants.{Stdin, Verify, Make}
-use Rattle.replay_plan.specs.declared.keep.Keep.{Keep}
+use Rattle.command_line.specs.Program.{program_name}
+use Rattle.command_line.specs.declared.command.Command.TheVariants.{Stdin, Report, Make}
+use Rattle.movie_report.specs.declared.notation.Notation.{Notation}
 use Rattle.replay_plan.specs.declared.plan.Plan.{Plan}
-use Rattle.vcs_check.specs.Commands.{IsAnswered, form_of, IsVerified, IsMade, ReadsFile, Writes}
-use Rattle.vcs_check.specs.declared.commands.Failure.{Failure}
-use Rattle.vcs_engine.specs.Streams.{ReadsAll}
+use Rattle.replay_plan.specs.declared.workers.Workers.{Workers}
+use Rattle.vcs_check.specs.Answers.{IsAnswer}
+use Rattle.vcs_check.specs.Commands.{IsAnswered, form_of, notation_of, IsMade, ReadsFile, Writes}
+use Rattle.vcs_check.specs.declared.failure.Failure.{Failure}
+use Rattle.vcs_check.specs.declared.question.Question.{Question}
+use Rattle.vcs_check.specs.declared.question.Question.TheVariants as questions
+use Rattle.vcs_engine.specs.Reports.{Reports}
 use Rattle.vcs_engine.specs.declared.making.InputForm.{InputForm}
 use Rattle.vcs_engine.specs.declared.status.Status.{Status}
 
@@ -25,17 +30,23 @@ module _ (before after : Option (List ℕ)) where
   says Says Then so (Ok status) h = (h.0, so status h.0 h.1, h.2)
   says Says Then so (Err failure) h = tt
 
-  pub standard_input_answers : (old new : Option (List ℕ)) (keep : Keep) → keep.count ≡ 0 → (result : Result Status Failure)
-      → Writes before after (λ status line. (input : List ℕ) × ReadsAll old new input × IsVerified keep input status line) result
-      → Writes before after (IsAnswered Stdin old new) result
-  standard_input_answers old new keep none = says _ (IsAnswered Stdin old new) (λ status line h. (h.0, h.1, (keep, none, h.2)))
+  -- The answer to a question of the movie of a file.
+  abbrev pub Asked : Option (List ℕ) → Option (List ℕ) → List ℕ → Question → Status → List ℕ → Type 0
+  Asked old new name question status text = (bytes : List ℕ) × ReadsFile name old new bytes × IsAnswer question bytes status text
 
-  pub verify_answers : (old new : Option (List ℕ)) (name : List ℕ) (file : String Global) (plan : Plan) (pictures : Option (String Global))
-      → name ≡ string_bytes file → (result : Result Status Failure)
-      → Writes before after (λ status line. (input : List ℕ) × ReadsFile name old new input × IsVerified plan.keep input status line) result
-      → Writes before after (IsAnswered (Verify file plan pictures) old new) result
-  verify_answers old new name file plan pictures same =
-      says _ (IsAnswered (Verify file plan pictures) old new) (λ status line h. (h.0, subst (λ n. ReadsFile n old new h.0) same h.1, h.2))
+  pub standard_input_answers : (old new : Option (List ℕ)) (plan : Plan) → plan.keep.count ≡ 0 → (result : Result Status Failure)
+      → Writes before after (Asked old new (codes "-") (questions.Verify plan)) result
+      → Writes before after (IsAnswered Stdin old new) result
+  standard_input_answers old new plan none =
+      says _ (IsAnswered Stdin old new) (λ status line h. (h.0, h.1.0 refl, (plan.keep, none, h.2)))
+
+  pub report_answers : (old new : Option (List ℕ)) (name : List ℕ) (file : String Global) (plan : Plan) (notation : Notation) (workers : Workers) (json : Bool)
+      → name ≡ string_bytes file → notation ≡ notation_of json → (result : Result Status Failure)
+      → Writes before after (Asked old new name (questions.Report plan notation)) result
+      → Writes before after (IsAnswered (Report file workers json) old new) result
+  report_answers old new name file plan notation workers json same is =
+      says _ (IsAnswered (Report file workers json) old new)
+      (λ status line h. (h.0, subst (λ n. ReadsFile n old new h.0) same h.1, subst (λ n. Reports n program_name h.0 status line) is h.2))
 
   pub make_answers : (known : Option (List ℕ)) (rom inputs : String Global) (text : Bool) (form : InputForm) (every : NonZeroU32) (out : String Global)
       → form ≡ form_of text → (result : Result Status Failure)

@@ -1,7 +1,7 @@
 -- What a command reads of standard input and writes to standard output, and its status. This
 -- project's own.
-use Rattle.std.specs.Prelude.{◌≡◌, ◌≢◌, ◌≤◌, ℕ, Bool, if◌then◌else◌, List, Option, Result, Err}
-use Rattle.std.specs.Prelude.{IfOk, OnErr, codes, string_bytes}
+use Rattle.std.specs.Prelude.{◌≡◌, ◌≢◌, ◌≤◌, ℕ, Bool, if◌then◌else◌, List, Option, Result}
+use Rattle.std.specs.Prelude.{IfOk, IfErr, codes, string_bytes}
 use Rattle.std.specs.NonZero.{non_zero_u32_get}
 use Rattle.std.specs.Io.KnownBytes.{Appends, Keeps}
 use Rattle.command_line.specs.Program.{program_name}
@@ -13,62 +13,37 @@ use Rattle.movie_file.specs.Reading.{movie_at}
 use Rattle.movie_report.specs.declared.notation.Notation.{Notation}
 use Rattle.movie_report.specs.declared.notation.Notation.TheVariants.{Lines, Json}
 use Rattle.replay_plan.specs.declared.keep.Keep.{Keep}
-use Rattle.vcs_check.specs.declared.commands.Failure.{Failure}
-use Rattle.vcs_check.specs.declared.commands.Failure.TheVariants.{Run}
+use Rattle.vcs_check.specs.Answers.{IsConversion, IsCut, IsDrawn, IsInformation, IsVerified}
+use Rattle.vcs_check.specs.Failures.{IsNoMemory, IsWriteFault}
+use Rattle.vcs_check.specs.declared.failure.Failure.{Failure}
 use Rattle.vcs_engine.specs.Answers.{Answer, Shows}
-use Rattle.vcs_engine.specs.Conversions.{conversion_of}
-use Rattle.vcs_engine.specs.Information.{information_in}
 use Rattle.vcs_engine.specs.Listings.{Lists}
 use Rattle.vcs_engine.specs.Makings.{Makes}
-use Rattle.vcs_engine.specs.Outputs.{Tells}
 use Rattle.vcs_engine.specs.Reports.{Reports}
 use Rattle.vcs_engine.specs.Streams.{ReadsAll}
 use Rattle.vcs_engine.specs.declared.making.InputForm.{InputForm}
 use Rattle.vcs_engine.specs.declared.making.InputForm.TheVariants.{Bytes, Text}
-use Rattle.vcs_engine.specs.declared.run_error.RunError.TheVariants.{NoMemory, WriteFault}
 use Rattle.vcs_engine.specs.declared.status.Status.{Status}
-use Rattle.view_engine.specs.Cuts.{Cuts}
-use Rattle.view_engine.specs.Drawings.{Draws}
 use Rattle.view_engine.specs.FrameLines.{Describes}
 use Rattle.view_engine.specs.Traces.{Traces}
 
--- With a status, a line was written of which this holds, and nothing else.
+-- With a status, a text was written of which this holds, and nothing else.
 abbrev pub Writes : Option (List ℕ) → Option (List ℕ) → (Status → List ℕ → Type 0) → Result Status Failure → Type 0
-Writes old new Says result = IfOk result (λ status. (line : List ℕ) × Says status line × Appends old new line)
+Writes old new Says result = IfOk result (λ status. (text : List ℕ) × Says status text × Appends old new text)
 
 -- After an error other than a failed write, nothing was written.
 abbrev pub IsQuiet : Option (List ℕ) → Option (List ℕ) → Result Status Failure → Type 0
-IsQuiet old new result = OnErr result (result ≢ Err (Run WriteFault) → Keeps old new)
+IsQuiet old new result = IfErr result (λ failure. (IsWriteFault failure → ⊥) → Keeps old new)
 
 -- The same of a command that writes as the run goes on: if memory runs out, what was written stays.
 abbrev pub IsQuietUntilFull : Option (List ℕ) → Option (List ℕ) → Result Status Failure → Type 0
 IsQuietUntilFull old new result =
-    OnErr result (result ≢ Err (Run WriteFault) → result ≢ Err (Run NoMemory) → Keeps old new)
-
--- The line of these bytes' verdict, with these pictures kept.
-abbrev pub IsVerified : Keep → List ℕ → Status → List ℕ → Type 0
-IsVerified keep input status line = (answer : Answer) × Tells keep input answer × Shows answer status line
+    IfErr result (λ failure. (IsWriteFault failure → ⊥) → (IsNoMemory failure → ⊥) → Keeps old new)
 
 -- The line of a movie that was made of some bytes, or of why there is none.
 abbrev pub IsMade : InputForm → ℕ → Status → List ℕ → Type 0
 IsMade form every status line =
     (rom : List ℕ) × (old new : Option (List ℕ)) × (answer : Answer) × Makes form rom old new every answer × Shows answer status line
-
--- What these bytes hold.
-abbrev pub IsInformation : Notation → List ℕ → Status → List ℕ → Type 0
-IsInformation notation input status line = Shows (information_in notation (movie_at input)) status line
-
--- The line of a conversion of some bytes.
-abbrev pub IsConverted : Status → List ℕ → Type 0
-IsConverted status line = (input : List ℕ) × Shows (conversion_of (movie_at input)) status line
-
--- The line of the pictures of so many frames of these bytes from a first one on,
-abbrev pub IsDrawn : ℕ → ℕ → List ℕ → Status → List ℕ → Type 0
-IsDrawn first count input status line = (answer : Answer) × Draws (movie_at input) first count answer × Shows answer status line
-
--- and that of a movie of those frames, with a checkpoint after every so many of them.
-abbrev pub IsCut : ℕ → ℕ → ℕ → List ℕ → Status → List ℕ → Type 0
-IsCut first count every input status line = (answer : Answer) × Cuts (movie_at input) first count every answer × Shows answer status line
 
 -- How a command writes that is asked for JSON, or isn't.
 abbrev pub notation_of : Bool → Notation
@@ -96,7 +71,7 @@ IsAnswered (Make rom inputs text every out) old new status line = Keeps old new 
 IsAnswered (Info file json) old new status line =
     (input : List ℕ) × ReadsFile (string_bytes file) old new input × IsInformation (notation_of json) input status line
 IsAnswered (Inputs file) old new status line = (input : List ℕ) × ReadsFile (string_bytes file) old new input × Lists (movie_at input) status line
-IsAnswered (Convert older newer) old new status line = Keeps old new × IsConverted status line
+IsAnswered (Convert older newer) old new status line = Keeps old new × ((input : List ℕ) × IsConversion input status line)
 IsAnswered (Frames file first count details) old new status line =
     (input : List ℕ) × ReadsFile (string_bytes file) old new input × Describes (movie_at input) details (non_zero_u32_get first) count status line
 IsAnswered (Pictures file first count out) old new status line =

@@ -1,10 +1,10 @@
 -- How the program ends if no command came to a status. This project's own.
-use Rattle.std.specs.Prelude.{ℕ}
+use Rattle.std.specs.Prelude.{ℕ, None}
 use Rattle.std.specs.declared.io.ErrorKind.{ErrorKind}
 use Rattle.std.specs.declared.io.ErrorKind.TheVariants.{OutOfMemory}
 use Rattle.command_line.specs.declared.command.LineFault.{LineFault}
 use Rattle.command_line.specs.declared.command.LineFault.TheVariants as faults
-use Rattle.vcs_check.specs.declared.commands.Failure.TheVariants.{Run}
+use Rattle.vcs_check.specs.declared.failure.Failure.TheVariants.{Run}
 use Rattle.vcs_check.specs.declared.ending.Ending.{Ending}
 use Rattle.vcs_check.specs.declared.ending.Ending.TheVariants.{Help, Usage, NotUtf8, Dash, Failed}
 use Rattle.vcs_engine.specs.declared.run_error.RunError.TheVariants.{NoMemory}
@@ -19,11 +19,11 @@ exit_code (Failed failure) = 5
 
 -- The arguments could not be read: out of memory, and else one of them is not UTF-8.
 abbrev pub of_kind : ErrorKind → Ending
-of_kind OutOfMemory = Failed (Run NoMemory)
+of_kind OutOfMemory = Failed (Run NoMemory None)
 of_kind _ = NotUtf8
 
 -- The arguments are no command.
 abbrev pub of_fault : LineFault → Ending
 of_fault (faults.Help text) = Help text
 of_fault (faults.Usage text) = Usage text
-of_fault faults.Memory = Failed (Run NoMemory)
+of_fault faults.Memory = Failed (Run NoMemory None)

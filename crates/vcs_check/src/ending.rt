@@ -1,13 +1,12 @@
 //! How the program ends if no command came to a status.
 ghost use Rattle.std.specs.Prelude.{◌≡◌};
 
-use crate::commands::Failure;
-use crate::faults::{FileFault, Reason};
-use crate::files::STANDARD_OUTPUT;
-use crate::shown::Shown;
+use crate::failure::Failure;
 use command_line::LineFault;
+use named_files::{FileFault, Reason, STANDARD_OUTPUT};
 use std::io::{self, Eprint, IsTerminal};
 use std::process::ExitCode;
+use terminal_text::Shown;
 use thiserror::Error;
 use vcs_engine::RunError;
 
@@ -19,7 +18,7 @@ const FAILED: u8 = 5;
 
 /// How the program ends if no command came to a status, with what it prints then.
 #[derive(Debug, Drop, Error)]
-pub(crate) enum Ending {
+pub(crate) enum Ending<'a> {
     /// The arguments ask for help, or for the version, which is the text.
     #[error("{text}")]
     Help { text: String },
@@ -32,17 +31,16 @@ pub(crate) enum Ending {
     #[error("error: - is no output: name a file, or /dev/stdout\n")]
     Dash,
     #[error("error: {0}\n")]
-    Failed(Failure),
+    Failed(Failure<'a>),
 }
 
 /// The ending of help that standard output did not take, for this reason.
-fn help_not_written(error: io::Error) -> (Ending, Option<FileFault<'static>>) {
+fn help_not_written(error: io::Error) -> Ending<'static> {
     let fault = FileFault::new(STANDARD_OUTPUT, Reason::System(error));
-    let ending = Ending::Failed(Failure::Run(RunError::WriteFault));
-    (ending, Some(fault))
+    Ending::Failed(Failure::Run(RunError::WriteFault, Some(fault)))
 }
 
-impl Ending {
+impl Ending<'_> {
     ghost use Rattle.vcs_check.specs.Endings.{exit_code};
 
     /// The program's exit status.
@@ -58,7 +56,7 @@ impl Ending {
 
     /// Shows it on a terminal, with a line after it that says more: the fault of a file, or what to
     /// write in place of the arguments. No character of an argument or a name controls the terminal.
-    fn show<R: Eprint>(&self, rt: &R, fault: Option<FileFault<'_>>) {
+    fn show<R: Eprint>(&self, rt: &R) {
         if let Ending::Usage { text } = self {
             let lines = Shown::lines(text);
             let _printed = eprint!(rt; "{lines}");
@@ -75,8 +73,10 @@ impl Ending {
                 "a file of any name can be standard input, as in verify - < FILE"
             );
         }
-        if let Some(fault) = fault {
-            let _printed = eprintln!(rt; "{fault}");
+        if let Ending::Failed(failure) = self {
+            if let Some(fault) = failure.fault() {
+                let _printed = eprintln!(rt; "{fault}");
+            }
         }
     }
 
@@ -86,17 +86,16 @@ impl Ending {
         self,
         rt: &R,
         standard_error: &E,
-        fault: Option<FileFault<'_>>,
     ) -> ExitCode {
-        let (ending, fault) = match self {
+        let ending = match self {
             Ending::Help { text } => match print!(rt; "{text}") {
                 Ok(()) => return ExitCode::SUCCESS,
                 Err(error) => help_not_written(error),
             },
-            other => (other, fault),
+            other => other,
         };
         if standard_error.is_terminal() {
-            ending.show(rt, fault);
+            ending.show(rt);
         } else {
             let _printed = eprint!(rt; "{ending}");
         }
@@ -104,41 +103,41 @@ impl Ending {
     }
 }
 
-impl From<io::Error> for Ending {
+impl From<io::Error> for Ending<'_> {
     ghost use Rattle.std.specs.IoError.{error_kind};
     ghost use Rattle.vcs_check.specs.Endings.{of_kind};
 
     ghost from_gives = { λ error ending. ending ≡ of_kind (error_kind error) };
 
     /// Of an error that reading the arguments gave.
-    fn from(error: io::Error) -> Ending {
+    fn from(error: io::Error) -> Self {
         match error.kind() {
-            io::ErrorKind::OutOfMemory => Ending::Failed(Failure::Run(RunError::NoMemory)),
+            io::ErrorKind::OutOfMemory => Ending::Failed(Failure::Run(RunError::NoMemory, None)),
             _ => Ending::NotUtf8,
         }
     }
 }
 
-impl From<LineFault> for Ending {
+impl From<LineFault> for Ending<'_> {
     ghost use Rattle.vcs_check.specs.Endings.{of_fault};
 
     ghost from_gives = { λ fault ending. ending ≡ of_fault fault };
 
-    fn from(fault: LineFault) -> Ending {
+    fn from(fault: LineFault) -> Self {
         match fault {
             LineFault::Help { text } => Ending::Help { text },
             LineFault::Usage { text } => Ending::Usage { text },
-            LineFault::Memory => Ending::Failed(Failure::Run(RunError::NoMemory)),
+            LineFault::Memory => Ending::Failed(Failure::Run(RunError::NoMemory, None)),
         }
     }
 }
 
-impl From<Failure> for Ending {
+impl<'a> From<Failure<'a>> for Ending<'a> {
     ghost use Rattle.vcs_check.specs.declared.ending.Ending.TheVariants.{Failed};
 
     ghost from_gives = { λ failure ending. ending ≡ Failed failure };
 
-    fn from(failure: Failure) -> Ending {
+    fn from(failure: Failure<'a>) -> Ending<'a> {
         Ending::Failed(failure)
     }
 }

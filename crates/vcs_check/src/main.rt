@@ -6,43 +6,30 @@
 //! movie on standard input.
 #![tactic(auto)]
 
-mod commands;
 mod ending;
-mod faults;
-mod files;
-mod frames;
-mod hint;
-mod named;
-mod output;
-mod places;
+mod failure;
+mod making;
+mod options;
+mod product;
 mod progress;
-mod refusals;
+mod question;
 mod remarks;
-mod replacing;
-mod shown;
-mod size_limit;
-mod stage;
-mod state_rules;
-mod trace;
 
-ghost use Rattle.std.specs.Prelude.{◌≡◌, Err, IsSome};
 ghost use Rattle.vcs_check.specs.Commands.{IsAnswered, KeepsQuiet, StartsThreads, Writes};
-ghost use Rattle.vcs_engine.specs.declared.run_error.RunError.TheVariants.{NoThread};
+ghost use Rattle.vcs_check.specs.Failures.{IsNoThread};
+ghost use Rattle.std.specs.Prelude.{IfErr};
 
 use command_line::{Command, LineFault, parse_line};
-use commands::{
-    Failure, convert, cut, form_of, info, inputs, make, notation_of, pictures,
-    plan_of_standard_input, report, verify, verify_with_pictures, verify_without_pictures,
-};
 use ending::Ending;
-use faults::FileFault;
-use files::{STANDARD_INPUT, STANDARD_OUTPUT, null_if_closed};
-use frames::frames;
-use named::Named;
+use failure::Failure;
+use making::make;
+use named_files::{Limited, Named, Room, STANDARD_INPUT, STANDARD_OUTPUT, null_if_closed};
+use options::{form_of, notation_of, plan_of_standard_input};
+use product::Product;
 use progress::Progress;
+use question::Question;
 use remarks::remark;
 use replay_plan::Plan;
-use size_limit::{Limited, Room};
 use std::alloc::Global;
 use std::env::{self, Args, Env};
 use std::io::{self, IsTerminal, Read, Write};
@@ -50,8 +37,10 @@ use std::process::ExitCode;
 use std::rt::Files;
 use std::sync::Wait;
 use std::thread::Threads;
-use trace::trace;
 use vcs_engine::{CountedGate, Status};
+
+/// The name of a file that is standard input.
+const STDIN: &str = "-";
 
 /// The command of the arguments.
 fn command_of(alloc: Global, arguments: Args) -> Result<Command, LineFault> {
@@ -59,8 +48,7 @@ fn command_of(alloc: Global, arguments: Args) -> Result<Command, LineFault> {
     parse_line(alloc, &arguments)
 }
 
-/// Does what a command asks for. If a file that it names fails, `fault` says why. The gate is
-/// called around replays.
+/// Does what a command asks for. The gate is called around replays.
 fn answer_command<
     'a,
     R: Files + Threads + Wait + Sync + AllocGlobal,
@@ -72,42 +60,34 @@ fn answer_command<
     input: &mut I,
     line: &mut W,
     command: &'a Command,
-    fault: &mut Option<FileFault<'a>>,
     gate: &G,
-) -> Result<Status, Failure>
+) -> Result<Status, Failure<'a>>
     ensures ok { Writes (W.contents line.old) (W.contents line.new) (IsAnswered command.now (I.remaining input.old) (I.remaining input.new)) result }
     ensures quiet { KeepsQuiet command.now (W.contents line.old) (W.contents line.new) result }
-    ensures no_thread { result ≡ Err (Failure.Run NoThread) → StartsThreads command.now }
-    ensures named { result ≡ Err Failure.Open → IsSome fault.new }
+    ensures no_thread { IfErr result (λ failure. IsNoThread failure → StartsThreads command.now) }
 {
     match command {
-        Command::Stdin => verify_without_pictures(rt, input, &plan_of_standard_input(), line, gate),
+        Command::Stdin => {
+            let question = Question::Verify(plan_of_standard_input());
+            question.answer_of(rt, input, STDIN, line, gate)
+        }
         Command::Verify {
             file,
             plan,
-            pictures,
-        } => match pictures {
-            Some(pictures) => {
-                verify_with_pictures(rt, input, file, plan, pictures, line, fault, gate)
-            }
-            None => verify(rt, input, file, plan, line, fault, gate),
-        },
+            pictures: None,
+        } => Question::Verify(*plan).answer_of(rt, input, file, line, gate),
+        Command::Verify {
+            file,
+            plan,
+            pictures: Some(out),
+        } => Product::KeptPictures(*plan).write_of(rt, input, file, out, line, gate),
         Command::Report {
             file,
             workers,
             json,
         } => {
             let plan = Plan::without_pictures(*workers);
-            report(
-                rt,
-                input,
-                file,
-                &plan,
-                notation_of(*json),
-                line,
-                fault,
-                gate,
-            )
+            Question::Report(plan, notation_of(*json)).answer_of(rt, input, file, line, gate)
         }
         Command::Make {
             rom,
@@ -115,35 +95,41 @@ fn answer_command<
             text,
             every,
             out,
-        } => make(rt, rom, inputs, form_of(*text), *every, out, line, fault),
-        Command::Info { file, json } => info(rt, input, file, notation_of(*json), line, fault),
-        Command::Inputs { file } => inputs(rt, input, file, line, fault),
-        Command::Convert { old, new } => convert(rt, old, new, line, fault),
+        } => make(rt, rom, inputs, form_of(*text), *every, out, line),
+        Command::Info { file, json } => {
+            Question::Info(notation_of(*json)).answer_of(rt, input, file, line, gate)
+        }
+        Command::Inputs { file } => Question::Inputs.answer_of(rt, input, file, line, gate),
+        Command::Convert { old, new } => {
+            Product::Conversion.write_of_file(rt, old, new, line, gate)
+        }
         Command::Frames {
             file,
             first,
             count,
             details,
-        } => frames(rt, input, file, *first, *count, details, line, fault),
+        } => Question::Frames(*first, *count, details).answer_of(rt, input, file, line, gate),
         Command::Pictures {
             file,
             first,
             count,
             out,
-        } => pictures(rt, input, file, *first, *count, out, line, fault),
+        } => Product::Pictures(*first, *count).write_of(rt, input, file, out, line, gate),
         Command::Cut {
             file,
             first,
             count,
             every,
             out,
-        } => cut(rt, input, file, *first, *count, *every, out, line, fault),
-        Command::Trace { file, frame } => trace(rt, input, file, *frame, line, fault),
+        } => Product::Cut(*first, *count, *every).write_of(rt, input, file, out, line, gate),
+        Command::Trace { file, frame } => {
+            Question::Trace(*frame).answer_of(rt, input, file, line, gate)
+        }
     }
 }
 
 /// The command of the program's arguments. `-` is the name of an input alone.
-fn command_of_program<R: Env + AllocGlobal>(rt: &R) -> Result<Command, Ending> {
+fn command_of_program<R: Env + AllocGlobal>(rt: &R) -> Result<Command, Ending<'static>> {
     let arguments = env::args(rt)?;
     let command = command_of(rt.alloc(), arguments)?;
     if command.output() == Some("-") {
@@ -161,22 +147,20 @@ fn main(rt: HostRuntime) -> ExitCode {
     );
     let command = match command_of_program(&rt) {
         Ok(command) => command,
-        Err(ending) => return ending.report(&rt, &rt.stderr(), None),
+        Err(ending) => return ending.report(&rt, &rt.stderr()),
     };
     let mut input = Named::new(STANDARD_INPUT, rt.stdin());
     let room = Room::of_standard_output(&rt);
     let mut line = Named::new(STANDARD_OUTPUT, Limited::new(io::writer(&rt), room));
-    let mut fault = None;
     let progress = Progress::new(&rt, rt.stderr().is_terminal());
-    match answer_command(&rt, &mut input, &mut line, &command, &mut fault, &progress) {
+    match answer_command(&rt, &mut input, &mut line, &command, &progress) {
         Ok(status) => {
             remark(&rt, &rt.stderr(), &command, status);
             ExitCode::from(status.code())
         }
         Err(failure) => {
-            input.tell(&mut fault);
-            line.tell(&mut fault);
-            Ending::Failed(failure).report(&rt, &rt.stderr(), fault)
+            let failure = failure.by_input(input.fault()).by_output(line.fault());
+            Ending::Failed(failure).report(&rt, &rt.stderr())
         }
     }
 }

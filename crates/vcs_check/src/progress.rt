@@ -1,10 +1,10 @@
 //! How far a judgement has come, on a terminal.
 
-use crate::stage::{Notice, Stage};
 use replay_segments::Piece;
 use std::io::Eprint;
 use std::rt::Clock;
 use std::sync::{Mutex, Wait};
+use terminal_text::{Notice, Stage};
 use vcs_engine::{CountedGate, Gate, Ticket};
 
 /// A gate that tells a stage what comes, and writes on standard error what the stage answers. A

@@ -1,19 +1,17 @@
 //! What a terminal is told after an answer: why something was refused, and what no checkpoint
 //! claims. Files are read again for it, so that nothing before is another on a terminal.
 
-use crate::commands;
-use crate::files::STANDARD_INPUT;
-use crate::hint::Hint;
-use crate::places::Places;
-use crate::refusals::{hint_of, hint_of_inputs, hint_of_rom, hint_of_text};
-use crate::shown::Shown;
+use crate::STDIN;
 use command_line::Command;
 use movie_file::{read_inputs, read_movie};
+use movie_hints::{Hint, hint_of, hint_of_claims, hint_of_inputs, hint_of_rom, hint_of_text};
+use named_files::STANDARD_INPUT;
 use riot_map::Cart;
 use std::fs;
 use std::io::{Eprint, IsTerminal};
 use std::num::NonZeroU32;
 use std::rt::Files;
+use terminal_text::Shown;
 use vcs_engine::{Status, read_all};
 
 /// What a file holds, if it is a regular file, which can be read again.
@@ -97,7 +95,7 @@ fn hint_of_refusal<'a, R: Files + AllocGlobal>(
             ..
         } => return hint_of_making(rt, rom, inputs, *text, *every),
         Command::Convert { old, .. } => return Some((old, hint_of_movie(rt, old)?)),
-        Command::Stdin => commands::STANDARD_INPUT,
+        Command::Stdin => STDIN,
         Command::Verify { file, .. }
         | Command::Report { file, .. }
         | Command::Info { file, .. }
@@ -107,14 +105,14 @@ fn hint_of_refusal<'a, R: Files + AllocGlobal>(
         | Command::Cut { file, .. }
         | Command::Trace { file, .. } => file,
     };
-    if file == commands::STANDARD_INPUT {
+    if file == STDIN {
         return Some((STANDARD_INPUT, hint_of_movie(rt, "/dev/stdin")?));
     }
     Some((file, hint_of_movie(rt, file)?))
 }
 
 /// Which frames at the end of a movie that was written no checkpoint follows, if any.
-fn hint_of_last_claim<'a, R: Files + AllocGlobal>(
+fn hint_of_output<'a, R: Files + AllocGlobal>(
     rt: &R,
     command: &'a Command,
 ) -> Option<(&'a str, Hint)> {
@@ -122,13 +120,8 @@ fn hint_of_last_claim<'a, R: Files + AllocGlobal>(
         Command::Make { out, every, .. } | Command::Cut { out, every, .. } => (out, every),
         _ => return None,
     };
-    let last = Places::of(&read_again(rt, out)?).frames;
-    let after = last % every.get();
-    if after == 0 {
-        return None;
-    }
-    let first = last - after + 1;
-    Some((out, Hint::Unclaimed { first, last }))
+    let bytes = read_again(rt, out)?;
+    Some((out, hint_of_claims(&bytes, *every)?))
 }
 
 /// Tells a terminal which file was refused and why, and which frames of a movie that was written no
@@ -144,7 +137,7 @@ pub(crate) fn remark<R: Files + AllocGlobal + Eprint, E: IsTerminal>(
     }
     let found = match status {
         Status::Refused => hint_of_refusal(rt, command),
-        Status::Done => hint_of_last_claim(rt, command),
+        Status::Done => hint_of_output(rt, command),
         Status::False | Status::Fault => None,
     };
     if let Some((name, hint)) = found {

@@ -1,17 +1,14 @@
-use Rattle.vcs_check.proofs.Answering.{standard_input_answers, verify_answers, make_answers}
+use Rattle.vcs_check.proofs.Answering.{standard_input_answers, report_answers, make_answers}
 use Rattle.vcs_check.proofs.answer_command.Goals as goal
 
 pub returns-in-Stdin-clause-ok : goal.returns-in-Stdin-clause-ok
 returns-in-Stdin-clause-ok g c = rw c.in-Stdin.is
-    (standard_input_answers _ _ _ _ c.plan_of_standard_input.result.keep c.plan_of_standard_input.ensures.keep.1 c.verify_without_pictures.result c.verify_without_pictures.ensures.ok)
+    (standard_input_answers _ _ _ _ c.plan_of_standard_input.result c.plan_of_standard_input.ensures.keep.1 c.answer_of.result c.answer_of.ensures.ok)
 
-pub returns-in-Some-clause-ok : goal.returns-in-Some-clause-ok
-returns-in-Some-clause-ok g c = rw c.in-Verify.is
-    (verify_answers _ _ _ _ _ c.in-Verify.file c.in-Verify.plan c.in-Verify.pictures c.deref.ensures c.verify_with_pictures.result c.verify_with_pictures.ensures.ok)
-
-pub returns-in-None-clause-ok : goal.returns-in-None-clause-ok
-returns-in-None-clause-ok g c = rw c.in-Verify.is
-    (verify_answers _ _ _ _ _ c.in-Verify.file c.in-Verify.plan c.in-Verify.pictures c.deref-in-None.ensures c.verify.result c.verify.ensures.ok)
+pub returns-in-Report-clause-ok : goal.returns-in-Report-clause-ok
+returns-in-Report-clause-ok g c = rw c.in-Report.is
+    (report_answers _ _ _ _ _ c.in-Report.file c.without_pictures-plan.result c.notation_of.result c.in-Report.workers c.in-Report.json
+    c.deref-in-Report.ensures c.notation_of.ensures c.answer_of-in-Report.result c.answer_of-in-Report.ensures.ok)
 
 pub returns-in-Make-clause-ok : goal.returns-in-Make-clause-ok
 returns-in-Make-clause-ok g c = rw c.in-Make.is

@@ -1,0 +1,37 @@
+-- What is known of a file that failed. This project's own.
+use Rattle.std.specs.Prelude.{◌≡◌, ℕ, nat_lt, if◌then◌else◌, Bool, true, false, List, Option, Some, None}
+use Rattle.named_files.specs.declared.faults.CreateError.{CreateError}
+use Rattle.named_files.specs.declared.faults.CreateError.TheVariants.{Open}
+use Rattle.named_files.specs.declared.faults.FileFault.{FileFault}
+use Rattle.named_files.specs.declared.faults.Reason.{Reason}
+use Rattle.named_files.specs.declared.faults.Reason.TheVariants.{IsInput, IsOutput, TooLong}
+use Rattle.vcs_engine.specs.Streams.{input_limit}
+
+-- It is the file of this name.
+abbrev pub Names : List ℕ → FileFault → Type 0
+Names name fault = fault.file.now ≡ name
+
+-- The same of an error, if it is about a file.
+abbrev pub NamesIfOpen : List ℕ → CreateError → Type 0
+NamesIfOpen name (Open fault) = Names name fault
+NamesIfOpen name other = Unit {0}
+
+-- It is the file of this name, with this reason.
+abbrev pub IsAbout : List ℕ → Reason → FileFault → Type 0
+IsAbout name reason fault = Names name fault × (fault.reason ≡ reason)
+
+-- Why a file is no output of a command, by whether it keeps what is written, is a pipe, is an input
+-- of the command, and is a standard stream that is written. What keeps nothing may be all of these,
+-- but a pipe would wait for itself.
+abbrev pub conflict : Bool → Bool → Bool → Bool → Option Reason
+conflict true is_pipe true is_stream = Some IsInput
+conflict false true true is_stream = Some IsInput
+conflict true is_pipe false true = Some IsOutput
+conflict true is_pipe false false = None
+conflict false true false is_stream = None
+conflict false false is_input is_stream = None
+
+-- Why a stream failed of which so many bytes were read, and which had failed before as is said: no
+-- input has so many.
+abbrev pub reason_at_length : ℕ → Option Reason → Option Reason
+reason_at_length length before = if nat_lt input_limit length then Some TooLong else before

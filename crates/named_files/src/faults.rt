@@ -1,0 +1,75 @@
+//! Which file a failure is about, and why.
+ghost use Rattle.std.specs.Prelude.{◌≡◌};
+ghost use Rattle.named_files.specs.Faults.{IsAbout};
+
+use std::{fmt, io};
+use terminal_text::Shown;
+use thiserror::Error;
+
+/// Why a file failed, as the program prints it after the file's name.
+#[derive(Clone, Copy, Debug, Error)]
+pub enum Reason {
+    /// The system's.
+    #[error("{0}")]
+    System(io::Error),
+    #[error("longer than 16,777,216 bytes")]
+    TooLong,
+    #[error("is also an input of this command")]
+    IsInput,
+    #[error("is also standard output or standard error")]
+    IsOutput,
+    #[error("takes no more bytes")]
+    TookNothing,
+}
+
+impl From<io::Error> for Reason {
+    ghost use Rattle.named_files.specs.declared.faults.Reason.TheVariants.{System};
+
+    ghost from_gives = { λ error reason. reason ≡ System error };
+
+    fn from(error: io::Error) -> Reason {
+        Reason::System(error)
+    }
+}
+
+/// A file, by the name that the command line has of it, and why it failed.
+#[derive(Clone, Copy, Debug)]
+pub struct FileFault<'a> {
+    file: &'a str,
+    reason: Reason,
+}
+
+impl<'a> FileFault<'a> {
+    pub fn new(file: &'a str, reason: Reason) -> FileFault<'a>
+        ensures { IsAbout file.now reason result }
+    {
+        FileFault { file, reason }
+    }
+}
+
+impl fmt::Display for FileFault<'_> {
+    fn fmt<W: fmt::Write>(&self, f: &mut fmt::Formatter<W>) -> fmt::Result {
+        let file = Shown::name(self.file);
+        let reason = self.reason;
+        write!(f, "{file}: {reason}")
+    }
+}
+
+/// Why an output is not there.
+#[derive(Clone, Copy, Debug)]
+pub enum CreateError<'a> {
+    /// It can't be opened or created, or it is an input or a standard stream.
+    Open(FileFault<'a>),
+    /// There is no memory for the names of the file and of the one beside it.
+    NoMemory,
+}
+
+impl<'a> From<FileFault<'a>> for CreateError<'a> {
+    ghost use Rattle.named_files.specs.declared.faults.CreateError.TheVariants.{Open};
+
+    ghost from_gives = { λ fault error. error ≡ Open fault };
+
+    fn from(fault: FileFault<'a>) -> CreateError<'a> {
+        CreateError::Open(fault)
+    }
+}

@@ -1,0 +1,26 @@
+//! The files and standard streams of a command: each with its name, and with why it failed.
+//!
+//! No file is both an input and an output of a command, and an output is whole or as it was. The
+//! rules are this project's own.
+#![tactic(auto)]
+
+mod faults;
+mod files;
+mod identity;
+mod named;
+mod output;
+mod replacing;
+mod size_limit;
+
+pub use faults::{CreateError, FileFault, Reason};
+pub use files::{create, null_if_closed, open, open_beside};
+pub use identity::Identity;
+pub use named::Named;
+pub use replacing::{Replacing, Whole};
+pub use size_limit::{Limited, Room};
+
+/// The name of standard input in messages.
+pub const STANDARD_INPUT: &str = "standard input";
+
+/// The name of standard output in messages.
+pub const STANDARD_OUTPUT: &str = "standard output";

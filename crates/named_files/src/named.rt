@@ -1,0 +1,129 @@
+//! Files and standard streams with their names.
+ghost use Rattle.std.specs.Prelude.{◌≡◌, ◌≢◌, ◌+◌, IfErr, IfOk, IfSome, IsSomeAnd, OnOk, None, Some};
+ghost use Rattle.std.specs.Io.{ReadsAtMost, WritesAtMost};
+ghost use Rattle.std.specs.Io.KnownBytes.{Keeps, ReadConsumes, WriteAppends};
+ghost use Rattle.named_files.specs.Faults.{IsAbout, reason_at_length};
+ghost use Rattle.named_files.specs.declared.faults.Reason.TheVariants.{System, TookNothing};
+
+use crate::faults::{FileFault, Reason};
+use crate::replacing::Replacing;
+use std::io::{self, Read, Write};
+use std::rt::Files;
+
+/// The most bytes of one input.
+const INPUT_LIMIT: u64 = 16_777_216;
+
+/// A file or a standard stream with its name, which remembers how many bytes were read of it, and
+/// why it failed last.
+#[derive(Drop)]
+pub struct Named<'a, S> {
+    name: &'a str,
+    stream: S,
+    length: u64,
+    reason: Option<Reason>,
+}
+
+impl<'a, S> Named<'a, S> {
+    pub fn new(name: &'a str, stream: S) -> Named<'a, S>
+        ensures name { result.name.now ≡ name.now }
+        ensures stream { result.stream ≡ stream }
+        ensures length { result.length ≡ 0 }
+        ensures reason { result.reason ≡ None }
+    {
+        Named {
+            name,
+            stream,
+            length: 0,
+            reason: None,
+        }
+    }
+
+    pub fn name(&self) -> &'a str
+        ensures { result.now ≡ self.now.name.now }
+    {
+        self.name
+    }
+
+    pub fn stream(&self) -> &S
+        ensures { result.now ≡ self.now.stream }
+    {
+        &self.stream
+    }
+
+    /// The name and the reason, if it failed.
+    pub fn fault(&self) -> Option<FileFault<'a>>
+        ensures failed { IfSome self.now.reason (λ reason. IsSomeAnd result (IsAbout self.now.name.now reason)) }
+        ensures whole { self.now.reason ≡ None → result ≡ None }
+    {
+        match self.reason {
+            Some(reason) => Some(FileFault::new(self.name, reason)),
+            None => None,
+        }
+    }
+}
+
+impl<R: Files> Named<'_, Replacing<'_, R>> {
+    /// Takes out the bytes of before, if none was written.
+    pub fn finish(&mut self) -> io::Result<()> {
+        let answer = self.stream.empty();
+        if let Err(error) = &answer {
+            self.reason = Some(Reason::System(*error));
+        }
+        answer
+    }
+}
+
+impl<S: Read> Read for Named<'_, S> {
+    ghost remaining = { λ named. S.remaining named.stream };
+
+    fn read(&mut self, buf: &mut [u8]) -> io::Result<usize>
+        ensures bound { ReadsAtMost result buf.new }
+        ensures bytes { ReadConsumes (S.remaining self.old.stream) (S.remaining self.new.stream) result buf.new }
+        ensures ok { IfOk result (λ n. self.new.reason ≡ reason_at_length (self.old.length + n) self.old.reason) }
+        ensures err { IfErr result (λ error. self.new.reason ≡ Some (System error)) }
+    {
+        let answer = self.stream.read(buf);
+        match &answer {
+            Ok(n) => {
+                self.length = self.length.saturating_add(*n as u64);
+                if self.length > INPUT_LIMIT {
+                    self.reason = Some(Reason::TooLong);
+                }
+            }
+            Err(error) => self.reason = Some(Reason::System(*error)),
+        }
+        answer
+    }
+}
+
+impl<S: Write> Write for Named<'_, S> {
+    ghost contents = { λ named. S.contents named.stream };
+
+    fn write(&mut self, buf: &[u8]) -> io::Result<usize>
+        ensures bound { WritesAtMost result buf.now }
+        ensures bytes { WriteAppends (S.contents self.old.stream) (S.contents self.new.stream) result buf.now }
+        ensures none { IfOk result (λ n. n ≡ 0 → self.new.reason ≡ Some TookNothing) }
+        ensures some { IfOk result (λ n. n ≢ 0 → self.new.reason ≡ self.old.reason) }
+        ensures err { IfErr result (λ error. self.new.reason ≡ Some (System error)) }
+    {
+        let answer = self.stream.write(buf);
+        match &answer {
+            Ok(0) => self.reason = Some(Reason::TookNothing),
+            Ok(_) => {}
+            Err(error) => self.reason = Some(Reason::System(*error)),
+        }
+        answer
+    }
+
+    fn flush(&mut self) -> io::Result<()>
+        ensures bytes { Keeps (S.contents self.old.stream) (S.contents self.new.stream) }
+        ensures ok { OnOk result (self.new.reason ≡ self.old.reason) }
+        ensures err { IfErr result (λ error. self.new.reason ≡ Some (System error)) }
+    {
+        let answer = self.stream.flush();
+        if let Err(error) = &answer {
+            self.reason = Some(Reason::System(*error));
+        }
+        answer
+    }
+}

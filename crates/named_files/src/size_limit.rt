@@ -1,0 +1,105 @@
+//! The limit that the system sets on the size of files. At the first byte beyond it the system ends
+//! a program by a signal, which can't be caught here. So no such byte is written.
+ghost use Rattle.std.specs.Prelude.{◌≡◌, ◌≤◌, IfOk, IfSome, length, take};
+
+use std::fs;
+use std::io::{self, Read, Write};
+use std::rt::Files;
+
+/// The system's number of the error that a file would be too large.
+const TOO_LARGE: i32 = 27;
+
+/// The bytes that a file may have, if there is a limit. A system that has no such file as is read
+/// here says nothing of one.
+fn size_limit<R: Files>(rt: &R) -> Option<u64> {
+    let mut room = [0u8; 2048];
+    let Ok(mut file) = fs::open(rt, "/proc/self/limits") else {
+        return None;
+    };
+    let Ok(length) = file.read(&mut room) else {
+        return None;
+    };
+    let Ok(text) = str::from_utf8(&room[..length]) else {
+        return None;
+    };
+    for line in text.lines() {
+        if let Some(numbers) = line.strip_prefix("Max file size") {
+            return numbers.split_ascii_whitespace().next()?.parse::<u64>().ok();
+        }
+    }
+    None
+}
+
+/// How many bytes may still be written to a file, if there is a limit.
+#[derive(Clone, Copy)]
+pub struct Room {
+    left: Option<u64>,
+}
+
+impl Room {
+    /// As many as anybody writes.
+    pub const UNLIMITED: Room = Room { left: None };
+
+    /// Of a regular file in which so many bytes come before.
+    pub fn after<R: Files>(rt: &R, bytes: u64) -> Room {
+        Room {
+            left: size_limit(rt).map(|limit| limit.saturating_sub(bytes)),
+        }
+    }
+
+    /// Of standard output.
+    pub fn of_standard_output<R: Files>(rt: &R) -> Room {
+        match fs::metadata(rt, "/dev/stdout") {
+            Ok(metadata) if metadata.is_file() => Room::after(rt, metadata.len()),
+            _ => Room::UNLIMITED,
+        }
+    }
+
+    /// The first of some bytes, for which there is room: all, if all have room. If there is none it
+    /// is the system's error.
+    pub fn part<'b>(&self, bytes: &'b [u8]) -> io::Result<&'b [u8]>
+        ensures first { IfOk result (λ part. part.now ≡ take (length part.now) bytes.now) }
+        ensures most { IfOk result (λ part. length part.now ≤ length bytes.now) }
+        ensures room { IfOk result (λ part. IfSome self.now.left (λ left. length part.now ≤ left)) }
+    {
+        match self.left {
+            None => Ok(bytes),
+            Some(0) if !bytes.is_empty() => Err(io::Error::from_raw_os_error(TOO_LARGE)),
+            Some(left) => match usize::try_from(left) {
+                Ok(left) => Ok(&bytes[..bytes.len().min(left)]),
+                Err(_) => Ok(bytes),
+            },
+        }
+    }
+
+    /// So many bytes were written.
+    pub fn wrote(&mut self, bytes: usize) {
+        self.left = self.left.map(|left| left.saturating_sub(bytes as u64));
+    }
+}
+
+/// A stream that is written up to a limit.
+#[derive(Drop)]
+pub struct Limited<W> {
+    stream: W,
+    room: Room,
+}
+
+impl<W> Limited<W> {
+    pub fn new(stream: W, room: Room) -> Limited<W> {
+        Limited { stream, room }
+    }
+}
+
+impl<W: Write> Write for Limited<W> {
+    fn write(&mut self, buf: &[u8]) -> io::Result<usize> {
+        let part = self.room.part(buf)?;
+        let bytes = self.stream.write(part)?;
+        self.room.wrote(bytes);
+        Ok(bytes)
+    }
+
+    fn flush(&mut self) -> io::Result<()> {
+        self.stream.flush()
+    }
+}

@@ -1,0 +1,11 @@
+//! Texts for a terminal: names without control characters, and a line that shows how far a
+//! judgement has come.
+//!
+//! The texts are this project's own.
+#![tactic(auto)]
+
+mod shown;
+mod stage;
+
+pub use shown::Shown;
+pub use stage::{Count, Notice, Stage};
