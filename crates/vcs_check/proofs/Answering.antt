@@ -9,8 +9,8 @@ use Rattle.command_line.specs.declared.command.Command.TheVariants.{Stdin, Repor
 use Rattle.movie_report.specs.declared.notation.Notation.{Notation}
 use Rattle.replay_plan.specs.declared.plan.Plan.{Plan}
 use Rattle.replay_plan.specs.declared.workers.Workers.{Workers}
-use Rattle.vcs_check.specs.Answers.{IsAnswer}
 use Rattle.vcs_check.specs.Commands.{IsAnswered, form_of, notation_of, IsMade, ReadsFile, Writes}
+use Rattle.vcs_check.specs.Private.Asked.{IsAnswer}
 use Rattle.vcs_check.specs.declared.failure.Failure.{Failure}
 use Rattle.vcs_check.specs.declared.question.Question.{Question}
 use Rattle.vcs_check.specs.declared.question.Question.TheVariants as questions

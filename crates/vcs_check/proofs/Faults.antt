@@ -1,7 +1,8 @@
 -- What becomes of a failed write on its way up.
 use Rattle.std.proofs.Common.{◌≡◌, subst, sym, Option, None, Result, Ok, Err}
 use Rattle.named_files.specs.declared.faults.FileFault.{FileFault}
-use Rattle.vcs_check.specs.Failures.{IsWriteFault, by_input, by_output}
+use Rattle.vcs_check.specs.Failures.{IsWriteFault}
+use Rattle.vcs_check.specs.Private.Faults.{by_input, by_output}
 use Rattle.vcs_check.specs.declared.failure.Failure.TheVariants.{Run}
 use Rattle.vcs_engine.specs.declared.run_error.RunError.{RunError}
 use Rattle.vcs_engine.specs.declared.run_error.RunError.TheVariants.{WriteFault}

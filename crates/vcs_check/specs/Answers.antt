@@ -1,34 +1,15 @@
--- What the bytes of a movie are asked, and what is written of them. This project's own.
-use Rattle.std.specs.Prelude.{◌≤◌, ℕ, List, Option, Result, IfOk}
-use Rattle.std.specs.NonZero.{non_zero_u32_get}
-use Rattle.std.specs.Io.KnownBytes.{Appends}
-use Rattle.command_line.specs.Program.{program_name}
+-- What is written of the bytes of a movie, with its status. This project's own.
+use Rattle.std.specs.Prelude.{ℕ, List}
 use Rattle.movie_file.specs.Reading.{movie_at}
 use Rattle.movie_report.specs.declared.notation.Notation.{Notation}
 use Rattle.replay_plan.specs.declared.keep.Keep.{Keep}
-use Rattle.vcs_check.specs.declared.product.Product.{Product}
-use Rattle.vcs_check.specs.declared.product.Product.TheVariants.{KeptPictures, Pictures, Cut, Conversion}
-use Rattle.vcs_check.specs.declared.question.Question.{Question}
-use Rattle.vcs_check.specs.declared.question.Question.TheVariants.{Verify, Report, Info, Inputs, Frames, Trace}
 use Rattle.vcs_engine.specs.Answers.{Answer, Shows}
 use Rattle.vcs_engine.specs.Conversions.{conversion_of}
 use Rattle.vcs_engine.specs.Information.{information_in}
-use Rattle.vcs_engine.specs.Listings.{Lists}
 use Rattle.vcs_engine.specs.Outputs.{Tells}
-use Rattle.vcs_engine.specs.Reports.{Reports}
-use Rattle.vcs_engine.specs.Streams.{ReadsAll}
-use Rattle.vcs_engine.specs.declared.run_error.RunError.{RunError}
 use Rattle.vcs_engine.specs.declared.status.Status.{Status}
 use Rattle.view_engine.specs.Cuts.{Cuts}
 use Rattle.view_engine.specs.Drawings.{Draws}
-use Rattle.view_engine.specs.FrameLines.{Describes}
-use Rattle.view_engine.specs.Traces.{Traces}
-
--- With a status, all of a stream was read, and a text was written of which this holds, and nothing
--- else.
-abbrev pub Answers : (old new before after : Option (List ℕ)) → (List ℕ → Status → List ℕ → Type 0) → Result Status RunError → Type 0
-Answers old new before after Is result =
-    IfOk result (λ status. (input text : List ℕ) × ReadsAll old new input × Is input status text × Appends before after text)
 
 -- The line of these bytes' verdict, with these pictures kept,
 abbrev pub IsVerified : Keep → List ℕ → Status → List ℕ → Type 0
@@ -49,36 +30,3 @@ IsCut first count every input status line = (answer : Answer) × Cuts (movie_at 
 -- and that of their conversion.
 abbrev pub IsConversion : List ℕ → Status → List ℕ → Type 0
 IsConversion input status line = Shows (conversion_of (movie_at input)) status line
-
--- The answer to a question.
-abbrev pub IsAnswer : Question → List ℕ → Status → List ℕ → Type 0
-IsAnswer (Verify plan) input status text = IsVerified plan.keep input status text
-IsAnswer (Report plan notation) input status text = Reports notation program_name input status text
-IsAnswer (Info notation) input status text = IsInformation notation input status text
-IsAnswer Inputs input status text = Lists (movie_at input) status text
-IsAnswer (Frames first count details) input status text = Describes (movie_at input) details.now (non_zero_u32_get first) count status text
-IsAnswer (Trace frame) input status text = Traces (movie_at input) (non_zero_u32_get frame) status text
-
--- It is written while the run goes on.
-abbrev pub IsGradual : Question → Type 0
-IsGradual (Frames first count details) = Unit {0}
-IsGradual (Trace frame) = Unit {0}
-IsGradual other = ⊥
-
--- More than one worker judges, which takes threads.
-abbrev pub HasThreads : Question → Type 0
-HasThreads (Verify plan) = 2 ≤ plan.workers.number
-HasThreads (Report plan notation) = 2 ≤ plan.workers.number
-HasThreads other = ⊥
-
--- The line of what is written to a file.
-abbrev pub IsProduct : Product → List ℕ → Status → List ℕ → Type 0
-IsProduct (KeptPictures plan) input status line = IsVerified plan.keep input status line
-IsProduct (Pictures first count) input status line = IsDrawn (non_zero_u32_get first) count input status line
-IsProduct (Cut first count every) input status line = IsCut (non_zero_u32_get first) count (non_zero_u32_get every) input status line
-IsProduct Conversion input status line = IsConversion input status line
-
--- More than one worker judges, which takes threads.
-abbrev pub MayStartThreads : Product → Type 0
-MayStartThreads (KeptPictures plan) = 2 ≤ plan.workers.number
-MayStartThreads other = ⊥

@@ -83,17 +83,9 @@ IsAnswered (Trace file frame) old new status line =
 
 -- More than one worker judges: only `verify` and `report` with more than one start threads.
 abbrev pub StartsThreads : Command → Type 0
-StartsThreads Stdin = ⊥
 StartsThreads (Verify file plan pictures) = 2 ≤ plan.workers.number
 StartsThreads (Report file workers json) = 2 ≤ workers.number
-StartsThreads (Make rom inputs text every out) = ⊥
-StartsThreads (Info file json) = ⊥
-StartsThreads (Inputs file) = ⊥
-StartsThreads (Convert older newer) = ⊥
-StartsThreads (Frames file first count details) = ⊥
-StartsThreads (Pictures file first count out) = ⊥
-StartsThreads (Cut file first count every out) = ⊥
-StartsThreads (Trace file frame) = ⊥
+StartsThreads other = ⊥
 
 -- What a command wrote before an error.
 abbrev pub KeepsQuiet : Command → Option (List ℕ) → Option (List ℕ) → Result Status Failure → Type 0

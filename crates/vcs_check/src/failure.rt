@@ -1,6 +1,6 @@
 //! Why a command did not reach its end.
 ghost use Rattle.std.specs.Prelude.{◌≡◌};
-ghost use Rattle.vcs_check.specs.Failures.{by_input, by_output, fault_of};
+ghost use Rattle.vcs_check.specs.Private.Faults.{by_input, by_output, fault_of};
 
 use named_files::{CreateError, FileFault};
 use thiserror::Error;
@@ -62,7 +62,7 @@ impl<'a> From<FileFault<'a>> for Failure<'a> {
 }
 
 impl<'a> From<CreateError<'a>> for Failure<'a> {
-    ghost use Rattle.vcs_check.specs.Failures.{of_create_error};
+    ghost use Rattle.vcs_check.specs.Private.Faults.{of_create_error};
 
     ghost from_gives = { λ error failure. failure ≡ of_create_error error };
 

@@ -1,6 +1,6 @@
 //! What a command writes to a file of a movie that it reads.
 ghost use Rattle.std.specs.Prelude.{◌≡◌, ◌≢◌, List, ℕ, IfErr, OnErr, Err};
-ghost use Rattle.vcs_check.specs.Answers.{Answers, IsProduct, MayStartThreads};
+ghost use Rattle.vcs_check.specs.Private.Asked.{Answers, IsProduct, MayStartThreads};
 ghost use Rattle.vcs_check.specs.Commands.{IsQuiet, ReadsFile, Writes};
 ghost use Rattle.vcs_check.specs.Failures.{IsNoThread};
 ghost use Rattle.std.specs.Io.KnownBytes.{Keeps};

@@ -1,6 +1,6 @@
 //! What is asked of a movie that is only read.
 ghost use Rattle.std.specs.Prelude.{◌≡◌, ◌≢◌, List, ℕ, IfErr, OnErr, Err};
-ghost use Rattle.vcs_check.specs.Answers.{HasThreads, IsAnswer, IsGradual, Answers};
+ghost use Rattle.vcs_check.specs.Private.Asked.{HasThreads, IsAnswer, IsGradual, Answers};
 ghost use Rattle.vcs_check.specs.Commands.{ReadsFile, Writes};
 ghost use Rattle.vcs_check.specs.Failures.{IsNoMemory, IsNoThread, IsWriteFault};
 ghost use Rattle.std.specs.Io.KnownBytes.{Keeps};
