@@ -1,6 +1,6 @@
 //! Texts from outside, as a terminal may be given them.
-ghost use Rattle.std.specs.Prelude.{◌≡◌, ◌⊎◌, true, false};
-ghost use Rattle.std.specs.Char.{is_control};
+ghost use Rattle.std.specs.Prelude.{◌≡◌, ◌↔◌, true, false};
+ghost use Rattle.terminal_text.specs.Names.{IsKept};
 
 use std::fmt;
 
@@ -14,7 +14,10 @@ pub struct Shown<'a> {
 
 impl<'a> Shown<'a> {
     /// A name, on one line.
-    pub fn name(text: &'a str) -> Shown<'a> {
+    pub fn name(text: &'a str) -> Shown<'a>
+        ensures text { result.text.now ≡ text.now }
+        ensures lines { result.has_lines ≡ false }
+    {
         Shown {
             text,
             has_lines: false,
@@ -22,7 +25,10 @@ impl<'a> Shown<'a> {
     }
 
     /// A text of several lines.
-    pub fn lines(text: &'a str) -> Shown<'a> {
+    pub fn lines(text: &'a str) -> Shown<'a>
+        ensures text { result.text.now ≡ text.now }
+        ensures lines { result.has_lines ≡ true }
+    {
         Shown {
             text,
             has_lines: true,
@@ -31,8 +37,7 @@ impl<'a> Shown<'a> {
 
     /// Whether a character is shown as it is.
     fn keeps(&self, c: char) -> bool
-        ensures name { result ≡ true → self.now.has_lines ≡ false → is_control c ≡ false }
-        ensures lines { result ≡ true → (is_control c ≡ false) ⊎ (c ≡ 10) }
+        ensures { (result ≡ true) ↔ IsKept self.now.has_lines c }
     {
         !c.is_control() || (self.has_lines && c == '\n')
     }
