@@ -27,5 +27,5 @@ pub use picture_file::{WriteFault, ppm, rgb};
 pub use reporting::run_report;
 pub use run_error::{ReadError, RunError};
 pub use status::Status;
-pub use streams::read_all;
+pub use streams::{INPUT_LIMIT, read_all};
 pub use verify_pool::{Gate, NoGate, Ticket};

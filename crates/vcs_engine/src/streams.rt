@@ -7,10 +7,10 @@ use std::alloc::Global;
 use std::io::Read;
 
 /// The most bytes of one input.
-const INPUT_LIMIT: usize = 16_777_216;
+pub const INPUT_LIMIT: usize = 16_777_216;
 
 /// One read for each byte of the longest input, and one that finds its end or a byte too many.
-const MOST_READS: u32 = 16_777_217;
+const MOST_READS: usize = INPUT_LIMIT + 1;
 
 /// All bytes of an input, in at most 16,777,217 reads. Any error of a read is the end.
 pub fn read_all<R: Read>(alloc: Global, reader: &mut R) -> Result<Vec<u8>, ReadError>

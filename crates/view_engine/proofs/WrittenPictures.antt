@@ -104,14 +104,14 @@ some_answer m first count some = by (ends_or_faults m (first - 1 + frames_asked 
     by (inl ends) = (drawn m first count statuses.Done (lines.Pictures (frames_asked m first count)), drawn_all m first count some ends, refl)
     by (inr (frame, kind, faults)) = (drawn m first count statuses.Fault (lines.Fault frame kind), drawn_fault m first count frame kind some faults, refl)
 
--- ---- what is told of it
+-- ---- what is written of it
 
-abbrev Told : MovieData → ℕ → ℕ → Option (List ℕ) → Option (List ℕ) → Status → Line → Type 0
-Told m first count a b status line =
+abbrev Writes : MovieData → ℕ → ℕ → Option (List ℕ) → Option (List ℕ) → Status → Line → Type 0
+Writes m first count a b status line =
     (answer : Answer) × DrawsOf m first count answer × (status ≡ answer.status) × (line_bytes line ≡ answer.line) × Appends a b (pictures_bytes answer.pictures)
 
 pub told_none : (m : MovieData) (first count frames : ℕ) (a : Option (List ℕ)) → frames ≡ frames_asked m first count → frames ≡ 0
-    → Told m first count a a statuses.Done (lines.Pictures frames)
+    → Writes m first count a a statuses.Done (lines.Pictures frames)
 told_none m first count frames a is none =
     let zero_asked : frames_asked m first count ≡ 0 = sym is ∙ none in (
       drawn m first count statuses.Done (lines.Pictures (frames_asked m first count)),
@@ -122,15 +122,15 @@ told_none m first count frames a is none =
     )
 
 pub told_all : (m : MovieData) (first count frames : ℕ) (a b : Option (List ℕ)) → frames ≡ frames_asked m first count → 0 < frames → Ends m (first - 1 + frames)
-    → Appends a b (pictures_bytes (pictures_after m (first - 1) frames)) → Told m first count a b statuses.Done (lines.Pictures frames)
+    → Appends a b (pictures_bytes (pictures_after m (first - 1) frames)) → Writes m first count a b statuses.Done (lines.Pictures frames)
 told_all m first count frames a b is some ends written =
-    subst (λ (n : ℕ). 0 < n → Ends m (first - 1 + n) → Appends a b (pictures_bytes (pictures_after m (first - 1) n)) → Told m first count a b statuses.Done (lines.Pictures n)) (sym is)
+    subst (λ (n : ℕ). 0 < n → Ends m (first - 1 + n) → Appends a b (pictures_bytes (pictures_after m (first - 1) n)) → Writes m first count a b statuses.Done (lines.Pictures n)) (sym is)
     (λ some ends written. (drawn m first count statuses.Done (lines.Pictures (frames_asked m first count)), drawn_all m first count some ends, refl, refl, written)) some ends written
 
 pub told_fault : (m : MovieData) (first count frames frame : ℕ) (kind : FaultKind) (a b : Option (List ℕ)) → frames ≡ frames_asked m first count → 0 < frames
-    → FaultsWithin m (first - 1 + frames) frame kind → Appends a b (pictures_bytes (pictures_after m (first - 1) frames)) → Told m first count a b statuses.Fault (lines.Fault frame kind)
+    → FaultsWithin m (first - 1 + frames) frame kind → Appends a b (pictures_bytes (pictures_after m (first - 1) frames)) → Writes m first count a b statuses.Fault (lines.Fault frame kind)
 told_fault m first count frames frame kind a b is some faults written =
-    subst (λ (n : ℕ). 0 < n → FaultsWithin m (first - 1 + n) frame kind → Appends a b (pictures_bytes (pictures_after m (first - 1) n)) → Told m first count a b statuses.Fault (lines.Fault frame kind)) (sym is)
+    subst (λ (n : ℕ). 0 < n → FaultsWithin m (first - 1 + n) frame kind → Appends a b (pictures_bytes (pictures_after m (first - 1) n)) → Writes m first count a b statuses.Fault (lines.Fault frame kind)) (sym is)
     (λ some faults written. (drawn m first count statuses.Fault (lines.Fault frame kind), drawn_fault m first count frame kind some faults, refl, refl, written)) some faults written
 
 pub told_in_part : (m : MovieData) (first count frames : ℕ) (a b : Option (List ℕ)) → frames ≡ frames_asked m first count → 0 < frames
