@@ -1,5 +1,5 @@
 -- What is known of a file that failed. This project's own.
-use Rattle.std.specs.Prelude.{◌≡◌, ℕ, nat_lt, if◌then◌else◌, Bool, true, false, List, Option, Some, None}
+use Rattle.std.specs.Prelude.{◌≡◌, ℕ, ◌-◌, nat_lt, option_map, if◌then◌else◌, Bool, true, false, List, Option, Some, None}
 use Rattle.named_files.specs.declared.faults.CreateError.{CreateError}
 use Rattle.named_files.specs.declared.faults.CreateError.TheVariants.{Open}
 use Rattle.named_files.specs.declared.faults.FileFault.{FileFault}
@@ -35,3 +35,7 @@ conflict false false is_input is_stream = None
 -- input has so many.
 abbrev pub reason_at_length : ℕ → Option Reason → Option Reason
 reason_at_length length before = if nat_lt input_limit length then Some TooLong else before
+
+-- How many bytes a file still takes after so many more, if there is a limit.
+abbrev pub left_after : ℕ → Option ℕ → Option ℕ
+left_after bytes left = option_map (λ bytes_left. bytes_left - bytes) left

@@ -9,9 +9,7 @@ use crate::faults::{FileFault, Reason};
 use crate::replacing::Replacing;
 use std::io::{self, Read, Write};
 use std::rt::Files;
-
-/// The most bytes of one input.
-const INPUT_LIMIT: u64 = 16_777_216;
+use vcs_engine::INPUT_LIMIT;
 
 /// A file or a standard stream with its name, which remembers how many bytes were read of it, and
 /// why it failed last.
@@ -86,7 +84,7 @@ impl<S: Read> Read for Named<'_, S> {
         match &answer {
             Ok(n) => {
                 self.length = self.length.saturating_add(*n as u64);
-                if self.length > INPUT_LIMIT {
+                if self.length > INPUT_LIMIT as u64 {
                     self.reason = Some(Reason::TooLong);
                 }
             }

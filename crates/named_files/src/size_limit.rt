@@ -1,6 +1,9 @@
 //! The limit that the system sets on the size of files. At the first byte beyond it the system ends
 //! a program by a signal, which can't be caught here. So no such byte is written.
 ghost use Rattle.std.specs.Prelude.{◌≡◌, ◌≤◌, IfOk, IfSome, length, take};
+ghost use Rattle.std.specs.Io.{WritesAtMost};
+ghost use Rattle.std.specs.Io.KnownBytes.{WriteAppends};
+ghost use Rattle.named_files.specs.Faults.{left_after};
 
 use std::fs;
 use std::io::{self, Read, Write};
@@ -73,7 +76,9 @@ impl Room {
     }
 
     /// So many bytes were written.
-    pub fn wrote(&mut self, bytes: usize) {
+    pub fn wrote(&mut self, bytes: usize)
+        ensures { self.new.left ≡ left_after bytes self.old.left }
+    {
         self.left = self.left.map(|left| left.saturating_sub(bytes as u64));
     }
 }
@@ -86,13 +91,23 @@ pub struct Limited<W> {
 }
 
 impl<W> Limited<W> {
-    pub fn new(stream: W, room: Room) -> Limited<W> {
+    pub fn new(stream: W, room: Room) -> Limited<W>
+        ensures stream { result.stream ≡ stream }
+        ensures room { result.room ≡ room }
+    {
         Limited { stream, room }
     }
 }
 
 impl<W: Write> Write for Limited<W> {
-    fn write(&mut self, buf: &[u8]) -> io::Result<usize> {
+    ghost contents = { λ limited. W.contents limited.stream };
+
+    fn write(&mut self, buf: &[u8]) -> io::Result<usize>
+        ensures bound { WritesAtMost result buf.now }
+        ensures bytes { WriteAppends (W.contents self.old.stream) (W.contents self.new.stream) result buf.now }
+        ensures most { IfOk result (λ n. IfSome self.old.room.left (λ left. n ≤ left)) }
+        ensures room { IfOk result (λ n. self.new.room.left ≡ left_after n self.old.room.left) }
+    {
         let part = self.room.part(buf)?;
         let bytes = self.stream.write(part)?;
         self.room.wrote(bytes);
