@@ -1,25 +1,68 @@
 -- What a hint says of the bytes that were refused. This project's own.
-use Rattle.std.specs.Prelude.{◌≡◌, ◌≢◌, ◌<◌, ◌≤◌, ◌+◌, ◌%◌, ◌⊎◌, ℕ, List, length, slice_index, bit_and}
+use Rattle.std.specs.Prelude.{◌≡◌, ◌≢◌, ◌<◌, ◌≤◌, ◌+◌, ◌%◌, ◌==◌, ◌||◌, ◌⊎◌, ℕ, Bool, true, false}
+use Rattle.std.specs.Prelude.{List, [], ◌∷◌, length, slice_index, bit_and, Option, Some, None}
+use Rattle.std.specs.Int.{w16, w32, from_be_bytes}
+use Rattle.std.specs.List.{list_any, starts_with}
+use Rattle.riot_map.specs.Cart.{is_cart_length}
+use Rattle.movie_file.specs.Format.{magic}
 use Rattle.movie_hints.specs.declared.hint.Hint.{Hint}
 use Rattle.movie_hints.specs.declared.hint.Hint.TheVariants as hints
+
+-- The number of two bytes at a place, and of four. The first weighs most, and each after the last
+-- byte is 0.
+abbrev pub two_at : List ℕ → ℕ → ℕ
+two_at bytes at = from_be_bytes w16 (slice_index bytes at ∷ slice_index bytes (at + 1) ∷ [])
+
+abbrev pub four_at : List ℕ → ℕ → ℕ
+four_at bytes at =
+    from_be_bytes w32 (slice_index bytes at ∷ slice_index bytes (at + 1) ∷ slice_index bytes (at + 2)
+    ∷ slice_index bytes (at + 3) ∷ [])
+
+-- The first bytes are these.
+abbrev pub Begins : List ℕ → List ℕ → Type 0
+Begins bytes first = starts_with (λ a b. a == b) bytes first ≡ true
+
+-- Whether one of the bytes is this.
+abbrev pub has_byte : List ℕ → ℕ → Bool
+has_byte bytes byte = list_any (λ a. a == byte) bytes
+
+-- The frames of a movie of which the last ones have no checkpoint, if each checkpoint is so many
+-- frames after the one before.
+abbrev pub Unclaims : ℕ → ℕ → Option Hint → Type 0
+Unclaims frames every None = frames % every ≡ 0
+Unclaims frames every (Some (hints.Unclaimed first last)) = (first + frames % every ≡ last + 1) × (last ≡ frames) × (first ≤ last)
+Unclaims frames every (Some other) = ⊥
 
 -- The byte at this place is this one.
 abbrev pub Holds : List ℕ → ℕ → ℕ → Type 0
 Holds bytes at found = found ≡ slice_index bytes at
 
--- The numbers in a hint are those of the bytes, and what was found is not what was expected.
+-- The numbers in a hint are those of the bytes, what was found is not what was expected, and what
+-- bytes look like is how they begin or which are among them.
 abbrev pub IsTrueOf : List ℕ → Hint → Type 0
 IsTrueOf bytes (hints.InHeader found) = (found ≡ length bytes) × (found < 14)
 IsTrueOf bytes (hints.Missing missing said found) = (found ≡ length bytes) × (found < said) × (found + missing ≡ said)
 IsTrueOf bytes (hints.Extra extra said found) = (found ≡ length bytes) × (said + extra ≡ found)
+IsTrueOf bytes (hints.Magic found) = found ≡ four_at bytes 0
+IsTrueOf bytes (hints.Version found) = found ≡ two_at bytes 4
+IsTrueOf bytes (hints.Cartridge found) = found ≡ two_at bytes 6
+IsTrueOf bytes (hints.Frames most found) = found ≡ four_at bytes 8
+IsTrueOf bytes (hints.Checkpoints found) = (found ≡ two_at bytes 12) × (4095 < found)
 IsTrueOf bytes (hints.Bits name at mask found) = Holds bytes at found × (bit_and found mask ≢ found)
 IsTrueOf bytes (hints.TooLarge name at most found) = Holds bytes at found × (most < found)
-IsTrueOf bytes (hints.TimerPart at most found) = (found ≡ 0) ⊎ (most < found)
+IsTrueOf bytes (hints.TimerPart at most found) = (found ≡ two_at bytes at) × ((found ≡ 0) ⊎ (most < found))
 IsTrueOf bytes (hints.Latches at found) = Holds bytes at found × (found ≢ 0)
 IsTrueOf bytes (hints.Bank at found) = Holds bytes at found × (found ≢ 0)
 IsTrueOf bytes (hints.Switches at found) = Holds bytes at found × (bit_and found 0x34 ≢ 0x34)
 IsTrueOf bytes (hints.Buttons at found) = Holds bytes at found
-IsTrueOf bytes (hints.OddLength extra found) = (found ≡ length bytes) × (extra ≡ found % 3)
+IsTrueOf bytes (hints.Order at before last found) = found ≡ four_at bytes at
+IsTrueOf bytes hints.Gzip = two_at bytes 0 ≡ 0x1F8B
+IsTrueOf bytes hints.LooksLikeCartridge = is_cart_length (length bytes) ≡ true
+IsTrueOf bytes hints.LooksLikeMovie = Begins bytes magic
 IsTrueOf bytes (hints.NoCartridge found) = found ≡ length bytes
-IsTrueOf bytes (hints.Unclaimed first last) = first ≤ last
+IsTrueOf bytes hints.LooksLikeBytes = (has_byte bytes 0 || has_byte bytes 0xFF) ≡ true
+IsTrueOf bytes hints.ByteOrderMark = Begins bytes (0xEF ∷ 0xBB ∷ 0xBF ∷ [])
+IsTrueOf bytes hints.Utf16 = Begins bytes (0xFF ∷ 0xFE ∷ []) ⊎ Begins bytes (0xFE ∷ 0xFF ∷ [])
+IsTrueOf bytes hints.CarriageReturns = (has_byte bytes 13 ≡ true) × (has_byte bytes 10 ≡ false)
+IsTrueOf bytes (hints.OddLength extra found) = (found ≡ length bytes) × (extra ≡ found % 3)
 IsTrueOf bytes other = Unit {0}

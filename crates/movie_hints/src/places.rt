@@ -1,5 +1,6 @@
 //! Places in the bytes of a movie file, whatever they hold.
-ghost use Rattle.std.specs.Prelude.{◌≡◌, ◌<◌, ◌≤◌, ◌^◌, slice_index};
+ghost use Rattle.std.specs.Prelude.{◌≡◌, ◌<◌, ◌≤◌, ◌+◌, ◌^◌, slice_index};
+ghost use Rattle.movie_hints.specs.Hints.{four_at, two_at};
 
 /// The bytes of a header.
 pub(crate) const HEADER: usize = 14;
@@ -8,22 +9,35 @@ pub(crate) const HEADER: usize = 14;
 pub(crate) fn byte_at(bytes: &[u8], at: usize) -> u8
     ensures { result ≡ slice_index bytes.now at }
 {
-    match bytes.get(at) {
-        Some(byte) => *byte,
+    bytes.get(at).copied().unwrap_or(0)
+}
+
+/// The byte so many places further on.
+#[tactic(auto, using(std::proofs::lemmas::List::get_or_past))]
+fn byte_after(bytes: &[u8], at: usize, places: usize) -> u8
+    ensures { result ≡ slice_index bytes.now (at + places) }
+{
+    match at.checked_add(places) {
+        Some(at) => byte_at(bytes, at),
         None => 0,
     }
 }
 
 /// The number of two bytes.
-pub(crate) fn two_at(bytes: &[u8], at: usize) -> u16 {
-    u16::from_be_bytes([byte_at(bytes, at), byte_at(bytes, at.saturating_add(1))])
+pub(crate) fn two_at(bytes: &[u8], at: usize) -> u16
+    ensures { result ≡ two_at bytes.now at }
+{
+    u16::from_be_bytes([byte_at(bytes, at), byte_after(bytes, at, 1)])
 }
 
 /// The number of four bytes.
-pub(crate) fn four_at(bytes: &[u8], at: usize) -> u32 {
-    let high = two_at(bytes, at);
-    let low = two_at(bytes, at.saturating_add(2));
-    (u32::from(high) << 16) | u32::from(low)
+pub(crate) fn four_at(bytes: &[u8], at: usize) -> u32
+    ensures { result ≡ four_at bytes.now at }
+{
+    let second = byte_after(bytes, at, 1);
+    let third = byte_after(bytes, at, 2);
+    let fourth = byte_after(bytes, at, 3);
+    u32::from_be_bytes([byte_at(bytes, at), second, third, fourth])
 }
 
 /// What the header of a file says.
@@ -36,7 +50,12 @@ pub(crate) struct Places {
 }
 
 impl Places {
-    pub(crate) fn of(bytes: &[u8]) -> Places {
+    pub(crate) fn of(bytes: &[u8]) -> Places
+        ensures version { result.version ≡ two_at bytes.now 4 }
+        ensures cartridge { result.cartridge ≡ two_at bytes.now 6 }
+        ensures frames { result.frames ≡ four_at bytes.now 8 }
+        ensures checkpoints { result.checkpoints ≡ two_at bytes.now 12 }
+    {
         Places {
             version: two_at(bytes, 4),
             cartridge: two_at(bytes, 6),

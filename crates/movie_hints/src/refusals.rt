@@ -1,7 +1,8 @@
 //! What is wrong with refused bytes.
-ghost use Rattle.std.specs.Prelude.{◌≡◌, ◌⊎◌, ℕ, None, IfSome};
+ghost use Rattle.std.specs.Prelude.{◌≡◌, ◌⊎◌, ℕ, true, None, IfSome};
 ghost use Rattle.movie_file.specs.declared.error.MovieError.TheVariants.{NoMemory, BadState};
 ghost use Rattle.movie_hints.specs.Hints.{IsTrueOf};
+ghost use Rattle.movie_hints.specs.declared.hint.Hint.TheVariants.{Gzip};
 
 use crate::hint::Hint;
 use crate::places::{HEADER, Places, byte_at, four_at, two_at};
@@ -10,7 +11,9 @@ use movie_file::{MOST_CHECKPOINTS, MOST_FRAMES, MOST_FRAMES_OF_VERSION_1, MovieE
 use riot_map::Cart;
 
 /// Whether bytes begin as a gzip file does.
-fn is_gzip(bytes: &[u8]) -> bool {
+fn is_gzip(bytes: &[u8]) -> bool
+    ensures { result ≡ true → IsTrueOf bytes.now Gzip }
+{
     two_at(bytes, 0) == 0x1F8B
 }
 
@@ -121,7 +124,7 @@ pub fn hint_of(bytes: &[u8], error: MovieError) -> Option<Hint>
     ensures so { IfSome result (IsTrueOf bytes.now) }
 
     // Each refusal is explained, but for a state of which it isn't known which number is wrong.
-    ensures told { result ≡ None → (error ≡ NoMemory) ⊎ ((k : ℕ) × (error ≡ BadState k)) }
+    ensures explained { result ≡ None → (error ≡ NoMemory) ⊎ ((k : ℕ) × (error ≡ BadState k)) }
 {
     let places = Places::of(bytes);
     match error {
