@@ -1,3 +1,4 @@
+pub mod Added
 pub mod Addresses
 pub mod Found
 pub mod Getters

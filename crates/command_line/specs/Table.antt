@@ -1,7 +1,7 @@
 -- The commands of the program and their arguments, a row an argument, as the page COMMANDS has
 -- them. This project's own.
-use Rattle.std.specs.Prelude.{◌≡◌, ℕ, List, [], ◌∷◌, Some, codes, map, pos, true, false}
-use Rattle.clap.specs.Words.{App, Rule, Shape, Text, new_rule, rule_of, shape_of}
+use Rattle.std.specs.Prelude.{◌≡◌, ℕ, List, [], ◌∷◌, ◌++◌, Some, codes, map, pos, true, false}
+use Rattle.clap.specs.Words.{App, Rule, Shape, Text, app_of, new_rule, rule_of, shape_of, with_subcommand}
 use Rattle.clap.specs.Simple.{new_shape}
 use Rattle.clap.specs.declared.builder.Arg.{Arg}
 use Rattle.clap.specs.declared.builder.Command.{Command}
@@ -133,11 +133,19 @@ cut_listed = record {
   arguments = file_row ∷ checkpoints_row ∷ out_row ∷ first_row ∷ asked_row ∷ [];
 }
 
--- The commands.
+-- The commands: those that judge a movie, those that make one or say what one holds, and those that
+-- look into a run.
+abbrev pub judging : List Listed
+judging = verify_listed ∷ report_listed ∷ []
+
+abbrev pub making : List Listed
+making = make_listed ∷ info_listed ∷ listing_listed ∷ convert_listed ∷ []
+
+abbrev pub looking : List Listed
+looking = frames_listed ∷ drawing_listed ∷ cut_listed ∷ trace_listed ∷ []
+
 abbrev pub commands : List Listed
-commands =
-    verify_listed ∷ report_listed ∷ make_listed ∷ info_listed ∷ listing_listed ∷ convert_listed
-    ∷ frames_listed ∷ drawing_listed ∷ cut_listed ∷ trace_listed ∷ []
+commands = judging ++ (making ++ looking)
 
 -- ---- the same as `clap` reads it
 
@@ -177,6 +185,17 @@ shape_for listed = record (new_shape listed.name) { rules = map rule_for listed.
 abbrev pub IsListed : Listed → Command → Type 0
 IsListed listed command =
     (shape_of command ≡ shape_for listed) × ((out-Command command).has_globals ≡ false)
+
+-- A program with more commands of the table.
+abbrev pub with_listed : App → List Listed → App
+with_listed app [] = app
+with_listed app (listed ∷ more) = with_listed (with_subcommand app (shape_for listed)) more
+
+-- One program has these commands more than another.
+abbrev pub Adds : List Listed → Command → Command → Type 0
+Adds listed old new =
+    (app_of new ≡ with_listed (app_of old) listed)
+    × ((out-Command old).has_globals ≡ false → (out-Command new).has_globals ≡ false)
 
 -- The program: its commands, and two texts for its version.
 abbrev pub program_app : App

@@ -10,7 +10,7 @@ ghost use Rattle.command_line.specs.Table.{make_listed, info_listed, listing_lis
 ghost use Rattle.command_line.specs.Table.{asked_row, convert_listed, cut_listed, drawing_listed};
 ghost use Rattle.command_line.specs.Table.{json_row};
 ghost use Rattle.command_line.specs.Table.{digests_row, frame_row, frames_listed, program_app};
-ghost use Rattle.command_line.specs.Table.{trace_listed, watch_row};
+ghost use Rattle.command_line.specs.Table.{trace_listed, watch_row, Adds, judging, making, looking};
 
 use crate::version::{VERSION, VERSIONS};
 use clap::{Arg, ArgAction, Command, value_parser};
@@ -395,24 +395,48 @@ fn trace<'a>(alloc: Global) -> Result<Command<'a>, AllocError>
         .arg(frame(alloc))
 }
 
+/// The commands that judge a movie.
+fn with_judging<'a>(alloc: Global, program: Command<'a>) -> Result<Command<'a>, AllocError>
+    ensures { IfOk result (Adds judging program.entry) }
+{
+    program
+        .subcommand(verify(alloc)?)?
+        .subcommand(report(alloc)?)
+}
+
+/// The commands that make a movie, or say what one holds.
+fn with_making<'a>(alloc: Global, program: Command<'a>) -> Result<Command<'a>, AllocError>
+    ensures { IfOk result (Adds making program.entry) }
+{
+    program
+        .subcommand(make(alloc)?)?
+        .subcommand(info(alloc)?)?
+        .subcommand(inputs(alloc)?)?
+        .subcommand(convert(alloc)?)
+}
+
+/// The commands that look into a run.
+fn with_looking<'a>(alloc: Global, program: Command<'a>) -> Result<Command<'a>, AllocError>
+    ensures { IfOk result (Adds looking program.entry) }
+{
+    program
+        .subcommand(frames_of(alloc)?)?
+        .subcommand(pictures_of(alloc)?)?
+        .subcommand(cut(alloc)?)?
+        .subcommand(trace(alloc)?)
+}
+
 /// The program with all of its commands. Without one it judges standard input.
 pub(crate) fn program<'a>(alloc: Global) -> Result<Command<'a>, AllocError>
     ensures { IfOk result (λ command. (app_of command ≡ program_app)
         × ((out-Command command).has_globals ≡ false)) }
 {
-    Command::new(alloc, "vcs_check")
+    let program = Command::new(alloc, "vcs_check")
         .version(VERSION)
         .long_version(VERSIONS)
         .about("Judge movies of the Atari 2600")
-        .after_help(MORE)
-        .subcommand(verify(alloc)?)?
-        .subcommand(report(alloc)?)?
-        .subcommand(make(alloc)?)?
-        .subcommand(info(alloc)?)?
-        .subcommand(inputs(alloc)?)?
-        .subcommand(convert(alloc)?)?
-        .subcommand(frames_of(alloc)?)?
-        .subcommand(pictures_of(alloc)?)?
-        .subcommand(cut(alloc)?)?
-        .subcommand(trace(alloc)?)
+        .after_help(MORE);
+    let program = with_judging(alloc, program)?;
+    let program = with_making(alloc, program)?;
+    with_looking(alloc, program)
 }
