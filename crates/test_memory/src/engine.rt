@@ -1,7 +1,7 @@
 //! What the program's commands do, over bytes in place of files.
 
 use crate::failure::{Failure, right};
-use crate::gate::Told;
+use crate::gate::Counting;
 use crate::movies::{
     CONVERTED_LENGTH, LENGTH, conversion, two_frames, two_frames_to_the_end,
     two_frames_with_a_false_claim,
@@ -49,7 +49,7 @@ pub(crate) fn is_judged<R: Threads + Wait + Sync>(
     let mut pictures = [0u8; PICTURES];
     let mut line_left = line.as_mut_slice();
     let mut pictures_left = pictures.as_mut_slice();
-    let gate = Told::new();
+    let gate = Counting::new();
     let answer = run(
         rt,
         alloc,

@@ -1,20 +1,20 @@
-//! A gate that notes what it is told.
+//! A gate that counts its calls.
 
 use replay_segments::Piece;
 use std::sync::atomic::{AtomicU64, Ordering};
 use vcs_engine::CountedGate;
 use verify_pool::{Gate, Ticket};
 
-/// A gate that counts how often it is told of a beginning and of an end.
+/// A gate that counts the judgements that begin and those that end.
 #[derive(Drop)]
-pub(crate) struct Told {
+pub(crate) struct Counting {
     begun: AtomicU64,
     ended: AtomicU64,
 }
 
-impl Told {
-    pub(crate) fn new() -> Told {
-        Told {
+impl Counting {
+    pub(crate) fn new() -> Counting {
+        Counting {
             begun: AtomicU64::new(0),
             ended: AtomicU64::new(0),
         }
@@ -26,13 +26,13 @@ impl Told {
     }
 }
 
-impl Gate for Told {
+impl Gate for Counting {
     fn enter(&self, _ticket: &Ticket, _segment: u32) {}
 
     fn leave(&self, _ticket: &Ticket, _piece: &Piece) {}
 }
 
-impl CountedGate for Told {
+impl CountedGate for Counting {
     fn begin(&self, _segments: u32) {
         self.begun.fetch_add(1, Ordering::SeqCst);
     }

@@ -33,12 +33,8 @@ use std::sync::Wait;
 use std::thread::Threads;
 use vcs_engine::InputForm;
 
-/// Tries a call; none has another name.
-fn outcome_of<R: Threads + Wait + Sync>(
-    rt: &R,
-    alloc: Global,
-    call: &str,
-) -> Option<Result<(), Failure>> {
+/// Tries a call about a movie or its segments; none has another name.
+fn outcome_of_movies(alloc: Global, call: &str) -> Option<Result<(), Failure>> {
     Some(match call {
         "cartridge" => movies::is_cartridge(alloc),
         "read_movie" => movies::is_read(alloc),
@@ -54,12 +50,34 @@ fn outcome_of<R: Threads + Wait + Sync>(
         "replay" => segments::is_replayed(alloc),
         "gather" => segments::is_gathered(alloc, 2),
         "gather_without_pictures" => segments::is_gathered(alloc, 0),
+        _ => return None,
+    })
+}
+
+/// Tries a call of workers; none has another name.
+fn outcome_of_workers<R: Threads + Wait + Sync>(
+    rt: &R,
+    alloc: Global,
+    call: &str,
+) -> Option<Result<(), Failure>> {
+    Some(match call {
         "desk" => workers::has_desk(alloc),
         "crew" => workers::is_worked_on(rt, alloc),
         "verify_by_two" => workers::is_judged_by_two(rt, alloc),
         "verify_by_eight" => workers::is_judged_by_eight(rt, alloc),
         "verify_with_gate" => workers::is_entered_before_replay(rt, alloc),
         "verify_600_pictures" => workers::is_judged_once(rt, alloc),
+        _ => return None,
+    })
+}
+
+/// Tries what a command does; none has another name.
+fn outcome_of_commands<R: Threads + Wait + Sync>(
+    rt: &R,
+    alloc: Global,
+    call: &str,
+) -> Option<Result<(), Failure>> {
+    Some(match call {
         "run" => engine::is_judged(rt, alloc, 1),
         "run_by_two" => engine::is_judged(rt, alloc, 2),
         "run_of_9_megabytes" => engine::is_refused(rt, alloc),
@@ -80,6 +98,21 @@ fn outcome_of<R: Threads + Wait + Sync>(
         "run_cut_with_fault" => order::is_faulty_cut(alloc),
         _ => return None,
     })
+}
+
+/// Tries a call; none has another name.
+fn outcome_of<R: Threads + Wait + Sync>(
+    rt: &R,
+    alloc: Global,
+    call: &str,
+) -> Option<Result<(), Failure>> {
+    if let Some(outcome) = outcome_of_movies(alloc, call) {
+        return Some(outcome);
+    }
+    if let Some(outcome) = outcome_of_workers(rt, alloc, call) {
+        return Some(outcome);
+    }
+    outcome_of_commands(rt, alloc, call)
 }
 
 /// Does what a line asks for, and prints the answer.

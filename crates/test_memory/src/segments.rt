@@ -1,9 +1,11 @@
 //! Verdicts of one thread: of the whole movie, and of its segments.
+ghost use Rattle.replay_segments.specs.Cuts.{Fits};
 
 use crate::failure::{Failure, OUT_OF_MEMORY, right};
 use crate::movies::movie;
+use movie_file::Movie;
 use replay_plan::Keep;
-use replay_segments::{Cuts, Verdict, gather, replay, verify_one};
+use replay_segments::{Cuts, Piece, Verdict, gather, replay, verify_one};
 use std::alloc::Global;
 use std::num::NonZeroU16;
 
@@ -38,13 +40,9 @@ pub(crate) fn is_cut(alloc: Global) -> Result<(), Failure> {
     right(cuts.segments() == 2)
 }
 
-/// The first segment, with its picture. That a piece is out of memory is seen by the verdict that
-/// it decides.
-pub(crate) fn is_replayed(alloc: Global) -> Result<(), Failure> {
-    let movie = movie(alloc)?;
-    let cuts = Cuts::new(&movie, vec![in alloc; 1u16]?)?;
-    let mut pieces = Vec::with_capacity(alloc, 1)?;
-    let piece = replay(alloc, &movie, &cuts, Keep::new(1, 2)?, 0);
+/// Right for the piece of the first segment. That it is out of memory is seen by the verdict that it
+/// decides.
+fn is_first(alloc: Global, mut pieces: Vec<Piece>, piece: Piece) -> Result<(), Failure> {
     if piece.passed() {
         return right(piece.number() == 0);
     }
@@ -53,15 +51,31 @@ pub(crate) fn is_replayed(alloc: Global) -> Result<(), Failure> {
     Err(Failure::Wrong)
 }
 
+/// The first segment, with its picture.
+pub(crate) fn is_replayed(alloc: Global) -> Result<(), Failure> {
+    let movie = movie(alloc)?;
+    let cuts = Cuts::new(&movie, vec![in alloc; 1u16]?)?;
+    let keep = Keep::new(1, 2)?;
+    let pieces = Vec::with_capacity(alloc, 1)?;
+    is_first(alloc, pieces, replay(alloc, &movie, &cuts, keep, 0))
+}
+
+/// The pieces of all segments.
+fn replayed(alloc: Global, movie: &Movie, cuts: &Cuts, keep: Keep) -> Result<Vec<Piece>, Failure>
+    requires fit { Fits cuts.now movie.now }
+{
+    let mut pieces = Vec::with_capacity(alloc, 2)?;
+    for number in 0..cuts.segments() {
+        pieces.push(replay(alloc, movie, cuts, keep, number))?;
+    }
+    Ok(pieces)
+}
+
 /// Two segments of a frame each, with the pictures of so many frames.
 pub(crate) fn is_gathered(alloc: Global, pictures: u32) -> Result<(), Failure> {
     let movie = movie(alloc)?;
     let cuts = Cuts::every(alloc, &movie, NonZeroU16::MIN)?;
-    let keep = Keep::new(1, pictures)?;
-    let mut pieces = Vec::with_capacity(alloc, 2)?;
-    for number in 0..cuts.segments() {
-        pieces.push(replay(alloc, &movie, &cuts, keep, number))?;
-    }
+    let pieces = replayed(alloc, &movie, &cuts, Keep::new(1, pictures)?)?;
     let verdict = gather(alloc, pieces, cuts.segments())?;
     is_genuine(&verdict, pictures as usize)
 }

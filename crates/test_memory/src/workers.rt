@@ -1,4 +1,5 @@
 //! Verdicts by workers at one desk.
+ghost use Rattle.replay_segments.specs.Cuts.{Fits};
 
 use crate::failure::{Failure, OUT_OF_MEMORY, right};
 use crate::growths::TakesRefused;
@@ -6,7 +7,7 @@ use crate::movies::{make, movie};
 use crate::segments::is_genuine;
 use movie_file::Movie;
 use replay_plan::{Keep, Workers};
-use replay_segments::{Cuts, gather};
+use replay_segments::{Cuts, Piece, gather};
 use std::alloc::{AllocError, Global};
 use std::num::NonZeroU16;
 use std::sync::Wait;
@@ -25,10 +26,16 @@ pub(crate) fn has_desk(alloc: Global) -> Result<(), Failure> {
     }
 }
 
-/// One hand gets the pieces of both segments, in order, and no thread is started.
-pub(crate) fn is_worked_on<R: Threads + Wait + Sync>(rt: &R, alloc: Global) -> Result<(), Failure> {
-    let movie = movie(alloc)?;
-    let cuts = Cuts::every(alloc, &movie, NonZeroU16::MIN)?;
+/// The hand that got all pieces, of a desk with one ticket. No thread is started.
+fn worked<R: Threads + Wait + Sync>(
+    rt: &R,
+    alloc: Global,
+    movie: &Movie,
+    cuts: &Cuts,
+) -> Result<Hand, Failure>
+    requires fit { Fits cuts.now movie.now }
+{
+    let keep = Keep::new(1, 2)?;
     let (desk, mut tickets) = match Desk::new(alloc, cuts.segments(), 1) {
         Ok(made) => made,
         Err(AllocError) => return Err(OUT_OF_MEMORY),
@@ -39,22 +46,25 @@ pub(crate) fn is_worked_on<R: Threads + Wait + Sync>(rt: &R, alloc: Global) -> R
     let pieces = Vec::with_capacity(alloc, cuts.segments() as usize)?;
     let mut hands = Vec::with_capacity(alloc, 1)?;
     hands.push_reserved(Hand { ticket, pieces });
-    let hand = crew(
-        rt,
-        alloc,
-        &movie,
-        &cuts,
-        Keep::new(1, 2)?,
-        &desk,
-        hands,
-        &NoGate,
-    )?;
-    let numbers = hand.pieces.iter().map(|piece| piece.number());
+    Ok(crew(rt, alloc, movie, cuts, keep, &desk, hands, &NoGate)?)
+}
+
+/// Right for the pieces of two segments, in order, with a picture each.
+fn are_both(alloc: Global, pieces: Vec<Piece>) -> Result<(), Failure> {
+    let numbers = pieces.iter().map(|piece| piece.number());
     let in_order = numbers.zip(0..2).all(|(number, wanted)| number == wanted);
-    let all = in_order && hand.pieces.len() == 2;
-    let verdict = gather(alloc, hand.pieces, cuts.segments())?;
+    let all = in_order && pieces.len() == 2;
+    let verdict = gather(alloc, pieces, 2)?;
     right(all)?;
     is_genuine(&verdict, 2)
+}
+
+/// One hand gets the pieces of both segments.
+pub(crate) fn is_worked_on<R: Threads + Wait + Sync>(rt: &R, alloc: Global) -> Result<(), Failure> {
+    let movie = movie(alloc)?;
+    let cuts = Cuts::every(alloc, &movie, NonZeroU16::MIN)?;
+    let hand = worked(rt, alloc, &movie, &cuts)?;
+    are_both(alloc, hand.pieces)
 }
 
 /// The verdict with all pictures, with a cut at each checkpoint, and a gate.

@@ -2,7 +2,7 @@
 
 use crate::devices::{FailingReader, FailingWriter, Zeros};
 use crate::expectation::expect_equal;
-use crate::gates::Told;
+use crate::gates::Counting;
 use crate::movies::{
     ENDLESS_FRAMES, SEVEN_FRAMES, first_of_two_false, movie, power_on, run_of, timer_part_left,
     two_frames,
@@ -297,7 +297,7 @@ fn told<T: Threads + Wait + Sync + AllocGlobal>(rt: &T, every: u16) -> Result<[u
     };
     let mut bytes = Vec::new(rt.alloc());
     write_movie(&run_of(rt.alloc(), &ENDLESS_FRAMES, 5)?, &mut bytes)?;
-    let gate = Told::new();
+    let gate = Counting::new();
     let _status = run(
         rt,
         rt.alloc(),

@@ -142,18 +142,18 @@ impl Gate for Meeting {
     fn leave(&self, _ticket: &Ticket, _piece: &Piece) {}
 }
 
-/// A gate that adds up the segments that it is told of, and counts its ends and the entries before
-/// them.
+/// A gate that adds up the segments of the judgements that begin, and counts their ends and the
+/// entries before them.
 #[derive(Drop)]
-pub(crate) struct Told {
+pub(crate) struct Counting {
     pub segments: AtomicU64,
     pub entered: AtomicU64,
     pub ended: AtomicU64,
 }
 
-impl Told {
-    pub(crate) fn new() -> Told {
-        Told {
+impl Counting {
+    pub(crate) fn new() -> Counting {
+        Counting {
             segments: AtomicU64::new(0),
             entered: AtomicU64::new(0),
             ended: AtomicU64::new(0),
@@ -170,7 +170,7 @@ impl Told {
     }
 }
 
-impl Gate for Told {
+impl Gate for Counting {
     fn enter(&self, _ticket: &Ticket, _segment: u32) {
         self.entered.fetch_add(1, Ordering::SeqCst);
     }
@@ -178,7 +178,7 @@ impl Gate for Told {
     fn leave(&self, _ticket: &Ticket, _piece: &Piece) {}
 }
 
-impl CountedGate for Told {
+impl CountedGate for Counting {
     fn begin(&self, segments: u32) {
         self.segments
             .fetch_add(u64::from(segments), Ordering::SeqCst);
