@@ -181,6 +181,10 @@ IsRow argument given = (rule_of given ≡ rule_for argument) × (given.global �
 abbrev pub shape_for : Listed → Shape
 shape_for listed = record (new_shape listed.name) { rules = map rule_for listed.arguments }
 
+-- The command is this one, and none of its arguments goes on to commands below it.
+abbrev pub IsApp : App → Command → Type 0
+IsApp app command = (app_of command ≡ app) × ((out-Command command).has_globals ≡ false)
+
 -- The command is one of the table.
 abbrev pub IsListed : Listed → Command → Type 0
 IsListed listed command =

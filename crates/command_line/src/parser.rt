@@ -1,8 +1,8 @@
 //! The commands of the program, as `clap` knows them.
-ghost use Rattle.std.specs.Prelude.{◌≡◌, false, IfOk};
-ghost use Rattle.clap.specs.Words.{app_of};
-ghost use Rattle.clap.specs.declared.builder.Command.TheViews.{out-Command};
-ghost use Rattle.command_line.specs.Table.{IsListed, IsRow, file_row, workers_row, cuts_row};
+ghost use Rattle.std.specs.Prelude.{◌≡◌, ◌++◌, List, [], ◌∷◌, false, IfOk};
+ghost use Rattle.clap.specs.Words.{App, with_rule};
+ghost use Rattle.clap.specs.declared.builder.Command.{Command as OneCommand};
+ghost use Rattle.command_line.specs.Table.{Argument, IsApp, IsListed, Listed, IsRow, file_row, workers_row, cuts_row};
 ghost use Rattle.command_line.specs.Table.{first_row, count_row, pictures_row, rom_row};
 ghost use Rattle.command_line.specs.Table.{inputs_row, text_row, checkpoints_row, out_row};
 ghost use Rattle.command_line.specs.Table.{old_row, new_row, verify_listed, report_listed};
@@ -10,7 +10,7 @@ ghost use Rattle.command_line.specs.Table.{make_listed, info_listed, listing_lis
 ghost use Rattle.command_line.specs.Table.{asked_row, convert_listed, cut_listed, drawing_listed};
 ghost use Rattle.command_line.specs.Table.{json_row};
 ghost use Rattle.command_line.specs.Table.{digests_row, frame_row, frames_listed, program_app};
-ghost use Rattle.command_line.specs.Table.{trace_listed, watch_row, Adds, judging, making, looking};
+ghost use Rattle.command_line.specs.Table.{trace_listed, watch_row, rule_for, Adds, judging, making, looking};
 
 use crate::version::{VERSION, VERSIONS};
 use clap::{Arg, ArgAction, Command, value_parser};
@@ -113,29 +113,42 @@ fn pictures<'a>(alloc: Global) -> Arg<'a>
         .action(ArgAction::Set)
 }
 
+/// A command with one more argument of the table.
+fn and<'a>(
+    command: Result<Command<'a>, AllocError>,
+    arg: Arg<'a>,
+) -> Result<Command<'a>, AllocError>
+    ensures { (app : App) (argument : Argument) → IfOk command.entry (IsApp app) → IsRow argument arg.entry
+        → IfOk result (IsApp (with_rule app (rule_for argument))) }
+{
+    command?.arg(arg)
+}
+
 /// `verify FILE`, with its options.
 fn verify<'a>(alloc: Global) -> Result<Command<'a>, AllocError>
     ensures { IfOk result (IsListed verify_listed) }
 {
-    Command::new(alloc, "verify")
-        .about("Judge a movie: genuine, its first false checkpoint, or its fault")
-        .arg(movie(alloc))?
-        .arg(workers(alloc))?
-        .arg(cuts(alloc))?
-        .arg(first(alloc))?
-        .arg(count(alloc))?
-        .arg(pictures(alloc))
+    let verify = Command::new(alloc, "verify").about(
+        "Judge a movie: genuine, its first false checkpoint, or its fault",
+    );
+    let verify = and(Ok(verify), movie(alloc));
+    let verify = and(verify, workers(alloc));
+    let verify = and(verify, cuts(alloc));
+    let verify = and(verify, first(alloc));
+    let verify = and(verify, count(alloc));
+    and(verify, pictures(alloc))
 }
 
 /// `report FILE`, with its option.
 fn report<'a>(alloc: Global) -> Result<Command<'a>, AllocError>
     ensures { IfOk result (IsListed report_listed) }
 {
-    Command::new(alloc, "report")
-        .about("Judge a movie, and say what a judge asks next")
-        .arg(movie(alloc))?
-        .arg(workers(alloc))?
-        .arg(json(alloc))
+    let report = Command::new(alloc, "report").about(
+        "Judge a movie, and say what a judge asks next",
+    );
+    let report = and(Ok(report), movie(alloc));
+    let report = and(report, workers(alloc));
+    and(report, json(alloc))
 }
 
 /// `--every N` of `make`.
@@ -196,23 +209,23 @@ fn frames<'a>(alloc: Global) -> Arg<'a>
 fn make<'a>(alloc: Global) -> Result<Command<'a>, AllocError>
     ensures { IfOk result (IsListed make_listed) }
 {
-    Command::new(alloc, "make")
-        .about("Make a movie of a cartridge and the inputs of its frames, from power-on")
-        .arg(rom(alloc))?
-        .arg(frames(alloc))?
-        .arg(text(alloc))?
-        .arg(checkpoints(alloc))?
-        .arg(out(alloc))
+    let make = Command::new(alloc, "make").about(
+        "Make a movie of a cartridge and the inputs of its frames, from power-on",
+    );
+    let make = and(Ok(make), rom(alloc));
+    let make = and(make, frames(alloc));
+    let make = and(make, text(alloc));
+    let make = and(make, checkpoints(alloc));
+    and(make, out(alloc))
 }
 
 /// `info FILE`.
 fn info<'a>(alloc: Global) -> Result<Command<'a>, AllocError>
     ensures { IfOk result (IsListed info_listed) }
 {
-    Command::new(alloc, "info")
-        .about("Say what a movie holds")
-        .arg(movie(alloc))?
-        .arg(json(alloc))
+    let info = Command::new(alloc, "info").about("Say what a movie holds");
+    let info = and(Ok(info), movie(alloc));
+    and(info, json(alloc))
 }
 
 /// `inputs FILE`.
@@ -248,10 +261,11 @@ fn new<'a>(alloc: Global) -> Arg<'a>
 fn convert<'a>(alloc: Global) -> Result<Command<'a>, AllocError>
     ensures { IfOk result (IsListed convert_listed) }
 {
-    Command::new(alloc, "convert")
-        .about("Write a movie of version 1 again in version 2")
-        .arg(old(alloc))?
-        .arg(new(alloc))
+    let convert = Command::new(alloc, "convert").about(
+        "Write a movie of version 1 again in version 2",
+    );
+    let convert = and(Ok(convert), old(alloc));
+    and(convert, new(alloc))
 }
 
 /// `--first F` of `frames`, `pictures` and `cut`.
@@ -303,13 +317,14 @@ fn digests<'a>(alloc: Global) -> Arg<'a>
 fn frames_of<'a>(alloc: Global) -> Result<Command<'a>, AllocError>
     ensures { IfOk result (IsListed frames_listed) }
 {
-    Command::new(alloc, "frames")
-        .about("Say how long frames were, and where checkpoints are false, line by line")
-        .arg(movie(alloc))?
-        .arg(from(alloc))?
-        .arg(asked(alloc))?
-        .arg(watch(alloc))?
-        .arg(digests(alloc))
+    let frames = Command::new(alloc, "frames").about(
+        "Say how long frames were, and where checkpoints are false, line by line",
+    );
+    let frames = and(Ok(frames), movie(alloc));
+    let frames = and(frames, from(alloc));
+    let frames = and(frames, asked(alloc));
+    let frames = and(frames, watch(alloc));
+    and(frames, digests(alloc))
 }
 
 /// `--out PPM` of `pictures`.
@@ -328,12 +343,13 @@ fn drawing<'a>(alloc: Global) -> Arg<'a>
 fn pictures_of<'a>(alloc: Global) -> Result<Command<'a>, AllocError>
     ensures { IfOk result (IsListed drawing_listed) }
 {
-    Command::new(alloc, "pictures")
-        .about("Write the pictures of frames, whatever the movie claims")
-        .arg(movie(alloc))?
-        .arg(drawing(alloc))?
-        .arg(from(alloc))?
-        .arg(asked(alloc))
+    let pictures = Command::new(alloc, "pictures").about(
+        "Write the pictures of frames, whatever the movie claims",
+    );
+    let pictures = and(Ok(pictures), movie(alloc));
+    let pictures = and(pictures, drawing(alloc));
+    let pictures = and(pictures, from(alloc));
+    and(pictures, asked(alloc))
 }
 
 /// `--every E` of `cut`.
@@ -364,13 +380,12 @@ fn piece<'a>(alloc: Global) -> Arg<'a>
 fn cut<'a>(alloc: Global) -> Result<Command<'a>, AllocError>
     ensures { IfOk result (IsListed cut_listed) }
 {
-    Command::new(alloc, "cut")
-        .about("Write frames of a movie as a movie of its own")
-        .arg(movie(alloc))?
-        .arg(claims(alloc))?
-        .arg(piece(alloc))?
-        .arg(from(alloc))?
-        .arg(asked(alloc))
+    let cut = Command::new(alloc, "cut").about("Write frames of a movie as a movie of its own");
+    let cut = and(Ok(cut), movie(alloc));
+    let cut = and(cut, claims(alloc));
+    let cut = and(cut, piece(alloc));
+    let cut = and(cut, from(alloc));
+    and(cut, asked(alloc))
 }
 
 /// `--frame K` of `trace`.
@@ -389,47 +404,55 @@ fn frame<'a>(alloc: Global) -> Arg<'a>
 fn trace<'a>(alloc: Global) -> Result<Command<'a>, AllocError>
     ensures { IfOk result (IsListed trace_listed) }
 {
-    Command::new(alloc, "trace")
-        .about("Print each instruction of a frame, line by line")
-        .arg(movie(alloc))?
-        .arg(frame(alloc))
+    let trace = Command::new(alloc, "trace").about(
+        "Print each instruction of a frame, line by line",
+    );
+    let trace = and(Ok(trace), movie(alloc));
+    and(trace, frame(alloc))
+}
+
+/// A program with one more command of the table.
+fn with<'a>(
+    program: Command<'a>,
+    command: Result<Command<'a>, AllocError>,
+) -> Result<Command<'a>, AllocError>
+    ensures { (start : OneCommand) (done : List Listed) (listed : Listed) → Adds done start program.entry → IfOk command.entry (IsListed listed)
+        → IfOk result (Adds (done ++ listed ∷ []) start) }
+{
+    program.subcommand(command?)
 }
 
 /// The commands that judge a movie.
 fn with_judging<'a>(alloc: Global, program: Command<'a>) -> Result<Command<'a>, AllocError>
     ensures { IfOk result (Adds judging program.entry) }
 {
-    program
-        .subcommand(verify(alloc)?)?
-        .subcommand(report(alloc)?)
+    let program = with(program, verify(alloc))?;
+    with(program, report(alloc))
 }
 
 /// The commands that make a movie, or say what one holds.
 fn with_making<'a>(alloc: Global, program: Command<'a>) -> Result<Command<'a>, AllocError>
     ensures { IfOk result (Adds making program.entry) }
 {
-    program
-        .subcommand(make(alloc)?)?
-        .subcommand(info(alloc)?)?
-        .subcommand(inputs(alloc)?)?
-        .subcommand(convert(alloc)?)
+    let program = with(program, make(alloc))?;
+    let program = with(program, info(alloc))?;
+    let program = with(program, inputs(alloc))?;
+    with(program, convert(alloc))
 }
 
 /// The commands that look into a run.
 fn with_looking<'a>(alloc: Global, program: Command<'a>) -> Result<Command<'a>, AllocError>
     ensures { IfOk result (Adds looking program.entry) }
 {
-    program
-        .subcommand(frames_of(alloc)?)?
-        .subcommand(pictures_of(alloc)?)?
-        .subcommand(cut(alloc)?)?
-        .subcommand(trace(alloc)?)
+    let program = with(program, frames_of(alloc))?;
+    let program = with(program, pictures_of(alloc))?;
+    let program = with(program, cut(alloc))?;
+    with(program, trace(alloc))
 }
 
 /// The program with all of its commands. Without one it judges standard input.
 pub(crate) fn program<'a>(alloc: Global) -> Result<Command<'a>, AllocError>
-    ensures { IfOk result (λ command. (app_of command ≡ program_app)
-        × ((out-Command command).has_globals ≡ false)) }
+    ensures { IfOk result (IsApp program_app) }
 {
     let program = Command::new(alloc, "vcs_check")
         .version(VERSION)
