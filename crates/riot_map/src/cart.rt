@@ -9,7 +9,7 @@ ghost use Rattle.riot_map.specs.Cart.{bank_at_power_on};
 use std::marker::Model;
 
 /// The bytes of a bank.
-const BANK_LENGTH: usize = 4096;
+pub const BANK_LENGTH: usize = 4096;
 
 /// The bytes of a cartridge of two banks.
 const BANKED_LENGTH: usize = 2 * BANK_LENGTH;
@@ -41,7 +41,7 @@ impl Cart {
     pub fn is_length(bytes: usize) -> bool
         ensures { result ≡ is_cart_length bytes }
     {
-        bytes == 2048 || bytes == 4096 || Cart::is_banked(bytes)
+        bytes == BANK_LENGTH / 2 || bytes == BANK_LENGTH || Cart::is_banked(bytes)
     }
 
     /// Whether cartridges of this many bytes have two banks.

@@ -17,7 +17,7 @@ mod riot;
 mod timer;
 
 pub use address_map::place;
-pub use cart::{BadCartSize, Cart};
+pub use cart::{BANK_LENGTH, BadCartSize, Cart};
 pub use fields::RiotFields;
 pub use laws::{law_of_lawful_riots, law_of_numbers, law_of_riots};
 pub use places::Place;

@@ -14,6 +14,10 @@ use Rattle.tia_core.specs.TiaState.{TiaState}
 use Rattle.tia_core.specs.Clock.{Pixel, sink_after_pixels, pixels, pixels_of, after_clock}
 use Rattle.tia_core.specs.Clock.{collisions_after}
 use Rattle.tia_core.specs.Beam.{beam_of}
+use Rattle.tia_core.specs.Private.Unchanged.{after_beam}
+use Rattle.tia_core.specs.Registers.{register_of}
+use Rattle.tia_core.specs.Write.{fields_after, effect_after, effect_of, tia_after_write}
+use Rattle.tia_core.specs.declared.effect.Effect.TheVariants.{Nothing}
 
 -- ---- in two parts
 pub iterate-add : {A : Type 0} (f : A → A) (m n : ℕ) (a : A) → iterate f (m + n) a ≡ iterate f n (iterate f m a)
@@ -108,6 +112,28 @@ iterate-clocked-others (suc n) s h =
     let after : TiaState = iterate after_clock n (after_clock s) in
     iterate-clocked-others n (after_clock s) (omega arith)
     ∙ ap (λ (z : TiaState). record z { fields = record z.fields { collisions = after.fields.collisions; clock = after.fields.clock; comb = after.fields.comb }; line = after.line }) (clocked-others s h)
+
+pub iterate-clocked-fields : (n : ℕ) (s : TiaState) → s.fields.clock < 228
+    → let f = (iterate after_clock n s).fields in f ≡ after_beam s.fields f.collisions f.clock f.comb
+iterate-clocked-fields n s h = ap (λ (z : TiaState). z.fields) (iterate-clocked-others n s h)
+
+-- ---- writes that change nothing wherever the beam is change nothing after clocks
+pub written-after-clocks : (n : ℕ) (s : TiaState) (number v : ℕ) → s.fields.clock < 228
+    → ((fire0 fire1 : Bool) (collisions clock comb : ℕ) → fields_after (after_beam s.fields collisions clock comb) fire0 fire1 (register_of number) v ≡ after_beam s.fields collisions clock comb)
+    → tia_after_write (iterate after_clock n s) number v ≡ iterate after_clock n s
+unfolding tia_after_write
+written-after-clocks n s number v h kept =
+    let t : TiaState = iterate after_clock n s in
+    let e = iterate-clocked-fields n s h in
+    ap (λ (f : TiaFields). record t { fields = f })
+    (ap (λ (f : TiaFields). fields_after f t.fire0 t.fire1 (register_of number) v) e ∙ kept t.fire0 t.fire1 t.fields.collisions t.fields.clock t.fields.comb ∙ sym e)
+
+pub effect-after-clocks : (n : ℕ) (s : TiaState) (number v : ℕ) → s.fields.clock < 228
+    → ((collisions clock comb : ℕ) → effect_after (after_beam s.fields collisions clock comb) (register_of number) v ≡ Nothing)
+    → effect_of (iterate after_clock n s) number v ≡ Nothing
+effect-after-clocks n s number v h quiet =
+    let f : TiaFields = (iterate after_clock n s).fields in
+    ap (λ (z : TiaFields). effect_after z (register_of number) v) (iterate-clocked-fields n s h) ∙ quiet f.collisions f.clock f.comb
 
 -- ---- a collision bit that is set stays set
 or-keeps : (a b k : ℕ) → has_bit a k ≡ true → has_bit (bit_or a b) k ≡ true

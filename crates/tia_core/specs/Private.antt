@@ -2,4 +2,5 @@
 -- can be read without them.
 pub mod Lawful
 pub mod Stretches
+pub mod Unchanged
 pub mod Words

@@ -2,8 +2,8 @@ pub mod AlongBuses
 pub mod BankLaws
 pub mod BankLemmas
 pub mod BeamLaws
-pub mod DebtLemmas
 pub mod FrameOutcomes
+pub mod LagLemmas
 pub mod LoggedLemmas
 pub mod OneStop
 pub mod PictureTable

@@ -42,7 +42,7 @@ use Rattle.vcs_machine.specs.Private.Searching.{Searches}
 use Rattle.vcs_machine.specs.declared.polls.Branch.{Branch}
 use Rattle.vcs_machine.specs.declared.polls.Branch.TheVariants.{IfNotZero, IfZero, IfPlus, IfMinus}
 use Rattle.vcs_machine.specs.declared.polls.Poll.{Poll}
-use Rattle.vcs_machine.proofs.DebtLemmas.{sink-later, tia-later}
+use Rattle.vcs_machine.proofs.LagLemmas.{sink-later, tia-later}
 use Rattle.vcs_machine.proofs.OneStop.{search-goes_on}
 
 -- ---- the status after a load

@@ -10,24 +10,20 @@ ghost use Rattle.vcs_machine.specs.Consoles.{cycles_to_line_start, passed, read_
 ghost use Rattle.vcs_machine.specs.Private.Polls.{GoOn, IsPoll};
 ghost use Rattle.vcs_machine.specs.Inputs.{is_pressed};
 
-use crate::devices::{Devices, MOST_OWED};
+use crate::devices::{Devices, LINE_CYCLES, MOST_LAG};
 use crate::input::Input;
+use crate::mapped_cart::MappedCart;
 use crate::polls::Poll;
-use crate::socket::Socket;
 use crate::state::State;
-use crate::unchanged::is_unchanged;
 use mos_cpu::{Bus, Cpu};
 use riot_map::{Cart, Place, Riot, place};
 use std::marker::Model;
-use tia_core::{Effect, Paint, Tia};
-
-/// The register of the TIA whose write makes the processor wait for the next scanline.
-const WSYNC: u8 = 2;
+use tia_core::{Effect, Paint, Tia, WSYNC};
 
 /// A console in a frame, whose pixels go to a sink.
 #[derive(Drop)]
 pub struct Console<'a, S: Paint> {
-    socket: Socket<'a>,
+    mapped: MappedCart<'a>,
     devices: Devices<S>,
     /// WSYNC was written in this instruction.
     awaits_line: bool,
@@ -40,14 +36,14 @@ pub struct Console<'a, S: Paint> {
 
 impl<'a, S: Paint> Model for Console<'a, S> {
     ghost use Rattle.vcs_machine.specs.Consoles.{Console as ConsoleOf};
-    ghost use Rattle.vcs_machine.specs.Private.Owing.{riot_seen, tia_seen, sink_seen, IsBehind};
-    ghost use Rattle.vcs_machine.specs.Private.Owing.{IsEventful};
+    ghost use Rattle.vcs_machine.specs.Private.Lag.{riot_seen, tia_seen, sink_seen, IsBehind};
+    ghost use Rattle.vcs_machine.specs.Private.Lag.{IsEventful};
 
     ghost Value = { ConsoleOf S };
 
     ghost view = { λ c. record {
-      cart = c.socket.cart.now;
-      bank = c.socket.bank;
+      cart = c.mapped.cart.now;
+      bank = c.mapped.bank;
       riot = riot_seen c.devices;
       tia = tia_seen c.devices;
       awaits_line = c.awaits_line;
@@ -78,18 +74,18 @@ impl<'a, S: Paint> Bus for Console<'a, S> {
     fn read(&mut self, addr: u16) -> u8 {
         match place(addr) {
             Place::Cart(address) => {
-                let byte = self.socket.at(address);
-                self.socket.select(address);
+                let byte = self.mapped.at(address);
+                self.mapped.select(address);
                 byte
             }
             Place::Tia(register) => {
-                self.devices.settle();
+                self.devices.catch_up();
                 self.devices.tia.read(register)
             }
             Place::Ram(index) => self.devices.riot.ram(index),
             Place::Io(io) => {
                 self.has_event = true;
-                self.devices.settle_riot();
+                self.devices.catch_up_riot();
                 self.devices.riot.read(io)
             }
         }
@@ -99,11 +95,11 @@ impl<'a, S: Paint> Bus for Console<'a, S> {
     #[inline(always)]
     fn write(&mut self, addr: u16, value: u8) {
         match place(addr) {
-            Place::Cart(address) => self.socket.select(address),
+            Place::Cart(address) => self.mapped.select(address),
             Place::Tia(register) => self.write_tia(register, value),
             Place::Ram(index) => self.devices.riot.set_ram(index, value),
             Place::Io(register) => {
-                self.devices.settle_riot();
+                self.devices.catch_up_riot();
                 self.devices.riot.write(register, value);
             }
         }
@@ -113,7 +109,7 @@ impl<'a, S: Paint> Bus for Console<'a, S> {
     #[inline(always)]
     fn peek(&self, addr: u16) -> Option<u8> {
         match place(addr) {
-            Place::Cart(address) => Some(self.socket.at(address)),
+            Place::Cart(address) => Some(self.mapped.at(address)),
             Place::Ram(index) => Some(self.devices.riot.ram(index)),
             Place::Tia(_) | Place::Io(_) => None,
         }
@@ -123,7 +119,7 @@ impl<'a, S: Paint> Bus for Console<'a, S> {
     #[inline(always)]
     fn peek_after(&self, addr: u16) -> Option<u8> {
         match place(addr) {
-            Place::Cart(address) => self.socket.after(address),
+            Place::Cart(address) => self.mapped.after(address),
             _ => None,
         }
     }
@@ -154,13 +150,13 @@ impl<'a, S: Paint> Console<'a, S> {
         tia.set_fire(input.fire0(), input.fire1());
         tia.new_frame();
         Console {
-            socket: Socket::new(cart, state.bank()),
+            mapped: MappedCart::new(cart, state.bank()),
             devices: Devices {
                 riot,
                 tia,
                 sink,
-                left: MOST_OWED,
-                paid: 0,
+                lag_left: MOST_LAG,
+                riot_ahead: 0,
             },
             awaits_line: false,
             ended: false,
@@ -180,21 +176,21 @@ impl<'a, S: Paint> Console<'a, S> {
         ensures sink { result.1 ≡ self.entry.sink }
     {
         let Console {
-            socket,
+            mapped,
             mut devices,
             awaits_line: _,
             ended: _,
             has_event: _,
         } = self;
-        devices.settle();
+        devices.catch_up();
         let Devices {
             riot,
             tia,
             sink,
-            left: _,
-            paid: _,
+            lag_left: _,
+            riot_ahead: _,
         } = devices;
-        (State::of_parts(cpu, &riot, &tia, socket.bank), sink)
+        (State::of_parts(cpu, &riot, &tia, mapped.bank), sink)
     }
 
     /// A write of a register of the TIA.
@@ -203,13 +199,13 @@ impl<'a, S: Paint> Console<'a, S> {
     fn write_tia(&mut self, register: u8, value: u8)
         ensures { self.new ≡ after_tia_write self.old register value }
     {
-        // These leave the cycles owed, since they change nothing in the TIA.
+        // These don't let the devices catch up, since they change nothing in the TIA.
         if register == WSYNC {
             self.awaits_line = true;
             self.has_event = true;
             return;
         }
-        if is_unchanged(&self.devices.tia.fields(), register, value) {
+        if self.devices.tia.is_unchanged_by(register, value) {
             return;
         }
         self.change_tia(register, value);
@@ -221,7 +217,7 @@ impl<'a, S: Paint> Console<'a, S> {
     fn change_tia(&mut self, register: u8, value: u8)
         ensures { self.new ≡ after_tia_write self.old register value }
     {
-        self.devices.settle();
+        self.devices.catch_up();
         match self.devices.tia.write(register, value) {
             Effect::Nothing => return,
             Effect::Sync => self.awaits_line = true,
@@ -250,7 +246,7 @@ impl<'a, S: Paint> Console<'a, S> {
             self.has_event = self.ended;
             return 0;
         }
-        let cycles = (76 - self.devices.line_cycle()) % 76;
+        let cycles = (LINE_CYCLES - self.devices.line_cycle()) % LINE_CYCLES;
         self.pass(cycles);
         self.awaits_line = false;
         self.has_event = self.ended;
@@ -261,7 +257,7 @@ impl<'a, S: Paint> Console<'a, S> {
     pub fn bank(&self) -> u8
         ensures { result ≡ self.now.bank }
     {
-        self.socket.bank
+        self.mapped.bank
     }
 
     /// An instruction's byte, or 0 if a register of a device would answer.
@@ -278,7 +274,7 @@ impl<'a, S: Paint> Console<'a, S> {
         ensures line { result.0 ≡ self.old.tia.line }
         ensures cycle { result.1 ≡ self.old.tia.fields.clock / 3 }
     {
-        self.devices.settle();
+        self.devices.catch_up();
         (self.devices.tia.line(), self.devices.tia.beam() / 3)
     }
 
@@ -293,7 +289,7 @@ impl<'a, S: Paint> Console<'a, S> {
     pub fn poll_at(&self, pc: u16) -> Option<Poll>
         ensures { IfSome result (λ poll. IsPoll self.now.cart self.now.bank pc poll) }
     {
-        self.socket.poll_at(pc)
+        self.mapped.poll_at(pc)
     }
 
     /// So many rounds of such a loop surely go on: what is loaded in each but the last has the branch
@@ -306,7 +302,7 @@ impl<'a, S: Paint> Console<'a, S> {
         ensures some { 1 ≤ result }
         ensures going { GoOn poll self.old.riot result }
     {
-        self.devices.settle_riot();
+        self.devices.catch_up_riot();
         let byte = self.devices.riot.peek(poll.register);
         if !poll.branch.goes_on(byte) {
             return 1;
@@ -321,7 +317,7 @@ impl<'a, S: Paint> Console<'a, S> {
         ensures byte { result ≡ riot_read (passed S.drawn self.old cycles).riot register }
     {
         self.pass_all(cycles);
-        self.devices.settle_riot();
+        self.devices.catch_up_riot();
         self.devices.riot.read(register)
     }
 
@@ -331,9 +327,9 @@ impl<'a, S: Paint> Console<'a, S> {
         ensures { self.new ≡ passed S.drawn self.old cycles }
     {
         let mut left = cycles;
-        while left > 76 {
-            self.pass(76);
-            left -= 76;
+        while left > MOST_LAG as u32 {
+            self.pass(MOST_LAG);
+            left -= MOST_LAG as u32;
         }
         self.pass(left as u8);
     }

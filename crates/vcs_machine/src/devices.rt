@@ -2,75 +2,77 @@
 ghost use Rattle.std.specs.Prelude.{◌≡◌, ◌≤◌, ◌<◌, ◌+◌, ◌-◌, ◌*◌, ◌/◌};
 ghost use Rattle.std.specs.Fn.{iterate};
 ghost use Rattle.tia_core.specs.Read.{tia_read};
-ghost use Rattle.vcs_machine.specs.Private.Owing.{riot_seen, tia_seen, sink_seen, given_back};
-ghost use Rattle.vcs_machine.specs.Private.Owing.{IsBehind};
+ghost use Rattle.vcs_machine.specs.Private.Lag.{riot_seen, tia_seen, sink_seen, given_back};
+ghost use Rattle.vcs_machine.specs.Private.Lag.{IsBehind};
 ghost use Rattle.riot_map.specs.Riot.{after_cycles};
 ghost use Rattle.tia_core.specs.Clock.{after_clock, pixels, sink_after_pixels};
 
 use riot_map::Riot;
 use tia_core::{NoPaint, Paint, Tia};
 
-/// Most cycles that devices are behind: those of a scanline, whose clocks fit a call of the TIA.
-pub const MOST_OWED: u8 = 76;
+/// The cycles of a scanline, each of three colour clocks.
+pub const LINE_CYCLES: u8 = 76;
 
-/// A RIOT, a TIA and its sink, and how many cycles of the processor they have yet to see: the TIA's
-/// are `MOST_OWED` less those that are left.
+/// Most cycles that devices lag behind: those of a scanline, whose clocks fit a call of the TIA.
+pub const MOST_LAG: u8 = LINE_CYCLES;
+
+/// A RIOT, a TIA and its sink, and how many cycles they lag behind the processor: the TIA by
+/// `MOST_LAG` less the cycles that are left.
 ///
-/// Most instructions look at memory alone, so the cycles are passed on where a device is looked at.
-/// Those that are left are counted, since whether there are enough is then told by the subtraction
-/// itself.
+/// Most instructions look at memory alone, so devices catch up when one of them is looked at. What is
+/// left is counted, since whether it is enough is then told by the subtraction itself.
 #[derive(Drop)]
 pub struct Devices<S> {
     pub riot: Riot,
     pub tia: Tia,
     pub sink: S,
-    /// The cycles that may still pass before the TIA has to see them.
-    pub left: u8,
-    /// How many of the cycles that the TIA has yet to see the RIOT has seen.
-    pub paid: u8,
+    /// The cycles that may still pass before the TIA has to catch up.
+    pub lag_left: u8,
+    /// The cycles by which the RIOT is ahead of the TIA.
+    pub riot_ahead: u8,
 }
 
 impl<S: Paint> Devices<S> {
-    /// The cycles that the TIA has yet to see.
+    /// The cycles by which the TIA lags.
     #[inline(always)]
-    fn cycles_owed(&self) -> u8
+    fn lag(&self) -> u8
         requires { IsBehind self.now }
-        ensures { result ≡ 76 - self.now.left }
+        ensures { result ≡ 76 - self.now.lag_left }
     {
-        MOST_OWED - self.left
+        MOST_LAG - self.lag_left
     }
 
     /// Lets the RIOT see the cycles that it has not seen.
     #[inline(always)]
-    pub fn settle_riot(&mut self)
+    pub fn catch_up_riot(&mut self)
         requires { IsBehind self.old }
         ensures { self.new ≡ record self.old {
           riot = riot_seen self.old;
-          paid = 76 - self.old.left;
+          riot_ahead = 76 - self.old.lag_left;
         } }
     {
-        let owed = self.cycles_owed();
-        self.riot.cycles(owed - self.paid);
-        self.paid = owed;
+        let lag = self.lag();
+        self.riot.cycles(lag - self.riot_ahead);
+        self.riot_ahead = lag;
     }
 
     /// Lets both see the cycles that they have not seen.
     #[inline(never)]
-    pub fn settle(&mut self)
+    pub fn catch_up(&mut self)
         requires { IsBehind self.old }
         ensures { self.new ≡ record self.old {
           riot = riot_seen self.old;
           tia = tia_seen self.old;
           sink = sink_seen S.drawn self.old;
-          left = 76;
-          paid = 0;
+          lag_left = 76;
+          riot_ahead = 0;
         } }
     {
-        self.settle_riot();
-        let owed = self.cycles_owed();
-        self.tia.clocks(3 * owed, &mut self.sink);
-        self.left = MOST_OWED;
-        self.paid = 0;
+        self.catch_up_riot();
+        let lag = self.lag();
+        self.tia.clocks(3 * lag, &mut self.sink);
+        self.lag_left = MOST_LAG;
+        self.riot_ahead = 0;
     }
 
     /// Lets cycles pass.
@@ -83,31 +85,31 @@ impl<S: Paint> Devices<S> {
         ensures tia { tia_seen self.new ≡ iterate after_clock (3 * cycles) (tia_seen self.old) }
         ensures sink { sink_seen S.drawn self.new ≡ sink_after_pixels S.drawn (sink_seen S.drawn self.old) (pixels (3 * cycles) (tia_seen self.old)) }
     {
-        let is_short = self.left < cycles;
-        self.left = self.left.wrapping_sub(cycles);
+        let is_short = self.lag_left < cycles;
+        self.lag_left = self.lag_left.wrapping_sub(cycles);
         if is_short {
-            self.settle_and_owe(cycles);
+            self.catch_up_and_lag(cycles);
         }
     }
 
     /// Takes back the cycles that were too many, lets both see those that they have not seen, and
-    /// owes them these.
+    /// lets them lag by these.
     #[cold]
     #[inline(never)]
-    fn settle_and_owe(&mut self, cycles: u8)
+    fn catch_up_and_lag(&mut self, cycles: u8)
         requires behind { IsBehind (given_back self.old cycles) }
         requires most { cycles ≤ 76 }
         ensures { self.new ≡ record self.old {
           riot = riot_seen (given_back self.old cycles);
           tia = tia_seen (given_back self.old cycles);
           sink = sink_seen S.drawn (given_back self.old cycles);
-          left = 76 - cycles;
-          paid = 0;
+          lag_left = 76 - cycles;
+          riot_ahead = 0;
         } }
     {
-        self.left = self.left.wrapping_add(cycles);
-        self.settle();
-        self.left = MOST_OWED - cycles;
+        self.lag_left = self.lag_left.wrapping_add(cycles);
+        self.catch_up();
+        self.lag_left = MOST_LAG - cycles;
     }
 
     /// What a read of a register of the TIA would give, had the TIA seen all cycles.
@@ -124,7 +126,7 @@ impl<S: Paint> Devices<S> {
         let Some(mut tia) = Tia::from_fields(fields) else {
             unreachable!()
         };
-        tia.clocks(3 * self.cycles_owed(), &mut NoPaint);
+        tia.clocks(3 * self.lag(), &mut NoPaint);
         tia.read(register)
     }
 
@@ -135,6 +137,6 @@ impl<S: Paint> Devices<S> {
         ensures value { result ≡ (tia_seen self.now).fields.clock / 3 }
         ensures range { result < 76 }
     {
-        (self.tia.beam() / 3 + self.cycles_owed()) % 76
+        (self.tia.beam() / 3 + self.lag()) % LINE_CYCLES
     }
 }

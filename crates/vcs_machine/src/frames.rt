@@ -5,7 +5,7 @@ ghost use Rattle.tia_core.specs.Clock.{Pixel, sink_after_pixels};
 ghost use Rattle.vcs_machine.specs.Consoles.{console_rules, with_pixel_logged, Console};
 ghost use Rattle.vcs_machine.specs.Faults.{stop_with};
 ghost use Rattle.vcs_machine.specs.Frame.{stop_of, Machine, Ended, most_frame_cycles};
-ghost use Rattle.vcs_machine.specs.Outcomes.{frame_of, machine_of, state_left, Played, FailsAs};
+ghost use Rattle.vcs_machine.specs.Outcomes.{frame_of, machine_of, state_left, Played, Failed, FailsAs};
 ghost use Rattle.vcs_machine.specs.Outcomes.{PlaysOn, Halts};
 ghost use Rattle.vcs_machine.specs.Pictures.{Rows};
 
@@ -74,6 +74,7 @@ pub fn frame(
 /// The state is left as `frame` leaves it, and no memory is taken. The cycles are those of the
 /// instructions before the faulty one, with their waits.
 pub fn halt(cart: &Cart, state: &mut State, input: Input) -> Option<Halt>
+    ensures failed { IfSome result (λ halt. frame_of cart.now state.old input ≡ Failed halt.kind state.new) }
     ensures halted { IfSome result (λ halt. Halts cart.now state.old input halt.kind state.new halt.cycles) }
     ensures ended { IfNone result ((rows : Rows) × (frame_of cart.now state.old input ≡ Played state.new rows)) }
 {

@@ -11,16 +11,16 @@ mod hexadecimal;
 mod input;
 mod laws;
 mod logged;
+mod mapped_cart;
 mod picture;
 mod pictures;
 mod polls;
 mod run;
-mod socket;
 mod state;
 mod stepping;
 mod timing;
-mod unchanged;
 
+pub use devices::LINE_CYCLES;
 pub use executed::{DataAccess, Executed};
 pub use fault::{FaultKind, FrameError, Halt};
 pub use fields::StateFields;

@@ -5,6 +5,7 @@ ghost use Rattle.vcs_machine.specs.Frame.{most_frame_cycles};
 ghost use Rattle.vcs_machine.specs.Pictures.{with_pixel, blank, rows_of};
 ghost use Rattle.vcs_machine.specs.Private.Rows.{with_pixels};
 
+use crate::devices::LINE_CYCLES;
 use std::alloc::{AllocError, Global};
 use std::marker::Model;
 use tia_core::Paint;
@@ -131,5 +132,5 @@ pub(crate) fn rows(line_cycle: u8, cycles: u32) -> u16
     requires { cycles ≤ most_frame_cycles }
     ensures { result ≡ rows_of line_cycle cycles }
 {
-    ((line_cycle as u32 + cycles + 75) / 76) as u16
+    (line_cycle as u32 + cycles).div_ceil(LINE_CYCLES as u32) as u16
 }

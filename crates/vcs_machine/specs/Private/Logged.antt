@@ -1,5 +1,5 @@
 -- A bus that lists the data accesses, as far as it has room for them. This project's own.
-use Rattle.std.specs.Prelude.{ℕ, List, [], ◌∷◌, ◌++◌, length, nat_lt, if◌then◌else◌, true, false}
+use Rattle.std.specs.Prelude.{List, [], ◌∷◌, ◌++◌, length, nat_lt, if◌then◌else◌, true, false}
 use Rattle.mos_cpu.specs.Buses.{Meaning}
 use Rattle.vcs_machine.specs.declared.executed.DataAccess.{DataAccess}
 

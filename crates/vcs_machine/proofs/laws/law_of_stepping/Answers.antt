@@ -1,8 +1,8 @@
-use Rattle.std.proofs.Common.{◌≡◌, ◌∙◌, refl, sym, ap, List, []}
+use Rattle.std.proofs.Common.{◌∙◌, refl, sym, ap, List}
 use Rattle.tia_core.specs.Clock.{Pixel}
 use Rattle.vcs_machine.specs.Consoles.{Console}
 use Rattle.vcs_machine.specs.Faults.{stop_with}
-use Rattle.vcs_machine.specs.Frame.{Ended, Machine, Stop, machine_at}
+use Rattle.vcs_machine.specs.Frame.{Ended, Stop, machine_at}
 use Rattle.vcs_machine.specs.Instructions.{undrawn_of, undrawn_rules, with_pixel_lost}
 use Rattle.vcs_machine.specs.Outcomes.{cycles_of}
 use Rattle.vcs_machine.specs.Pictures.{picture_of, rows_of}

@@ -2,7 +2,7 @@ use Rattle.std.proofs.Common.{◌≡◌, ◌-◌, ◌*◌, Bool, true, false, So
 use Rattle.tia_core.specs.Read.{tia_read}
 use Rattle.tia_core.specs.TiaState.{TiaState, is_tia}
 use Rattle.tia_core.proofs.LawfulNumbers.{lawful_of}
-use Rattle.vcs_machine.proofs.DebtLemmas.{read-buttons, read-pairs}
+use Rattle.vcs_machine.proofs.LagLemmas.{read-buttons, read-pairs}
 use Rattle.vcs_machine.proofs.devices.Devices.peek_tia.Goals as goal
 
 -- What is made where a test holds.
@@ -14,7 +14,7 @@ pub returns-then-register-ge8 : goal.returns-then-register-ge8
 returns-then-register-ge8 g c =
     let d = c.args.self.now in
     let lawful = rw c.fields-fields.ensures.value at c.fields-fields.ensures.lawful in
-    c.read.ensures ∙ read-buttons (3 * (76 - d.left)) d.tia c.args.register (lawful_of _ lawful).clock c.if-register-ge8.true
+    c.read.ensures ∙ read-buttons (3 * (76 - d.lag_left)) d.tia c.args.register (lawful_of _ lawful).clock c.if-register-ge8.true
 
 pub returns : goal.returns
 returns g c =
@@ -22,4 +22,4 @@ returns g c =
     let same = ap (λ (t : TiaState). t.fields) (made (is_tia c.fields-fields.result) _ _ c.in-Some.ensures) ∙ c.fields-fields.ensures.value in
     c.read-2.ensures
     ∙ ap (λ (t : TiaState). tia_read t c.args.register) c.clocks.ensures.value
-    ∙ rw c.cycles_owed.ensures (read-pairs (3 * (76 - d.left)) c.in-Some.tia d.tia c.args.register same c.if-register-ge8.false)
+    ∙ rw c.lag.ensures (read-pairs (3 * (76 - d.lag_left)) c.in-Some.tia d.tia c.args.register same c.if-register-ge8.false)

@@ -1,8 +1,7 @@
-use Rattle.std.proofs.Common.{◌≡◌, ◌+◌, ◌/◌, ◌%◌, ◌∙◌, ℕ, List, [], refl, sym, ap, Result, Ok, Err}
+use Rattle.std.proofs.Common.{◌≡◌, ◌+◌, ◌/◌, ◌%◌, ◌∙◌, ℕ, List, [], refl, sym, ap, Ok}
 use Rattle.mos_cpu.specs.Buses.{Meaning}
 use Rattle.mos_cpu.specs.Execution.{Step, step_of}
 use Rattle.mos_cpu.specs.Registers.{Registers}
-use Rattle.mos_cpu.specs.declared.fault.CpuFault.{CpuFault}
 use Rattle.vcs_machine.specs.Consoles.{meaning_of}
 use Rattle.vcs_machine.specs.Frame.{Machine}
 use Rattle.vcs_machine.specs.Instructions.{ExecutedData, Undrawn, byte_at, data_accesses, executed_at}

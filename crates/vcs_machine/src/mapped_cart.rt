@@ -6,13 +6,7 @@ ghost use Rattle.vcs_machine.specs.Private.Polls.{IsPoll};
 ghost use Rattle.vcs_machine.specs.Private.Mapped.{IsFollowed};
 
 use crate::polls::{Branch, Poll};
-use riot_map::{Cart, Place, place};
-
-/// The bytes of a bank.
-const BANK_LENGTH: usize = 4096;
-
-/// The part of an address that finds a byte in a bank.
-const BANK_MASK: usize = 0xFFF;
+use riot_map::{BANK_LENGTH, Cart, Place, place};
 
 /// The opcode of LDA with an address of two bytes.
 const LDA_ABSOLUTE: u8 = 0xAD;
@@ -23,7 +17,7 @@ const BACK_BY_FIVE: u8 = 0xFB;
 /// A cartridge and its selected bank, with the bytes that this bank shows at hand. Their number is
 /// a power of two, so that an address finds its byte by a mask, one less.
 #[derive(Clone, Copy)]
-pub struct Socket<'a> {
+pub struct MappedCart<'a> {
     pub cart: &'a Cart,
     pub bank: u8,
     pub bytes: &'a [u8],
@@ -34,7 +28,7 @@ pub struct Socket<'a> {
     ghost shown: { (address : ℕ) → slice_index bytes.now (bit_and address mask) ≡ cart_byte cart.now bank address },
 }
 
-impl<'a> Socket<'a> {
+impl<'a> MappedCart<'a> {
     /// A cartridge with a bank selected.
     pub fn new(cart: &'a Cart, bank: u8) -> Self
         requires { bank < 2 }
@@ -43,7 +37,7 @@ impl<'a> Socket<'a> {
     {
         let all = cart.bytes();
         if !cart.has_banks() {
-            return Socket {
+            return MappedCart {
                 cart,
                 bank,
                 bytes: all,
@@ -52,11 +46,11 @@ impl<'a> Socket<'a> {
         }
         let start = BANK_LENGTH * bank as usize;
         let bytes = &all[start..start + BANK_LENGTH];
-        Socket {
+        MappedCart {
             cart,
             bank,
             bytes,
-            mask: BANK_MASK,
+            mask: BANK_LENGTH - 1,
         }
     }
 
@@ -120,7 +114,7 @@ impl<'a> Socket<'a> {
     {
         let bank = self.cart.select(self.bank, addr);
         if bank != self.bank {
-            *self = Socket::new(self.cart, bank);
+            *self = MappedCart::new(self.cart, bank);
         }
     }
 }

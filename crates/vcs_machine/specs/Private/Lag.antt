@@ -1,38 +1,33 @@
--- Devices that are owed cycles: the processor is ahead of them. This project's own.
+-- Devices that lag: the processor is some cycles ahead of them. This project's own.
 use Rattle.std.specs.Prelude.{ℕ, ◌≡◌, ◌≤◌, ◌-◌, ◌+◌, ◌*◌, ◌%◌, Bool, false}
 use Rattle.std.specs.Fn.{iterate}
 use Rattle.riot_map.specs.Riot.{RiotState, after_cycles}
 use Rattle.tia_core.specs.Clock.{after_clock, pixels, sink_after_pixels}
 use Rattle.tia_core.specs.TiaState.{TiaState}
-use Rattle.tia_core.specs.declared.fields.TiaFields.{TiaFields}
 use Rattle.vcs_machine.specs.declared.devices.Devices.{Devices}
 
--- Devices once they have seen the cycles that they are owed.
+-- Devices once they have caught up.
 module _ {S : Type 0} where
   abbrev pub riot_seen : Devices S → RiotState
-  riot_seen d = after_cycles (76 - d.left - d.paid) d.riot
+  riot_seen d = after_cycles (76 - d.lag_left - d.riot_ahead) d.riot
 
   abbrev pub tia_seen : Devices S → TiaState
-  tia_seen d = iterate after_clock (3 * (76 - d.left)) d.tia
+  tia_seen d = iterate after_clock (3 * (76 - d.lag_left)) d.tia
 
   abbrev pub sink_seen : (S → ℕ → ℕ → ℕ → S) → Devices S → S
-  sink_seen drawn d = sink_after_pixels drawn d.sink (pixels (3 * (76 - d.left)) d.tia)
+  sink_seen drawn d = sink_after_pixels drawn d.sink (pixels (3 * (76 - d.lag_left)) d.tia)
 
--- What is true of the cycles that devices are owed: the RIOT has seen no others, and they are at
+-- What is true of devices that lag: the RIOT is not ahead of the processor, and the lag is at
 -- most those of a scanline.
 pub record IsBehind {S : Type 0} (d : Devices S) : Type 0 where
-  pub paid : d.paid ≤ 76 - d.left
-  pub most : d.left ≤ 76
+  pub riot_ahead : d.riot_ahead ≤ 76 - d.lag_left
+  pub most : d.lag_left ≤ 76
 
 -- Devices to which cycles are given back that were too many.
 abbrev pub given_back : {S : Type 0} → Devices S → ℕ → Devices S
-given_back d cycles = record d { left = (d.left + cycles) % 256 }
+given_back d cycles = record d { lag_left = (d.lag_left + cycles) % 256 }
 
 -- What is known if there was no event: no instruction wrote WSYNC, and VSYNC has not fallen.
 pub record IsEventful (has_event awaits_line ended : Bool) : Type 0 where
   pub no_wait : has_event ≡ false → awaits_line ≡ false
   pub no_end : has_event ≡ false → ended ≡ false
-
--- The numbers of a TIA whose beam went on: nothing else of them changes.
-abbrev pub after_beam : TiaFields → ℕ → ℕ → ℕ → TiaFields
-after_beam t collisions clock comb = record t { collisions = collisions; clock = clock; comb = comb }

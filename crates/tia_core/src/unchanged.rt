@@ -3,22 +3,23 @@ ghost use Rattle.std.specs.Prelude.{◌≡◌, ℕ, Bool, IsTrue};
 ghost use Rattle.tia_core.specs.Registers.{register_of};
 ghost use Rattle.tia_core.specs.Write.{fields_after, effect_after};
 ghost use Rattle.tia_core.specs.declared.effect.Effect.TheVariants.{Nothing};
-ghost use Rattle.vcs_machine.specs.Private.Owing.{after_beam};
+ghost use Rattle.tia_core.specs.Private.Unchanged.{after_beam};
 
-use tia_core::{Register, TiaFields};
+use crate::fields::TiaFields;
+use crate::register::Register;
 
 /// Whether a write of a register is known to leave a TIA of these numbers as it is, wherever its
 /// beam is. A register keeps the bits of its mask. Games write most registers in each scanline, and
 /// mostly what is there already.
 #[inline(always)]
-pub fn is_unchanged(fields: &TiaFields, register: u8, value: u8) -> bool
+pub fn is_unchanged(fields: &TiaFields, number: u8, value: u8) -> bool
     ensures fields { IsTrue result → (fire0 fire1 : Bool) (collisions clock comb : ℕ) →
-        fields_after (after_beam fields.now collisions clock comb) fire0 fire1 (register_of register) value
+        fields_after (after_beam fields.now collisions clock comb) fire0 fire1 (register_of number) value
         ≡ after_beam fields.now collisions clock comb }
     ensures effect { IsTrue result → (collisions clock comb : ℕ) →
-        effect_after (after_beam fields.now collisions clock comb) (register_of register) value ≡ Nothing }
+        effect_after (after_beam fields.now collisions clock comb) (register_of number) value ≡ Nothing }
 {
-    match register {
+    match number {
         0x04 => Register::Nusiz0.keep(value) == fields.nusiz0,
         0x05 => Register::Nusiz1.keep(value) == fields.nusiz1,
         0x06 => Register::Colup0.keep(value) == fields.colup0,

@@ -1,7 +1,7 @@
 use Rattle.std.proofs.Common.{◌≡◌, true, length, arith, rules, tests}
 use Rattle.riot_map.specs.Cart.{has_banks}
 use Rattle.vcs_machine.proofs.BankLemmas.{followed-4095, part-length, part-shown}
-use Rattle.vcs_machine.proofs.socket.Socket.new.Goals as goal
+use Rattle.vcs_machine.proofs.mapped_cart.MappedCart.new.Goals as goal
 
 pub invariant_of-result-2 : goal.invariant_of-result-2
 invariant_of-result-2 c =

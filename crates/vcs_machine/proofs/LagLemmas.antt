@@ -8,43 +8,41 @@ use Rattle.riot_map.specs.Riot.{RiotState, after_cycles}
 use Rattle.riot_map.specs.Timer.{Countdown, after_cycle}
 use Rattle.tia_core.specs.Clock.{after_clock, collisions_after, pixels, sink_after_pixels}
 use Rattle.tia_core.specs.Read.{tia_read, register_byte}
-use Rattle.tia_core.specs.Registers.{register_of}
 use Rattle.tia_core.specs.TiaState.{TiaState}
-use Rattle.tia_core.specs.Write.{fields_after, effect_after, effect_of, tia_after_write}
+use Rattle.tia_core.specs.Write.{effect_of, tia_after_write}
 use Rattle.tia_core.specs.declared.effect.Effect.{Effect}
 use Rattle.tia_core.specs.declared.effect.Effect.TheVariants.{Nothing}
 use Rattle.tia_core.specs.declared.fields.TiaFields.{TiaFields}
 use Rattle.vcs_machine.specs.Consoles.{Console, after_tia_write, is_sync, is_frame_end}
-use Rattle.vcs_machine.specs.Private.Owing.{after_beam}
 use Rattle.tia_core.proofs.ClockLemmas.{iterate-add, painted-add, iterate-clocked-clock}
 use Rattle.tia_core.proofs.ClockLemmas.{iterate-clocked-others}
 
 -- ---- more cycles
-pub riot-later : (owed paid n : ℕ) (r : RiotState) → paid ≤ owed → after_cycles (owed + n - paid) r ≡ after_cycles n (after_cycles (owed - paid) r)
+pub riot-later : (lag ahead n : ℕ) (r : RiotState) → ahead ≤ lag → after_cycles (lag + n - ahead) r ≡ after_cycles n (after_cycles (lag - ahead) r)
 unfolding after_cycles
-riot-later owed paid n r h =
-    let e : owed + n - paid ≡ (owed - paid) + n = omega arith in
-    rw e (ap (λ (t : Countdown). record r { timer = t }) (iterate-add after_cycle (owed - paid) n r.timer))
+riot-later lag ahead n r h =
+    let e : lag + n - ahead ≡ (lag - ahead) + n = omega arith in
+    rw e (ap (λ (t : Countdown). record r { timer = t }) (iterate-add after_cycle (lag - ahead) n r.timer))
 
 three : (m n : ℕ) → 3 * (m + n) ≡ 3 * m + 3 * n
 three m n = omega arith
 
-pub tia-later : (owed n : ℕ) (t : TiaState) → iterate after_clock (3 * (owed + n)) t ≡ iterate after_clock (3 * n) (iterate after_clock (3 * owed) t)
-tia-later owed n t = rw (three owed n) (iterate-add after_clock (3 * owed) (3 * n) t)
+pub tia-later : (lag n : ℕ) (t : TiaState) → iterate after_clock (3 * (lag + n)) t ≡ iterate after_clock (3 * n) (iterate after_clock (3 * lag) t)
+tia-later lag n t = rw (three lag n) (iterate-add after_clock (3 * lag) (3 * n) t)
 
-pub sink-later : {S : Type 0} (drawn : S → ℕ → ℕ → ℕ → S) (owed n : ℕ) (t : TiaState) (s : S)
-    → sink_after_pixels drawn s (pixels (3 * (owed + n)) t) ≡ sink_after_pixels drawn (sink_after_pixels drawn s (pixels (3 * owed) t)) (pixels (3 * n) (iterate after_clock (3 * owed) t))
-sink-later drawn owed n t s = rw (three owed n) (painted-add drawn s (3 * owed) (3 * n) t)
+pub sink-later : {S : Type 0} (drawn : S → ℕ → ℕ → ℕ → S) (lag n : ℕ) (t : TiaState) (s : S)
+    → sink_after_pixels drawn s (pixels (3 * (lag + n)) t) ≡ sink_after_pixels drawn (sink_after_pixels drawn s (pixels (3 * lag) t)) (pixels (3 * n) (iterate after_clock (3 * lag) t))
+sink-later drawn lag n t s = rw (three lag n) (painted-add drawn s (3 * lag) (3 * n) t)
 
--- Fewer cycles are left, and as many more are owed.
+-- Fewer cycles of lag are left, and the lag is as much more.
 pub left-less : (left n : ℕ) → n ≤ left → left ≤ 76 → 76 - (left + (256 - n)) % 256 ≡ 76 - left + n
 left-less left n h most = omega arith
 
 -- ---- the beam
-pub line-later : (owed : ℕ) (t : TiaState) → t.fields.clock < 228 → (iterate after_clock (3 * owed) t).fields.clock / 3 ≡ (t.fields.clock / 3 + owed) % 76
-line-later owed t h = rw (iterate-clocked-clock (3 * owed) t h) (thirds t.fields.clock)
+pub line-later : (lag : ℕ) (t : TiaState) → t.fields.clock < 228 → (iterate after_clock (3 * lag) t).fields.clock / 3 ≡ (t.fields.clock / 3 + lag) % 76
+line-later lag t h = rw (iterate-clocked-clock (3 * lag) t h) (thirds t.fields.clock)
   where
-    thirds : (c : ℕ) → (c + 3 * owed) % 228 / 3 ≡ (c / 3 + owed) % 76
+    thirds : (c : ℕ) → (c + 3 * lag) % 228 / 3 ≡ (c / 3 + lag) % 76
     thirds c = omega arith
 
 -- ---- reads
@@ -124,22 +122,16 @@ same_console : {S : Type 0} (c : Console S) (f : TiaFields) (awaits_line ended :
     → c ≡ record c { tia = record c.tia { fields = f }; awaits_line = awaits_line; ended = ended }
 same_console c f awaits_line ended ef es ee = rw (ef, es, ee) refl
 
--- A write that changes nothing wherever the beam is changes nothing after some clocks.
-pub written-unchanged : {S : Type 0} (c : Console S) (n : ℕ) (t : TiaState) (register v : ℕ) → t.fields.clock < 228 → c.tia ≡ iterate after_clock n t
-    → ((fire0 fire1 : Bool) (collisions clock comb : ℕ) → fields_after (after_beam t.fields collisions clock comb) fire0 fire1 (register_of register) v ≡ after_beam t.fields collisions clock comb)
-    → ((collisions clock comb : ℕ) → effect_after (after_beam t.fields collisions clock comb) (register_of register) v ≡ Nothing)
+-- A write that changes nothing after any clocks changes nothing in a console.
+pub written-unchanged : {S : Type 0} (c : Console S) (n : ℕ) (t : TiaState) (register v : ℕ) → c.tia ≡ iterate after_clock n t
+    → ((k : ℕ) → tia_after_write (iterate after_clock k t) register v ≡ iterate after_clock k t)
+    → ((k : ℕ) → effect_of (iterate after_clock k t) register v ≡ Nothing)
     → c ≡ after_tia_write c register v
 unfolding tia_after_write
-written-unchanged c n t register v h et fields effect =
-    let f : TiaFields = (iterate after_clock n t).fields in
-    let seen : c.tia.fields ≡ after_beam t.fields f.collisions f.clock f.comb =
-    ap (λ (z : TiaState). z.fields) et ∙ ap (λ (z : TiaState). z.fields) (iterate-clocked-others n t h) in
-    let same : fields_after c.tia.fields c.tia.fire0 c.tia.fire1 (register_of register) v ≡ c.tia.fields =
-    ap (λ (z : TiaFields). fields_after z c.tia.fire0 c.tia.fire1 (register_of register) v) seen
-    ∙ fields c.tia.fire0 c.tia.fire1 f.collisions f.clock f.comb
-    ∙ sym seen in
-    let none : effect_of c.tia register v ≡ Nothing =
-    ap (λ (z : TiaFields). effect_after z (register_of register) v) seen ∙ effect f.collisions f.clock f.comb in
+written-unchanged c n t register v e kept quiet =
+    let whole : tia_after_write c.tia register v ≡ c.tia = rw e (kept n) in
+    let same = ap (λ (z : TiaState). z.fields) whole in
+    let none : effect_of c.tia register v ≡ Nothing = rw e (quiet n) in
     same_console c _ _ _ same
     (ap (λ (x : Effect). c.awaits_line || is_sync x) none ∙ or_false c.awaits_line)
     (ap (λ (x : Effect). c.ended || is_frame_end x) none ∙ or_false c.ended)
