@@ -1,5 +1,5 @@
 -- What is known of a file that failed. This project's own.
-use Rattle.std.specs.Prelude.{◌≡◌, ℕ, ◌-◌, nat_lt, option_map, if◌then◌else◌, Bool, true, false, List, Option, Some, None}
+use Rattle.std.specs.Prelude.{◌≡◌, ℕ, ◌-◌, min, nat_lt, option_map, if◌then◌else◌, Bool, true, false, List, Option, Some, None}
 use Rattle.named_files.specs.declared.faults.CreateError.{CreateError}
 use Rattle.named_files.specs.declared.faults.CreateError.TheVariants.{Open}
 use Rattle.named_files.specs.declared.faults.FileFault.{FileFault}
@@ -35,6 +35,11 @@ conflict false false is_input is_stream = None
 -- input has so many.
 abbrev pub reason_at_length : ℕ → Option Reason → Option Reason
 reason_at_length length before = if nat_lt input_limit length then Some TooLong else before
+
+-- How many of so many bytes a file takes that has room for so many, or for all.
+abbrev pub with_room : Option ℕ → ℕ → ℕ
+with_room None bytes = bytes
+with_room (Some left) bytes = min left bytes
 
 -- How many bytes a file still takes after so many more, if there is a limit.
 abbrev pub left_after : ℕ → Option ℕ → Option ℕ

@@ -62,7 +62,10 @@ impl<'a, S> Named<'a, S> {
 
 impl<R: Files> Named<'_, Replacing<'_, R>> {
     /// Takes out the bytes of before, if none was written.
-    pub fn finish(&mut self) -> io::Result<()> {
+    pub fn finish(&mut self) -> io::Result<()>
+        ensures ok { OnOk result (self.new.reason ≡ self.old.reason) }
+        ensures err { IfErr result (λ error. self.new.reason ≡ Some (System error)) }
+    {
         let answer = self.stream.empty();
         if let Err(error) = &answer {
             self.reason = Some(Reason::System(*error));

@@ -1,9 +1,9 @@
 //! The limit that the system sets on the size of files. At the first byte beyond it the system ends
 //! a program by a signal, which can't be caught here. So no such byte is written.
-ghost use Rattle.std.specs.Prelude.{◌≡◌, ◌≤◌, IfOk, IfSome, length, take};
+ghost use Rattle.std.specs.Prelude.{◌≡◌, ◌≤◌, ◌<◌, IfOk, IfSome, OnErr, Some, length, take};
 ghost use Rattle.std.specs.Io.{WritesAtMost};
 ghost use Rattle.std.specs.Io.KnownBytes.{WriteAppends};
-ghost use Rattle.named_files.specs.Faults.{left_after};
+ghost use Rattle.named_files.specs.Faults.{left_after, with_room};
 
 use std::fs;
 use std::io::{self, Read, Write};
@@ -61,9 +61,8 @@ impl Room {
     /// The first of some bytes, for which there is room: all, if all have room. If there is none it
     /// is the system's error.
     pub fn part<'b>(&self, bytes: &'b [u8]) -> io::Result<&'b [u8]>
-        ensures first { IfOk result (λ part. part.now ≡ take (length part.now) bytes.now) }
-        ensures most { IfOk result (λ part. length part.now ≤ length bytes.now) }
-        ensures room { IfOk result (λ part. IfSome self.now.left (λ left. length part.now ≤ left)) }
+        ensures part { IfOk result (λ part. part.now ≡ take (with_room self.now.left (length bytes.now)) bytes.now) }
+        ensures full { OnErr result ((self.now.left ≡ Some 0) × (0 < length bytes.now)) }
     {
         match self.left {
             None => Ok(bytes),
