@@ -1,12 +1,9 @@
-//! The engine over memory, and over devices that fail.
+//! The engine over devices that fail. Its verdicts are compared by `ci/cases`.
 
 use crate::devices::{FailingReader, FailingWriter, Zeros};
 use crate::expectation::expect_equal;
 use crate::gates::Counting;
-use crate::movies::{
-    ENDLESS_FRAMES, SEVEN_FRAMES, first_of_two_false, movie, power_on, run_of, timer_part_left,
-    two_frames,
-};
+use crate::movies::{ENDLESS_FRAMES, run_of, two_frames};
 use movie_file::write_movie;
 use replay_plan::{Keep, Plan, Workers};
 use std::alloc::Global;
@@ -24,92 +21,6 @@ fn plan() -> Plan {
         keep: Keep::new(1, 600).unwrap(),
         ..without_pictures
     }
-}
-
-/// What a run over memory answers, and its line.
-fn run_over_bytes<T: Threads + Wait + Sync + AllocGlobal>(
-    rt: &T,
-    mut bytes: &[u8],
-) -> (Result<Status, RunError>, Vec<u8>) {
-    let mut line = Vec::new(rt.alloc());
-    let status = run(
-        rt,
-        rt.alloc(),
-        &mut bytes,
-        &plan(),
-        &mut line,
-        &mut io::sink(),
-        &NoGate,
-    );
-    (status, line)
-}
-
-#[test]
-fn genuine_movies(rt: HostRuntime) -> Result<(), Fail> {
-    let uncut = movie(rt.alloc(), &ENDLESS_FRAMES, &power_on(), 1, 1, &[])?;
-    for (bytes, wanted) in [
-        (
-            two_frames(rt.alloc())?,
-            b"genuine: 2 frames, 1 checkpoints\n".as_slice(),
-        ),
-        (uncut, b"genuine: 1 frames, 0 checkpoints\n".as_slice()),
-    ] {
-        let (status, line) = run_over_bytes(&rt, &bytes);
-        expect_equal(&rt, status, Ok(Status::Done));
-        assert!(rt; line.as_slice() == wanted);
-    }
-    Ok(())
-}
-
-#[test]
-fn false_checkpoints(rt: HostRuntime) -> Result<(), Fail> {
-    for bytes in [
-        first_of_two_false(rt.alloc())?,
-        timer_part_left(rt.alloc(), 88)?,
-    ] {
-        let (status, line) = run_over_bytes(&rt, &bytes);
-        expect_equal(&rt, status, Ok(Status::False));
-        assert!(rt; line.as_slice() == b"false checkpoint 1 at frame 1\n".as_slice());
-    }
-    let (status, _line) = run_over_bytes(&rt, &timer_part_left(rt.alloc(), 87)?);
-    expect_equal(&rt, status, Ok(Status::Done));
-    Ok(())
-}
-
-#[test]
-fn fault_comes_before_the_checkpoint_of_its_frame(rt: HostRuntime) -> Result<(), Fail> {
-    let bytes = movie(rt.alloc(), &SEVEN_FRAMES, &power_on(), 7, 7, &[power_on()])?;
-    let (status, line) = run_over_bytes(&rt, &bytes);
-    expect_equal(&rt, status, Ok(Status::Fault));
-    assert!(rt; line.as_slice() == b"fault at frame 7: bad opcode 02 at F010\n".as_slice());
-    Ok(())
-}
-
-#[test]
-fn faults_of_a_first_frame(rt: HostRuntime) -> Result<(), Fail> {
-    for (program, wanted) in [
-        (
-            [0x4C, 0x00, 0xF0],
-            b"fault at frame 1: overlong\n".as_slice(),
-        ),
-        (
-            [0x4C, 0x80, 0x02],
-            b"fault at frame 1: fetch outside at 0280\n".as_slice(),
-        ),
-    ] {
-        let bytes = movie(rt.alloc(), &program, &power_on(), 1, 1, &[])?;
-        let (status, line) = run_over_bytes(&rt, &bytes);
-        expect_equal(&rt, status, Ok(Status::Fault));
-        assert!(rt; line.as_slice() == wanted);
-    }
-    Ok(())
-}
-
-#[test]
-fn empty_input_is_refused(rt: HostRuntime) {
-    let (status, line) = run_over_bytes(&rt, &[]);
-    expect_equal(&rt, status, Ok(Status::Refused));
-    assert!(rt; line.as_slice() == b"refused: Short\n".as_slice());
 }
 
 /// What a run over so many zeros answers, its line, and how many reads it made.

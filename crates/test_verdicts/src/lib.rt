@@ -29,6 +29,4 @@ mod tracing;
 #[cfg(test)]
 mod verdicts;
 #[cfg(test)]
-mod versions;
-#[cfg(test)]
 mod workers;
