@@ -6,13 +6,14 @@ use Rattle.std.specs.Prelude.{None, is_some, Result, Ok, Err}
 use Rattle.std.specs.List.{list_all, filter_map, flat_map, range_with_len}
 use Rattle.std.specs.Str.{all_ascii_digits, bytes_eq}
 use Rattle.vcs_machine.specs.Inputs.{InputData}
+use Rattle.movie_file.specs.Format.{most_frames as most_in_version}
 use Rattle.input_text.specs.declared.name.Name.{Name}
 use Rattle.input_text.specs.Names.{bit_of_name, names, input_with}
 use Rattle.input_text.specs.Words.{lines_of, words_of}
 
 -- the most frames that a movie can have: no text says more
 abbrev pub most_frames : ℕ
-most_frames = 262143
+most_frames = most_in_version 2
 
 -- the number that decimal digits spell
 abbrev pub number_of : List ℕ → ℕ

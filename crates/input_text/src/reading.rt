@@ -11,23 +11,24 @@ use crate::held::Held;
 use crate::name::{NAMES, Name};
 use crate::stretch::Stretch;
 use crate::words::{first_line, first_word, without_comment};
+use movie_file::MOST_FRAMES;
 use std::alloc::Global;
 use vcs_machine::Input;
 
-/// The most frames that a text says: no movie has more.
-const MOST_FRAMES: u64 = 262_143;
+/// One frame more than a movie has at most.
+const TOO_MANY: u64 = MOST_FRAMES as u64 + 1;
 
-/// How many frames a word says. A number above `MOST_FRAMES` counts as the one after it.
+/// How many frames a word says. Each number above the most counts as `TOO_MANY`.
 fn count_in(word: &[u8]) -> Option<u64>
     ensures readable { is_some result ≡ is_count word.now }
-    ensures value { IfSome result (λ count. count ≡ min (number_of word.now) (MOST_FRAMES + 1)) }
+    ensures value { IfSome result (λ count. count ≡ min (number_of word.now) TOO_MANY) }
 {
     let mut count: u64 = 0;
     for byte in word {
         if !byte.is_ascii_digit() {
             return None;
         }
-        count = (10 * count + (*byte - b'0') as u64).min(MOST_FRAMES + 1);
+        count = (10 * count + (*byte - b'0') as u64).min(TOO_MANY);
     }
     if count == 0 { None } else { Some(count) }
 }
@@ -59,12 +60,11 @@ fn input_in(bytes: &[u8]) -> Option<Input>
     Some(held.input())
 }
 
-/// The frames of a line: none if it has no words. A number above `MOST_FRAMES` counts as the
-/// one after it.
+/// The frames of a line: none if it has no words. Each number above the most counts as `TOO_MANY`.
 fn stretch_in(line: &[u8]) -> Option<Stretch>
     ensures readable { is_some result ≡ is_readable (words_of line.now) }
     ensures count { IfSome result (λ s.
-        s.count ≡ min (frames_of (words_of line.now)) (MOST_FRAMES + 1)) }
+        s.count ≡ min (frames_of (words_of line.now)) TOO_MANY) }
     ensures input { IfSome result (λ s. s.input ≡ input_of (words_of line.now)) }
 {
     match first_word(without_comment(line)) {
@@ -94,7 +94,7 @@ pub fn read_text(alloc: Global, text: &[u8]) -> Result<Vec<Input>, TextError>
     while !rest.is_empty() {
         let (line, after) = first_line(rest);
         number += 1;
-        let left = MOST_FRAMES - inputs.len() as u64;
+        let left = MOST_FRAMES as u64 - inputs.len() as u64;
         match stretch_in(line) {
             Some(stretch) if stretch.count <= left => {
                 inputs.resize(inputs.len() + stretch.count as usize, stretch.input)?;

@@ -1,7 +1,7 @@
 -- A run frame by frame, and the checkpoints that are made of it.
 use Rattle.std.proofs.Common.{◌≡◌, ◌≢◌, ℕ, zero, suc, ◌+◌, ◌*◌, ◌/◌, ◌%◌, ◌<◌, ◌≤◌, Bool, true}
 use Rattle.std.proofs.Common.{false, eqb, ltb, cond, List, [], ◌∷◌, ◌++◌, length, Option, Some}
-use Rattle.std.proofs.Common.{None, refl, sym, ap, subst, ◌∙◌, arith, add-one, below_more, rules}
+use Rattle.std.proofs.Common.{None, refl, sym, ap, subst, ◌∙◌, arith, below_more, rules}
 use Rattle.std.specs.Prelude.{slice_get, option_and_then, IsTrue, ◌||◌}
 use Rattle.std.specs.Option.{option_map}
 use Rattle.std.proofs.lemmas.Bool.{eqb-true, eqb-false, ltb-false}
@@ -15,22 +15,22 @@ use Rattle.vcs_machine.specs.Outcomes.{FrameOutcome, Played, Failed, left_by, fr
 use Rattle.vcs_machine.proofs.BankLaws.{frame_of-bank}
 use Rattle.vcs_machine.specs.Pictures.{Rows}
 use Rattle.vcs_machine.specs.States.{state_at_power_on}
-use Rattle.vcs_machine.specs.declared.fault.FaultKind.{FaultKind}
 use Rattle.vcs_machine.specs.declared.fields.StateFields.{StateFields}
 use Rattle.movie_file.specs.declared.checkpoint.Checkpoint.{Checkpoint}
 use Rattle.movie_file.specs.declared.error.MakeError.{MakeError}
 use Rattle.movie_file.specs.declared.error.MakeError.TheVariants.{Fault, BadCounts, NoMemory}
 use Rattle.movie_file.specs.Format.{is_version, takes_cart, most_frames, most_checkpoints}
-use Rattle.movie_file.specs.Judgement.{IsSound, AllSound, FaultsAt, IsGenuine}
+use Rattle.movie_file.specs.Judgement.{IsSound, AllSound, IsGenuine}
 use Rattle.movie_file.specs.Making.{bare, counts_fit, version_made, Explains, IsMadeOf}
 use Rattle.movie_file.specs.Private.MakingSteps.{checkpoint_if, Records, RunFails}
 use Rattle.movie_file.specs.Movie.{MovieData, IsState, IsStateWith, AreCheckpoints}
 use Rattle.movie_file.specs.Record.{fits_bank}
 use Rattle.movie_file.specs.Run.{run, frame_after, state_after}
+use Rattle.movie_file.proofs.RunLemmas.{run-next}
 
 -- ---- multiples
 
-next_multiple : (every k : ℕ) → 1 ≤ every → (k + 1) % every ≡ 0 → ((k + 1) / every ≡ k / every + 1) × (k + 1 ≡ every * (k / every + 1))
+pub next_multiple : (every k : ℕ) → 1 ≤ every → (k + 1) % every ≡ 0 → ((k + 1) / every ≡ k / every + 1) × (k + 1 ≡ every * (k / every + 1))
 next_multiple every k some h =
     let p = (k + 1) / every in
     let q = k / every in
@@ -43,7 +43,7 @@ next_multiple every k some h =
     let is : p ≡ q + 1 = omega arith in
     (is, exact ∙ ap (λ (n : ℕ). every * n) is)
 
-no_multiple : (every k : ℕ) → 1 ≤ every → (k + 1) % every ≢ 0 → (k + 1) / every ≡ k / every
+pub no_multiple : (every k : ℕ) → 1 ≤ every → (k + 1) % every ≢ 0 → (k + 1) / every ≡ k / every
 no_multiple every k some h =
     let p = (k + 1) / every in
     let turned : p * every ≡ every * p = mul_comm p every in
@@ -63,14 +63,14 @@ counts_are n every h = search rules
 
 -- ---- one checkpoint more
 
-abbrev found : Checkpoint → Option Checkpoint
+abbrev pub found : Checkpoint → Option Checkpoint
 found c = Some c
 
-not_found : {P : Type 0} (c : Checkpoint) → None ≡ found c → P
+pub not_found : {P : Type 0} (c : Checkpoint) → None ≡ found c → P
 not_found c e = absurd cc
 
 -- what holds of each of a list and of one more holds of each of both
-each_more : (P : ℕ → Checkpoint → Type 0) (cs : List Checkpoint) (d : Checkpoint) → ((j : ℕ) (c : Checkpoint) → slice_get cs j ≡ Some c → P j c) → P (length cs) d
+pub each_more : (P : ℕ → Checkpoint → Type 0) (cs : List Checkpoint) (d : Checkpoint) → ((j : ℕ) (c : Checkpoint) → slice_get cs j ≡ Some c → P j c) → P (length cs) d
     → (j : ℕ) (c : Checkpoint) → slice_get (cs ++ d ∷ []) j ≡ Some c → P j c
 each_more P [] d each here zero c e = let same : d ≡ c = cc in subst (P 0) same here
 each_more P [] d each here (suc j) c e = not_found c e
@@ -81,18 +81,12 @@ each_more P (b ∷ cs) d each here (suc j) c e = each_more (λ (i : ℕ). P (suc
 
 module _ (cart : List ℕ) (inputs : List InputData) (k : ℕ) (state : StateFields) (input : InputData)
     (is : run (bare cart inputs) (state_at_power_on cart) 0 k ≡ Some state) (at : slice_get inputs k ≡ Some input) where
-  frame_is : (outcome : FrameOutcome) → frame_of cart state input ≡ outcome → frame_after (bare cart inputs) (0 + k) state ≡ Some outcome
-  frame_is outcome e = let none : 0 + k ≡ k = omega arith in rw (none, at, e) refl
-
   pub run_next : (new : StateFields) (rows : Rows) → frame_of cart state input ≡ Played new rows → run (bare cart inputs) (state_at_power_on cart) 0 (k + 1) ≡ Some new
-  run_next new rows ends = rw (add-one, is, frame_is (Played new rows) ends) refl
+  run_next = run-next (bare cart inputs) (state_at_power_on cart) 0 k k state input is (omega arith) at
 
   sound_next : (new : StateFields) (rows : Rows) → frame_of cart state input ≡ Played new rows → AllSound (bare cart inputs) (state_at_power_on cart) 0 k → AllSound (bare cart inputs) (state_at_power_on cart) 0 (k + 1)
   sound_next new rows ends sound =
       below_more (λ (i : ℕ). IsSound (bare cart inputs) (state_at_power_on cart) 0 i) k sound (new, run_next new rows ends, λ j c e here. not_found c e)
-
-  pub faults_here : (kind : FaultKind) (left : StateFields) → frame_of cart state input ≡ Failed kind left → FaultsAt (bare cart inputs) (state_at_power_on cart) 0 k kind
-  faults_here kind left fails = (state, left, is, frame_is (Failed kind left) fails)
 
   pub Records-next : (every : ℕ) (cs ds : List Checkpoint) (new : StateFields) (rows : Rows) → 1 ≤ every → Records cart inputs every k cs → frame_of cart state input ≡ Played new rows
       → ds ≡ cs ++ checkpoint_if every (k + 1) new → IsState new → Records cart inputs every (k + 1) ds
@@ -176,17 +170,19 @@ bank_at_start cart = by (has_banks (length cart))
     by true = refl
     by false = refl
 
-bank_fits : (cart : List ℕ) (inputs : List InputData) (k : ℕ) (t : StateFields) → run (bare cart inputs) (state_at_power_on cart) 0 k ≡ Some t → IsTrue (fits_bank (length cart) t)
-bank_fits cart inputs k t ran = by (has_banks (length cart)) refl
+-- each state of a run fits the cartridge, if the first does
+pub bank_fits : (m : MovieData) (k : ℕ) (t : StateFields) → IsTrue (fits_bank (length m.cart) m.start) → run m m.start 0 k ≡ Some t → IsTrue (fits_bank (length m.cart) t)
+bank_fits m k t first ran = by (has_banks (length m.cart)) refl
   where
-    by : (banks : Bool) → has_banks (length cart) ≡ banks → IsTrue (banks || eqb t.bank 0)
+    by : (banks : Bool) → has_banks (length m.cart) ≡ banks → IsTrue (banks || eqb t.bank 0)
     by true e = refl
     by false e =
-        let none : (state_at_power_on cart).bank ≡ 0 = rw e refl in
-        let same : t.bank ≡ 0 = run-bank (bare cart inputs) (state_at_power_on cart) 0 k t e ran ∙ none in rw same refl
+        let begun : IsTrue (false || eqb m.start.bank 0) = subst (λ (b : Bool). IsTrue (b || eqb m.start.bank 0)) e first in
+        let none : m.start.bank ≡ 0 = eqb-true _ _ begun in
+        let same : t.bank ≡ 0 = run-bank m m.start 0 k t e ran ∙ none in rw same refl
 
 -- checkpoints at multiples rise
-rising : (cart every n b : ℕ) (cs : List Checkpoint) → 1 ≤ every → ((j : ℕ) (c : Checkpoint) → slice_get cs j ≡ Some c → c.frame ≡ every * (b + j + 1))
+pub rising : (cart every n b : ℕ) (cs : List Checkpoint) → 1 ≤ every → ((j : ℕ) (c : Checkpoint) → slice_get cs j ≡ Some c → c.frame ≡ every * (b + j + 1))
     → ((j : ℕ) (c : Checkpoint) → slice_get cs j ≡ Some c → IsStateWith cart c.state) → every * (b + length cs) ≤ n → AreCheckpoints cart (every * b) n cs
 rising cart every n b [] some places lawful fits = tt
 rising cart every n b (d ∷ cs) some places lawful fits =
@@ -229,7 +225,7 @@ module _ (cart : List ℕ) (inputs : List InputData) (every : ℕ) (cs : List Ch
       let fits : every * (0 + length cs) ≤ length inputs = omega arith in
       subst (λ (f : ℕ). AreCheckpoints (length cart) f (length inputs) cs) none (rising (length cart) every (length inputs) 0 cs some
       (λ j c e. let at : j + 1 ≡ 0 + j + 1 = omega arith in far.places j c e ∙ ap (λ (i : ℕ). every * i) at)
-      (λ j c e. record { state = far.lawful j c e; bank = bank_fits cart inputs c.frame c.state (far.states j c e) }) fits)
+      (λ j c e. record { state = far.lawful j c e; bank = bank_fits (bare cart inputs) c.frame c.state (bank_at_start cart) (far.states j c e) }) fits)
 
 abbrev from_start : List ℕ → List InputData → List Checkpoint → ℕ → StateFields → MovieData
 from_start cart inputs cs version start = record { version = version; cart = cart; start = start; inputs = inputs; checkpoints = cs }

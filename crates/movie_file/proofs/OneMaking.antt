@@ -17,7 +17,7 @@ use Rattle.movie_file.proofs.MakingRuns.{with_checkpoints, run_same}
 use Rattle.movie_file.proofs.RunLemmas.{run-fault, sound_no_fault, same_kind}
 
 -- lists of one length whose elements are the same at each place
-same_lists : (cs ds : List Checkpoint) → length cs ≡ length ds → ((j : ℕ) (c d : Checkpoint) → slice_get cs j ≡ Some c → slice_get ds j ≡ Some d → c ≡ d) → cs ≡ ds
+pub same_lists : (cs ds : List Checkpoint) → length cs ≡ length ds → ((j : ℕ) (c d : Checkpoint) → slice_get cs j ≡ Some c → slice_get ds j ≡ Some d → c ≡ d) → cs ≡ ds
 same_lists [] [] e same = refl
 same_lists [] (d ∷ ds) e same = absurd (omega arith)
 same_lists (c ∷ cs) [] e same = absurd (omega arith)

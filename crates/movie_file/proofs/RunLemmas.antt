@@ -3,7 +3,10 @@
 use Rattle.std.proofs.Common.{◌≡◌, ℕ, zero, suc, ◌+◌, ◌-◌, ◌<◌, ◌≤◌, length, Option, Some, None}
 use Rattle.std.proofs.Common.{refl, sym, ap, subst, ◌∙◌, arith, add-one, add-zero, ◌⊎◌, inl, inr}
 use Rattle.std.proofs.lemmas.Bool.{cases_lt}
-use Rattle.vcs_machine.specs.Outcomes.{FrameOutcome, Failed}
+use Rattle.std.specs.Prelude.{slice_get}
+use Rattle.vcs_machine.specs.Inputs.{InputData}
+use Rattle.vcs_machine.specs.Outcomes.{FrameOutcome, Failed, Played, frame_of}
+use Rattle.vcs_machine.specs.Pictures.{Rows}
 use Rattle.vcs_machine.specs.declared.fault.FaultKind.{FaultKind}
 use Rattle.vcs_machine.specs.declared.fields.StateFields.{StateFields}
 use Rattle.movie_file.specs.Movie.{MovieData, IsMovie}
@@ -35,6 +38,18 @@ AllSound-shift m s a i t j is first second x less = by (cases_lt x i)
         subst (λ (y : ℕ). IsSound m s a y) same (IsSound-shift m s a i t (x - i) is (second (x - i) (omega arith)))
 
 -- after a fault there is no state
+-- ---- one frame more: frame a + k + 1, whose input is the one at index n
+module _ (m : MovieData) (s : StateFields) (a k n : ℕ) (state : StateFields) (input : InputData)
+    (ran : run m s a k ≡ Some state) (place : n ≡ a + k) (at : slice_get m.inputs n ≡ Some input) where
+  frame_is : (outcome : FrameOutcome) → frame_of m.cart state input ≡ outcome → frame_after m (a + k) state ≡ Some outcome
+  frame_is outcome e = rw (sym place, at, e) refl
+
+  pub run-next : (new : StateFields) (rows : Rows) → frame_of m.cart state input ≡ Played new rows → run m s a (k + 1) ≡ Some new
+  run-next new rows ends = rw (add-one, ran, frame_is (Played new rows) ends) refl
+
+  pub faults-here : (kind : FaultKind) (left : StateFields) → frame_of m.cart state input ≡ Failed kind left → FaultsAt m s a k kind
+  faults-here kind left fails = (state, left, ran, frame_is (Failed kind left) fails)
+
 pub run-fault : (m : MovieData) (s : StateFields) (a k : ℕ) (kind : FaultKind) → FaultsAt m s a k kind → run m s a (k + 1) ≡ None
 run-fault m s a k kind (state, left, ran, faults) = rw (add-one k, ran, faults) refl
 

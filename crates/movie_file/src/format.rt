@@ -8,22 +8,22 @@ use riot_map::Cart;
 pub(crate) const MAGIC: u32 = 0x4132_364D;
 
 /// The most frames of a movie of version 1.
-pub const MOST_FRAMES_OF_VERSION_1: u32 = 65_535;
+pub(crate) const MOST_FRAMES_OF_VERSION_1: u32 = 65_535;
 
-/// The most frames of a movie.
+/// The most frames of a movie, and of text that says its inputs.
 pub const MOST_FRAMES: u32 = 262_143;
 
 /// The most checkpoints of a movie.
 pub const MOST_CHECKPOINTS: u16 = 4_095;
 
 /// The bytes of a header.
-pub(crate) const HEADER_LENGTH: usize = 14;
+pub const HEADER_LENGTH: usize = 14;
 
 /// The bytes of a state record.
-pub(crate) const STATE_LENGTH: usize = 188;
+pub const STATE_LENGTH: usize = 188;
 
 /// The bytes of an input.
-pub(crate) const INPUT_LENGTH: usize = 3;
+pub const INPUT_LENGTH: usize = 3;
 
 /// Whether there is such a version of the format.
 pub(crate) fn is_version(version: u16) -> bool
@@ -40,7 +40,7 @@ pub(crate) fn takes_cart(version: u16, cart: u16) -> bool
 }
 
 /// The most frames of a movie of a version.
-pub(crate) fn most_frames(version: u16) -> u32
+pub fn most_frames(version: u16) -> u32
     ensures value { result ≡ most_frames version }
     ensures most { result ≤ MOST_FRAMES }
 {
@@ -52,7 +52,7 @@ pub(crate) fn most_frames(version: u16) -> u32
 }
 
 /// The bytes of a state record in a movie of a version. Version 1 leaves out the last, the bank.
-pub(crate) fn record_length(version: u16) -> usize
+pub fn record_length(version: u16) -> usize
     ensures value { result ≡ record_length version }
     ensures some { 0 < result }
     ensures most { result ≤ STATE_LENGTH }

@@ -22,12 +22,15 @@ pub use assembling::movie_of;
 pub use checkpoint::Checkpoint;
 pub use converting::{ConvertError, convert};
 pub use error::{MakeError, MovieError};
-pub use format::{MOST_CHECKPOINTS, MOST_FRAMES, MOST_FRAMES_OF_VERSION_1};
+pub use format::{
+    HEADER_LENGTH, INPUT_LENGTH, MOST_CHECKPOINTS, MOST_FRAMES, STATE_LENGTH, most_frames,
+    record_length,
+};
 pub use laws::{
     law_of_checkpoints, law_of_conversion, law_of_inputs, law_of_judgements, law_of_making,
     law_of_one_movie, law_of_one_spelling, law_of_reading, law_of_records, law_of_runs,
 };
-pub use making::make_movie;
+pub use making::{claim, do_counts_fit, make_movie, version_made};
 pub use movie::Movie;
 pub use reading::{read_inputs, read_movie};
 pub use record::{read_state, write_state};

@@ -1,28 +1,24 @@
 //! Making movies.
 ghost use Rattle.std.specs.Prelude.{◌≡◌, ◌↔◌, ◌%◌, ◌/◌, ◌≤◌, ◌<◌, ◌++◌, ◌==◌, List, [], ◌∷◌};
 ghost use Rattle.std.specs.Prelude.{length, vec_len, vec_capacity, if◌then◌else◌, IfOk, IfErr};
-ghost use Rattle.std.specs.Prelude.{OnOk, IsTrue};
-ghost use Rattle.std.specs.List.{AllByRecursion};
+ghost use Rattle.std.specs.Prelude.{IsTrue};
 ghost use Rattle.riot_map.specs.Cart.{is_cart_length};
-ghost use Rattle.vcs_machine.specs.Inputs.{is_input};
-ghost use Rattle.vcs_machine.specs.Outcomes.{Played, Failed, frame_of};
-ghost use Rattle.vcs_machine.specs.Pictures.{Rows};
 ghost use Rattle.movie_file.specs.Judgement.{IsGenuine};
 ghost use Rattle.movie_file.specs.Making.{Explains, IsMadeOf, counts_fit, version_made};
 ghost use Rattle.movie_file.specs.Private.MakingSteps.{Records, RunFails, checkpoint_if};
 ghost use Rattle.movie_file.specs.Movie.{IsState};
 
+use crate::assembling::{look_at, movie_of};
 use crate::checkpoint::Checkpoint;
 use crate::error::MakeError;
 use crate::format::{MOST_CHECKPOINTS, MOST_FRAMES, MOST_FRAMES_OF_VERSION_1};
 use crate::movie::Movie;
-use crate::parts::MovieParts;
 use riot_map::Cart;
 use std::alloc::Global;
-use vcs_machine::{FaultKind, FrameError, Input, State, frame};
+use vcs_machine::{Input, State, halt};
 
 /// Whether a movie can have so many frames, and a checkpoint after each `every` of them.
-fn do_counts_fit(frames: usize, every: u32) -> bool
+pub fn do_counts_fit(frames: usize, every: u32) -> bool
     ensures { result ≡ counts_fit frames every }
 {
     1 <= frames
@@ -31,54 +27,20 @@ fn do_counts_fit(frames: usize, every: u32) -> bool
         && frames / every as usize <= MOST_CHECKPOINTS as usize
 }
 
-/// The version of the movie that is made of a cartridge and inputs.
-fn version_made(cart: &Cart, inputs: &[Input]) -> u16
-    ensures value { result ≡ version_made (length cart.now) (length inputs.now) }
+/// The version of the movie that is made of a cartridge and so many inputs.
+pub fn version_made(cart: &Cart, frames: usize) -> u16
+    ensures value { result ≡ version_made (length cart.now) frames }
     ensures lawful { IsTrue (is_cart_length (length cart.now)) }
 {
-    if cart.has_banks() || inputs.len() > MOST_FRAMES_OF_VERSION_1 as usize {
+    if cart.has_banks() || frames > MOST_FRAMES_OF_VERSION_1 as usize {
         2
     } else {
         1
     }
 }
 
-/// Reads a state, which says that it is one.
-fn look_at(state: &State)
-    ensures { IsState state.now }
-{
-    let _fields = state.fields();
-}
-
-/// Reads each input, which says that it is one.
-fn look_at_inputs(inputs: &[Input])
-    ensures { AllByRecursion (λ i. IsTrue (is_input i)) inputs.now }
-{
-    for input in inputs {
-        let _bytes = input.bytes();
-    }
-}
-
-/// One frame, whose picture is not kept.
-fn frame_without_picture(
-    alloc: Global,
-    cart: &Cart,
-    state: &mut State,
-    input: Input,
-) -> Result<(), FaultKind>
-    ensures ok { OnOk result
-        ((rows : Rows) × (frame_of cart.now state.old input ≡ Played state.new rows)) }
-    ensures err { IfErr result (λ kind. frame_of cart.now state.old input ≡ Failed kind state.new) }
-{
-    match frame(alloc, cart, state, input, false) {
-        Ok(_) => Ok(()),
-        Err(FrameError::Fault(kind)) => Err(kind),
-        Err(FrameError::NoMemory) => unreachable!(),
-    }
-}
-
 /// Adds the checkpoint after a frame, if one stands there. It takes no memory.
-fn claim(checkpoints: &mut Vec<Checkpoint>, every: u32, frame: u32, state: &State)
+pub fn claim(checkpoints: &mut Vec<Checkpoint>, every: u32, frame: u32, state: &State)
     requires every { 1 ≤ every }
     requires room { frame % every ≡ 0
         → vec_len checkpoints.old < vec_capacity checkpoints.old }
@@ -96,7 +58,6 @@ fn claim(checkpoints: &mut Vec<Checkpoint>, every: u32, frame: u32, state: &Stat
 
 /// The checkpoints of a run from power-on, put into an empty list that has room for them.
 fn checkpoints_of_run(
-    alloc: Global,
     mut checkpoints: Vec<Checkpoint>,
     cart: &Cart,
     inputs: &[Input],
@@ -112,9 +73,12 @@ fn checkpoints_of_run(
     let mut state = State::power_on(cart);
     for i in 0..inputs.len() {
         let frame = i as u32 + 1;
-        match frame_without_picture(alloc, cart, &mut state, inputs[i]) {
-            Ok(()) => claim(&mut checkpoints, every, frame, &state),
-            Err(kind) => return Err(MakeError::Fault { frame, kind }),
+        match halt(cart, &mut state, inputs[i]) {
+            None => claim(&mut checkpoints, every, frame, &state),
+            Some(halt) => {
+                let kind = halt.kind;
+                return Err(MakeError::Fault { frame, kind });
+            }
         }
     }
     Ok(checkpoints)
@@ -145,19 +109,11 @@ pub fn make_movie(
     let Ok(checkpoints) = Vec::with_capacity(alloc, inputs.len() / every as usize) else {
         return Err(MakeError::NoMemory);
     };
-    let checkpoints = match checkpoints_of_run(alloc, checkpoints, &cart, &inputs, every) {
+    let checkpoints = match checkpoints_of_run(checkpoints, &cart, &inputs, every) {
         Ok(checkpoints) => checkpoints,
         Err(e) => return Err(e),
     };
-    let version = version_made(&cart, &inputs);
+    let version = version_made(&cart, inputs.len());
     let start = State::power_on(&cart);
-    look_at(&start);
-    look_at_inputs(&inputs);
-    Ok(Movie::from_parts(MovieParts {
-        version,
-        cart,
-        start,
-        inputs,
-        checkpoints,
-    }))
+    Ok(movie_of(version, cart, start, inputs, checkpoints))
 }

@@ -4,7 +4,7 @@ use Rattle.std.specs.Prelude.{List, [], ◌∷◌, length, slice_index, bit_and,
 use Rattle.std.specs.Int.{w16, w32, from_be_bytes}
 use Rattle.std.specs.List.{list_any, starts_with}
 use Rattle.riot_map.specs.Cart.{is_cart_length}
-use Rattle.movie_file.specs.Format.{magic}
+use Rattle.movie_file.specs.Format.{magic, most_checkpoints}
 use Rattle.movie_hints.specs.declared.hint.Hint.{Hint}
 use Rattle.movie_hints.specs.declared.hint.Hint.TheVariants as hints
 
@@ -47,7 +47,7 @@ IsTrueOf bytes (hints.Magic found) = found ≡ four_at bytes 0
 IsTrueOf bytes (hints.Version found) = found ≡ two_at bytes 4
 IsTrueOf bytes (hints.Cartridge found) = found ≡ two_at bytes 6
 IsTrueOf bytes (hints.Frames most found) = found ≡ four_at bytes 8
-IsTrueOf bytes (hints.Checkpoints found) = (found ≡ two_at bytes 12) × (4095 < found)
+IsTrueOf bytes (hints.Checkpoints found) = (found ≡ two_at bytes 12) × (most_checkpoints < found)
 IsTrueOf bytes (hints.Bits name at mask found) = Holds bytes at found × (bit_and found mask ≢ found)
 IsTrueOf bytes (hints.TooLarge name at most found) = Holds bytes at found × (most < found)
 IsTrueOf bytes (hints.TimerPart at most found) = (found ≡ two_at bytes at) × ((found ≡ 0) ⊎ (most < found))

@@ -2,8 +2,7 @@
 ghost use Rattle.std.specs.Prelude.{◌≡◌, ◌<◌, ◌≤◌, ◌+◌, ◌^◌, slice_index};
 ghost use Rattle.movie_hints.specs.Hints.{four_at, two_at};
 
-/// The bytes of a header.
-pub(crate) const HEADER: usize = 14;
+use movie_file::{HEADER_LENGTH, INPUT_LENGTH, record_length};
 
 /// A byte, or 0 after the last one.
 pub(crate) fn byte_at(bytes: &[u8], at: usize) -> u8
@@ -64,29 +63,22 @@ impl Places {
         }
     }
 
-    /// The bytes of a state record.
-    pub(crate) fn record(self) -> usize
-        ensures { result ≤ 188 }
-    {
-        if self.version == 1 { 187 } else { 188 }
-    }
-
     /// Where the start state is.
     pub(crate) fn start(self) -> usize
         ensures { result < 2 ^ 17 }
     {
-        HEADER + usize::from(self.cartridge)
+        HEADER_LENGTH + usize::from(self.cartridge)
     }
 
     /// Where the input of a frame is, counted from 0.
     pub(crate) fn input(self, frame: u64) -> usize {
-        let inputs = (frame as usize).saturating_mul(3);
-        (self.start() + self.record()).saturating_add(inputs)
+        let inputs = (frame as usize).saturating_mul(INPUT_LENGTH);
+        (self.start() + record_length(self.version)).saturating_add(inputs)
     }
 
     /// Where a checkpoint is, counted from 0.
     pub(crate) fn checkpoint(self, number: u16) -> usize {
-        let checkpoints = usize::from(number).saturating_mul(4 + self.record());
+        let checkpoints = usize::from(number).saturating_mul(4 + record_length(self.version));
         self.input(u64::from(self.frames))
             .saturating_add(checkpoints)
     }

@@ -5,9 +5,9 @@ ghost use Rattle.movie_hints.specs.Hints.{IsTrueOf};
 ghost use Rattle.movie_hints.specs.declared.hint.Hint.TheVariants.{Gzip};
 
 use crate::hint::Hint;
-use crate::places::{HEADER, Places, byte_at, four_at, two_at};
+use crate::places::{Places, byte_at, four_at, two_at};
 use crate::state_rules::broken_number;
-use movie_file::{MOST_CHECKPOINTS, MOST_FRAMES, MOST_FRAMES_OF_VERSION_1, MovieError};
+use movie_file::{HEADER_LENGTH, MOST_CHECKPOINTS, MovieError, most_frames};
 use riot_map::Cart;
 
 /// Whether bytes begin as a gzip file does.
@@ -35,7 +35,7 @@ fn wrong_length(bytes: &[u8]) -> Hint
     ensures { IsTrueOf bytes.now result }
 {
     let length = bytes.len();
-    if length < HEADER {
+    if length < HEADER_LENGTH {
         return Hint::InHeader { length };
     }
     let said = Places::of(bytes).end();
@@ -59,11 +59,7 @@ fn wrong_count(bytes: &[u8]) -> Hint
     ensures { IsTrueOf bytes.now result }
 {
     let places = Places::of(bytes);
-    let most = if places.version == 1 {
-        MOST_FRAMES_OF_VERSION_1
-    } else {
-        MOST_FRAMES
-    };
+    let most = most_frames(places.version);
     let found = places.frames;
     if 1 <= found && found <= most && places.checkpoints > MOST_CHECKPOINTS {
         Hint::Checkpoints(places.checkpoints)

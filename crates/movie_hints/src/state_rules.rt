@@ -4,6 +4,8 @@ ghost use Rattle.movie_hints.specs.Hints.{IsTrueOf};
 
 use crate::hint::Hint;
 use crate::places::{Places, byte_at, two_at};
+use movie_file::{STATE_LENGTH, record_length};
+use riot_map::Cart;
 
 /// The numbers of one byte that have a condition of their own: the name, the place in the record,
 /// the bits that may be set, and the most that it may be.
@@ -124,9 +126,9 @@ fn broken_latches(bytes: &[u8], at: usize) -> Option<Hint>
 fn broken_bank(bytes: &[u8], at: usize, places: Places) -> Option<Hint>
     ensures { IfSome result (IsTrueOf bytes.now) }
 {
-    let at = at.saturating_add(187);
+    let at = at.saturating_add(STATE_LENGTH - 1);
     let found = byte_at(bytes, at);
-    if found != 0 && places.version != 1 && places.cartridge != 8192 {
+    if found != 0 && places.version != 1 && !Cart::is_banked(usize::from(places.cartridge)) {
         Some(Hint::Bank { at, found })
     } else {
         None
@@ -138,7 +140,7 @@ fn broken_bank(bytes: &[u8], at: usize, places: Places) -> Option<Hint>
 pub(crate) fn broken_number(bytes: &[u8], at: usize, places: Places) -> Option<Hint>
     ensures { IfSome result (IsTrueOf bytes.now) }
 {
-    if let Some(hint) = broken_alone(bytes, at, places.record()) {
+    if let Some(hint) = broken_alone(bytes, at, record_length(places.version)) {
         return Some(hint);
     }
     if let Some(hint) = broken_timer(bytes, at) {

@@ -8,10 +8,8 @@ ghost use Rattle.movie_report.specs.Private.Places.{state_number_at};
 use crate::notation::Notation;
 use crate::numbers::{COUNT, Number};
 use hex::encode_upper;
+use movie_file::STATE_LENGTH;
 use std::alloc::{AllocError, Global};
-
-/// The bytes of a state record.
-const RECORD_LENGTH: usize = 188;
 
 /// Which states are compared.
 #[derive(Clone, Copy)]
@@ -87,8 +85,8 @@ fn pairs(
     alloc: Global,
     notation: Notation,
     comparison: Comparison,
-    first: &[u8; RECORD_LENGTH],
-    second: &[u8; RECORD_LENGTH],
+    first: &[u8; STATE_LENGTH],
+    second: &[u8; STATE_LENGTH],
 ) -> Result<String, AllocError>
     ensures { IfOk result (λ text. string_bytes text ≡ pairs_text notation comparison first.now second.now) }
 {
@@ -97,7 +95,7 @@ fn pairs(
     for place in 0..COUNT {
         let number = Number::at(place);
         let end = at + number.len();
-        prove!(end <= RECORD_LENGTH);
+        prove!(end <= STATE_LENGTH);
         let (first, second) = (&first[at..end], &second[at..end]);
         let piece = comparison.text_if_different(alloc, notation, number, first, second)?;
         text.push_str(&piece)?;
@@ -122,8 +120,8 @@ pub(crate) fn differences(
     alloc: Global,
     notation: Notation,
     comparison: Comparison,
-    first: &[u8; RECORD_LENGTH],
-    second: &[u8; RECORD_LENGTH],
+    first: &[u8; STATE_LENGTH],
+    second: &[u8; STATE_LENGTH],
 ) -> Result<String, AllocError>
     ensures { IfOk result (λ text. string_bytes text
         ≡ differences_text notation comparison first.now second.now) }

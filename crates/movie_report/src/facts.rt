@@ -125,7 +125,7 @@ fn claim_facts(
 {
     let _ = movie.frames();
     let claimed = write_state(&movie.checkpoint(number).state);
-    let found = write_state(&found_state(alloc, movie, number, frame));
+    let found = write_state(&found_state(movie, number, frame));
     differences(alloc, notation, Comparison::Claim, &claimed, &found)
 }
 
@@ -166,7 +166,7 @@ fn fault_facts(
     requires { HasVerdict movie.now (Fault frame kind) }
     ensures { IfOk result (λ text. string_bytes text ≡ left_text notation (left_at movie.now frame)) }
 {
-    let LeftState { state, scanline } = left_state(alloc, movie, frame, kind);
+    let LeftState { state, scanline } = left_state(movie, frame, kind);
     let registers = registers(alloc, notation, &state.fields().cpu)?;
     let beam = beam(alloc, notation, scanline, state.line_cycle())?;
     format!(in alloc; "{registers}{beam}")

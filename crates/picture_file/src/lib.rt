@@ -6,5 +6,5 @@ mod netpbm;
 mod palette;
 
 pub use bytes::{WriteFault, write_bytes};
-pub use netpbm::{ppm, write_pictures};
+pub use netpbm::{HEADER_BYTES, ROW_BYTES, ppm, write_pictures};
 pub use palette::rgb;

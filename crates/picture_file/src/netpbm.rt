@@ -12,8 +12,11 @@ use arrayvec::ArrayVec;
 use std::io::Write;
 use vcs_machine::{Picture, Pictures};
 
+/// The bytes of a file before its rows, at most.
+pub const HEADER_BYTES: usize = 15;
+
 /// The bytes of a row of 160 pixels.
-const ROW_BYTES: usize = 480;
+pub const ROW_BYTES: usize = 480;
 
 /// The decimal digits of a number, from a place on.
 fn digits(n: u16) -> ([u8; 3], usize)

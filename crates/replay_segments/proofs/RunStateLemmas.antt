@@ -1,20 +1,17 @@
 -- From where the one unbroken run of a movie can be replayed.
 use Rattle.std.proofs.Common.{◌≡◌, ℕ, zero, suc, ◌+◌, ◌-◌, ◌<◌, ◌≤◌, length, Option, Some, None}
-use Rattle.std.proofs.Common.{IsSome, Err, false, slice_get, refl, arith, ap, subst, sym, add-zero}
+use Rattle.std.proofs.Common.{IsSome, false, slice_get, refl, arith, ap, subst, sym, add-zero}
 use Rattle.std.specs.Prelude.{option_and_then}
 use Rattle.std.proofs.lemmas.Option.{slice_get_within}
 use Rattle.vcs_machine.specs.declared.fault.FaultKind.{FaultKind}
-use Rattle.vcs_machine.specs.declared.fault.FrameError.{FrameError}
-use Rattle.vcs_machine.specs.declared.fault.FrameError.TheVariants.{Fault as FaultOf, NoMemory}
 use Rattle.vcs_machine.specs.declared.fields.StateFields.{StateFields}
 use Rattle.movie_file.specs.Movie.{MovieData, IsMovie}
-use Rattle.movie_file.specs.Judgement.{AllSound}
+use Rattle.movie_file.specs.Judgement.{AllSound, FaultsAt}
 use Rattle.movie_file.specs.Run.{frame_after, run, state_after}
 use Rattle.movie_file.specs.declared.checkpoint.Checkpoint.{Checkpoint}
 use Rattle.movie_file.proofs.CheckpointLemmas.{checkpoint_in_range, checkpoints_rise}
 use Rattle.movie_file.proofs.RunLemmas.{run-shift, run-fault}
 use Rattle.replay_segments.specs.Private.Resuming.{IsResumable}
-use Rattle.replay_segments.specs.Private.Steps.{IsFrameStep}
 use Rattle.replay_segments.specs.Verdicts.{HasVerdict}
 use Rattle.replay_segments.specs.declared.verdict.Verdict.TheVariants.{FalseCheckpoint, Fault}
 
@@ -35,12 +32,8 @@ IsSome-run-below m s a k len le is =
     IsSome-run m s a k (len - k) (subst (λ (n : ℕ). IsSome (run m s a n)) e is)
 
 -- No frame of it fails.
-pub no_error : (m : MovieData) (s : StateFields) (a k : ℕ) (old new : StateFields) (error : FrameError) → run m s a k ≡ Some old
-    → IsSome (run m s a (k + 1)) → IsFrameStep m (a + k) old false new (Err error) → ⊥
-no_error m s a k old new (FaultOf kind) is ends (left, fails) =
-    let none = run-fault m s a k kind (old, left, is, fails) in
-    let no : IsSome {T = StateFields} None = rw none at ends in cc
-no_error m s a k old new NoMemory is ends keeps = cc
+pub no_fault : (m : MovieData) (s : StateFields) (a k : ℕ) (kind : FaultKind) → IsSome (run m s a (k + 1)) → FaultsAt m s a k kind → ⊥
+no_fault m s a k kind ends fault = let no : IsSome {T = StateFields} None = rw (run-fault m s a k kind fault) at ends in cc
 
 -- Where its first frames are sound a checkpoint after one of them claims the run's state.
 pub claim_of_sound : (m : MovieData) (k j : ℕ) (c : Checkpoint) → IsMovie m → AllSound m m.start 0 k → slice_get m.checkpoints j ≡ Some c → c.frame ≤ k

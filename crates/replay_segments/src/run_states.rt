@@ -8,13 +8,8 @@ ghost use Rattle.replay_segments.specs.Verdicts.{HasVerdict};
 ghost use Rattle.replay_segments.specs.declared.verdict.Verdict.TheVariants.{FalseCheckpoint};
 ghost use Rattle.replay_segments.specs.declared.verdict.Verdict.TheVariants.{Fault};
 
-use crate::judge::movie_frame;
 use movie_file::Movie;
-use std::alloc::Global;
-use vcs_machine::{FaultKind, State, halt};
-
-/// The cycles of a scanline.
-const LINE_CYCLES: u64 = 76;
+use vcs_machine::{FaultKind, LINE_CYCLES, State, halt};
 
 /// What a frame leaves that faults.
 #[derive(Drop)]
@@ -28,7 +23,7 @@ pub struct LeftState {
 
 /// The state after `len` frames from a state that stands after frame `from`. None of the frames
 /// fails.
-fn state_after(alloc: Global, movie: &Movie, start: &State, from: u32, len: u32) -> State
+fn state_after(movie: &Movie, start: &State, from: u32, len: u32) -> State
     requires range { from + len ≤ length movie.now.inputs }
     requires ends { IsSome (run movie.now start.now from len) }
     ensures { run movie.now start.now from len ≡ Some result }
@@ -37,37 +32,38 @@ fn state_after(alloc: Global, movie: &Movie, start: &State, from: u32, len: u32)
     prove!(frames < 262_144);
     let mut state = start.copy();
     for k in 0..len {
-        let Ok(_) = movie_frame(alloc, movie, from + k, &mut state, false) else {
-            unreachable!()
-        };
+        match halt(movie.cart(), &mut state, movie.input(from + k + 1)) {
+            None => {}
+            Some(_) => unreachable!(),
+        }
     }
     state
 }
 
 /// The state of the run after a frame, replayed from the checkpoint before index `next`, or from
 /// the start if there is none.
-fn resume(alloc: Global, movie: &Movie, next: u16, frame: u32) -> State
+fn resume(movie: &Movie, next: u16, frame: u32) -> State
     requires { IsResumable movie.now next frame }
     ensures { run movie.now movie.now.start 0 frame ≡ Some result }
 {
     if next == 0 {
-        return state_after(alloc, movie, movie.start(), 0, frame);
+        return state_after(movie, movie.start(), 0, frame);
     }
     let checkpoint = movie.checkpoint(next);
     let from = checkpoint.frame;
-    state_after(alloc, movie, &checkpoint.state, from, frame - from)
+    state_after(movie, &checkpoint.state, from, frame - from)
 }
 
 /// The state that a movie's one unbroken run has after the frame of its first false checkpoint.
 ///
 /// The movie is replayed from the checkpoint before the false one, or from its start if there is
 /// none. No memory is taken.
-pub fn found_state(alloc: Global, movie: &Movie, number: u16, frame: u32) -> State
+pub fn found_state(movie: &Movie, number: u16, frame: u32) -> State
     requires { HasVerdict movie.now (FalseCheckpoint number frame) }
     ensures { run movie.now movie.now.start 0 frame ≡ Some result }
 {
     let _ = movie.frames();
-    resume(alloc, movie, number - 1, frame)
+    resume(movie, number - 1, frame)
 }
 
 /// How many checkpoints stand before a frame.
@@ -88,13 +84,13 @@ fn checkpoints_before(movie: &Movie, frame: u32) -> u16
 ///
 /// The movie is replayed from the last checkpoint before that frame, or from its start if there
 /// is none. No memory is taken.
-pub fn left_state(alloc: Global, movie: &Movie, frame: u32, kind: FaultKind) -> LeftState
+pub fn left_state(movie: &Movie, frame: u32, kind: FaultKind) -> LeftState
     requires { HasVerdict movie.now (Fault frame kind) }
     ensures { left_at movie.now frame ≡ Some result }
 {
     let _ = movie.frames();
     let next = checkpoints_before(movie, frame);
-    let mut state = resume(alloc, movie, next, frame - 1);
+    let mut state = resume(movie, next, frame - 1);
     let begun = state.line_cycle();
     let Some(halt) = halt(movie.cart(), &mut state, movie.input(frame)) else {
         unreachable!()
@@ -102,6 +98,6 @@ pub fn left_state(alloc: Global, movie: &Movie, frame: u32, kind: FaultKind) -> 
     let cycles = u64::from(begun) + u64::from(halt.cycles);
     LeftState {
         state,
-        scanline: cycles / LINE_CYCLES,
+        scanline: cycles / LINE_CYCLES as u64,
     }
 }

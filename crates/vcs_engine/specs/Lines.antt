@@ -1,4 +1,4 @@
--- The lines that a run writes. This project's own.
+-- The lines that commands write. This project's own.
 use Rattle.std.specs.Prelude.{ℕ, List, [], ◌∷◌, ◌++◌, codes}
 use Rattle.std.specs.Fmt.{decimal}
 use Rattle.vcs_machine.specs.Faults.{fault_text}
@@ -6,7 +6,8 @@ use Rattle.movie_file.specs.MovieError.{refusal_text}
 use Rattle.vcs_engine.specs.declared.line.Line.{Line}
 use Rattle.vcs_engine.specs.declared.line.Line.TheVariants.{Genuine, FalseCheckpoint, Fault}
 use Rattle.vcs_engine.specs.declared.line.Line.TheVariants.{Refused, BadLine, Made, Converted}
-use Rattle.vcs_engine.specs.declared.line.Line.TheVariants.{AlreadyTwo, Movie}
+use Rattle.vcs_engine.specs.declared.line.Line.TheVariants.{AlreadyTwo, Movie, Cut}
+use Rattle.vcs_engine.specs.declared.line.Line.TheVariants.{Pictures, Frame, NoFrame}
 
 -- How many frames and checkpoints a movie has.
 abbrev pub counts_text : ℕ → ℕ → List ℕ
@@ -15,6 +16,11 @@ counts_text frames checkpoints = decimal frames ++ (codes " frames, " ++ (decima
 -- The bytes of a cartridge, and the counts.
 abbrev pub contents_text : ℕ → ℕ → ℕ → List ℕ
 contents_text cartridge frames checkpoints = codes "cartridge " ++ (decimal cartridge ++ (codes ", " ++ counts_text frames checkpoints))
+
+-- How many cycles a frame took, and how many rows its picture has.
+abbrev pub frame_text : ℕ → ℕ → ℕ → List ℕ
+frame_text frame cycles rows =
+    codes "frame " ++ (decimal frame ++ (codes ": " ++ (decimal cycles ++ (codes " cycles, " ++ (decimal rows ++ codes " rows")))))
 
 -- A line, without its end.
 abbrev pub line_text : Line → List ℕ
@@ -26,6 +32,10 @@ line_text (BadLine number) = codes "refused: BadLine " ++ decimal number
 line_text (Made frames checkpoints) = codes "made: " ++ counts_text frames checkpoints
 line_text (Converted frames checkpoints) = codes "converted: " ++ counts_text frames checkpoints
 line_text AlreadyTwo = codes "refused: AlreadyTwo"
+line_text (Cut frames checkpoints) = codes "cut: " ++ counts_text frames checkpoints
+line_text (Pictures frames) = codes "pictures: " ++ (decimal frames ++ codes " frames")
+line_text (Frame frame cycles rows) = frame_text frame cycles rows
+line_text (NoFrame frame) = codes "refused: NoFrame " ++ decimal frame
 line_text (Movie version cartridge frames checkpoints) =
     codes "movie: version " ++ (decimal version ++ (codes ", " ++ contents_text cartridge frames checkpoints))
 

@@ -6,7 +6,7 @@ ghost use Rattle.vcs_engine.specs.Conversions.{conversion_of};
 ghost use Rattle.vcs_engine.specs.Streams.{ReadsAll, WritesPart, IsTooLong};
 
 use crate::line::Line;
-use crate::making::Making;
+use crate::movie_answer::MovieAnswer;
 use crate::run_error::RunError;
 use crate::status::Status;
 use crate::streams::read_all;
@@ -15,13 +15,13 @@ use std::alloc::{AllocError, Global};
 use std::io::{Read, Write};
 
 /// What is written of the bytes of a movie.
-fn of_bytes(alloc: Global, bytes: &[u8]) -> Result<Making, AllocError>
-    ensures { IfOk result (λ making. making ≡ conversion_of (movie_at bytes.now)) }
+fn of_bytes(alloc: Global, bytes: &[u8]) -> Result<MovieAnswer, AllocError>
+    ensures { IfOk result (λ answer. answer ≡ conversion_of (movie_at bytes.now)) }
 {
     let movie = match read_movie(alloc, bytes) {
         Ok(movie) => movie,
         Err(MovieError::NoMemory) => return Err(AllocError),
-        Err(error) => return Making::refusal(alloc, Line::Refused(error)),
+        Err(error) => return MovieAnswer::refusal(alloc, Line::Refused(error)),
     };
     match convert(movie) {
         Ok(movie) => {
@@ -31,9 +31,9 @@ fn of_bytes(alloc: Global, bytes: &[u8]) -> Result<Making, AllocError>
                 frames,
                 checkpoints,
             };
-            Making::of_movie(alloc, &movie, line)
+            MovieAnswer::of_movie(alloc, &movie, line)
         }
-        Err(ConvertError::AlreadyTwo(_)) => Making::refusal(alloc, Line::AlreadyTwo),
+        Err(ConvertError::AlreadyTwo(_)) => MovieAnswer::refusal(alloc, Line::AlreadyTwo),
     }
 }
 
@@ -65,6 +65,6 @@ pub fn run_convert<R: Read, W: Write, L: Write>(
     ensures no_thread { result ≢ Err RunError.NoThread }
 {
     let bytes = read_all(alloc, movie)?;
-    let making = of_bytes(alloc, &bytes)?;
-    Ok(making.write(new, line)?)
+    let answer = of_bytes(alloc, &bytes)?;
+    Ok(answer.write(new, line)?)
 }

@@ -1,4 +1,4 @@
-//! The lines that a run writes.
+//! The lines that commands write.
 ghost use Rattle.std.specs.Prelude.{◌≡◌, IfOk, string_bytes};
 ghost use Rattle.vcs_engine.specs.Lines.{line_bytes};
 
@@ -36,6 +36,22 @@ pub enum Line {
     },
     /// A movie of version 2 is not converted.
     AlreadyTwo,
+    Cut {
+        frames: u32,
+        checkpoints: u16,
+    },
+    /// The pictures of so many frames were written.
+    Pictures {
+        frames: u32,
+    },
+    /// How many cycles a frame took, and how many rows its picture has.
+    Frame {
+        frame: u32,
+        cycles: u32,
+        rows: u16,
+    },
+    /// The movie has fewer frames than this.
+    NoFrame(u32),
     Movie {
         version: u16,
         cartridge: u16,
@@ -78,7 +94,7 @@ impl fmt::Display for Contents {
 
 impl Line {
     /// Its text with its end.
-    pub(crate) fn text(self, alloc: Global) -> Result<String, AllocError>
+    pub fn text(self, alloc: Global) -> Result<String, AllocError>
         ensures { IfOk result (λ text. string_bytes text ≡ line_bytes self) }
     {
         format!(in alloc; "{self}\n")
@@ -112,6 +128,17 @@ impl fmt::Display for Line {
                 checkpoints,
             } => write!(f, "converted: {}", Counts(frames, checkpoints)),
             Line::AlreadyTwo => write!(f, "refused: AlreadyTwo"),
+            Line::Cut {
+                frames,
+                checkpoints,
+            } => write!(f, "cut: {}", Counts(frames, checkpoints)),
+            Line::Pictures { frames } => write!(f, "pictures: {frames} frames"),
+            Line::Frame {
+                frame,
+                cycles,
+                rows,
+            } => write!(f, "frame {frame}: {cycles} cycles, {rows} rows"),
+            Line::NoFrame(frame) => write!(f, "refused: NoFrame {frame}"),
             Line::Movie {
                 version,
                 cartridge,

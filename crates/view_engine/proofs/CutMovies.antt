@@ -1,5 +1,5 @@
 -- The run of a cut, and that of its movie.
-use Rattle.std.proofs.Common.{◌≡◌, ℕ, zero, suc, ◌+◌, ◌-◌, ◌/◌, ◌<◌, ◌≤◌, List, [], ◌∷◌, length, Option, Some, refl, sym, ap, subst, ◌∙◌, arith, add-zero}
+use Rattle.std.proofs.Common.{◌≡◌, ℕ, zero, suc, ◌+◌, ◌-◌, ◌/◌, ◌<◌, ◌≤◌, List, length, Option, Some, sym, ap, subst, ◌∙◌, arith, add-zero}
 use Rattle.std.specs.Prelude.{slice_get, option_and_then}
 use Rattle.std.specs.Option.{option_map}
 use Rattle.std.proofs.lemmas.List.{take_all}
@@ -11,6 +11,7 @@ use Rattle.movie_file.specs.Making.{version_made}
 use Rattle.movie_file.specs.Movie.{MovieData, IsMovie}
 use Rattle.movie_file.specs.Run.{run, state_after}
 use Rattle.movie_file.specs.declared.checkpoint.Checkpoint.{Checkpoint}
+use Rattle.movie_file.proofs.OneMaking.{same_lists}
 use Rattle.movie_file.proofs.CheckpointLemmas.{checkpoint_in_range}
 use Rattle.view_engine.specs.Cuts.{ClaimsEvery, IsCutOf}
 use Rattle.view_engine.specs.Stretches.{frames_asked}
@@ -55,14 +56,6 @@ module _ (m c : MovieData) (first count every : ℕ) (cut : IsCutOf m first coun
       )
 
 -- ---- one cut
-
-same_lists : (cs ds : List Checkpoint) → length cs ≡ length ds → ((j : ℕ) (c d : Checkpoint) → slice_get cs j ≡ Some c → slice_get ds j ≡ Some d → c ≡ d) → cs ≡ ds
-same_lists [] [] e same = refl
-same_lists [] (d ∷ ds) e same = absurd (omega arith)
-same_lists (c ∷ cs) [] e same = absurd (omega arith)
-same_lists (c ∷ cs) (d ∷ ds) e same =
-    let first = same 0 c d refl refl in
-    let others = same_lists cs ds (omega arith) (λ j x y at here. same (suc j) x y at here) in cc
 
 abbrev claim : ℕ → StateFields → Checkpoint
 claim frame state = record { frame = frame; state = state }

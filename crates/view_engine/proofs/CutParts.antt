@@ -14,7 +14,8 @@ use Rattle.movie_file.proofs.MakingRuns.{counts_are, version_takes}
 use Rattle.view_engine.specs.Cuts.{IsCutOf}
 use Rattle.view_engine.specs.Private.Claims.{Claims}
 use Rattle.view_engine.specs.Stretches.{inputs_asked, frames_asked, Ends}
-use Rattle.view_engine.proofs.ClaimSteps.{AreCheckpoints-cut, bank_fits}
+use Rattle.movie_file.proofs.MakingRuns.{bank_fits}
+use Rattle.view_engine.proofs.ClaimSteps.{AreCheckpoints-cut}
 
 -- the first so many inputs of those from frame `first` on are the ones that are asked for
 pub inputs_are_asked : (m : MovieData) (first count frames : ℕ) → frames ≡ frames_asked m first count → take frames (drop (first - 1) m.inputs) ≡ inputs_asked m first count

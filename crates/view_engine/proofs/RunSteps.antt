@@ -1,5 +1,5 @@
 -- The one unbroken run of a movie, a frame further.
-use Rattle.std.proofs.Common.{◌≡◌, ℕ, zero, suc, ◌+◌, ◌-◌, ◌<◌, ◌≤◌, length, drop, Option, Some, None, refl, sym, ap, subst, ◌∙◌, arith, add-one, add-zero, ◌⊎◌, inl, inr, IsSome}
+use Rattle.std.proofs.Common.{◌≡◌, ℕ, zero, suc, ◌+◌, ◌-◌, ◌<◌, ◌≤◌, length, drop, Option, Some, None, refl, sym, ap, subst, ◌∙◌, arith, add-zero, ◌⊎◌, inl, inr, IsSome}
 use Rattle.std.specs.Prelude.{slice_get, min}
 use Rattle.std.proofs.lemmas.Bool.{cases_lt}
 use Rattle.std.proofs.lemmas.Option.{slice_get-get_or}
@@ -13,8 +13,8 @@ use Rattle.vcs_machine.specs.declared.fault.FrameError.TheVariants.{Fault, NoMem
 use Rattle.vcs_machine.specs.declared.fields.StateFields.{StateFields}
 use Rattle.movie_file.specs.Judgement.{FaultsAt}
 use Rattle.movie_file.specs.Movie.{MovieData}
-use Rattle.movie_file.specs.Run.{run, frame_after}
-use Rattle.movie_file.proofs.RunLemmas.{run-fault}
+use Rattle.movie_file.specs.Run.{run}
+use Rattle.movie_file.proofs.RunLemmas.{run-fault, run-next, faults-here}
 use Rattle.replay_segments.proofs.RunStateLemmas.{IsSome-run-below}
 use Rattle.view_engine.specs.Private.Stops.{PicturesFail}
 use Rattle.view_engine.specs.Stretches.{Ends, FaultsWithin, inputs_asked, frames_asked}
@@ -23,14 +23,11 @@ use Rattle.view_engine.specs.Stretches.{Ends, FaultsWithin, inputs_asked, frames
 
 module _ (m : MovieData) (k : ℕ) (state : StateFields) (input : InputData)
     (ran : run m m.start 0 k ≡ Some state) (at : slice_get m.inputs k ≡ Some input) where
-  frame_is : (outcome : FrameOutcome) → frame_of m.cart state input ≡ outcome → frame_after m (0 + k) state ≡ Some outcome
-  frame_is outcome e = let none : 0 + k ≡ k = omega arith in rw (none, at, e) refl
-
   pub run_on : (new : StateFields) (rows : Rows) → frame_of m.cart state input ≡ Played new rows → run m m.start 0 (k + 1) ≡ Some new
-  run_on new rows ends = rw (add-one, ran, frame_is (Played new rows) ends) refl
+  run_on = run-next m m.start 0 k k state input ran (omega arith) at
 
   pub faults_here : (kind : FaultKind) (left : StateFields) → frame_of m.cart state input ≡ Failed kind left → FaultsAt m m.start 0 k kind
-  faults_here kind left fails = (state, left, ran, frame_is (Failed kind left) fails)
+  faults_here = faults-here m m.start 0 k k state input ran (omega arith) at
 
   -- why it has no picture
   pub pictures_fail : (error : FrameError) (left : StateFields) → FailsAs (frame_of m.cart state input) error left → PicturesFail m k error

@@ -16,14 +16,14 @@ use Rattle.vcs_machine.specs.declared.fields.StateFields.{StateFields}
 use Rattle.movie_file.specs.Movie.{MovieData}
 use Rattle.vcs_engine.specs.declared.status.Status.{Status}
 use Rattle.vcs_engine.specs.declared.status.Status.TheVariants as statuses
-use Rattle.view_engine.specs.Lines.{line_bytes}
+use Rattle.vcs_engine.specs.Lines.{line_bytes}
 use Rattle.vcs_engine.specs.declared.run_error.RunError.TheVariants as runs
 use Rattle.view_engine.specs.Private.Stops.{of_drawing}
 use Rattle.view_engine.specs.Stretches.{FaultsWithin}
 use Rattle.view_engine.specs.declared.drawing.DrawError.{DrawError}
 use Rattle.view_engine.specs.declared.drawing.DrawError.TheVariants as draws
 use Rattle.view_engine.specs.Traces.{BeginsIn, TracesOf, instructions, last_line, status_of}
-use Rattle.view_engine.specs.declared.line.Line.TheVariants as lines
+use Rattle.vcs_engine.specs.declared.line.Line.TheVariants as lines
 use Rattle.view_engine.proofs.TraceSteps.{lines_begin, stops_later}
 
 faulty_line : (frame line_cycle : ℕ) (kind : FaultKind) (m : Machine Undrawn) → last_line frame line_cycle (stop_with kind m) ≡ lines.Fault frame kind

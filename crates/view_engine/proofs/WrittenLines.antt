@@ -12,11 +12,11 @@ use Rattle.replay_plan.specs.declared.watches.Details.{Details}
 use Rattle.vcs_engine.specs.declared.status.Status.{Status}
 use Rattle.vcs_engine.specs.declared.status.Status.TheVariants as statuses
 use Rattle.view_engine.specs.FrameLines.{DescribesOf, frame_line, lines_after}
-use Rattle.view_engine.specs.Lines.{line_bytes}
+use Rattle.vcs_engine.specs.Lines.{line_bytes}
 use Rattle.view_engine.specs.Private.Describing.{StopsTelling}
 use Rattle.view_engine.specs.Private.Stops.{PicturesFail, stop_of}
 use Rattle.view_engine.specs.Stretches.{Ends, FaultsWithin, frames_asked}
-use Rattle.view_engine.specs.declared.line.Line.TheVariants as lines
+use Rattle.vcs_engine.specs.declared.line.Line.TheVariants as lines
 use Rattle.view_engine.proofs.RunLines.{lines_begin, lines_end}
 use Rattle.view_engine.proofs.RunSteps.{ends_or_faults, frames_asked-min}
 use Rattle.view_engine.proofs.WrittenPictures.{last_is, last_of_none}

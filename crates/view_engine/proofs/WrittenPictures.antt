@@ -21,11 +21,11 @@ use Rattle.vcs_engine.specs.declared.status.Status.TheVariants as statuses
 use Rattle.vcs_machine.specs.declared.fault.FrameError.{FrameError}
 use Rattle.vcs_machine.specs.declared.fault.FrameError.TheVariants as frames
 use Rattle.view_engine.specs.Drawings.{AppendsSome, drawn, Draws, DrawsOf}
-use Rattle.view_engine.specs.Lines.{line_bytes}
+use Rattle.vcs_engine.specs.Lines.{line_bytes}
 use Rattle.view_engine.specs.Private.Stops.{PicturesFail, StopsDrawing, stop_of}
 use Rattle.view_engine.specs.Stretches.{frames_asked, last_asked, Ends, FaultsWithin, pictures_after}
-use Rattle.view_engine.specs.declared.line.Line.{Line}
-use Rattle.view_engine.specs.declared.line.Line.TheVariants as lines
+use Rattle.vcs_engine.specs.declared.line.Line.{Line}
+use Rattle.vcs_engine.specs.declared.line.Line.TheVariants as lines
 use Rattle.view_engine.proofs.RunPictures.{pictures_begin, pictures_end}
 use Rattle.view_engine.proofs.RunSteps.{ends_or_faults, frames_asked-min}
 

@@ -1,21 +1,17 @@
 -- Cutting a movie: a movie of its own of some of its frames. This project's own.
-use Rattle.std.specs.Prelude.{◌≡◌, ◌⊎◌, ℕ, ◌+◌, ◌-◌, ◌*◌, ◌/◌, [], length, IsTrue, Result, Ok, Err, Some, slice_get}
+use Rattle.std.specs.Prelude.{◌≡◌, ◌⊎◌, ℕ, ◌+◌, ◌-◌, ◌*◌, ◌/◌, length, IsTrue, Result, Ok, Err, Some, slice_get}
 use Rattle.vcs_machine.specs.declared.fault.FaultKind.{FaultKind}
 use Rattle.movie_file.specs.Judgement.{IsGenuine}
 use Rattle.movie_file.specs.Making.{counts_fit, version_made}
 use Rattle.movie_file.specs.Movie.{MovieData, IsMovie}
 use Rattle.movie_file.specs.Run.{run}
-use Rattle.movie_file.specs.Spelling.{spelling}
 use Rattle.movie_file.specs.declared.checkpoint.Checkpoint.{Checkpoint}
 use Rattle.movie_file.specs.declared.error.MovieError.{MovieError}
 use Rattle.movie_file.specs.declared.error.MovieError.TheVariants.{BadCounts}
-use Rattle.vcs_engine.specs.Answers.{Answer}
-use Rattle.vcs_engine.specs.declared.status.Status.{Status}
+use Rattle.vcs_engine.specs.Answers.{Answer, line_answer, movie_answer, refusal}
 use Rattle.vcs_engine.specs.declared.status.Status.TheVariants as statuses
-use Rattle.view_engine.specs.Lines.{line_bytes}
 use Rattle.view_engine.specs.Stretches.{inputs_asked, frames_asked, Ends, FaultsWithin}
-use Rattle.view_engine.specs.declared.line.Line.{Line}
-use Rattle.view_engine.specs.declared.line.Line.TheVariants as lines
+use Rattle.vcs_engine.specs.declared.line.Line.TheVariants as lines
 
 -- The movie `c` of those frames of `m`. It starts in the state of the run before the first of them,
 -- has their inputs, and claims the state of the run after every so many of them. Its version is the
@@ -35,25 +31,12 @@ pub record ClaimsEvery (m : MovieData) (every : ℕ) : Type 0 where
   pub count_is : length m.checkpoints ≡ length m.inputs / every
   pub places : (j : ℕ) (k : Checkpoint) → slice_get m.checkpoints j ≡ Some k → k.frame ≡ every * (j + 1)
 
--- A line alone,
-abbrev pub line_answer : Status → Line → Answer
-line_answer status line = record { status = status; line = line_bytes line; movie = []; pictures = [] }
-
--- the line that bytes or counts are refused,
-abbrev pub refusal : MovieError → Answer
-refusal error = line_answer statuses.Refused (lines.Refused error)
-
--- and a cut with its line.
-abbrev pub cut_answer : MovieData → Answer
-cut_answer c =
-    record { status = statuses.Done; line = line_bytes (lines.Cut (length c.inputs) (length c.checkpoints)); movie = spelling c; pictures = [] }
-
 -- What is written of a movie that is cut: the cut, which is genuine, or the first fault of a frame up
 -- to its last; or that the counts are refused.
 abbrev pub CutsOf : MovieData → ℕ → ℕ → ℕ → Answer → Type 0
 CutsOf m first count every answer =
     (IsTrue (counts_fit (frames_asked m first count) every)
-    × (((c : MovieData) × IsMovie c × IsCutOf m first count every c × IsGenuine c × (answer ≡ cut_answer c))
+    × (((c : MovieData) × IsMovie c × IsCutOf m first count every c × IsGenuine c × (answer ≡ movie_answer lines.Cut c))
     ⊎ ((frame : ℕ) × (kind : FaultKind) × FaultsWithin m (first - 1 + frames_asked m first count) frame kind
     × (answer ≡ line_answer statuses.Fault (lines.Fault frame kind)))))
     ⊎ ((¬ IsTrue (counts_fit (frames_asked m first count) every)) × (answer ≡ refusal BadCounts))

@@ -8,11 +8,11 @@ use Rattle.picture_file.specs.PictureBytes.{pictures_bytes}
 use Rattle.vcs_engine.specs.Answers.{Answer}
 use Rattle.vcs_engine.specs.declared.status.Status.{Status}
 use Rattle.vcs_engine.specs.declared.status.Status.TheVariants as statuses
-use Rattle.view_engine.specs.Cuts.{refusal}
-use Rattle.view_engine.specs.Lines.{line_bytes}
+use Rattle.vcs_engine.specs.Answers.{refusal}
+use Rattle.vcs_engine.specs.Lines.{line_bytes}
 use Rattle.view_engine.specs.Stretches.{frames_asked, last_asked, Ends, FaultsWithin, pictures_after}
-use Rattle.view_engine.specs.declared.line.Line.{Line}
-use Rattle.view_engine.specs.declared.line.Line.TheVariants as lines
+use Rattle.vcs_engine.specs.declared.line.Line.{Line}
+use Rattle.vcs_engine.specs.declared.line.Line.TheVariants as lines
 
 -- The pictures of the frames that are asked for, up to a fault, and a line.
 abbrev pub drawn : MovieData → ℕ → ℕ → Status → Line → Answer

@@ -24,9 +24,9 @@ use Rattle.replay_plan.specs.declared.watches.Address.{Address}
 use Rattle.replay_plan.specs.declared.watches.Details.{Details}
 use Rattle.vcs_engine.specs.declared.status.Status.{Status}
 use Rattle.vcs_engine.specs.declared.status.Status.TheVariants as statuses
-use Rattle.view_engine.specs.Lines.{frame_text, line_bytes}
+use Rattle.vcs_engine.specs.Lines.{frame_text, line_bytes}
 use Rattle.view_engine.specs.Stretches.{frames_asked, last_asked, Ends, FaultsWithin}
-use Rattle.view_engine.specs.declared.line.Line.TheVariants as lines
+use Rattle.vcs_engine.specs.declared.line.Line.TheVariants as lines
 
 -- ---- one frame
 

@@ -1,7 +1,6 @@
 pub mod Cuts
 pub mod Drawings
 pub mod FrameLines
-pub mod Lines
 pub mod Private
 pub mod Stretches
 pub mod Traces

@@ -21,10 +21,10 @@ use Rattle.movie_file.specs.Run.{run}
 use Rattle.movie_file.specs.declared.error.MovieError.{MovieError}
 use Rattle.vcs_engine.specs.declared.status.Status.{Status}
 use Rattle.vcs_engine.specs.declared.status.Status.TheVariants as statuses
-use Rattle.view_engine.specs.Lines.{line_bytes}
+use Rattle.vcs_engine.specs.Lines.{line_bytes}
 use Rattle.view_engine.specs.Stretches.{FaultsWithin}
-use Rattle.view_engine.specs.declared.line.Line.{Line}
-use Rattle.view_engine.specs.declared.line.Line.TheVariants as lines
+use Rattle.vcs_engine.specs.declared.line.Line.{Line}
+use Rattle.vcs_engine.specs.declared.line.Line.TheVariants as lines
 
 -- The lines of the instructions that begin at these machines.
 abbrev pub lines_of : Bool → List (Machine Undrawn) → List ℕ

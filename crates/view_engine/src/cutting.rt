@@ -14,9 +14,7 @@ ghost use Rattle.view_engine.specs.Private.Claims.{Claims, Explains};
 ghost use Rattle.view_engine.specs.Stretches.{Ends, FaultsWithin, frames_asked};
 
 use crate::stretch::{RunFault, frames_asked, play, state_after};
-use movie_file::{
-    Checkpoint, MOST_CHECKPOINTS, MOST_FRAMES, MOST_FRAMES_OF_VERSION_1, Movie, movie_of,
-};
+use movie_file::{Checkpoint, Movie, claim, do_counts_fit, movie_of, version_made};
 use riot_map::Cart;
 use std::alloc::{AllocError, AllocFailed, Global};
 use std::num::NonZeroU32;
@@ -55,44 +53,6 @@ impl From<AllocError> for CutError {
     }
 }
 
-/// Whether a movie can have so many frames, and a checkpoint after each `every` of them.
-fn do_counts_fit(frames: u32, every: u32) -> bool
-    ensures { result ≡ counts_fit frames every }
-{
-    1 <= frames
-        && frames <= MOST_FRAMES
-        && 1 <= every
-        && frames / every <= u32::from(MOST_CHECKPOINTS)
-}
-
-/// The version of the movie that is made of a cartridge and so many inputs.
-fn version_made(cart: &Cart, frames: u32) -> u16
-    ensures value { result ≡ version_made (length cart.now) frames }
-    ensures lawful { IsTrue (is_cart_length (length cart.now)) }
-{
-    if cart.has_banks() || frames > MOST_FRAMES_OF_VERSION_1 {
-        2
-    } else {
-        1
-    }
-}
-
-/// Reads a state, which says that it is one.
-fn look_at(state: &State)
-    ensures { IsState state.now }
-{
-    let _fields = state.fields();
-}
-
-/// Reads each input, which says that it is one.
-fn look_at_inputs(inputs: &[Input])
-    ensures { AllByRecursion (λ i. IsTrue (is_input i)) inputs.now }
-{
-    for input in inputs {
-        let _bytes = input.bytes();
-    }
-}
-
 /// A cartridge with the same bytes.
 fn copy_of(alloc: Global, cart: &Cart) -> Result<Cart, AllocError>
     ensures { IfOk result (λ copy. copy ≡ cart.now) }
@@ -104,27 +64,9 @@ fn copy_of(alloc: Global, cart: &Cart) -> Result<Cart, AllocError>
     }
 }
 
-/// Adds the checkpoint after a frame, if one stands there. It takes no memory.
-fn claim(checkpoints: &mut Vec<Checkpoint>, every: u32, frame: u32, state: &State)
-    requires every { 1 ≤ every }
-    requires room { frame % every ≡ 0
-        → vec_len checkpoints.old < vec_capacity checkpoints.old }
-    ensures items { checkpoints.new.items
-        ≡ checkpoints.old.items ++ checkpoint_if every frame state.now }
-    ensures lawful { IsState state.now }
-    ensures capacity { vec_capacity checkpoints.new ≡ vec_capacity checkpoints.old }
-{
-    look_at(state);
-    if frame % every == 0 {
-        let state = state.copy();
-        checkpoints.push_reserved(Checkpoint { frame, state });
-    }
-}
-
 /// The checkpoints of the frames that follow frame `from`, put into an empty list that has room
 /// for them.
 fn checkpoints_after(
-    alloc: Global,
     mut checkpoints: Vec<Checkpoint>,
     movie: &Movie,
     start: &State,
@@ -145,7 +87,7 @@ fn checkpoints_after(
     prove!(most < 262_144);
     let mut state = start.copy();
     for k in 0..frames {
-        match play(alloc, movie, from + k, &mut state) {
+        match play(movie, from + k, &mut state) {
             Ok(()) => claim(&mut checkpoints, every, k + 1, &state),
             Err(kind) => {
                 let frame = from + k + 1;
@@ -177,19 +119,17 @@ pub(crate) fn cut(
     prove!(most < 262_144);
     let from = first.get() - 1;
     let frames = frames_asked(movie, first, count);
-    if !do_counts_fit(frames, every) {
+    if !do_counts_fit(frames as usize, every) {
         return Err(CutError::BadCounts);
     }
-    let start = state_after(alloc, movie, from)?;
+    let start = state_after(movie, from)?;
     let Ok(checkpoints) = Vec::with_capacity(alloc, (frames / every) as usize) else {
         return Err(CutError::NoMemory);
     };
-    let checkpoints = checkpoints_after(alloc, checkpoints, movie, &start, from, frames, every)?;
+    let checkpoints = checkpoints_after(checkpoints, movie, &start, from, frames, every)?;
     let asked = &movie.inputs()[from as usize..(from + frames) as usize];
     let inputs = Vec::from_slice(alloc, asked)?;
     let cart = copy_of(alloc, movie.cart())?;
-    let version = version_made(&cart, frames);
-    look_at(&start);
-    look_at_inputs(&inputs);
+    let version = version_made(&cart, frames as usize);
     Ok(movie_of(version, cart, start, inputs, checkpoints))
 }

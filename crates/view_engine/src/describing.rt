@@ -8,13 +8,13 @@ ghost use Rattle.movie_file.specs.Run.{run};
 ghost use Rattle.picture_file.specs.Prefixes.{AppendsPrefix};
 ghost use Rattle.vcs_engine.specs.Streams.{ReadsAll, IsTooLong};
 ghost use Rattle.view_engine.specs.FrameLines.{AppendsLines, Describes, DescribesOf, lines_after};
-ghost use Rattle.view_engine.specs.Lines.{line_bytes};
+ghost use Rattle.vcs_engine.specs.Lines.{line_bytes};
 ghost use Rattle.view_engine.specs.Private.Describing.{StopsTelling};
 ghost use Rattle.view_engine.specs.Stretches.{Ends};
 
 use crate::drawing::{DrawError, Stop};
 use crate::frame_line::{checkpoints_before, played_line};
-use crate::line::{Line, write_last};
+use crate::last_line::write_last;
 use crate::stretch::{frames_asked, state_after};
 use movie_file::{Movie, MovieError, read_movie};
 use picture_file::write_bytes;
@@ -22,7 +22,7 @@ use replay_plan::Details;
 use std::alloc::Global;
 use std::io::{Read, Write};
 use std::num::NonZeroU32;
-use vcs_engine::{RunError, Status, read_all};
+use vcs_engine::{Line, RunError, Status, read_all};
 use vcs_machine::State;
 
 /// Writes the lines of the frames that follow frame `from`, each as soon as it is played. It takes
@@ -71,7 +71,7 @@ fn write_asked<L: Write>(
     ensures ok { OnOk result (Appends (L.contents lines.old) (L.contents lines.new) (lines_after movie.now details.now from frames)) }
     ensures err { IfErr result (StopsTelling movie.now details.now from frames (L.contents lines.old) (L.contents lines.new)) }
 {
-    match state_after(alloc, movie, from) {
+    match state_after(movie, from) {
         Ok(start) => write_frames(alloc, movie, details, start, from, frames, lines),
         Err(fault) => Err(Stop::Fault {
             frame: fault.frame,

@@ -11,19 +11,18 @@ ghost use Rattle.picture_file.specs.Prefixes.{AppendsPrefix};
 ghost use Rattle.replay_segments.specs.KeptPictures.{picture_after};
 ghost use Rattle.vcs_engine.specs.Answers.{Answer};
 ghost use Rattle.vcs_engine.specs.Streams.{ReadsAll, WritesPart, IsTooLong};
-ghost use Rattle.view_engine.specs.Lines.{line_bytes};
+ghost use Rattle.vcs_engine.specs.Lines.{line_bytes};
 ghost use Rattle.view_engine.specs.Private.Stops.{PicturesFail, StopsDrawing};
 ghost use Rattle.view_engine.specs.Drawings.{AppendsSome, Draws, DrawsOf};
 ghost use Rattle.view_engine.specs.Stretches.{Ends, pictures_after};
 
-use crate::line::Line;
 use crate::stretch::{frames_asked, state_after};
 use movie_file::{Movie, MovieError, read_movie};
 use picture_file::{WriteFault, ppm, write_bytes};
 use std::alloc::Global;
 use std::io::{Read, Write};
 use std::num::NonZeroU32;
-use vcs_engine::{RunError, Status, read_all};
+use vcs_engine::{Line, RunError, Status, read_all};
 use vcs_machine::{FaultKind, FrameError, Picture, State, frame};
 
 /// Why no more pictures are written.
@@ -143,7 +142,7 @@ fn write_asked<P: Write>(
     ensures ok { OnOk result (Appends (P.contents pictures.old) (P.contents pictures.new) (pictures_bytes (pictures_after movie.now from frames))) }
     ensures err { IfErr result (StopsDrawing movie.now from frames (P.contents pictures.old) (P.contents pictures.new)) }
 {
-    match state_after(alloc, movie, from) {
+    match state_after(movie, from) {
         Ok(start) => write_frames(alloc, movie, start, from, frames, pictures),
         Err(fault) => Err(Stop::Fault {
             frame: fault.frame,

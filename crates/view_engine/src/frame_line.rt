@@ -11,20 +11,14 @@ ghost use Rattle.view_engine.specs.FrameLines.{ended_line, frame_line};
 ghost use Rattle.view_engine.specs.Private.Describing.{StandBefore};
 ghost use Rattle.view_engine.specs.Private.Stops.{PicturesFail};
 
-use crate::line::Line;
 use hex::encode;
 use movie_file::{Movie, write_state};
-use picture_file::ppm;
+use picture_file::{HEADER_BYTES, ROW_BYTES, ppm};
 use replay_plan::{Details, Watches};
 use sha2::{Digest, Sha256};
 use std::alloc::{AllocError, Global};
+use vcs_engine::Line;
 use vcs_machine::{FrameError, HexByte, Picture, State, TimedFrame, timed_frame};
-
-/// The bytes of a picture's file, but for its rows, are fewer.
-const HEADER_BYTES: usize = 16;
-
-/// The bytes of a row in a picture's file.
-const ROW_BYTES: usize = 480;
 
 /// How many checkpoints stand before a frame, of which the first `from` surely do.
 pub(crate) fn checkpoints_before(movie: &Movie, from: u16, frame: u32) -> u16

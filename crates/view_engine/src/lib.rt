@@ -8,8 +8,8 @@ mod cutting;
 mod describing;
 mod drawing;
 mod frame_line;
+mod last_line;
 mod laws;
-mod line;
 mod stretch;
 mod tracing;
 

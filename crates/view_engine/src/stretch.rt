@@ -1,17 +1,13 @@
 //! The frames of a movie that a command asks for, and the run up to them.
 ghost use Rattle.std.specs.Prelude.{◌≡◌, ◌≤◌, ◌<◌, ◌+◌, ◌-◌, length, Some, IfOk, IfErr, OnOk};
 ghost use Rattle.std.specs.NonZero.{non_zero_u32_get};
-ghost use Rattle.vcs_machine.specs.Outcomes.{Failed, Played, frame_of};
-ghost use Rattle.vcs_machine.specs.Pictures.{Rows};
 ghost use Rattle.movie_file.specs.Judgement.{FaultsAt};
 ghost use Rattle.movie_file.specs.Run.{run};
 ghost use Rattle.view_engine.specs.Stretches.{frames_asked, FaultsWithin};
 
 use movie_file::Movie;
-use riot_map::Cart;
-use std::alloc::Global;
 use std::num::NonZeroU32;
-use vcs_machine::{FaultKind, FrameError, Input, State, frame};
+use vcs_machine::{FaultKind, State, halt};
 
 /// The first fault of a run.
 #[derive(Clone, Copy)]
@@ -29,31 +25,8 @@ pub(crate) fn frames_asked(movie: &Movie, first: NonZeroU32, count: u32) -> u32
     count.min(movie.frames().saturating_sub(first.get() - 1))
 }
 
-/// One frame, whose picture is not kept.
-fn frame_without_picture(
-    alloc: Global,
-    cart: &Cart,
-    state: &mut State,
-    input: Input,
-) -> Result<(), FaultKind>
-    ensures ok { OnOk result
-        ((rows : Rows) × (frame_of cart.now state.old input ≡ Played state.new rows)) }
-    ensures err { IfErr result (λ kind. frame_of cart.now state.old input ≡ Failed kind state.new) }
-{
-    match frame(alloc, cart, state, input, false) {
-        Ok(_) => Ok(()),
-        Err(FrameError::Fault(kind)) => Err(kind),
-        Err(FrameError::NoMemory) => unreachable!(),
-    }
-}
-
 /// Plays frame `before` + 1 of the run, whose picture is not kept.
-pub(crate) fn play(
-    alloc: Global,
-    movie: &Movie,
-    before: u32,
-    state: &mut State,
-) -> Result<(), FaultKind>
+pub(crate) fn play(movie: &Movie, before: u32, state: &mut State) -> Result<(), FaultKind>
     requires frame { before < length movie.now.inputs }
     requires ran { run movie.now movie.now.start 0 before ≡ Some state.old }
     ensures ok { OnOk result (run movie.now movie.now.start 0 (before + 1) ≡ Some state.new) }
@@ -61,11 +34,14 @@ pub(crate) fn play(
 {
     let most = movie.frames();
     prove!(most < 262_144);
-    frame_without_picture(alloc, movie.cart(), state, movie.input(before + 1))
+    match halt(movie.cart(), state, movie.input(before + 1)) {
+        None => Ok(()),
+        Some(halt) => Err(halt.kind),
+    }
 }
 
 /// The state of the run after so many frames, or its first fault before that. It takes no memory.
-pub(crate) fn state_after(alloc: Global, movie: &Movie, frames: u32) -> Result<State, RunFault>
+pub(crate) fn state_after(movie: &Movie, frames: u32) -> Result<State, RunFault>
     requires { frames ≤ length movie.now.inputs }
     ensures ok { IfOk result (λ state. run movie.now movie.now.start 0 frames ≡ Some state) }
     ensures err { IfErr result (λ fault. FaultsWithin movie.now frames fault.frame fault.kind) }
@@ -75,7 +51,7 @@ pub(crate) fn state_after(alloc: Global, movie: &Movie, frames: u32) -> Result<S
     let mut state = movie.start().copy();
     for before in 0..frames {
         let frame = before + 1;
-        match play(alloc, movie, before, &mut state) {
+        match play(movie, before, &mut state) {
             Ok(()) => {}
             Err(kind) => return Err(RunFault { frame, kind }),
         }

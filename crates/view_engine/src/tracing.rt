@@ -9,12 +9,12 @@ ghost use Rattle.trace_text.specs.TraceLines.{trace_line};
 ghost use Rattle.vcs_engine.specs.Streams.{ReadsAll, IsTooLong};
 ghost use Rattle.vcs_machine.specs.Frame.{Machine, Reaches};
 ghost use Rattle.vcs_machine.specs.Instructions.{StopsAfter, Undrawn, begun, undrawn_rules};
-ghost use Rattle.view_engine.specs.Lines.{line_bytes};
+ghost use Rattle.vcs_engine.specs.Lines.{line_bytes};
 ghost use Rattle.view_engine.specs.Private.Tracing.{stop_at};
 ghost use Rattle.view_engine.specs.Traces.{AppendsInstructions, Traces, TracesOf, lines_of};
 
 use crate::drawing::DrawError;
-use crate::line::{Line, write_last};
+use crate::last_line::write_last;
 use crate::stretch::state_after;
 use movie_file::{Movie, MovieError, read_movie};
 use picture_file::write_bytes;
@@ -22,7 +22,7 @@ use std::alloc::Global;
 use std::io::{Read, Write};
 use std::num::NonZeroU32;
 use trace_text::trace_line;
-use vcs_engine::{RunError, Status, read_all};
+use vcs_engine::{Line, RunError, Status, read_all};
 use vcs_machine::{Executed, FaultKind, State, Stepping};
 
 /// Writes the line of an instruction.
@@ -130,7 +130,7 @@ fn trace<L: Write>(
         write_last(alloc, Line::NoFrame(frame), lines)?;
         return Ok(Status::Refused);
     }
-    match state_after(alloc, movie, frame - 1) {
+    match state_after(movie, frame - 1) {
         Ok(state) => trace_frame(alloc, movie, frame, &state, lines),
         Err(fault) => {
             let line = Line::Fault {

@@ -3,9 +3,7 @@ ghost use Rattle.std.specs.Prelude.{◌≡◌, length, nat_lt, slice_index, Some
 ghost use Rattle.movie_file.specs.RecordParts.{tia_bytes, tia_at};
 
 use tia_core::TiaFields;
-
-/// The cycles of a scanline, each of three colour clocks.
-const LINE_CYCLES: u8 = 76;
+use vcs_machine::LINE_CYCLES;
 
 /// The TIA that 42 bytes spell; none if the beam is beyond its scanline.
 pub fn tia_in(bytes: &[u8]) -> Option<TiaFields>

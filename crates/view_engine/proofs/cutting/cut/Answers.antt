@@ -1,8 +1,7 @@
 use Rattle.std.proofs.Common.{◌≡◌, ℕ, ◌+◌, ◌-◌, List, length, Some, sym, ap, subst, ◌∙◌, arith, rules}
 use Rattle.std.specs.NonZero.{non_zero_u32_get}
 use Rattle.std.specs.Prelude.{IsTrue}
-use Rattle.std.specs.List.{AllByRecursion}
-use Rattle.vcs_machine.specs.Inputs.{InputData, is_input}
+use Rattle.vcs_machine.specs.Inputs.{InputData}
 use Rattle.movie_file.specs.Making.{counts_fit, version_made}
 use Rattle.movie_file.specs.Run.{run}
 use Rattle.movie_file.proofs.MakingRuns.{counts_are}
@@ -18,7 +17,7 @@ overflow_add-asked c =
     omega (arith, within, c.get-from.ensures.value)
 
 pub movie_of-requires : goal.movie_of-requires
-movie_of-requires c =
+movie_of-requires c = λ state lawful_inputs.
     let first : ℕ = non_zero_u32_get c.args.first in
     let from = c.get-from.result - 1 in
     let frames = c.frames_asked-frames.result in
@@ -31,11 +30,9 @@ movie_of-requires c =
     let cart_is = c.in_ok-cart.ensures ∙ c.cart.ensures in
     let version_is = c.version_made-version.ensures.value ∙ ap (λ (n : ℕ). version_made (length c.in_ok-cart.cart) n) frames_are in
     let far = subst (λ (n : ℕ). Claims c.args.movie.now from c.args.every n c.in_ok-checkpoints.checkpoints.items) frames_are c.in_ok-checkpoints.ensures.ok in
-    let looked : AllByRecursion (λ i. IsTrue (is_input i)) c.deref.result.now = c.look_at_inputs.ensures in
     IsMovie-parts c.args.movie.now from c.args.every c.version_made-version.result c.in_ok-cart.cart c.in_ok-start.start inputs c.in_ok-checkpoints.checkpoints.items
     cart_is version_is c.in_ok-start.ensures.ok far
-    c.frames-most.ensures.lawful (subst (λ (n : ℕ). IsTrue (counts_fit n c.args.every)) frames_are fits) c.version_made-version.ensures.lawful c.look_at.ensures
-    (subst (λ (is : List InputData). AllByRecursion (λ i. IsTrue (is_input i)) is) c.deref.ensures.value looked)
+    c.frames-most.ensures.lawful (subst (λ (n : ℕ). IsTrue (counts_fit n c.args.every)) frames_are fits) c.version_made-version.ensures.lawful state lawful_inputs
 
 pub returns-clause-cut : goal.returns-clause-cut
 returns-clause-cut c =

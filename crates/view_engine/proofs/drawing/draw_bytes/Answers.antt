@@ -1,7 +1,7 @@
 use Rattle.std.proofs.Common.{◌≡◌, Err, refl, rules}
 use Rattle.movie_file.specs.Reading.{movie_at}
 use Rattle.picture_file.proofs.BytesWritten.{appends_nothing}
-use Rattle.view_engine.specs.Cuts.{refusal}
+use Rattle.vcs_engine.specs.Answers.{refusal}
 use Rattle.view_engine.proofs.drawing.draw_bytes.Goals as goal
 
 pub returns-in-Ok-clause-ok : goal.returns-in-Ok-clause-ok

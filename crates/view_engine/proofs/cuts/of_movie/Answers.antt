@@ -2,7 +2,7 @@ use Rattle.std.proofs.Common.{inl}
 use Rattle.std.proofs.lemmas.Result.{IfOk-weaker}
 use Rattle.std.specs.NonZero.{non_zero_u32_get}
 use Rattle.view_engine.proofs.CutMovies.{genuine}
-use Rattle.view_engine.proofs.cuts.Cutting.of_movie.Goals as goal
+use Rattle.view_engine.proofs.cuts.of_movie.Goals as goal
 
 pub returns-in-Ok : goal.returns-in-Ok
 returns-in-Ok c =
