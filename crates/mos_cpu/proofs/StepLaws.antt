@@ -1,17 +1,16 @@
 -- What follows from the definition of an instruction: how many cycles it takes, that each clock of
--- its bus is advanced by them, what it keeps, and that a fault changes nothing.
+-- its bus is advanced by them, and what it keeps.
 use Rattle.std.proofs.Common.{◌≡◌, ℕ, ◌+◌, ◌-◌, ◌*◌, ◌%◌, ◌≤◌, List, [], ◌∷◌, Option, Some, None}
 use Rattle.std.proofs.Common.{Result, Ok, Err, zero-add, refl, ap, sym, ◌∙◌, arith}
 use Rattle.std.proofs.Math.Nat.{mod-add-mod}
-use Rattle.std.specs.Result.{result_unwrap_or}
-use Rattle.std.specs.Prelude.{fold, map, IfOk, IfSome, OnErr}
+use Rattle.std.specs.Prelude.{fold, map, IfOk, IfSome}
 use Rattle.mos_cpu.specs.Buses.{Meaning, IsClock, IsInvariant}
 use Rattle.mos_cpu.specs.Registers.{Registers}
 use Rattle.mos_cpu.specs.Opcodes.{row_of}
 use Rattle.mos_cpu.specs.Operands.{and_then, instruction_byte, operand_of, row_or_fault}
 use Rattle.mos_cpu.specs.Operands.{instruction_at}
 use Rattle.mos_cpu.specs.Accesses.{accesses_of, instruction_cycles, use_of}
-use Rattle.mos_cpu.specs.Execution.{Step, Progress, bus_at, after_transfer, after_access, at_start}
+use Rattle.mos_cpu.specs.Execution.{Progress, bus_at, after_transfer, after_access, at_start}
 use Rattle.mos_cpu.specs.Execution.{execution_of, step_by, step_of}
 use Rattle.mos_cpu.specs.Timing.{IsTimed, least_of, AscendsTo, access_clocks, KeepsTime}
 use Rattle.mos_cpu.proofs.AccessLemmas.{accesses_of-ascend, cycles_of-least, cycles_of-most}
@@ -45,10 +44,6 @@ decoded-timed m s r =
     (λ opcode. documented-ok Timed (row_of opcode) opcode r.pc _ (row_of-timed opcode)
     (λ row timed. and_then-ok Timed (operand_of m s r row) _ (λ operand. timed)))
 
-pub timed-if : {S : Type 0} (m : Meaning S) (s : S) (r : Registers) (i : Instruction)
-    → ◌≡◌ {A = Result Instruction CpuFault} (Ok i) (instruction_at m s r) → IsTimed i.row
-timed-if m s r i e = rw (← e) at (decoded-timed m s r)
-
 pub cycles_of-timed : (i : Instruction) (p : ℕ) → IsTimed i.row
     → (2 ≤ instruction_cycles i p) × (instruction_cycles i p ≤ 7) × (least_of (use_of i.row.operation) ≤ instruction_cycles i p)
 cycles_of-timed i p timed =
@@ -58,11 +53,6 @@ cycles_of-timed i p timed =
     let room = timed.room in
     let most = timed.most in
     (omega arith, omega arith, omega arith)
-
--- The cycles that an instruction answers.
-pub answered : (n : ℕ) (i : Instruction) (p : ℕ)
-    → ◌≡◌ {A = Result ℕ CpuFault} (Ok n) (Ok (instruction_cycles i p)) → n ≡ instruction_cycles i p
-answered n i p e = ap (λ (x : Result ℕ CpuFault). result_unwrap_or x 0) e
 
 module _ {S : Type 0} (m : Meaning S) where
   step_by-least : (r : Registers) (s : S) (d : Result Instruction CpuFault)
@@ -82,25 +72,6 @@ module _ {S : Type 0} (m : Meaning S) where
   -- It takes at most 7.
   pub step_of-most : (r : Registers) (s : S) → IfOk (step_of m r s).answer (λ cycles. cycles ≤ 7)
   step_of-most r s = step_by-most r s (instruction_at m s r) (decoded-timed m s r)
-
-  step_by-fault_registers : (r : Registers) (s : S) (d : Result Instruction CpuFault)
-      → OnErr (step_by m r s d).answer ((step_by m r s d).registers ≡ r)
-  step_by-fault_registers r s (Ok i) = tt
-  step_by-fault_registers r s (Err fault) = refl
-
-  step_by-fault_bus : (r : Registers) (s : S) (d : Result Instruction CpuFault)
-      → OnErr (step_by m r s d).answer ((step_by m r s d).bus ≡ s)
-  step_by-fault_bus r s (Ok i) = tt
-  step_by-fault_bus r s (Err fault) = refl
-
-  -- After a fault the registers and the bus are as before.
-  pub step_of-fault_registers : (r : Registers) (s : S)
-      → OnErr (step_of m r s).answer ((step_of m r s).registers ≡ r)
-  step_of-fault_registers r s = step_by-fault_registers r s (instruction_at m s r)
-
-  pub step_of-fault_bus : (r : Registers) (s : S)
-      → OnErr (step_of m r s).answer ((step_of m r s).bus ≡ s)
-  step_of-fault_bus r s = step_by-fault_bus r s (instruction_at m s r)
 
 module _ {S : Type 0} (m : Meaning S) (advance : ℕ → ℕ → ℕ) (clock : S → ℕ) (is : IsClock m advance clock) where
   -- A clock is ahead of a time by the cycles of an instruction that are over.
@@ -235,21 +206,3 @@ count-adds rate t a b = grind arith
 pub count_modulo-adds : (rate modulus t a b : ℕ)
     → ((t + rate * a) % modulus + rate * b) % modulus ≡ (t + rate * (a + b)) % modulus
 count_modulo-adds rate modulus t a b = mod-add-mod (t + rate * a) modulus (rate * b) ∙ ap (λ n. n % modulus) (count-adds rate t a b)
-
--- The laws of what a step answered and left.
-module _ {S : Type 0} (m : Meaning S) (r : Registers) (s : S) (step : Step S) (told : step_of m r s ≡ step) where
-  pub told-fault_registers : OnErr step.answer (step.registers ≡ r)
-  told-fault_registers = rw told at (step_of-fault_registers m r s)
-
-  pub told-fault_bus : OnErr step.answer (step.bus ≡ s)
-  told-fault_bus = rw told at (step_of-fault_bus m r s)
-
-  pub told-least : IfOk step.answer (λ cycles. 2 ≤ cycles)
-  told-least = rw told at (step_of-least m r s)
-
-  pub told-most : IfOk step.answer (λ cycles. cycles ≤ 7)
-  told-most = rw told at (step_of-most m r s)
-
-  pub told-clock : (advance : ℕ → ℕ → ℕ) (clock : S → ℕ) → IsClock m advance clock
-      → IfOk step.answer (λ cycles. clock step.bus ≡ advance (clock s) cycles)
-  told-clock advance clock is = rw told at (step_of-clock m advance clock is r s)

@@ -4,18 +4,20 @@ ghost use Rattle.std.specs.Prelude.{◌≡◌, ℕ, ◌≤◌, ◌+◌, ◌%◌,
 ghost use Rattle.std.specs.Prelude.{Err, IsErr};
 ghost use Rattle.mos_cpu.specs.Buses.{IsClock};
 ghost use Rattle.mos_cpu.specs.Execution.{step_of};
-ghost use Rattle.mos_cpu.specs.Operands.{instruction_at};
-ghost use Rattle.mos_cpu.specs.Private.Ways.{IsLow, IsWay, has_low};
+ghost use Rattle.mos_cpu.specs.Operands.{instruction_word, instruction_at};
+ghost use Rattle.mos_cpu.specs.Private.Ways.{IsLow, IsWay, has_low, row_here, undocumented, fault_by};
 
+use crate::addressing::next_in_page;
 use crate::branches::{Bcc, Bcs, Beq, Bmi, Bne, Bpl, Bvc, Bvs, branch};
 use crate::bus::Bus;
 use crate::changes::{Asl, Dec, Inc, Lsr, Rol, Ror, change, change_a};
-use crate::decode::decode;
 use crate::fault::CpuFault;
 use crate::implied::{
     Clc, Cld, Cli, Clv, Dex, Dey, Inx, Iny, Nop, Sec, Sed, Sei, Tax, Tay, Tsx, Txa, Txs, Tya,
     implied,
 };
+use crate::opcode_table::row;
+use crate::operation::Operation;
 use crate::places::{
     Absolute, AbsoluteX, AbsoluteY, IndirectX, IndirectY, ZeroPage, ZeroPageX, ZeroPageY,
 };
@@ -227,34 +229,60 @@ fn run_opcode<B: Bus>(cpu: &mut Cpu, bus: &mut B) -> Option<u8>
     run_bytes(cpu, bus, opcode, low)
 }
 
-/// The opcode that the instruction at the program counter has a fault for, if it isn't documented.
-/// None if its fault is another one.
+/// The opcode at the program counter, if it is there and isn't documented.
 #[cold]
 #[inline(never)]
 fn bad_opcode<B: Bus>(cpu: Cpu, bus: &B) -> Option<u8>
-    requires { IsErr (instruction_at B.meaning (B.state bus.now) cpu) }
-    ensures some { IfSome result (λ opcode. (at : ℕ) × (instruction_at B.meaning (B.state bus.now) cpu ≡ Err (CpuFault.BadOpcode opcode at))) }
-    ensures none { IfNone result ((at : ℕ) × (instruction_at B.meaning (B.state bus.now) cpu ≡ Err (CpuFault.FetchOutside at))) }
+    ensures { result ≡ undocumented (row_here B.meaning (B.state bus.now) cpu) }
 {
-    match decode(&cpu, bus) {
-        Ok(_) => unreachable!(),
-        Err(CpuFault::BadOpcode { opcode, at: _ }) => Some(opcode),
-        Err(CpuFault::FetchOutside { at: _ }) => None,
+    let opcode = bus.peek(cpu.pc)?;
+    match row(opcode) {
+        Some(_) => None,
+        None => Some(opcode),
     }
 }
 
-/// The address of the byte for which the instruction at the program counter has a fault.
+/// The first of two addresses where no byte is. One of them is such, so the second isn't looked at.
+#[inline(always)]
+fn first_outside<B: Bus>(bus: &B, low: u16, high: u16) -> u16
+    requires { IsErr (instruction_word B.meaning (B.state bus.now) low high) }
+    ensures { instruction_word B.meaning (B.state bus.now) low high ≡ Err (CpuFault.FetchOutside result) }
+{
+    match bus.peek(low) {
+        Some(_) => high,
+        None => low,
+    }
+}
+
+/// The address that the fault of the instruction at the program counter names. There is a fault, so
+/// the first byte that isn't there is one of the instruction's, whatever its mode. After two bytes
+/// that are there only the indirect mode looks at more.
 #[cold]
 #[inline(never)]
 fn fault_address<B: Bus>(cpu: Cpu, bus: &B) -> u16
     requires { IsErr (instruction_at B.meaning (B.state bus.now) cpu) }
-    ensures bad { (opcode at : ℕ) → instruction_at B.meaning (B.state bus.now) cpu ≡ Err (CpuFault.BadOpcode opcode at) → result ≡ at }
-    ensures outside { (at : ℕ) → instruction_at B.meaning (B.state bus.now) cpu ≡ Err (CpuFault.FetchOutside at) → result ≡ at }
+    ensures { instruction_at B.meaning (B.state bus.now) cpu
+        ≡ Err (fault_by (undocumented (row_here B.meaning (B.state bus.now) cpu)) result) }
 {
-    match decode(&cpu, bus) {
-        Ok(_) => unreachable!(),
-        Err(CpuFault::BadOpcode { opcode: _, at } | CpuFault::FetchOutside { at }) => at,
+    let Some(opcode) = bus.peek(cpu.pc) else {
+        return cpu.pc;
+    };
+    let Some(row) = row(opcode) else {
+        return cpu.pc;
+    };
+    if row.operation == Operation::Brk {
+        return first_outside(bus, 0xFFFE, 0xFFFF);
     }
+    let first = cpu.pc.wrapping_add(1);
+    let Some(low) = bus.peek(first) else {
+        return first;
+    };
+    let second = cpu.pc.wrapping_add(2);
+    let Some(high) = bus.peek(second) else {
+        return second;
+    };
+    let pointer = u16::from_le_bytes([low, high]);
+    first_outside(bus, pointer, next_in_page(pointer))
 }
 
 /// The fault of the instruction at the program counter, which has one. Its parts are found by two
@@ -269,18 +297,6 @@ fn fault<B: Bus>(cpu: Cpu, bus: &B) -> CpuFault
     match bad_opcode(cpu, bus) {
         Some(opcode) => CpuFault::BadOpcode { opcode, at },
         None => CpuFault::FetchOutside { at },
-    }
-}
-
-/// The instruction at the program counter, or its fault.
-#[inline(always)]
-fn run_instruction<B: Bus>(cpu: &mut Cpu, bus: &mut B) -> Result<u8, CpuFault>
-    ensures { step_of B.meaning cpu.old (B.state bus.old)
-        ≡ record { answer = result; registers = cpu.new; bus = B.state bus.new } }
-{
-    match run_opcode(cpu, bus) {
-        Some(cycles) => Ok(cycles),
-        None => Err(fault(*cpu, bus)),
     }
 }
 
@@ -304,5 +320,8 @@ pub fn step<B: Bus>(cpu: &mut Cpu, bus: &mut B) -> Result<u8, CpuFault>
         let start = clock (B.state bus.old) in
         IfOk result (λ cycles. clock (B.state bus.new) ≡ advance start cycles) }
 {
-    run_instruction(cpu, bus)
+    match run_opcode(cpu, bus) {
+        Some(cycles) => Ok(cycles),
+        None => Err(fault(*cpu, bus)),
+    }
 }

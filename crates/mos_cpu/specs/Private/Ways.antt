@@ -1,7 +1,7 @@
 -- What the ways of opcodes stand on: an opcode's row and operand, each known by itself, and how an
 -- operation uses its operand. These are helpers of proofs: no public contract names them.
 use Rattle.std.specs.Prelude.{ℕ, ◌≡◌, ◌+◌, ◌%◌, Bool, false, not, ◌==◌, ◌||◌, if◌then◌else◌, List}
-use Rattle.std.specs.Prelude.{[], Option, Some, None, Result, Ok, IsErr, slice_index}
+use Rattle.std.specs.Prelude.{[], Option, Some, None, Result, Ok, Err, IsErr, slice_index}
 use Rattle.mos_cpu.specs.Accesses.{StoredByte, Nothing, Reads, Stores, Modifies, use_of}
 use Rattle.mos_cpu.specs.Accesses.{branch_test, is_taken}
 use Rattle.mos_cpu.specs.Buses.{Meaning}
@@ -13,6 +13,7 @@ use Rattle.mos_cpu.specs.Operands.{length_of, takes_vector, instruction_at}
 use Rattle.mos_cpu.specs.Registers.{Registers}
 use Rattle.mos_cpu.specs.declared.addressing.Target.{Target}
 use Rattle.mos_cpu.specs.declared.fault.CpuFault.{CpuFault}
+use Rattle.mos_cpu.specs.declared.fault.CpuFault.TheVariants.{BadOpcode, FetchOutside}
 use Rattle.mos_cpu.specs.declared.opcode_row.Row.{Row}
 use Rattle.mos_cpu.specs.declared.operation.Operation.{Operation}
 use Rattle.mos_cpu.specs.declared.mode.Mode.{Mode}
@@ -23,6 +24,16 @@ use Rattle.mos_cpu.specs.declared.instruction.Operand.TheVariants.{Register, Val
 abbrev pub row_here : {S : Type 0} → Meaning S → S → Registers → Result Row CpuFault
 row_here m s r =
     and_then (instruction_byte m s r.pc) (λ opcode. row_or_fault (row_of opcode) opcode r.pc)
+
+-- The opcode that isn't documented, if that is the fault.
+abbrev pub undocumented : Result Row CpuFault → Option ℕ
+undocumented (Err (BadOpcode opcode at)) = Some opcode
+undocumented other = None
+
+-- The fault at an address: that this opcode isn't documented, or that no byte is there.
+abbrev pub fault_by : Option ℕ → ℕ → CpuFault
+fault_by (Some opcode) at = BadOpcode opcode at
+fault_by None at = FetchOutside at
 
 -- The row of the opcode at the program counter is this one.
 abbrev pub IsRow : {S : Type 0} → Meaning S → S → Registers → Operation → Mode → ℕ → Bool → Type 0
