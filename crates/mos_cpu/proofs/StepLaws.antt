@@ -7,8 +7,8 @@ use Rattle.std.specs.Prelude.{fold, map, IfOk, IfSome}
 use Rattle.mos_cpu.specs.Buses.{Meaning, IsClock, IsInvariant}
 use Rattle.mos_cpu.specs.Registers.{Registers}
 use Rattle.mos_cpu.specs.Opcodes.{row_of}
-use Rattle.mos_cpu.specs.Operands.{and_then, instruction_byte, operand_of, row_or_fault}
-use Rattle.mos_cpu.specs.Operands.{instruction_at}
+use Rattle.mos_cpu.specs.Operands.{Instruction, and_then, instruction_byte, operand_of}
+use Rattle.mos_cpu.specs.Operands.{row_or_fault, instruction_at}
 use Rattle.mos_cpu.specs.Accesses.{accesses_of, instruction_cycles, use_of}
 use Rattle.mos_cpu.specs.Execution.{Progress, bus_at, after_transfer, after_access, at_start}
 use Rattle.mos_cpu.specs.Execution.{execution_of, step_by, step_of}
@@ -18,7 +18,6 @@ use Rattle.mos_cpu.proofs.OpcodeLemmas.{row_of-timed}
 use Rattle.mos_cpu.specs.declared.fault.CpuFault.{CpuFault}
 use Rattle.mos_cpu.specs.declared.opcode_row.Row.{Row}
 use Rattle.mos_cpu.specs.declared.operation.Operation.{Operation}
-use Rattle.mos_cpu.specs.declared.instruction.Instruction.{Instruction}
 use Rattle.mos_cpu.specs.declared.access.Transfer.{Transfer}
 use Rattle.mos_cpu.specs.declared.access.Transfer.TheVariants.{Read, Write}
 use Rattle.mos_cpu.specs.declared.access.Access.{Access}

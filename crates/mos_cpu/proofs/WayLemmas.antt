@@ -10,8 +10,9 @@ use Rattle.mos_cpu.specs.Buses.{Meaning}
 use Rattle.mos_cpu.specs.Effects.{changed_of, effect, with_a, with_p, with_pc}
 use Rattle.mos_cpu.specs.Execution.{execution_of, step_of}
 use Rattle.mos_cpu.specs.Opcodes.{row_of, row_with}
-use Rattle.mos_cpu.specs.Operands.{and_then, instruction_byte, branch_target, row_or_fault}
-use Rattle.mos_cpu.specs.Operands.{operand_by_mode, operand_of, takes_vector, instruction_at}
+use Rattle.mos_cpu.specs.Operands.{Operand, Register, Value, Place, Instruction, and_then}
+use Rattle.mos_cpu.specs.Operands.{instruction_byte, branch_target, row_or_fault, operand_by_mode}
+use Rattle.mos_cpu.specs.Operands.{operand_of, takes_vector, instruction_at}
 use Rattle.mos_cpu.specs.Registers.{Registers}
 use Rattle.mos_cpu.specs.Private.Ways.{has_low, row_here, IsRow, IsLow, IsTarget, IsStepOf}
 use Rattle.mos_cpu.specs.Private.Ways.{IsReader, IsStorer, IsChanger, IsBranch, IsInner}
@@ -24,9 +25,6 @@ use Rattle.mos_cpu.specs.declared.mode.Mode.TheVariants.{Implied, Accumulator, I
 use Rattle.mos_cpu.specs.declared.mode.Mode.TheVariants.{ZeroPageX, ZeroPageY, Absolute, AbsoluteX}
 use Rattle.mos_cpu.specs.declared.mode.Mode.TheVariants.{AbsoluteY, Relative, Indirect, IndirectX}
 use Rattle.mos_cpu.specs.declared.mode.Mode.TheVariants.{IndirectY}
-use Rattle.mos_cpu.specs.declared.instruction.Operand.{Operand}
-use Rattle.mos_cpu.specs.declared.instruction.Operand.TheVariants.{Register, Value, Place}
-use Rattle.mos_cpu.specs.declared.instruction.Instruction.{Instruction}
 
 -- The third of three steps where the first two give a value.
 chained : {T U : Type 0} (x : Result ℕ CpuFault) (f : ℕ → Result T CpuFault) (g : T → Result U CpuFault) (t : T)

@@ -4,7 +4,7 @@ use Rattle.mos_cpu.specs.Accesses.{is_taken}
 use Rattle.mos_cpu.specs.Arithmetic.{load_of, and_of, ora_of, eor_of, compare_of, bit_of, asl_of}
 use Rattle.mos_cpu.specs.Arithmetic.{lsr_of, rol_of, ror_of, inc_of, dec_of}
 use Rattle.mos_cpu.specs.Decimal.{adc_of, sbc_of}
-use Rattle.mos_cpu.specs.Operands.{length_of}
+use Rattle.mos_cpu.specs.Operands.{Operand, Register, Value, Place, Instruction, length_of}
 use Rattle.mos_cpu.specs.Registers.{Registers, after_pushes, after_pulls}
 use Rattle.mos_cpu.specs.Status.{put_flag, pulled_of}
 use Rattle.mos_cpu.specs.declared.arithmetic.Alu.{Alu}
@@ -18,9 +18,6 @@ use Rattle.mos_cpu.specs.declared.operation.Operation.TheVariants.{Lsr, Ora, Pha
 use Rattle.mos_cpu.specs.declared.operation.Operation.TheVariants.{Rol, Ror, Rti, Rts, Sbc, Sec}
 use Rattle.mos_cpu.specs.declared.operation.Operation.TheVariants.{Sed, Sei, Tax, Tay, Tsx, Txa}
 use Rattle.mos_cpu.specs.declared.operation.Operation.TheVariants.{Txs, Tya}
-use Rattle.mos_cpu.specs.declared.instruction.Operand.{Operand}
-use Rattle.mos_cpu.specs.declared.instruction.Operand.TheVariants.{Register, Value, Place}
-use Rattle.mos_cpu.specs.declared.instruction.Instruction.{Instruction}
 use Rattle.mos_cpu.specs.declared.access.Source.{Source}
 use Rattle.mos_cpu.specs.declared.access.Source.TheVariants.{Byte, Loaded, Changed}
 

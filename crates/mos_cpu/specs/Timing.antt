@@ -9,7 +9,7 @@ use Rattle.mos_cpu.specs.Execution.{Progress, bus_at, after_access, at_start}
 use Rattle.mos_cpu.specs.Registers.{Registers}
 use Rattle.mos_cpu.specs.declared.opcode_row.Row.{Row}
 use Rattle.mos_cpu.specs.declared.operation.Operation.{Operation}
-use Rattle.mos_cpu.specs.declared.instruction.Instruction.{Instruction}
+use Rattle.mos_cpu.specs.Operands.{Instruction}
 use Rattle.mos_cpu.specs.declared.access.Access.{Access}
 
 -- The fewest cycles that have room for some accesses.

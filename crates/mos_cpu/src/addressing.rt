@@ -1,12 +1,11 @@
 //! Where the operand of an instruction is.
 
 ghost use Rattle.std.specs.Prelude.{◌≡◌, ◌+◌, ◌*◌, ◌/◌, ◌%◌, false, IfSome, IfNone, IsErr, Ok};
-ghost use Rattle.mos_cpu.specs.Operands.{operand_word, pointer_at, indexed_place, branch_target};
-ghost use Rattle.mos_cpu.specs.Operands.{next_in_page_of};
+ghost use Rattle.mos_cpu.specs.Operands.{Place, operand_word, pointer_at, indexed_place};
+ghost use Rattle.mos_cpu.specs.Operands.{branch_target, next_in_page_of};
 ghost use Rattle.mos_cpu.specs.Private.Ways.{IsLow};
 
 use crate::bus::Bus;
-use crate::instruction::Operand;
 use crate::registers::Cpu;
 
 /// The pointer at a place in page zero, where it wraps.
@@ -48,7 +47,7 @@ pub fn word_after<B: Bus>(cpu: &Cpu, bus: &B, low: u8) -> Option<u16>
 /// A place with an index added.
 #[inline(always)]
 pub fn offset_by(base: u16, index: u16, next: u16) -> Target
-    ensures place { Operand.Place result.address result.crossed ≡ indexed_place base index }
+    ensures place { Place result.address result.crossed ≡ indexed_place base index }
     ensures next { result.next ≡ next }
 {
     let address = base.wrapping_add(index);
@@ -74,7 +73,7 @@ pub fn direct(address: u16, next: u16) -> Target
 /// The target of a branch from the next instruction's address.
 #[inline(always)]
 pub fn branch_by(next: u16, offset: u8) -> Target
-    ensures place { Operand.Place result.address result.crossed ≡ branch_target next offset }
+    ensures place { Place result.address result.crossed ≡ branch_target next offset }
     ensures next { result.next ≡ next }
 {
     let index = if offset >= 0x80 {

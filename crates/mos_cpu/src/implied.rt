@@ -2,12 +2,12 @@
 
 ghost use Rattle.std.specs.Prelude.{◌≡◌, [], false, refl};
 ghost use Rattle.mos_cpu.specs.Effects.{effect};
+ghost use Rattle.mos_cpu.specs.Operands.{Register};
 ghost use Rattle.mos_cpu.specs.declared.operation.Operation.{Operation};
 ghost use Rattle.mos_cpu.specs.Private.Ways.{IsInner, IsRow, IsWay};
 
 use crate::arithmetic::{dec, inc, load};
 use crate::bus::Bus;
-use crate::instruction::Operand;
 use crate::mode::Mode;
 use crate::operation::Operation;
 use crate::registers::Cpu;
@@ -19,7 +19,7 @@ pub trait OnRegisters {
 
     /// What it does to the registers.
     fn act(cpu: &mut Cpu)
-        ensures { cpu.new ≡ effect operation Operand.Register cpu.old [] };
+        ensures { cpu.new ≡ effect operation Register cpu.old [] };
 
     ghost inner: { IsInner operation };
 }

@@ -2,13 +2,13 @@
 
 ghost use Rattle.std.specs.Prelude.{◌≡◌, ◌+◌, [], false, refl};
 ghost use Rattle.mos_cpu.specs.Effects.{effect};
+ghost use Rattle.mos_cpu.specs.Operands.{Value};
 ghost use Rattle.mos_cpu.specs.declared.operation.Operation.{Operation};
 ghost use Rattle.mos_cpu.specs.Private.Ways.{IsReader, IsRow, IsLow, IsWay};
 
 use crate::addressing::Target;
 use crate::arithmetic::{and, bit, compare, eor, load, ora};
 use crate::bus::Bus;
-use crate::instruction::Operand;
 use crate::mode::Mode;
 use crate::operation::Operation;
 use crate::places::PlaceMode;
@@ -21,7 +21,7 @@ pub trait Reader {
 
     /// What it does to the registers with a byte.
     fn take(cpu: &mut Cpu, m: u8)
-        ensures { cpu.new ≡ effect operation (Operand.Value m) cpu.old [] };
+        ensures { cpu.new ≡ effect operation (Value m) cpu.old [] };
 
     ghost reads: { IsReader operation };
 }

@@ -9,16 +9,13 @@ use Rattle.mos_cpu.specs.Accesses.{accesses_by as accesses_by_use, accesses_of, 
 use Rattle.mos_cpu.specs.Accesses.{pulls, pushes, use_of}
 use Rattle.mos_cpu.specs.Buses.{Meaning, Respects}
 use Rattle.mos_cpu.specs.Execution.{Progress, after_access, after_transfer, at_start, step_by, step_of}
-use Rattle.mos_cpu.specs.Operands.{instruction_at}
+use Rattle.mos_cpu.specs.Operands.{Operand, Register, Value, Place, Instruction, instruction_at}
 use Rattle.mos_cpu.specs.Registers.{Registers}
 use Rattle.mos_cpu.specs.Timing.{IsTimed, least_of}
 use Rattle.mos_cpu.specs.declared.access.Access.{Access}
 use Rattle.mos_cpu.specs.declared.access.Transfer.{Transfer}
 use Rattle.mos_cpu.specs.declared.access.Transfer.TheVariants.{Read, Write}
 use Rattle.mos_cpu.specs.declared.fault.CpuFault.{CpuFault}
-use Rattle.mos_cpu.specs.declared.instruction.Instruction.{Instruction}
-use Rattle.mos_cpu.specs.declared.instruction.Operand.{Operand}
-use Rattle.mos_cpu.specs.declared.instruction.Operand.TheVariants.{Register, Value, Place}
 use Rattle.mos_cpu.specs.declared.operation.Operation.{Operation}
 use Rattle.mos_cpu.proofs.AlongMaps.{decoded-along, step_of-along}
 use Rattle.mos_cpu.proofs.StepLaws.{cycles_of-timed, decoded-timed}

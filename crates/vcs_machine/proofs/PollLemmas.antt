@@ -12,14 +12,13 @@ use Rattle.mos_cpu.specs.Effects.{with_a, with_pc}
 use Rattle.mos_cpu.specs.Execution.{Step, step_of}
 use Rattle.mos_cpu.specs.Numbers.{modulo, signed}
 use Rattle.mos_cpu.specs.Opcodes.{row_of, row_with}
-use Rattle.mos_cpu.specs.Operands.{branch_target}
+use Rattle.mos_cpu.specs.Operands.{Place as Places, branch_target}
 use Rattle.mos_cpu.specs.Private.Ways.{IsBranch, IsReader, IsTarget, row_here}
 use Rattle.mos_cpu.specs.Registers.{Registers}
 use Rattle.mos_cpu.specs.Status.{has_flag, put_flag, with_nz}
 use Rattle.mos_cpu.specs.declared.addressing.Target.{Target}
 use Rattle.mos_cpu.specs.declared.arithmetic.Alu.{Alu}
 use Rattle.mos_cpu.specs.declared.fault.CpuFault.{CpuFault}
-use Rattle.mos_cpu.specs.declared.instruction.Operand.TheVariants.{Place as Places}
 use Rattle.mos_cpu.specs.declared.mode.Mode.TheVariants.{Absolute, Relative}
 use Rattle.mos_cpu.specs.declared.operation.Operation.TheVariants.{Lda}
 use Rattle.mos_cpu.specs.declared.status.Flag.TheVariants.{Zero, Negative}

@@ -6,13 +6,12 @@ use Rattle.mos_cpu.specs.Accesses.{accesses_of, instruction_cycles}
 use Rattle.mos_cpu.specs.Buses.{Meaning}
 use Rattle.mos_cpu.specs.Effects.{written_byte}
 use Rattle.mos_cpu.specs.Execution.{Progress, after_access, at_start, bus_at}
-use Rattle.mos_cpu.specs.Operands.{instruction_at}
+use Rattle.mos_cpu.specs.Operands.{Instruction, instruction_at}
 use Rattle.mos_cpu.specs.Registers.{Registers}
 use Rattle.mos_cpu.specs.declared.access.Access.{Access}
 use Rattle.mos_cpu.specs.declared.access.Transfer.{Transfer}
 use Rattle.mos_cpu.specs.declared.access.Transfer.TheVariants.{Read, Write}
 use Rattle.mos_cpu.specs.declared.fault.CpuFault.{CpuFault}
-use Rattle.mos_cpu.specs.declared.instruction.Instruction.{Instruction}
 use Rattle.mos_cpu.specs.declared.operation.Operation.{Operation}
 use Rattle.vcs_machine.specs.Consoles.{Console, console_rules, meaning_of}
 use Rattle.vcs_machine.specs.Frame.{Failed, Machine, Reaches, Rules, Stop, StopsAs, Turn, Went}

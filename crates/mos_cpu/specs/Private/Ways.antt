@@ -8,8 +8,9 @@ use Rattle.mos_cpu.specs.Buses.{Meaning}
 use Rattle.mos_cpu.specs.Effects.{changed_of, target_of, with_a, with_p, with_pc, effect}
 use Rattle.mos_cpu.specs.Execution.{step_of}
 use Rattle.mos_cpu.specs.Opcodes.{row_of, row_with}
-use Rattle.mos_cpu.specs.Operands.{and_then, instruction_byte, row_or_fault, operand_by_mode}
-use Rattle.mos_cpu.specs.Operands.{length_of, takes_vector, instruction_at}
+use Rattle.mos_cpu.specs.Operands.{Operand, Register, Value, Place, and_then, instruction_byte}
+use Rattle.mos_cpu.specs.Operands.{row_or_fault, operand_by_mode, length_of, takes_vector}
+use Rattle.mos_cpu.specs.Operands.{instruction_at}
 use Rattle.mos_cpu.specs.Registers.{Registers}
 use Rattle.mos_cpu.specs.declared.addressing.Target.{Target}
 use Rattle.mos_cpu.specs.declared.fault.CpuFault.{CpuFault}
@@ -17,8 +18,6 @@ use Rattle.mos_cpu.specs.declared.fault.CpuFault.TheVariants.{BadOpcode, FetchOu
 use Rattle.mos_cpu.specs.declared.opcode_row.Row.{Row}
 use Rattle.mos_cpu.specs.declared.operation.Operation.{Operation}
 use Rattle.mos_cpu.specs.declared.mode.Mode.{Mode}
-use Rattle.mos_cpu.specs.declared.instruction.Operand.{Operand}
-use Rattle.mos_cpu.specs.declared.instruction.Operand.TheVariants.{Register, Value, Place}
 
 -- The row of the opcode at the program counter, or the fault that none is there.
 abbrev pub row_here : {S : Type 0} → Meaning S → S → Registers → Result Row CpuFault

@@ -2,7 +2,7 @@ use Rattle.std.proofs.Common.{rules, false, refl}
 use Rattle.mos_cpu.specs.Opcodes.{row_with}
 use Rattle.mos_cpu.specs.declared.operation.Operation.TheVariants.{Jsr}
 use Rattle.mos_cpu.specs.declared.mode.Mode.TheVariants.{Absolute}
-use Rattle.mos_cpu.specs.declared.instruction.Operand.TheVariants.{Place}
+use Rattle.mos_cpu.specs.Operands.{Place}
 use Rattle.mos_cpu.proofs.WayLemmas.{step_of-known, decoded-err, and_then-err}
 use Rattle.mos_cpu.proofs.stack.jsr.Goals as goal
 
