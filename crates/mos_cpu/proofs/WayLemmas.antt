@@ -15,7 +15,7 @@ use Rattle.mos_cpu.specs.Operands.{instruction_byte, branch_target, row_or_fault
 use Rattle.mos_cpu.specs.Operands.{operand_of, takes_vector, instruction_at}
 use Rattle.mos_cpu.specs.Registers.{Registers}
 use Rattle.mos_cpu.specs.Private.Ways.{has_low, row_here, IsRow, IsLow, IsTarget, IsStepOf}
-use Rattle.mos_cpu.specs.Private.Ways.{IsReader, IsStorer, IsChanger, IsBranch, IsInner}
+use Rattle.mos_cpu.specs.Private.Ways.{IsReader, IsStorer, IsChanger, IsBranch, IsImplied}
 use Rattle.mos_cpu.specs.declared.addressing.Target.{Target}
 use Rattle.mos_cpu.specs.declared.fault.CpuFault.{CpuFault}
 use Rattle.mos_cpu.specs.declared.opcode_row.Row.{Row}
@@ -114,11 +114,11 @@ module _ {S : Type 0} (m : Meaning S) (r : Registers) (s : S) where
       let known = step_of-known (row_with o Accumulator 2 false) Register here changes.plain refl in
       rw (known, changes.used, changes.straight, changes.in_a) refl
 
-  pub step_of-inner : (o : Operation) → IsInner o → IsRow m s r o Implied 2 false
+  pub step_of-implied : (o : Operation) → IsImplied o → IsRow m s r o Implied 2 false
       → IsStepOf m r s 2 (effect o Register (with_pc r ((r.pc + 1) % 65536)) []) (m.passed s 2)
-  step_of-inner o inner here =
-      let known = step_of-known (row_with o Implied 2 false) Register here inner.plain refl in
-      rw (known, inner.used, inner.straight) refl
+  step_of-implied o implied here =
+      let known = step_of-known (row_with o Implied 2 false) Register here implied.plain refl in
+      rw (known, implied.used, implied.straight) refl
 
   branch_named : (low : ℕ) → IsLow m s r low
       → ◌≡◌ {A = Result Operand CpuFault} (operand_by_mode m s r Relative) (Ok (branch_target ((r.pc + 2) % 65536) low))

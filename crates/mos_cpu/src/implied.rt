@@ -4,7 +4,7 @@ ghost use Rattle.std.specs.Prelude.{◌≡◌, [], false, refl};
 ghost use Rattle.mos_cpu.specs.Effects.{effect};
 ghost use Rattle.mos_cpu.specs.Operands.{Register};
 ghost use Rattle.mos_cpu.specs.declared.operation.Operation.{Operation};
-ghost use Rattle.mos_cpu.specs.Private.Ways.{IsInner, IsRow, IsWay};
+ghost use Rattle.mos_cpu.specs.Private.Ways.{IsImplied, IsRow, IsWay};
 
 use crate::arithmetic::{dec, inc, load};
 use crate::bus::Bus;
@@ -14,22 +14,22 @@ use crate::registers::Cpu;
 use crate::status::{Flag, with_flag};
 
 /// An operation on registers alone.
-pub trait OnRegisters {
+pub trait ImpliedOperation {
     ghost operation: { Operation };
 
     /// What it does to the registers.
     fn act(cpu: &mut Cpu)
         ensures { cpu.new ≡ effect operation Register cpu.old [] };
 
-    ghost inner: { IsInner operation };
+    ghost implied: { IsImplied operation };
 }
 
 pub struct Clc;
 
-impl OnRegisters for Clc {
+impl ImpliedOperation for Clc {
     ghost operation = { Operation.Clc };
 
-    ghost inner = { record { used = refl; straight = refl; plain = refl } };
+    ghost implied = { record { used = refl; straight = refl; plain = refl } };
 
     #[inline(always)]
     fn act(cpu: &mut Cpu) {
@@ -39,10 +39,10 @@ impl OnRegisters for Clc {
 
 pub struct Cld;
 
-impl OnRegisters for Cld {
+impl ImpliedOperation for Cld {
     ghost operation = { Operation.Cld };
 
-    ghost inner = { record { used = refl; straight = refl; plain = refl } };
+    ghost implied = { record { used = refl; straight = refl; plain = refl } };
 
     #[inline(always)]
     fn act(cpu: &mut Cpu) {
@@ -52,10 +52,10 @@ impl OnRegisters for Cld {
 
 pub struct Cli;
 
-impl OnRegisters for Cli {
+impl ImpliedOperation for Cli {
     ghost operation = { Operation.Cli };
 
-    ghost inner = { record { used = refl; straight = refl; plain = refl } };
+    ghost implied = { record { used = refl; straight = refl; plain = refl } };
 
     #[inline(always)]
     fn act(cpu: &mut Cpu) {
@@ -65,10 +65,10 @@ impl OnRegisters for Cli {
 
 pub struct Clv;
 
-impl OnRegisters for Clv {
+impl ImpliedOperation for Clv {
     ghost operation = { Operation.Clv };
 
-    ghost inner = { record { used = refl; straight = refl; plain = refl } };
+    ghost implied = { record { used = refl; straight = refl; plain = refl } };
 
     #[inline(always)]
     fn act(cpu: &mut Cpu) {
@@ -78,10 +78,10 @@ impl OnRegisters for Clv {
 
 pub struct Dex;
 
-impl OnRegisters for Dex {
+impl ImpliedOperation for Dex {
     ghost operation = { Operation.Dex };
 
-    ghost inner = { record { used = refl; straight = refl; plain = refl } };
+    ghost implied = { record { used = refl; straight = refl; plain = refl } };
 
     #[inline(always)]
     fn act(cpu: &mut Cpu) {
@@ -91,10 +91,10 @@ impl OnRegisters for Dex {
 
 pub struct Dey;
 
-impl OnRegisters for Dey {
+impl ImpliedOperation for Dey {
     ghost operation = { Operation.Dey };
 
-    ghost inner = { record { used = refl; straight = refl; plain = refl } };
+    ghost implied = { record { used = refl; straight = refl; plain = refl } };
 
     #[inline(always)]
     fn act(cpu: &mut Cpu) {
@@ -104,10 +104,10 @@ impl OnRegisters for Dey {
 
 pub struct Inx;
 
-impl OnRegisters for Inx {
+impl ImpliedOperation for Inx {
     ghost operation = { Operation.Inx };
 
-    ghost inner = { record { used = refl; straight = refl; plain = refl } };
+    ghost implied = { record { used = refl; straight = refl; plain = refl } };
 
     #[inline(always)]
     fn act(cpu: &mut Cpu) {
@@ -117,10 +117,10 @@ impl OnRegisters for Inx {
 
 pub struct Iny;
 
-impl OnRegisters for Iny {
+impl ImpliedOperation for Iny {
     ghost operation = { Operation.Iny };
 
-    ghost inner = { record { used = refl; straight = refl; plain = refl } };
+    ghost implied = { record { used = refl; straight = refl; plain = refl } };
 
     #[inline(always)]
     fn act(cpu: &mut Cpu) {
@@ -130,10 +130,10 @@ impl OnRegisters for Iny {
 
 pub struct Nop;
 
-impl OnRegisters for Nop {
+impl ImpliedOperation for Nop {
     ghost operation = { Operation.Nop };
 
-    ghost inner = { record { used = refl; straight = refl; plain = refl } };
+    ghost implied = { record { used = refl; straight = refl; plain = refl } };
 
     #[inline(always)]
     fn act(cpu: &mut Cpu) {}
@@ -141,10 +141,10 @@ impl OnRegisters for Nop {
 
 pub struct Sec;
 
-impl OnRegisters for Sec {
+impl ImpliedOperation for Sec {
     ghost operation = { Operation.Sec };
 
-    ghost inner = { record { used = refl; straight = refl; plain = refl } };
+    ghost implied = { record { used = refl; straight = refl; plain = refl } };
 
     #[inline(always)]
     fn act(cpu: &mut Cpu) {
@@ -154,10 +154,10 @@ impl OnRegisters for Sec {
 
 pub struct Sed;
 
-impl OnRegisters for Sed {
+impl ImpliedOperation for Sed {
     ghost operation = { Operation.Sed };
 
-    ghost inner = { record { used = refl; straight = refl; plain = refl } };
+    ghost implied = { record { used = refl; straight = refl; plain = refl } };
 
     #[inline(always)]
     fn act(cpu: &mut Cpu) {
@@ -167,10 +167,10 @@ impl OnRegisters for Sed {
 
 pub struct Sei;
 
-impl OnRegisters for Sei {
+impl ImpliedOperation for Sei {
     ghost operation = { Operation.Sei };
 
-    ghost inner = { record { used = refl; straight = refl; plain = refl } };
+    ghost implied = { record { used = refl; straight = refl; plain = refl } };
 
     #[inline(always)]
     fn act(cpu: &mut Cpu) {
@@ -180,10 +180,10 @@ impl OnRegisters for Sei {
 
 pub struct Tax;
 
-impl OnRegisters for Tax {
+impl ImpliedOperation for Tax {
     ghost operation = { Operation.Tax };
 
-    ghost inner = { record { used = refl; straight = refl; plain = refl } };
+    ghost implied = { record { used = refl; straight = refl; plain = refl } };
 
     #[inline(always)]
     fn act(cpu: &mut Cpu) {
@@ -193,10 +193,10 @@ impl OnRegisters for Tax {
 
 pub struct Tay;
 
-impl OnRegisters for Tay {
+impl ImpliedOperation for Tay {
     ghost operation = { Operation.Tay };
 
-    ghost inner = { record { used = refl; straight = refl; plain = refl } };
+    ghost implied = { record { used = refl; straight = refl; plain = refl } };
 
     #[inline(always)]
     fn act(cpu: &mut Cpu) {
@@ -206,10 +206,10 @@ impl OnRegisters for Tay {
 
 pub struct Tsx;
 
-impl OnRegisters for Tsx {
+impl ImpliedOperation for Tsx {
     ghost operation = { Operation.Tsx };
 
-    ghost inner = { record { used = refl; straight = refl; plain = refl } };
+    ghost implied = { record { used = refl; straight = refl; plain = refl } };
 
     #[inline(always)]
     fn act(cpu: &mut Cpu) {
@@ -219,10 +219,10 @@ impl OnRegisters for Tsx {
 
 pub struct Txa;
 
-impl OnRegisters for Txa {
+impl ImpliedOperation for Txa {
     ghost operation = { Operation.Txa };
 
-    ghost inner = { record { used = refl; straight = refl; plain = refl } };
+    ghost implied = { record { used = refl; straight = refl; plain = refl } };
 
     #[inline(always)]
     fn act(cpu: &mut Cpu) {
@@ -232,10 +232,10 @@ impl OnRegisters for Txa {
 
 pub struct Txs;
 
-impl OnRegisters for Txs {
+impl ImpliedOperation for Txs {
     ghost operation = { Operation.Txs };
 
-    ghost inner = { record { used = refl; straight = refl; plain = refl } };
+    ghost implied = { record { used = refl; straight = refl; plain = refl } };
 
     #[inline(always)]
     fn act(cpu: &mut Cpu) {
@@ -245,10 +245,10 @@ impl OnRegisters for Txs {
 
 pub struct Tya;
 
-impl OnRegisters for Tya {
+impl ImpliedOperation for Tya {
     ghost operation = { Operation.Tya };
 
-    ghost inner = { record { used = refl; straight = refl; plain = refl } };
+    ghost implied = { record { used = refl; straight = refl; plain = refl } };
 
     #[inline(always)]
     fn act(cpu: &mut Cpu) {
@@ -257,7 +257,7 @@ impl OnRegisters for Tya {
 }
 
 /// An operation on registers, whose opcode is the whole instruction.
-pub fn implied<O: OnRegisters, B: Bus>(cpu: &mut Cpu, bus: &mut B) -> Option<u8>
+pub fn implied<O: ImpliedOperation, B: Bus>(cpu: &mut Cpu, bus: &mut B) -> Option<u8>
     requires { IsRow B.meaning (B.state bus.old) cpu.old O.operation Mode.Implied 2 false }
     ensures { IsWay B.meaning cpu.old (B.state bus.old) result cpu.new (B.state bus.new) }
 {

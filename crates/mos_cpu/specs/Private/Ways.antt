@@ -108,7 +108,7 @@ pub record IsBranch (o : Operation) : Type 0 where
       → effect o operand r bytes ≡ (if is_taken o r.p then with_pc r (target_of operand) else r)
 
 -- An operation that touches no memory.
-pub record IsInner (o : Operation) : Type 0 where
+pub record IsImplied (o : Operation) : Type 0 where
   pub used : use_of o ≡ Nothing
   pub straight : branch_test o ≡ None
   pub plain : takes_vector o ≡ false
