@@ -13,7 +13,10 @@ use Rattle.movie_file.specs.Format.{takes_cart, most_frames, record_length, whol
 use Rattle.movie_file.specs.Movie.{IsState, IsStateWith}
 use Rattle.movie_file.specs.Record.{record_of, recorded_state, movie_record, fits_bank}
 use Rattle.movie_file.specs.Record.{with_fitting_bank, movie_state_at}
-use Rattle.movie_file.specs.RecordParts.{cpu_bytes, riot_bytes, tia_bytes}
+use Rattle.record_table.specs.Numbers.{bytes_of}
+use Rattle.mos_cpu.specs.Registers.{processor_numbers}
+use Rattle.tia_core.specs.Numbers.{tia_numbers}
+use Rattle.movie_file.specs.Record.{riot_bytes}
 use Rattle.movie_file.proofs.ByteLemmas.{IsBytes, chosen_some}
 use Rattle.movie_file.proofs.RecordParts.{length-riot_bytes}
 use Rattle.movie_file.proofs.RecordLaws.{state_takes, state_again, length-record_of}
@@ -41,7 +44,7 @@ bank_of_old version cart bank old takes fits = grind (arith, nat_tests)
 -- ---- the bank is the last byte
 
 abbrev prefix_bytes : StateFields → List ℕ
-prefix_bytes f = cpu_bytes f.cpu ++ riot_bytes f.riot ++ tia_bytes f.tia
+prefix_bytes f = bytes_of processor_numbers f.cpu ++ riot_bytes f.riot ++ bytes_of tia_numbers f.tia
 
 record_parts : (f : StateFields) → record_of f ≡ prefix_bytes f ++ f.bank ∷ []
 unfolding record_of
@@ -50,7 +53,7 @@ record_parts f = refl
 prefix_length : (f : StateFields) → IsState f → length (prefix_bytes f) ≡ 187
 prefix_length f h =
     let riot = length-riot_bytes f.riot h.ram in
-    omega (arith, length-append (riot_bytes f.riot) (tia_bytes f.tia))
+    omega (arith, length-append (riot_bytes f.riot) (bytes_of tia_numbers f.tia))
 
 take_prefix : (f : StateFields) → IsState f → take 187 (record_of f) ≡ prefix_bytes f
 take_prefix f h = ap (take 187) (record_parts f) ∙ take_at (prefix_bytes f) (f.bank ∷ []) 187 (prefix_length f h)

@@ -15,9 +15,12 @@ use Rattle.vcs_machine.proofs.StateLemmas.{clock_of, clock-thirds}
 use Rattle.vcs_machine.specs.declared.fields.StateFields.{StateFields}
 use Rattle.vcs_machine.specs.States.{is_state}
 use Rattle.movie_file.specs.Format.{state_length}
-use Rattle.movie_file.specs.Record.{record_of, recorded_state, fields_at, cpu_part, riot_part}
-use Rattle.movie_file.specs.Record.{tia_part}
-use Rattle.movie_file.specs.RecordParts.{cpu_bytes, cpu_at, riot_bytes, riot_at, tia_bytes, tia_at}
+use Rattle.record_table.specs.Numbers.{bytes_of}
+use Rattle.mos_cpu.specs.Registers.{processor_numbers}
+use Rattle.tia_core.specs.Numbers.{tia_numbers}
+use Rattle.movie_file.specs.Record.{record_of, recorded_state, riot_bytes}
+use Rattle.movie_file.specs.Private.RecordNumbers.{fields_at, cpu_part, riot_part, tia_part}
+use Rattle.movie_file.specs.Private.RecordNumbers.{cpu_at, riot_at, tia_at}
 use Rattle.movie_file.specs.Movie.{IsState}
 use Rattle.movie_file.proofs.ByteLemmas.{IsBytes, IsBytes-take, IsBytes-drop, two_below, and_true}
 use Rattle.movie_file.proofs.ByteLemmas.{chosen_some}
@@ -97,14 +100,14 @@ same_state c d r s t u a b cpu riot tia bank = cc
 
 -- the bytes after the processor and the RIOT
 abbrev tail_of : StateFields → List ℕ
-tail_of f = tia_bytes f.tia ++ f.bank ∷ []
+tail_of f = bytes_of tia_numbers f.tia ++ f.bank ∷ []
 
 module _ (f : StateFields) (h : IsState f) where
-  parts_of : record_of f ≡ cpu_bytes f.cpu ++ (riot_bytes f.riot ++ tail_of f)
+  parts_of : record_of f ≡ bytes_of processor_numbers f.cpu ++ (riot_bytes f.riot ++ tail_of f)
   unfolding record_of
   parts_of =
-      append_assoc (cpu_bytes f.cpu ++ riot_bytes f.riot) (tia_bytes f.tia) (f.bank ∷ [])
-      ∙ append_assoc (cpu_bytes f.cpu) (riot_bytes f.riot) (tail_of f)
+      append_assoc (bytes_of processor_numbers f.cpu ++ riot_bytes f.riot) (bytes_of tia_numbers f.tia) (f.bank ∷ [])
+      ∙ append_assoc (bytes_of processor_numbers f.cpu) (riot_bytes f.riot) (tail_of f)
 
   riot_length_of : length (riot_bytes f.riot) ≡ 138
   riot_length_of = length-riot_bytes f.riot h.ram

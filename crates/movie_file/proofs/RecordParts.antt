@@ -7,17 +7,21 @@ use Rattle.std.proofs.lemmas.Nat.{from_be_bytes-to_be_bytes_2}
 use Rattle.mos_cpu.specs.Registers.{Registers}
 use Rattle.riot_map.specs.declared.fields.RiotFields.{RiotFields}
 use Rattle.tia_core.specs.declared.fields.TiaFields.{TiaFields}
-use Rattle.movie_file.specs.RecordParts.{cpu_bytes, cpu_at, port_bytes, riot_bytes, riot_with}
-use Rattle.movie_file.specs.RecordParts.{riot_at, tia_bytes, tia_at}
+use Rattle.record_table.specs.Numbers.{bytes_of}
+use Rattle.mos_cpu.specs.Registers.{processor_numbers}
+use Rattle.riot_map.specs.RiotFields.{riot_numbers}
+use Rattle.tia_core.specs.Numbers.{tia_numbers}
+use Rattle.movie_file.specs.Record.{riot_bytes}
+use Rattle.movie_file.specs.Private.RecordNumbers.{cpu_at, riot_with, riot_at, tia_at}
 use Rattle.movie_file.proofs.ByteLemmas.{IsBytes, IsBytes-drop, cells, cells_whole, two_back}
 
 -- ---- written as they were read
 
-pub cpu_back : (b : List ℕ) → IsBytes b → length b ≡ 7 → cpu_bytes (cpu_at b) ≡ b
+pub cpu_back : (b : List ℕ) → IsBytes b → length b ≡ 7 → bytes_of processor_numbers (cpu_at b) ≡ b
 cpu_back b fits len =
     ap (λ (w : List ℕ). cells 5 0 b ++ w) (two_back _ _ (fits 5) (fits 6)) ∙ cells_whole 7 b len
 
-ports_back : (ram b : List ℕ) → IsBytes b → length b ≡ 10 → port_bytes (riot_with ram b) ≡ b
+ports_back : (ram b : List ℕ) → IsBytes b → length b ≡ 10 → bytes_of riot_numbers (riot_with ram b) ≡ b
 ports_back ram b fits len =
     ap (λ (w : List ℕ). cells 5 0 b ++ w ++ cells 3 7 b) (two_back _ _ (fits 5) (fits 6))
     ∙ cells_whole 10 b len
@@ -25,14 +29,14 @@ ports_back ram b fits len =
 pub riot_back : (b : List ℕ) → IsBytes b → length b ≡ 138 → riot_bytes (riot_at b) ≡ b
 riot_back b fits len =
     let ports_fit = IsBytes-drop 128 b fits in
-    let ports : port_bytes (riot_at b) ≡ drop 128 b =
+    let ports : bytes_of riot_numbers (riot_at b) ≡ drop 128 b =
     ports_back (take 128 b) (drop 128 b) ports_fit (omega (arith, length-drop 128 b)) in
     ap (λ (w : List ℕ). take 128 b ++ w) ports ∙ take-append-drop 128 b
 
 third_back : (n : ℕ) → 3 * n / 3 ≡ n
 third_back n = omega arith
 
-pub tia_back : (b : List ℕ) → IsBytes b → length b ≡ 42 → tia_bytes (tia_at b) ≡ b
+pub tia_back : (b : List ℕ) → IsBytes b → length b ≡ 42 → bytes_of tia_numbers (tia_at b) ≡ b
 tia_back b fits len =
     let last = λ (n : ℕ). n ∷ get_or b 41 0 ∷ [] in
     ap (λ (w : List ℕ). cells 37 0 b ++ w ++ get_or b 39 0 ∷ last (3 * get_or b 40 0 / 3))
@@ -42,21 +46,21 @@ tia_back b fits len =
 
 -- ---- read as they were written
 
-pub cpu_again : (c : Registers) → c.pc < 2 ^ 16 → cpu_at (cpu_bytes c) ≡ c
+pub cpu_again : (c : Registers) → c.pc < 2 ^ 16 → cpu_at (bytes_of processor_numbers c) ≡ c
 cpu_again c pc = ap (λ (n : ℕ). record c { pc = n }) (from_be_bytes-to_be_bytes_2 c.pc pc)
 
 module _ (r : RiotFields) (ram : length r.ram ≡ 128) where
   pub length-riot_bytes : length (riot_bytes r) ≡ 138
-  length-riot_bytes = omega (arith, length-append r.ram (port_bytes r))
+  length-riot_bytes = omega (arith, length-append r.ram (bytes_of riot_numbers r))
 
   pub riot_again : r.part < 2 ^ 16 → riot_at (riot_bytes r) ≡ r
   riot_again part =
       ap (λ (w : List ℕ). riot_with w (drop 128 (riot_bytes r))) (take_at r.ram _ 128 ram)
-      ∙ ap (λ (w : List ℕ). riot_with r.ram w) (drop_at r.ram (port_bytes r) 128 ram)
+      ∙ ap (λ (w : List ℕ). riot_with r.ram w) (drop_at r.ram (bytes_of riot_numbers r) 128 ram)
       ∙ ap (λ (n : ℕ). record r { part = n }) (from_be_bytes-to_be_bytes_2 r.part part)
 
 pub tia_again : (t : TiaFields) → t.collisions < 2 ^ 16 → t.clock ≡ 3 * (t.clock / 3)
-    → tia_at (tia_bytes t) ≡ t
+    → tia_at (bytes_of tia_numbers t) ≡ t
 tia_again t fits aligned =
     ap (λ (n : ℕ). record t { collisions = n; clock = 3 * (t.clock / 3) })
     (from_be_bytes-to_be_bytes_2 t.collisions fits)

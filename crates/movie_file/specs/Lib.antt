@@ -8,6 +8,5 @@ pub mod MovieError
 pub mod Private
 pub mod Reading
 pub mod Record
-pub mod RecordParts
 pub mod Run
 pub mod Spelling

@@ -2,3 +2,4 @@
 -- what is promised can be read without them.
 pub mod MakingSteps
 pub mod MovieParts
+pub mod RecordNumbers

@@ -1,35 +1,26 @@
--- The record of a state: its 188 bytes, part by part. This project's own.
-use Rattle.std.specs.Prelude.{ℕ, List, [], ◌∷◌, ◌++◌, length, take, drop, slice_index, ◌==◌, ◌&&◌}
-use Rattle.std.specs.Prelude.{◌||◌, Bool, Option, Some, None, if◌then◌else◌}
-use Rattle.vcs_machine.specs.declared.fields.StateFields.{StateFields}
-use Rattle.vcs_machine.specs.States.{is_state}
+-- The record of a state: the bytes of its numbers, part by part. This project's own.
+use Rattle.std.specs.Prelude.{ℕ, List, ◌++◌, length, take, ◌==◌, ◌&&◌, ◌||◌, Bool}
+use Rattle.std.specs.Prelude.{Option, Some, None, if◌then◌else◌}
+use Rattle.record_table.specs.Numbers.{bytes_of}
+use Rattle.mos_cpu.specs.Registers.{processor_numbers}
 use Rattle.riot_map.specs.Cart.{has_banks}
+use Rattle.riot_map.specs.RiotFields.{riot_numbers}
+use Rattle.riot_map.specs.declared.fields.RiotFields.{RiotFields}
+use Rattle.tia_core.specs.Numbers.{tia_numbers}
+use Rattle.vcs_machine.specs.States.{bank_numbers, is_state}
+use Rattle.vcs_machine.specs.declared.fields.StateFields.{StateFields}
 use Rattle.movie_file.specs.Format.{state_length, record_length, whole_record}
-use Rattle.movie_file.specs.RecordParts.{cpu_bytes, cpu_at, riot_bytes, riot_at, tia_bytes, tia_at}
+use Rattle.movie_file.specs.Private.RecordNumbers.{fields_at}
+
+-- the 138 bytes of a RIOT: first its memory
+abbrev pub riot_bytes : RiotFields → List ℕ
+riot_bytes r = r.ram ++ bytes_of riot_numbers r
 
 unfoldable pub record_of : StateFields → List ℕ
-record_of f = cpu_bytes f.cpu ++ riot_bytes f.riot ++ tia_bytes f.tia ++ f.bank ∷ []
+record_of f =
+    bytes_of processor_numbers f.cpu ++ riot_bytes f.riot ++ bytes_of tia_numbers f.tia ++ bytes_of bank_numbers f
 
--- the bytes of each part
-abbrev pub cpu_part : List ℕ → List ℕ
-cpu_part bytes = take 7 bytes
-
-abbrev pub riot_part : List ℕ → List ℕ
-riot_part bytes = take 138 (drop 7 bytes)
-
-abbrev pub tia_part : List ℕ → List ℕ
-tia_part bytes = take 42 (drop 145 bytes)
-
--- the numbers of the parts, and the bank
-abbrev pub fields_at : List ℕ → StateFields
-fields_at bytes = record {
-  cpu = cpu_at (cpu_part bytes);
-  riot = riot_at (riot_part bytes);
-  tia = tia_at (tia_part bytes);
-  bank = slice_index bytes 187;
-}
-
--- the state whose record the bytes are, if they are one
+-- the state whose record the bytes are, if they are one: `law_of_records`
 unfoldable pub recorded_state : List ℕ → Option StateFields
 recorded_state bytes = if (length bytes == state_length) && is_state (fields_at bytes) then Some (fields_at bytes) else None
 

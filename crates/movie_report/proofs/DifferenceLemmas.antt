@@ -9,8 +9,8 @@ use Rattle.std.proofs.Math.Seq.{drop-cons, drop-length}
 use Rattle.std.proofs.lemmas.List.FromFn.{length-range_with_len}
 use Rattle.movie_report.specs.Differences.{Pair, number_pairs, text_if_different, pairs_text}
 use Rattle.movie_report.specs.Differences.{difference_text}
-use Rattle.movie_report.specs.Numbers.{NumberData, state_numbers, memory_number, memory_numbers}
-use Rattle.movie_report.specs.Numbers.{other_numbers, processor_numbers}
+use Rattle.movie_report.specs.Numbers.{NumberData, state_names, memory_name, memory_names}
+use Rattle.movie_report.specs.Numbers.{other_names, processor_names}
 use Rattle.movie_report.specs.Private.Places.{state_number_at, no_place}
 use Rattle.movie_report.specs.declared.differences.Comparison.{Comparison}
 use Rattle.movie_report.specs.declared.differences.Comparison.TheVariants.{Start, Claim}
@@ -28,26 +28,26 @@ unfolding bytes_in
 bytes_in-append [] ms = omega arith
 bytes_in-append (n ∷ ns) ms = let more = bytes_in-append ns ms in omega arith
 
-bytes_in-memory : (addresses : List ℕ) → bytes_in (map memory_number addresses) ≡ length addresses
+bytes_in-memory : (addresses : List ℕ) → bytes_in (map memory_name addresses) ≡ length addresses
 unfolding bytes_in
 bytes_in-memory [] = refl
 bytes_in-memory (address ∷ more) = let rest = bytes_in-memory more in omega arith
 
-bytes_in-numbers : bytes_in state_numbers ≡ 188
-unfolding bytes_in state_numbers memory_numbers
+bytes_in-numbers : bytes_in state_names ≡ 188
+unfolding bytes_in state_names memory_names
 bytes_in-numbers =
-    bytes_in-append processor_numbers (memory_numbers ++ other_numbers)
-    ∙ ap (λ (n : ℕ). 7 + n) (bytes_in-append memory_numbers other_numbers
+    bytes_in-append processor_names (memory_names ++ other_names)
+    ∙ ap (λ (n : ℕ). 7 + n) (bytes_in-append memory_names other_names
     ∙ ap (λ (n : ℕ). n + 53) (bytes_in-memory (range_with_len 0x80 128) ∙ length-range_with_len 0x80 128))
 
 -- What is said of the numbers from a place on, whose bytes begin here.
 abbrev rest_text : Notation → Comparison → List ℕ → List ℕ → ℕ → ℕ → List ℕ
-rest_text notation comparison a b place at = flat_map (text_if_different notation comparison) (number_pairs (drop place state_numbers) (drop at a) (drop at b))
+rest_text notation comparison a b place at = flat_map (text_if_different notation comparison) (number_pairs (drop place state_names) (drop at a) (drop at b))
 
 -- What is said of the numbers before a place has been written, and the next number begins here.
 pub record IsUpTo (notation : Notation) (comparison : Comparison) (a b : List ℕ) (place at : ℕ) (text : List ℕ) : Type 0 where
   pub text_is : text ++ rest_text notation comparison a b place at ≡ pairs_text notation comparison a b
-  pub bytes : at + bytes_in (drop place state_numbers) ≡ 188
+  pub bytes : at + bytes_in (drop place state_names) ≡ 188
 
 pub IsUpTo-start : (notation : Notation) (comparison : Comparison) (a b : List ℕ) → IsUpTo notation comparison a b 0 0 []
 unfolding pairs_text
@@ -57,16 +57,16 @@ IsUpTo-start notation comparison a b = record { text_is = refl; bytes = omega (a
 pub IsUpTo-end : (notation : Notation) (comparison : Comparison) (a b : List ℕ) (place at : ℕ) (text : List ℕ) → 185 ≤ place → place ≤ 185 → IsUpTo notation comparison a b place at text
     → text ≡ pairs_text notation comparison a b
 IsUpTo-end notation comparison a b place at text high low is =
-    let last : place ≡ length state_numbers = omega (arith, length-numbers) in
-    let none : drop place state_numbers ≡ [] = rw last (drop-length state_numbers) in
+    let last : place ≡ length state_names = omega (arith, length-numbers) in
+    let none : drop place state_names ≡ [] = rw last (drop-length state_names) in
     sym (append-nil text) ∙ rw none at is.text_is
 
 module _ (notation : Notation) (comparison : Comparison) (a b : List ℕ) (place at : ℕ) (low : place < 185) where
-  drop-numbers : drop place state_numbers ≡ state_number_at place ∷ drop (place + 1) state_numbers
+  drop-numbers : drop place state_names ≡ state_number_at place ∷ drop (place + 1) state_names
   unfolding state_number_at
-  drop-numbers = let within : place < length state_numbers = omega (arith, length-numbers) in rw add-one (drop-cons state_numbers place no_place within)
+  drop-numbers = let within : place < length state_names = omega (arith, length-numbers) in rw add-one (drop-cons state_names place no_place within)
 
-  bytes_next : bytes_in (drop place state_numbers) ≡ (state_number_at place).length + bytes_in (drop (place + 1) state_numbers)
+  bytes_next : bytes_in (drop place state_names) ≡ (state_number_at place).length + bytes_in (drop (place + 1) state_names)
   unfolding bytes_in
   bytes_next = rw drop-numbers refl
 
@@ -106,4 +106,4 @@ AreElements-pairs comparison (pair ∷ pairs) = AreElements-more comparison pair
 
 pub AreElements-pairs_text : (comparison : Comparison) (a b : List ℕ) → AreElements (pairs_text Json comparison a b)
 unfolding pairs_text
-AreElements-pairs_text comparison a b = AreElements-pairs comparison (number_pairs state_numbers a b)
+AreElements-pairs_text comparison a b = AreElements-pairs comparison (number_pairs state_names a b)

@@ -7,40 +7,40 @@ use Rattle.std.specs.Prelude.{◌++◌, slice_index_or}
 use Rattle.std.proofs.lemmas.List.{get_or_append_left, get_or-append_right}
 use Rattle.std.proofs.lemmas.List.FromFn.{length-map-range_with_len, get_or-map-range_with_len}
 use Rattle.std.proofs.Math.ListN.{length-append}
-use Rattle.movie_report.specs.Numbers.{NumberData, state_numbers, memory_number, memory_numbers}
-use Rattle.movie_report.specs.Numbers.{other_numbers, processor_numbers}
+use Rattle.movie_report.specs.Numbers.{NumberData, state_names, memory_name, memory_names}
+use Rattle.movie_report.specs.Numbers.{other_names, processor_names}
 use Rattle.movie_report.specs.Private.Places.{state_number_at, no_place}
 
-length-memory_numbers : length memory_numbers ≡ 128
-unfolding memory_numbers
-length-memory_numbers = length-map-range_with_len memory_number 0x80 128
+length-memory_names : length memory_names ≡ 128
+unfolding memory_names
+length-memory_names = length-map-range_with_len memory_name 0x80 128
 
-length-after : length (memory_numbers ++ other_numbers) ≡ 179
-length-after = length-append memory_numbers other_numbers ∙ ap (λ (n : ℕ). n + 51) length-memory_numbers
+length-after : length (memory_names ++ other_names) ≡ 179
+length-after = length-append memory_names other_names ∙ ap (λ (n : ℕ). n + 51) length-memory_names
 
-pub length-numbers : length state_numbers ≡ 185
-unfolding state_numbers
-length-numbers = length-append processor_numbers (memory_numbers ++ other_numbers) ∙ ap (λ (n : ℕ). 6 + n) length-after
+pub length-numbers : length state_names ≡ 185
+unfolding state_names
+length-numbers = length-append processor_names (memory_names ++ other_names) ∙ ap (λ (n : ℕ). 6 + n) length-after
 
-pub number_at-processor : (place : ℕ) → place < 6 → state_number_at place ≡ slice_index_or processor_numbers place no_place
-unfolding state_number_at state_numbers
-number_at-processor place low = get_or_append_left processor_numbers (memory_numbers ++ other_numbers) no_place place low
+pub number_at-processor : (place : ℕ) → place < 6 → state_number_at place ≡ slice_index_or processor_names place no_place
+unfolding state_number_at state_names
+number_at-processor place low = get_or_append_left processor_names (memory_names ++ other_names) no_place place low
 
-pub number_at-memory : (place : ℕ) → 6 ≤ place → place < 134 → state_number_at place ≡ memory_number (place + 122)
-unfolding state_number_at state_numbers memory_numbers
+pub number_at-memory : (place : ℕ) → 6 ≤ place → place < 134 → state_number_at place ≡ memory_name (place + 122)
+unfolding state_number_at state_names memory_names
 number_at-memory place high low =
-    let within : place - 6 < length memory_numbers = omega (arith, length-memory_numbers) in
-    get_or-append_right processor_numbers (memory_numbers ++ other_numbers) 6 place no_place refl high
-    ∙ get_or_append_left memory_numbers other_numbers no_place (place - 6) within
-    ∙ get_or-map-range_with_len memory_number 0x80 128 (place - 6) (place + 122) no_place (omega arith) (omega arith)
+    let within : place - 6 < length memory_names = omega (arith, length-memory_names) in
+    get_or-append_right processor_names (memory_names ++ other_names) 6 place no_place refl high
+    ∙ get_or_append_left memory_names other_names no_place (place - 6) within
+    ∙ get_or-map-range_with_len memory_name 0x80 128 (place - 6) (place + 122) no_place (omega arith) (omega arith)
 
-pub number_at-other : (place : ℕ) → 134 ≤ place → state_number_at place ≡ slice_index_or other_numbers (place - 134) no_place
-unfolding state_number_at state_numbers
+pub number_at-other : (place : ℕ) → 134 ≤ place → state_number_at place ≡ slice_index_or other_names (place - 134) no_place
+unfolding state_number_at state_names
 number_at-other place high =
     let seam : place - 6 - 128 ≡ place - 134 = omega arith in
-    get_or-append_right processor_numbers (memory_numbers ++ other_numbers) 6 place no_place refl (omega arith)
-    ∙ get_or-append_right memory_numbers other_numbers 128 (place - 6) no_place length-memory_numbers (omega arith)
-    ∙ ap (λ (i : ℕ). slice_index_or other_numbers i no_place) seam
+    get_or-append_right processor_names (memory_names ++ other_names) 6 place no_place refl (omega arith)
+    ∙ get_or-append_right memory_names other_names 128 (place - 6) no_place length-memory_names (omega arith)
+    ∙ ap (λ (i : ℕ). slice_index_or other_names i no_place) seam
 
 pub ruleset number_places = (number_at-processor, number_at-memory, number_at-other)
 

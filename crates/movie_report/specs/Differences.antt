@@ -3,7 +3,7 @@ use Rattle.std.specs.Prelude.{ℕ, List, [], ◌∷◌, ◌++◌, codes, take, d
 use Rattle.std.specs.List.{flat_map}
 use Rattle.std.specs.Str.{bytes_eq}
 use Rattle.hex.specs.Hex.{encode_upper}
-use Rattle.movie_report.specs.Numbers.{NumberData, state_numbers}
+use Rattle.movie_report.specs.Numbers.{NumberData, state_names}
 use Rattle.movie_report.specs.declared.differences.Comparison.{Comparison}
 use Rattle.movie_report.specs.declared.differences.Comparison.TheVariants.{Start, Claim}
 use Rattle.movie_report.specs.declared.notation.Notation.{Notation}
@@ -38,7 +38,7 @@ text_if_different notation comparison pair = if bytes_eq pair.first pair.second 
 
 -- What is said of the numbers of two records, in the record's order.
 unfoldable pub pairs_text : Notation → Comparison → List ℕ → List ℕ → List ℕ
-pairs_text notation comparison a b = flat_map (text_if_different notation comparison) (number_pairs state_numbers a b)
+pairs_text notation comparison a b = flat_map (text_if_different notation comparison) (number_pairs state_names a b)
 
 -- The name of the array.
 abbrev pub array_name : Comparison → List ℕ

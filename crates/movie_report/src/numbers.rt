@@ -1,7 +1,7 @@
 //! The numbers of a state record.
 ghost use Rattle.std.specs.Prelude.{◌≡◌, ◌<◌, slice_index_or};
 ghost use Rattle.movie_report.specs.Private.Places.{state_number_at, no_place};
-ghost use Rattle.movie_report.specs.Numbers.{processor_numbers, other_numbers};
+ghost use Rattle.movie_report.specs.Numbers.{processor_names, other_names};
 
 use std::fmt;
 use vcs_machine::HexByte;
@@ -79,8 +79,8 @@ pub(crate) const COUNT: usize = OTHERS_AT + OTHERS.len();
 /// The name and the length of a number of the processor.
 fn processor_number(place: usize) -> (&'static str, usize)
     requires { place < 6 }
-    ensures name { result.0.now ≡ (slice_index_or processor_numbers place no_place).name }
-    ensures length { result.1 ≡ (slice_index_or processor_numbers place no_place).length }
+    ensures name { result.0.now ≡ (slice_index_or processor_names place no_place).name }
+    ensures length { result.1 ≡ (slice_index_or processor_names place no_place).length }
 {
     PROCESSOR[place]
 }
@@ -88,8 +88,8 @@ fn processor_number(place: usize) -> (&'static str, usize)
 /// The name and the length of a number after the memory, counted from the first of them.
 fn other_number(place: usize) -> (&'static str, usize)
     requires { place < 51 }
-    ensures name { result.0.now ≡ (slice_index_or other_numbers place no_place).name }
-    ensures length { result.1 ≡ (slice_index_or other_numbers place no_place).length }
+    ensures name { result.0.now ≡ (slice_index_or other_names place no_place).name }
+    ensures length { result.1 ≡ (slice_index_or other_names place no_place).length }
 {
     OTHERS[place]
 }

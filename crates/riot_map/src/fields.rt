@@ -38,10 +38,10 @@ impl RiotFields {
         ensures { result ≡ is_riot self.now }
     {
         self.interval < 4
+            && self.past_zero < 2
+            && self.flag < 2
             && 1 <= self.part
             && self.part <= Interval::of_code(self.interval).cycles()
-            && self.past_zero < 2
             && (self.past_zero == 0 || self.part == 1)
-            && self.flag < 2
     }
 }

@@ -1,16 +1,12 @@
 -- A TIA as contracts see it, and what is true of its numbers. This project's own: the ranges, all 0
 -- at power-on, and how a frame begins.
-use Rattle.std.specs.Prelude.{ℕ, nat_lt, Bool, false, ◌==◌, ◌&&◌, ◌||◌}
+use Rattle.std.specs.Prelude.{ℕ, Bool, false, ◌==◌, ◌&&◌, ◌||◌}
+use Rattle.record_table.specs.Numbers.{are_lawful}
 use Rattle.tia_core.specs.Bits.{has_bit}
 use Rattle.tia_core.specs.Latch.{latches_at_start}
-use Rattle.tia_core.specs.Registers.{fits_register}
+use Rattle.tia_core.specs.Numbers.{colour_numbers, object_numbers, motion_numbers, position_numbers}
+use Rattle.tia_core.specs.Numbers.{beam_numbers}
 use Rattle.tia_core.specs.declared.fields.TiaFields.{TiaFields}
-use Rattle.tia_core.specs.declared.register.Register.TheVariants.{Vsync, Vblank, Nusiz0, Nusiz1}
-use Rattle.tia_core.specs.declared.register.Register.TheVariants.{Colup0, Colup1, Colupf, Colubk}
-use Rattle.tia_core.specs.declared.register.Register.TheVariants.{Ctrlpf, Refp0, Refp1, Pf0, Enam0}
-use Rattle.tia_core.specs.declared.register.Register.TheVariants.{Enam1, Enabl, Hmp0, Hmp1, Hmm0}
-use Rattle.tia_core.specs.declared.register.Register.TheVariants.{Hmm1, Hmbl, Vdelp0, Vdelp1}
-use Rattle.tia_core.specs.declared.register.Register.TheVariants.{Vdelbl, Resmp0, Resmp1}
 
 -- its numbers, the line that the beam is in, and whether each button is pressed
 pub record TiaState : Type 0 where
@@ -19,40 +15,13 @@ pub record TiaState : Type 0 where
   pub fire0 : Bool
   pub fire1 : Bool
 
--- the registers that time and colour the picture have no other bits than those that they keep
-abbrev pub has_lawful_colours : TiaFields → Bool
-has_lawful_colours t =
-    fits_register Vsync t.vsync && fits_register Vblank t.vblank && fits_register Nusiz0 t.nusiz0 && fits_register Nusiz1 t.nusiz1
-    && fits_register Colup0 t.colup0 && fits_register Colup1 t.colup1 && fits_register Colupf t.colupf && fits_register Colubk t.colubk
-
--- nor those that draw the objects; PF1, PF2, GRP0 and GRP1 keep all bits
-abbrev pub has_lawful_objects : TiaFields → Bool
-has_lawful_objects t =
-    fits_register Ctrlpf t.ctrlpf && fits_register Refp0 t.refp0 && fits_register Refp1 t.refp1 && fits_register Pf0 t.pf0
-    && fits_register Enam0 t.enam0 && fits_register Enam1 t.enam1 && fits_register Enabl t.enabl_new && fits_register Enabl t.enabl_old
-
--- nor those that move the objects and delay them
-abbrev pub has_lawful_motion : TiaFields → Bool
-has_lawful_motion t =
-    fits_register Hmp0 t.hmp0 && fits_register Hmp1 t.hmp1 && fits_register Hmm0 t.hmm0 && fits_register Hmm1 t.hmm1 && fits_register Hmbl t.hmbl
-    && fits_register Vdelp0 t.vdelp0 && fits_register Vdelp1 t.vdelp1 && fits_register Vdelbl t.vdelbl
-
--- nor those that lock the missiles, and each object begins at one of the 160 pixels
-abbrev pub has_lawful_positions : TiaFields → Bool
-has_lawful_positions t =
-    fits_register Resmp0 t.resmp0 && fits_register Resmp1 t.resmp1 && nat_lt t.position_p0 160 && nat_lt t.position_p1 160
-    && nat_lt t.position_m0 160 && nat_lt t.position_m1 160 && nat_lt t.position_bl 160
-
--- fifteen collision bits and two latches, of which none is set if VBLANK has bit 6 clear; 228
--- clocks of a line; a comb or none
-abbrev pub has_lawful_beam : TiaFields → Bool
-has_lawful_beam t =
-    nat_lt t.collisions 32768 && nat_lt t.latches 4 && (has_bit t.vblank 6 || (t.latches == 0))
-    && nat_lt t.clock 228 && nat_lt t.comb 2
-
--- what is true of the numbers of every TIA
+-- what is true of the numbers of every TIA: each is lawful, and no latch is set if VBLANK has bit 6
+-- clear
 unfoldable pub is_tia : TiaFields → Bool
-is_tia t = has_lawful_colours t && has_lawful_objects t && has_lawful_motion t && has_lawful_positions t && has_lawful_beam t
+is_tia t =
+    are_lawful colour_numbers t && are_lawful object_numbers t && are_lawful motion_numbers t
+    && are_lawful position_numbers t && are_lawful beam_numbers t
+    && (has_bit t.vblank 6 || (t.latches == 0))
 
 -- a TIA with these numbers at line 0, with no button pressed
 abbrev pub tia_of : TiaFields → TiaState

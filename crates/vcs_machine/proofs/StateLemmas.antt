@@ -1,5 +1,5 @@
 -- What the numbers of a state say of its parts, and back.
-use Rattle.std.proofs.Common.{◌≡◌, ℕ, ◌*◌, ◌/◌, ◌%◌, ◌<◌, Bool, ◌&&◌, IsTrue, arith}
+use Rattle.std.proofs.Common.{◌≡◌, ℕ, ◌*◌, ◌/◌, ◌%◌, ◌<◌, Bool, true, ◌&&◌, IsTrue, arith}
 use Rattle.std.proofs.lemmas.Bool.Decides.{Decides-eqb, Decides-ltb}
 use Rattle.mos_cpu.specs.Registers.{IsStatus}
 use Rattle.riot_map.specs.RiotFields.{is_riot}
@@ -27,11 +27,11 @@ parts_of f h =
     let g1 = both _ _ g2.0 in
     let g0 = both _ _ g1.0 in
     record {
-      status = (Decides-eqb (f.cpu.p / 16 % 4) 0).0 g0.0;
+      status = (Decides-eqb (f.cpu.p / 16 % 4) 0).0 (both _ _ g0.0).0;
       riot = g0.1;
       tia = g1.1;
       aligned = (Decides-eqb (f.tia.clock % 3) 0).0 g2.1;
-      bank = (Decides-ltb f.bank 2).0 g3.1;
+      bank = (Decides-ltb f.bank 2).0 (both _ _ g3.1).0;
     }
 
 pub clock_of : (f : StateFields) → IsTrue (is_state f) → f.tia.clock < 228
@@ -52,8 +52,13 @@ clock-thirds f h = thirds f.tia.clock (parts_of f h).aligned
 and : (a b : Bool) → IsTrue a → IsTrue b → IsTrue (a && b)
 and a b h k = grind arith
 
+alone : (a : Bool) → IsTrue a → IsTrue (a && true)
+alone a h = grind arith
+
 pub state_of_parts : (f : StateFields) → HasLawfulParts f → IsTrue (is_state f)
 unfolding is_state
 state_of_parts f h =
-    and _ _ (and _ _ (and _ _ (and _ _ ((Decides-eqb (f.cpu.p / 16 % 4) 0).1 h.status) h.riot) h.tia) ((Decides-eqb (f.tia.clock % 3) 0).1 h.aligned))
-    ((Decides-ltb f.bank 2).1 h.bank)
+    let processor = alone _ ((Decides-eqb (f.cpu.p / 16 % 4) 0).1 h.status) in
+    let aligned = (Decides-eqb (f.tia.clock % 3) 0).1 h.aligned in
+    let bank = alone _ ((Decides-ltb f.bank 2).1 h.bank) in
+    and _ _ (and _ _ (and _ _ (and _ _ processor h.riot) h.tia) aligned) bank

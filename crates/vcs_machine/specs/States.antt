@@ -1,16 +1,23 @@
 -- States between frames. The record of a state is this project's own.
-use Rattle.std.specs.Prelude.{ℕ, List, ◌+◌, ◌*◌, ◌/◌, ◌%◌, Bool, ◌==◌, ◌&&◌, nat_lt}
-use Rattle.mos_cpu.specs.Registers.{is_status}
+use Rattle.std.specs.Prelude.{ℕ, List, [], ◌∷◌, codes, ◌+◌, ◌*◌, ◌/◌, ◌%◌, Bool, ◌==◌, ◌&&◌}
+use Rattle.record_table.specs.Numbers.{Number, byte, below, are_lawful}
+use Rattle.mos_cpu.specs.Registers.{processor_numbers}
 use Rattle.riot_map.specs.Cart.{cart_byte, bank_at_power_on}
 use Rattle.riot_map.specs.Riot.{fields_of, riot_at_power_on}
 use Rattle.riot_map.specs.RiotFields.{is_riot}
 use Rattle.tia_core.specs.TiaState.{is_tia, tia_at_power_on}
 use Rattle.vcs_machine.specs.declared.fields.StateFields.{StateFields}
 
+-- The number that no chip has: one of two banks.
+abbrev pub bank_numbers : List (Number StateFields)
+bank_numbers = byte (codes "bank") (below 2) (λ f. f.bank) ∷ []
+
 -- Which numbers are those of a state: those of a processor, a RIOT and a TIA, whose beam stands
--- where a cycle begins, and one of two banks.
+-- where a cycle begins, and a bank.
 unfoldable pub is_state : StateFields → Bool
-is_state f = is_status f.cpu.p && is_riot f.riot && is_tia f.tia && (f.tia.clock % 3 == 0) && nat_lt f.bank 2
+is_state f =
+    are_lawful processor_numbers f.cpu && is_riot f.riot && is_tia f.tia
+    && (f.tia.clock % 3 == 0) && are_lawful bank_numbers f
 
 -- The beam's place in its scanline, in cycles of three colour clocks.
 abbrev pub line_cycle_of : StateFields → ℕ

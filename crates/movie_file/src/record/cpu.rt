@@ -1,7 +1,8 @@
 //! The bytes of a processor in a state's record.
 ghost use Rattle.std.specs.Prelude.{◌≡◌, length, slice_index, Some, None, if◌then◌else◌};
-ghost use Rattle.mos_cpu.specs.Registers.{is_status};
-ghost use Rattle.movie_file.specs.RecordParts.{cpu_bytes, cpu_at};
+ghost use Rattle.record_table.specs.Numbers.{bytes_of};
+ghost use Rattle.mos_cpu.specs.Registers.{is_status, processor_numbers};
+ghost use Rattle.movie_file.specs.Private.RecordNumbers.{cpu_at};
 
 use mos_cpu::Cpu;
 
@@ -27,7 +28,7 @@ pub fn cpu_in(bytes: &[u8]) -> Option<Cpu>
 
 /// The bytes that spell a processor.
 pub fn cpu_bytes(cpu: &Cpu) -> [u8; 7]
-    ensures { result ≡ cpu_bytes cpu.now }
+    ensures { result ≡ bytes_of processor_numbers cpu.now }
 {
     let pc = cpu.pc.to_be_bytes();
     [cpu.a, cpu.x, cpu.y, cpu.s, cpu.p, pc[0], pc[1]]

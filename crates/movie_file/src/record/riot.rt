@@ -1,6 +1,9 @@
 //! The bytes of a RIOT in a state's record.
 ghost use Rattle.std.specs.Prelude.{◌≡◌, length};
-ghost use Rattle.movie_file.specs.RecordParts.{port_bytes, riot_bytes, riot_at, riot_with};
+ghost use Rattle.record_table.specs.Numbers.{bytes_of};
+ghost use Rattle.riot_map.specs.RiotFields.{riot_numbers};
+ghost use Rattle.movie_file.specs.Record.{riot_bytes};
+ghost use Rattle.movie_file.specs.Private.RecordNumbers.{riot_at, riot_with};
 
 use riot_map::RiotFields;
 
@@ -36,7 +39,7 @@ pub fn riot_in(bytes: &[u8]) -> RiotFields
 
 /// The bytes that spell the ports and the timer.
 fn port_bytes(riot: &RiotFields) -> [u8; 10]
-    ensures { result ≡ port_bytes riot.now }
+    ensures { result ≡ bytes_of riot_numbers riot.now }
 {
     let part = riot.part.to_be_bytes();
     [

@@ -1,6 +1,8 @@
 //! The bytes of a TIA in a state's record.
 ghost use Rattle.std.specs.Prelude.{◌≡◌, length, nat_lt, slice_index, Some, None, if◌then◌else◌};
-ghost use Rattle.movie_file.specs.RecordParts.{tia_bytes, tia_at};
+ghost use Rattle.record_table.specs.Numbers.{bytes_of};
+ghost use Rattle.tia_core.specs.Numbers.{tia_numbers};
+ghost use Rattle.movie_file.specs.Private.RecordNumbers.{tia_at};
 
 use tia_core::TiaFields;
 use vcs_machine::LINE_CYCLES;
@@ -62,7 +64,7 @@ pub fn tia_in(bytes: &[u8]) -> Option<TiaFields>
 
 /// The bytes that spell a TIA.
 pub fn tia_bytes(tia: &TiaFields) -> [u8; 42]
-    ensures { result ≡ tia_bytes tia.now }
+    ensures { result ≡ bytes_of tia_numbers tia.now }
 {
     let collisions = tia.collisions.to_be_bytes();
     [

@@ -1,6 +1,6 @@
 -- The numbers of a state record by their places. This project's own.
 use Rattle.std.specs.Prelude.{ℕ, [], slice_index_or}
-use Rattle.movie_report.specs.Numbers.{NumberData, state_numbers}
+use Rattle.movie_report.specs.Numbers.{NumberData, state_names}
 
 -- What stands where there is no number.
 abbrev pub no_place : NumberData
@@ -8,4 +8,4 @@ no_place = record { name = []; length = 0 }
 
 -- The number at a place, from 0.
 unfoldable pub state_number_at : ℕ → NumberData
-state_number_at place = slice_index_or state_numbers place no_place
+state_number_at place = slice_index_or state_names place no_place

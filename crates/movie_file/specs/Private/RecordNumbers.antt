@@ -1,14 +1,11 @@
--- The bytes of the parts of a state's record, and the numbers that they spell: of the processor, of
--- the RIOT and of the TIA. This project's own.
-use Rattle.std.specs.Prelude.{ℕ, List, [], ◌∷◌, ◌++◌, ◌*◌, ◌/◌, take, drop, slice_index}
-use Rattle.std.specs.Int.{w16, to_be_bytes, from_be_bytes}
+-- The numbers that the bytes of a record spell, part by part: how `recorded_state` is found, of which
+-- `law_of_records` says the whole.
+use Rattle.std.specs.Prelude.{ℕ, List, [], ◌∷◌, ◌*◌, take, drop, slice_index}
+use Rattle.std.specs.Int.{w16, from_be_bytes}
 use Rattle.mos_cpu.specs.Registers.{Registers}
 use Rattle.riot_map.specs.declared.fields.RiotFields.{RiotFields}
 use Rattle.tia_core.specs.declared.fields.TiaFields.{TiaFields}
-
--- the seven bytes of the processor
-abbrev pub cpu_bytes : Registers → List ℕ
-cpu_bytes c = c.a ∷ c.x ∷ c.y ∷ c.s ∷ c.p ∷ to_be_bytes w16 c.pc
+use Rattle.vcs_machine.specs.declared.fields.StateFields.{StateFields}
 
 abbrev pub cpu_at : List ℕ → Registers
 cpu_at b = record {
@@ -19,16 +16,6 @@ cpu_at b = record {
   p = slice_index b 4;
   pc = from_be_bytes w16 (slice_index b 5 ∷ slice_index b 6 ∷ []);
 }
-
--- the ten bytes of the ports and the timer
-abbrev pub port_bytes : RiotFields → List ℕ
-port_bytes r =
-    r.output_a ∷ r.direction_a ∷ r.output_b ∷ r.direction_b
-    ∷ r.timer ∷ to_be_bytes w16 r.part ++ r.interval ∷ r.past_zero ∷ r.flag ∷ []
-
--- the 138 bytes of the RIOT: first its memory
-abbrev pub riot_bytes : RiotFields → List ℕ
-riot_bytes r = r.ram ++ port_bytes r
 
 -- a RIOT of its memory and of the bytes after that
 abbrev pub riot_with : List ℕ → List ℕ → RiotFields
@@ -47,19 +34,6 @@ riot_with ram b = record {
 
 abbrev pub riot_at : List ℕ → RiotFields
 riot_at b = riot_with (take 128 b) (drop 128 b)
-
--- the 42 bytes of the TIA: registers, positions, collisions, buttons, and the beam's place, in
--- cycles of three colour clocks
-abbrev pub tia_bytes : TiaFields → List ℕ
-tia_bytes t =
-    t.vsync ∷ t.vblank ∷ t.nusiz0 ∷ t.nusiz1 ∷ t.colup0 ∷ t.colup1 ∷ t.colupf ∷ t.colubk
-    ∷ t.ctrlpf ∷ t.refp0 ∷ t.refp1 ∷ t.pf0 ∷ t.pf1 ∷ t.pf2
-    ∷ t.grp0_new ∷ t.grp0_old ∷ t.grp1_new ∷ t.grp1_old
-    ∷ t.enam0 ∷ t.enam1 ∷ t.enabl_new ∷ t.enabl_old
-    ∷ t.hmp0 ∷ t.hmp1 ∷ t.hmm0 ∷ t.hmm1 ∷ t.hmbl
-    ∷ t.vdelp0 ∷ t.vdelp1 ∷ t.vdelbl ∷ t.resmp0 ∷ t.resmp1
-    ∷ t.position_p0 ∷ t.position_p1 ∷ t.position_m0 ∷ t.position_m1 ∷ t.position_bl
-    ∷ to_be_bytes w16 t.collisions ++ t.latches ∷ t.clock / 3 ∷ t.comb ∷ []
 
 abbrev pub tia_at : List ℕ → TiaFields
 tia_at b = record {
@@ -104,4 +78,23 @@ tia_at b = record {
   latches = slice_index b 39;
   clock = 3 * slice_index b 40;
   comb = slice_index b 41;
+}
+
+-- the bytes of each part
+abbrev pub cpu_part : List ℕ → List ℕ
+cpu_part bytes = take 7 bytes
+
+abbrev pub riot_part : List ℕ → List ℕ
+riot_part bytes = take 138 (drop 7 bytes)
+
+abbrev pub tia_part : List ℕ → List ℕ
+tia_part bytes = take 42 (drop 145 bytes)
+
+-- the numbers of the parts, and the bank
+abbrev pub fields_at : List ℕ → StateFields
+fields_at bytes = record {
+  cpu = cpu_at (cpu_part bytes);
+  riot = riot_at (riot_part bytes);
+  tia = tia_at (tia_part bytes);
+  bank = slice_index bytes 187;
 }
