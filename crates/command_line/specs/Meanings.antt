@@ -6,6 +6,7 @@ use Rattle.std.specs.Str.Parse.{digits_value, without_leading_plus}
 use Rattle.clap.specs.Words.{Row, Text, all_of, first_of, one_of}
 use Rattle.hex.specs.Hex.{decode_sized}
 use Rattle.replay_plan.specs.Limits.{most_watches}
+use Rattle.replay_plan.specs.declared.input_form.InputForm.TheVariants as forms
 use Rattle.replay_plan.specs.declared.plan.Plan.{Plan}
 use Rattle.replay_plan.specs.declared.watches.Address.{Address}
 use Rattle.replay_plan.specs.declared.watches.Details.{Details}
@@ -70,10 +71,10 @@ IsCommandAt name rows (Report file workers json) =
     (name ≡ codes "report") × (string_bytes file ≡ word_of file_row rows)
     × (number_of workers_row rows ≡ Some workers.number)
     × ((json ≡ true) ↔ (one_of json_row.name rows ≡ Some (codes "true")))
-IsCommandAt name rows (Make rom inputs text every out) =
+IsCommandAt name rows (Make rom inputs form every out) =
     (name ≡ codes "make") × (string_bytes rom ≡ word_of rom_row rows)
     × (string_bytes inputs ≡ word_of inputs_row rows)
-    × ((text ≡ true) ↔ (one_of text_row.name rows ≡ Some (codes "true")))
+    × ((form ≡ forms.Text) ↔ (one_of text_row.name rows ≡ Some (codes "true")))
     × (number_of checkpoints_row rows ≡ Some (non_zero_u32_get every))
     × (string_bytes out ≡ word_of out_row rows)
 IsCommandAt name rows (Info file json) =

@@ -2,7 +2,7 @@
 ghost use Rattle.std.specs.Prelude.{◌≡◌};
 ghost use Rattle.command_line.specs.declared.command.LineFault.TheVariants.{Memory};
 
-use replay_plan::{Details, Plan, Workers};
+use replay_plan::{Details, InputForm, Plan, Workers};
 use std::alloc::AllocError;
 use std::num::NonZeroU32;
 
@@ -31,8 +31,8 @@ pub enum Command {
     Make {
         rom: String,
         inputs: String,
-        /// Whether the inputs are text.
-        text: bool,
+        /// The form of the inputs.
+        form: InputForm,
         /// A checkpoint after every so many frames.
         every: NonZeroU32,
         out: String,

@@ -12,14 +12,15 @@ ghost use Rattle.command_line.specs.declared.command.Command.TheVariants.{Stdin}
 ghost use Rattle.command_line.specs.Table.{program_app, verify_listed, report_listed, make_listed};
 ghost use Rattle.command_line.specs.Table.{workers_row, cuts_row, first_row, count_row};
 ghost use Rattle.command_line.specs.Table.{asked_row, checkpoints_row, cut_listed, drawing_listed};
-ghost use Rattle.command_line.specs.Table.{frame_row, pictures_row, trace_listed};
+ghost use Rattle.command_line.specs.Table.{frame_row, pictures_row, text_row, trace_listed};
+ghost use Rattle.replay_plan.specs.declared.input_form.InputForm.TheVariants.{Text};
 
 use crate::command::{Command, LineFault};
 use crate::frames::frames_of;
 use crate::parser::program;
 use clap::ArgMatches;
 use clap::error::ErrorKind;
-use replay_plan::{Keep, Plan, Workers};
+use replay_plan::{InputForm, Keep, Plan, Workers};
 use std::alloc::{AllocError, Global};
 use std::convert::AsStr;
 use std::num::{NonZeroU16, NonZeroU32};
@@ -154,6 +155,18 @@ pub(crate) fn is_given(matches: &ArgMatches<'_>, name: &str) -> bool
     matches.get_one::<bool>(name).unwrap_or(false)
 }
 
+/// The form of the inputs: text if that is asked for, and else bytes.
+fn form_of(matches: &ArgMatches<'_>) -> InputForm
+    ensures { (result ≡ Text)
+        ↔ (one_of text_row.name (rows_of (found_of matches.now)) ≡ Some (codes "true")) }
+{
+    if is_given(matches, "text") {
+        InputForm::Text
+    } else {
+        InputForm::Bytes
+    }
+}
+
 /// The command `make`.
 fn make_of(alloc: Global, matches: &ArgMatches<'_>) -> Result<Command, AllocError>
     requires { HasNumbers make_listed (rows_of (found_of matches.now)) }
@@ -163,14 +176,14 @@ fn make_of(alloc: Global, matches: &ArgMatches<'_>) -> Result<Command, AllocErro
     let rom = text_of(alloc, matches, "rom")?;
     let inputs = text_of(alloc, matches, "inputs")?;
     let out = text_of(alloc, matches, "out")?;
-    let text = is_given(matches, "text");
+    let form = form_of(matches);
     let Some(every) = checkpoints_of(matches) else {
         unreachable!()
     };
     Ok(Command::Make {
         rom,
         inputs,
-        text,
+        form,
         every,
         out,
     })

@@ -7,15 +7,15 @@ use Rattle.std.specs.Io.KnownBytes.{Keeps}
 use Rattle.command_line.specs.Program.{program_name}
 use Rattle.command_line.specs.declared.command.Command.TheVariants.{Stdin, Report, Make}
 use Rattle.movie_report.specs.declared.notation.Notation.{Notation}
+use Rattle.replay_plan.specs.declared.input_form.InputForm.{InputForm}
 use Rattle.replay_plan.specs.declared.plan.Plan.{Plan}
 use Rattle.replay_plan.specs.declared.workers.Workers.{Workers}
-use Rattle.vcs_check.specs.Commands.{IsAnswered, form_of, notation_of, IsMade, ReadsFile, Writes}
+use Rattle.vcs_check.specs.Commands.{IsAnswered, notation_of, IsMade, ReadsFile, Writes}
 use Rattle.vcs_check.specs.Private.Asked.{IsAnswer}
 use Rattle.vcs_check.specs.declared.failure.Failure.{Failure}
 use Rattle.vcs_check.specs.declared.question.Question.{Question}
 use Rattle.vcs_check.specs.declared.question.Question.TheVariants as questions
 use Rattle.vcs_engine.specs.Reports.{Reports}
-use Rattle.vcs_engine.specs.declared.making.InputForm.{InputForm}
 use Rattle.vcs_engine.specs.declared.status.Status.{Status}
 
 -- Bytes that nobody touched.
@@ -48,9 +48,7 @@ module _ (before after : Option (List ℕ)) where
       says _ (IsAnswered (Report file workers json) old new)
       (λ status line h. (h.0, subst (λ n. ReadsFile n old new h.0) same h.1, subst (λ n. Reports n program_name h.0 status line) is h.2))
 
-  pub make_answers : (known : Option (List ℕ)) (rom inputs : String Global) (text : Bool) (form : InputForm) (every : NonZeroU32) (out : String Global)
-      → form ≡ form_of text → (result : Result Status Failure)
-      → Writes before after (IsMade form (non_zero_u32_get every)) result → Writes before after (IsAnswered (Make rom inputs text every out) known known) result
-  make_answers known rom inputs text form every out same =
-      says _ (IsAnswered (Make rom inputs text every out) known known)
-      (λ status line h. (keeps known, subst (λ f. IsMade f (non_zero_u32_get every) status line) same h))
+  pub make_answers : (known : Option (List ℕ)) (rom inputs : String Global) (form : InputForm) (every : NonZeroU32) (out : String Global) → (result : Result Status Failure)
+      → Writes before after (IsMade form (non_zero_u32_get every)) result → Writes before after (IsAnswered (Make rom inputs form every out) known known) result
+  make_answers known rom inputs form every out =
+      says _ (IsAnswered (Make rom inputs form every out) known known) (λ status line h. (keeps known, h))

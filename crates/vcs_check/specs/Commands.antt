@@ -12,6 +12,7 @@ use Rattle.command_line.specs.declared.command.Command.TheVariants.{Frames, Pict
 use Rattle.movie_file.specs.Reading.{movie_at}
 use Rattle.movie_report.specs.declared.notation.Notation.{Notation}
 use Rattle.movie_report.specs.declared.notation.Notation.TheVariants.{Lines, Json}
+use Rattle.replay_plan.specs.declared.input_form.InputForm.{InputForm}
 use Rattle.replay_plan.specs.declared.keep.Keep.{Keep}
 use Rattle.vcs_check.specs.Answers.{IsConversion, IsCut, IsDrawn, IsInformation, IsVerified}
 use Rattle.vcs_check.specs.Failures.{IsNoMemory, IsWriteFault}
@@ -21,8 +22,6 @@ use Rattle.vcs_engine.specs.Listings.{Lists}
 use Rattle.vcs_engine.specs.Makings.{Makes}
 use Rattle.vcs_engine.specs.Reports.{Reports}
 use Rattle.vcs_engine.specs.Streams.{ReadsAll}
-use Rattle.vcs_engine.specs.declared.making.InputForm.{InputForm}
-use Rattle.vcs_engine.specs.declared.making.InputForm.TheVariants.{Bytes, Text}
 use Rattle.vcs_engine.specs.declared.status.Status.{Status}
 use Rattle.view_engine.specs.FrameLines.{Describes}
 use Rattle.view_engine.specs.Traces.{Traces}
@@ -49,10 +48,6 @@ IsMade form every status line =
 abbrev pub notation_of : Bool → Notation
 notation_of json = if json then Json else Lines
 
--- How the inputs of a command that makes a movie are written.
-abbrev pub form_of : Bool → InputForm
-form_of text = if text then Text else Bytes
-
 -- What is read of the file of this name is `input`: of `-` all that standard input has left, and
 -- any other leaves that alone.
 abbrev pub ReadsFile : List ℕ → Option (List ℕ) → Option (List ℕ) → List ℕ → Type 0
@@ -67,7 +62,7 @@ IsAnswered (Verify file plan pictures) old new status line =
     (input : List ℕ) × ReadsFile (string_bytes file) old new input × IsVerified plan.keep input status line
 IsAnswered (Report file workers json) old new status line =
     (input : List ℕ) × ReadsFile (string_bytes file) old new input × Reports (notation_of json) program_name input status line
-IsAnswered (Make rom inputs text every out) old new status line = Keeps old new × IsMade (form_of text) (non_zero_u32_get every) status line
+IsAnswered (Make rom inputs form every out) old new status line = Keeps old new × IsMade form (non_zero_u32_get every) status line
 IsAnswered (Info file json) old new status line =
     (input : List ℕ) × ReadsFile (string_bytes file) old new input × IsInformation (notation_of json) input status line
 IsAnswered (Inputs file) old new status line = (input : List ℕ) × ReadsFile (string_bytes file) old new input × Lists (movie_at input) status line

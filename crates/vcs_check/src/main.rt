@@ -24,7 +24,7 @@ use ending::Ending;
 use failure::Failure;
 use making::make;
 use named_files::{Limited, Named, Room, STANDARD_INPUT, STANDARD_OUTPUT, null_if_closed};
-use options::{form_of, notation_of, plan_of_standard_input};
+use options::{notation_of, plan_of_standard_input};
 use product::Product;
 use progress::Progress;
 use question::Question;
@@ -92,10 +92,10 @@ fn answer_command<
         Command::Make {
             rom,
             inputs,
-            text,
+            form,
             every,
             out,
-        } => make(rt, rom, inputs, form_of(*text), *every, out, line),
+        } => make(rt, rom, inputs, *form, *every, out, line),
         Command::Info { file, json } => {
             Question::Info(notation_of(*json)).answer_of(rt, input, file, line, gate)
         }

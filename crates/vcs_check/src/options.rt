@@ -1,10 +1,10 @@
 //! What the options of a command mean.
 ghost use Rattle.std.specs.Prelude.{◌≡◌};
 ghost use Rattle.std.specs.NonZero.{non_zero_u16_get};
-ghost use Rattle.vcs_check.specs.Commands.{form_of, notation_of};
+ghost use Rattle.vcs_check.specs.Commands.{notation_of};
 
 use replay_plan::{Plan, Workers};
-use vcs_engine::{InputForm, Notation};
+use vcs_engine::Notation;
 
 /// The plan by which standard input is judged: one worker, and no picture is kept.
 pub(crate) fn plan_of_standard_input() -> Plan
@@ -23,16 +23,5 @@ pub(crate) fn notation_of(json: bool) -> Notation
         Notation::Json
     } else {
         Notation::Lines
-    }
-}
-
-/// The form of inputs that are text, or else bytes.
-pub(crate) fn form_of(text: bool) -> InputForm
-    ensures { result ≡ form_of text }
-{
-    if text {
-        InputForm::Text
-    } else {
-        InputForm::Bytes
     }
 }

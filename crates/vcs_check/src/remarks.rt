@@ -12,7 +12,7 @@ use std::io::{Eprint, IsTerminal};
 use std::num::NonZeroU32;
 use std::rt::Files;
 use terminal_text::Shown;
-use vcs_engine::{Status, read_all};
+use vcs_engine::{InputForm, Status, read_all};
 
 /// What a file holds, if it is a regular file, which can be read again.
 fn read_again<R: Files + AllocGlobal>(rt: &R, path: &str) -> Option<Vec<u8>> {
@@ -44,19 +44,19 @@ fn hint_of_movie<R: Files + AllocGlobal>(rt: &R, path: &str) -> Option<Hint> {
 fn hint_of_list<R: Files + AllocGlobal>(
     rt: &R,
     path: &str,
-    is_text: bool,
+    form: InputForm,
     every: NonZeroU32,
 ) -> Option<Hint> {
     let bytes = read_again(rt, path)?;
-    if is_text {
-        return hint_of_text(&bytes);
-    }
-    match read_inputs(rt.alloc(), &bytes) {
-        Ok(inputs) => Some(Hint::Counts {
-            frames: inputs.len(),
-            every: every.get(),
-        }),
-        Err(error) => hint_of_inputs(&bytes, error),
+    match form {
+        InputForm::Text => hint_of_text(&bytes),
+        InputForm::Bytes => match read_inputs(rt.alloc(), &bytes) {
+            Ok(inputs) => Some(Hint::Counts {
+                frames: inputs.len(),
+                every: every.get(),
+            }),
+            Err(error) => hint_of_inputs(&bytes, error),
+        },
     }
 }
 
@@ -65,12 +65,12 @@ fn hint_of_making<'a, R: Files + AllocGlobal>(
     rt: &R,
     rom: &'a str,
     inputs: &'a str,
-    is_text: bool,
+    form: InputForm,
     every: NonZeroU32,
 ) -> Option<(&'a str, Hint)> {
     let cartridge = read_again(rt, rom)?;
     if Cart::is_length(cartridge.len()) {
-        let hint = hint_of_list(rt, inputs, is_text, every)?;
+        let hint = hint_of_list(rt, inputs, form, every)?;
         return Some((inputs, hint));
     }
     match fs::metadata(rt, inputs) {
@@ -90,10 +90,10 @@ fn hint_of_refusal<'a, R: Files + AllocGlobal>(
         Command::Make {
             rom,
             inputs,
-            text,
+            form,
             every,
             ..
-        } => return hint_of_making(rt, rom, inputs, *text, *every),
+        } => return hint_of_making(rt, rom, inputs, *form, *every),
         Command::Convert { old, .. } => return Some((old, hint_of_movie(rt, old)?)),
         Command::Stdin => STDIN,
         Command::Verify { file, .. }

@@ -12,12 +12,12 @@ use Rattle.movie_file.specs.Judgement.{IsGenuine}
 use Rattle.movie_file.specs.Making.{IsMadeOf, IsFirstFault, counts_fit}
 use Rattle.movie_file.specs.Movie.{MovieData}
 use Rattle.movie_file.specs.declared.error.MovieError.TheVariants.{BadCartSize, BadCounts}
+use Rattle.replay_plan.specs.declared.input_form.InputForm.{InputForm}
+use Rattle.replay_plan.specs.declared.input_form.InputForm.TheVariants.{Bytes, Text}
 use Rattle.vcs_engine.specs.Answers.{Answer, line_answer, movie_answer, refusal}
 use Rattle.vcs_engine.specs.Streams.{ReadsAll}
 use Rattle.vcs_engine.specs.declared.line.Line.{Line}
 use Rattle.vcs_engine.specs.declared.line.Line.TheVariants as lines
-use Rattle.vcs_engine.specs.declared.making.InputForm.{InputForm}
-use Rattle.vcs_engine.specs.declared.making.InputForm.TheVariants.{Bytes, Text}
 use Rattle.vcs_engine.specs.declared.status.Status.TheVariants.{Fault, Refused}
 
 -- What is written of a cartridge and inputs: the movie of their run, which is genuine, or the run's

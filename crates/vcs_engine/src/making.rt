@@ -12,19 +12,11 @@ use crate::status::Status;
 use crate::streams::read_all;
 use input_text::{TextError, read_text};
 use movie_file::{MakeError, MovieError, make_movie, read_inputs};
+use replay_plan::InputForm;
 use riot_map::Cart;
 use std::alloc::{AllocError, Global};
 use std::io::{Read, Write};
 use vcs_machine::Input;
-
-/// How a file has the inputs of frames.
-#[derive(Clone, Copy)]
-pub enum InputForm {
-    /// Three bytes a frame.
-    Bytes,
-    /// Lines of how many frames and what is held in them.
-    Text,
-}
 
 /// What is written of a cartridge and inputs.
 fn of_inputs(

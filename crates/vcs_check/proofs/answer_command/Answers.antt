@@ -12,4 +12,4 @@ returns-in-Report-clause-ok g c = rw c.in-Report.is
 
 pub returns-in-Make-clause-ok : goal.returns-in-Make-clause-ok
 returns-in-Make-clause-ok g c = rw c.in-Make.is
-    (make_answers _ _ _ c.in-Make.rom c.in-Make.inputs c.in-Make.text _ c.in-Make.every c.in-Make.out c.form_of.ensures c.make.result c.make.ensures.ok)
+    (make_answers _ _ _ c.in-Make.rom c.in-Make.inputs c.in-Make.form c.in-Make.every c.in-Make.out c.make.result c.make.ensures.ok)

@@ -1,4 +1,4 @@
-use Rattle.std.proofs.Common.{◌∙◌, refl, string_bytes}
+use Rattle.std.proofs.Common.{refl, string_bytes}
 use Rattle.vcs_engine.proofs.reporting.status_and_text.Goals as goal
 
 pub report-requires : goal.report-requires
