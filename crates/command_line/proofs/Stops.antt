@@ -11,10 +11,10 @@ use Rattle.clap.specs.Kinds.{or_else}
 use Rattle.clap.specs.declared.error.ErrorKind.{ErrorKind}
 use Rattle.clap.specs.Lexer.{long_of, short_of}
 use Rattle.command_line.proofs.Found.{none_first, none_then}
-use Rattle.command_line.specs.Meanings.{IsCommand, IsCommandAt, IsUnlisted}
+use Rattle.command_line.specs.Meanings.{IsCommand, IsCommandAt}
+use Rattle.command_line.specs.Private.Names.{IsUnlisted}
 use Rattle.command_line.specs.Table.{commands, program_app}
 use Rattle.command_line.specs.declared.command.Command.{Command}
-use Rattle.command_line.specs.declared.command.Command.TheVariants.{Stdin}
 
 -- ---- what a word is
 
@@ -234,16 +234,11 @@ unlisted name met clear = elim met.0 [
   ]
 ]
 
-pub only_without : (words : List Text) (command : Command) → fault_of program_app words ≡ [] → IsCommand (subcommand_of program_app words) command
-    → command ≡ Stdin → subcommand_of program_app words ≡ None
-only_without words command none is stdin = go (subcommand_of program_app words) refl
-  where
-    go : (o : Option (Text × List Row)) → subcommand_of program_app words ≡ o → subcommand_of program_app words ≡ None
-    go None e = e
-    go (Some met) e =
-        let at : IsCommandAt met.0 met.1 Stdin = subst (λ (k : Command). IsCommandAt met.0 met.1 k) stdin (subst (λ (o : Option (Text × List Row)). IsCommand o command) e is) in
-        let found : IsMet (built program_app) met.0 = subst (λ (o : Option (Text × List Row)). IfSome o (λ met. IsMet (built program_app) met.0)) e (program_met words none) in
-        absurd (unlisted met.0 found at)
+-- The name at which `clap` met a command is one of the table's.
+pub listed_met : (words : List Text) (name : Text) (rows : List Row) → fault_of program_app words ≡ [] → subcommand_of program_app words ≡ Some (name, rows)
+    → IsUnlisted name commands → ⊥
+listed_met words name rows none met = unlisted name
+    (subst (λ (o : Option (Text × List Row)). IfSome o (λ met. IsMet (built program_app) met.0)) met (program_met words none))
 
 pub named : (words : List Text) (name : Text) (rows : List Row) (command : Command) → subcommand_of program_app words ≡ Some (name, rows)
     → IsCommandAt name rows command → IsCommand (subcommand_of program_app words) command

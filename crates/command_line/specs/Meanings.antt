@@ -1,5 +1,5 @@
 -- Which command the words of a command line are. This project's own.
-use Rattle.std.specs.Prelude.{◌≡◌, ◌≢◌, ◌↔◌, ◌≤◌, ℕ, Bool, true, List, [], ◌∷◌, Option, Some, None, codes}
+use Rattle.std.specs.Prelude.{◌≡◌, ◌↔◌, ◌≤◌, ℕ, Bool, true, List, [], ◌∷◌, Option, Some, None, codes}
 use Rattle.std.specs.Prelude.{Ok, is_some, length, map, option_map, string_bytes, unwrap_or}
 use Rattle.std.specs.NonZero.{non_zero_u16_get, non_zero_u32_get}
 use Rattle.std.specs.Str.Parse.{digits_value, without_leading_plus}
@@ -10,7 +10,7 @@ use Rattle.replay_plan.specs.declared.input_form.InputForm.TheVariants as forms
 use Rattle.replay_plan.specs.declared.plan.Plan.{Plan}
 use Rattle.replay_plan.specs.declared.watches.Address.{Address}
 use Rattle.replay_plan.specs.declared.watches.Details.{Details}
-use Rattle.command_line.specs.Table.{Argument, Listed, asked_row, commands, checkpoints_row}
+use Rattle.command_line.specs.Table.{Argument, asked_row, checkpoints_row}
 use Rattle.command_line.specs.Table.{count_row}
 use Rattle.command_line.specs.Table.{cuts_row, digests_row, file_row, first_row, frame_row}
 use Rattle.command_line.specs.Table.{inputs_row, json_row, new_row}
@@ -18,7 +18,7 @@ use Rattle.command_line.specs.Table.{old_row, watch_row}
 use Rattle.command_line.specs.Table.{out_row, pictures_row, rom_row}
 use Rattle.command_line.specs.Table.{text_row, workers_row}
 use Rattle.command_line.specs.declared.command.Command.{Command}
-use Rattle.command_line.specs.declared.command.Command.TheVariants.{Stdin, Verify, Report, Make}
+use Rattle.command_line.specs.declared.command.Command.TheVariants.{Verify, Report, Make}
 use Rattle.command_line.specs.declared.command.Command.TheVariants.{Info, Inputs, Convert}
 use Rattle.command_line.specs.declared.command.Command.TheVariants.{Frames, Pictures, Cut, Trace}
 
@@ -55,14 +55,8 @@ pub record AreDetails (rows : List Row) (details : Details) : Type 0 where
   pub watches : AreAddresses (words_of watch_row rows) details.watches
   pub digests : (details.digests ≡ true) ↔ (one_of digests_row.name rows ≡ Some (codes "true"))
 
--- The table has no command of this name.
-abbrev pub IsUnlisted : Text → List Listed → Type 0
-IsUnlisted name [] = Unit {0}
-IsUnlisted name (listed ∷ more) = (name ≢ listed.name) × IsUnlisted name more
-
 -- The command of this name, of which `clap` found these values.
 abbrev pub IsCommandAt : Text → List Row → Command → Type 0
-IsCommandAt name rows Stdin = IsUnlisted name commands
 IsCommandAt name rows (Verify file plan pictures) =
     (name ≡ codes "verify") × (string_bytes file ≡ word_of file_row rows)
     × IsPlan rows (is_some pictures) plan
@@ -104,9 +98,13 @@ IsCommandAt name rows (Trace file frame) =
     × (number_of frame_row rows ≡ Some (non_zero_u32_get frame))
 
 -- The command of the words at which `clap` met this command's name, with the values that it found
--- there. Without a name it judges standard input.
+-- there. Without a name it is `verify -`: by one worker, cut at every checkpoint, and no picture is
+-- kept.
 abbrev pub IsCommand : Option (Text × List Row) → Command → Type 0
-IsCommand None command = command ≡ Stdin
+IsCommand None (Verify file plan pictures) =
+    (string_bytes file ≡ codes "-") × (plan.workers.number ≡ 1) × (non_zero_u16_get plan.every ≡ 1)
+    × (plan.keep.first ≡ 1) × (plan.keep.count ≡ 0) × (pictures ≡ None)
+IsCommand None other = ⊥
 IsCommand (Some met) command = IsCommandAt met.0 met.1 command
 
 -- Each word after `--watch` writes an address of the memory, and there are at most 16 of them.

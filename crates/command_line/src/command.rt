@@ -9,9 +9,7 @@ use std::num::NonZeroU32;
 /// What a command line asks for.
 #[derive(Debug, Drop)]
 pub enum Command {
-    /// Judge the movie on standard input.
-    Stdin,
-    /// Judge a movie.
+    /// Judge a movie. No arguments are `verify -`, by one worker.
     Verify {
         file: String,
         /// If no file takes pictures it keeps none.

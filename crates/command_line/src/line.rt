@@ -6,11 +6,12 @@ ghost use Rattle.clap.specs.Words.{fault_of as faults_at, found_of, kind_of, row
 ghost use Rattle.clap.specs.Words.{first_of, one_of};
 ghost use Rattle.command_line.specs.Faults.{HasBadValue, IsAnswerTo, IsRefusal};
 ghost use Rattle.command_line.specs.Meanings.{IsCommand, IsCommandAt, IsPlan, number_of};
+ghost use Rattle.command_line.specs.Private.Names.{IsUnlisted};
 ghost use Rattle.command_line.specs.Private.Numbers.{HasNumbers, HasNumbersOf, Suits};
 ghost use Rattle.command_line.specs.Pictures.{KeepsWhatIsTaken};
-ghost use Rattle.command_line.specs.declared.command.Command.TheVariants.{Stdin};
+ghost use Rattle.command_line.specs.declared.command.LineFault.TheVariants.{Memory};
 ghost use Rattle.command_line.specs.Table.{program_app, verify_listed, report_listed, make_listed};
-ghost use Rattle.command_line.specs.Table.{workers_row, cuts_row, first_row, count_row};
+ghost use Rattle.command_line.specs.Table.{commands, workers_row, cuts_row, first_row, count_row};
 ghost use Rattle.command_line.specs.Table.{asked_row, checkpoints_row, cut_listed, drawing_listed};
 ghost use Rattle.command_line.specs.Table.{frame_row, pictures_row, text_row, trace_listed};
 ghost use Rattle.replay_plan.specs.declared.input_form.InputForm.TheVariants.{Text};
@@ -304,9 +305,11 @@ fn fault_of(alloc: Global, error: &clap::Error) -> LineFault
     }
 }
 
-/// The command of this name, of which `clap` found some values, each number in its range.
+/// The command of this name of the table, of which `clap` found some values, each number in its
+/// range.
 fn command_of(alloc: Global, name: &str, matches: &ArgMatches<'_>) -> Result<Command, LineFault>
-    requires { HasNumbersOf name.now (rows_of (found_of matches.now)) }
+    requires numbers { HasNumbersOf name.now (rows_of (found_of matches.now)) }
+    requires listed { IsUnlisted name.now commands → ⊥ }
     ensures kept { IfOk result KeepsWhatIsTaken }
     ensures ok { IfOk result (IsCommandAt name.now (rows_of (found_of matches.now))) }
     ensures err { IfErr result (HasBadValue name.now (rows_of (found_of matches.now))) }
@@ -327,20 +330,31 @@ fn command_of(alloc: Global, name: &str, matches: &ArgMatches<'_>) -> Result<Com
         "pictures" => Ok(drawing_of(alloc, matches)?),
         "cut" => Ok(cut_of(alloc, matches)?),
         "trace" => Ok(trace_of(alloc, matches)?),
-        _ => Ok(Command::Stdin),
+        _ => unreachable!(),
     }
+}
+
+/// The command of no arguments: `verify -` by one worker.
+fn command_of_no_words(alloc: Global) -> Result<Command, LineFault>
+    ensures kept { IfOk result KeepsWhatIsTaken }
+    ensures ok { IfOk result (IsCommand None) }
+    ensures err { IfErr result (λ fault. fault ≡ Memory) }
+{
+    Ok(Command::Verify {
+        file: String::from_str(alloc, "-")?,
+        plan: Plan::without_pictures(Workers::ONE),
+        pictures: None,
+    })
 }
 
 /// The command of some arguments, of which the first is the program's name.
 ///
-/// If they name no command it is `Command::Stdin`. `clap` tries each number, so that each is in its
+/// If they name no command it is `verify -` by one worker. `clap` tries each number, so that each is in its
 /// range here.
 pub fn parse_line<S: AsStr>(alloc: Global, words: &[S]) -> Result<Command, LineFault>
     ensures kept { IfOk result KeepsWhatIsTaken }
     ensures taken { IfOk result (λ _. faults_at program_app (map S.text words.now) ≡ []) }
     ensures ok { IfOk result (IsCommand (subcommand_of program_app (map S.text words.now))) }
-    ensures stdin { IfOk result (λ command. command ≡ Stdin
-        → subcommand_of program_app (map S.text words.now) ≡ None) }
     ensures err { IfErr result (IsRefusal (map S.text words.now)) }
 {
     let program = program(alloc)?;
@@ -350,6 +364,6 @@ pub fn parse_line<S: AsStr>(alloc: Global, words: &[S]) -> Result<Command, LineF
     };
     match matches.subcommand() {
         Some((name, inner)) => command_of(alloc, name, inner),
-        None => Ok(Command::Stdin),
+        None => command_of_no_words(alloc),
     }
 }

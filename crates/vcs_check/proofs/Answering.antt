@@ -1,11 +1,11 @@
 -- From what a question or a movie to be made is answered to what the command does.
 use Rattle.std.proofs.Common.{◌≡◌, ℕ, Bool, List, refl, subst, Result, Ok, Err, Option, Some, None}
-use Rattle.std.proofs.Common.{String, Global, codes, string_bytes}
+use Rattle.std.proofs.Common.{String, Global, string_bytes}
 use Rattle.std.specs.NonZero.{non_zero_u32_get}
 use Rattle.std.specs.declared.num.NonZeroU32.{NonZeroU32}
 use Rattle.std.specs.Io.KnownBytes.{Keeps}
 use Rattle.command_line.specs.Program.{program_name}
-use Rattle.command_line.specs.declared.command.Command.TheVariants.{Stdin, Report, Make}
+use Rattle.command_line.specs.declared.command.Command.TheVariants.{Report, Make}
 use Rattle.movie_report.specs.declared.notation.Notation.{Notation}
 use Rattle.replay_plan.specs.declared.input_form.InputForm.{InputForm}
 use Rattle.replay_plan.specs.declared.plan.Plan.{Plan}
@@ -33,12 +33,6 @@ module _ (before after : Option (List ℕ)) where
   -- The answer to a question of the movie of a file.
   abbrev pub Asked : Option (List ℕ) → Option (List ℕ) → List ℕ → Question → Status → List ℕ → Type 0
   Asked old new name question status text = (bytes : List ℕ) × ReadsFile name old new bytes × IsAnswer question bytes status text
-
-  pub standard_input_answers : (old new : Option (List ℕ)) (plan : Plan) → plan.keep.count ≡ 0 → (result : Result Status Failure)
-      → Writes before after (Asked old new (codes "-") (questions.Verify plan)) result
-      → Writes before after (IsAnswered Stdin old new) result
-  standard_input_answers old new plan none =
-      says _ (IsAnswered Stdin old new) (λ status line h. (h.0, h.1.0 refl, (plan.keep, none, h.2)))
 
   pub report_answers : (old new : Option (List ℕ)) (name : List ℕ) (file : String Global) (plan : Plan) (notation : Notation) (workers : Workers) (json : Bool)
       → name ≡ string_bytes file → notation ≡ notation_of json → (result : Result Status Failure)

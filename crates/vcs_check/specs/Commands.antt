@@ -6,14 +6,13 @@ use Rattle.std.specs.NonZero.{non_zero_u32_get}
 use Rattle.std.specs.Io.KnownBytes.{Appends, Keeps}
 use Rattle.command_line.specs.Program.{program_name}
 use Rattle.command_line.specs.declared.command.Command.{Command}
-use Rattle.command_line.specs.declared.command.Command.TheVariants.{Stdin, Verify, Report, Make}
+use Rattle.command_line.specs.declared.command.Command.TheVariants.{Verify, Report, Make}
 use Rattle.command_line.specs.declared.command.Command.TheVariants.{Info, Inputs, Convert}
 use Rattle.command_line.specs.declared.command.Command.TheVariants.{Frames, Pictures, Cut, Trace}
 use Rattle.movie_file.specs.Reading.{movie_at}
 use Rattle.movie_report.specs.declared.notation.Notation.{Notation}
 use Rattle.movie_report.specs.declared.notation.Notation.TheVariants.{Lines, Json}
 use Rattle.replay_plan.specs.declared.input_form.InputForm.{InputForm}
-use Rattle.replay_plan.specs.declared.keep.Keep.{Keep}
 use Rattle.vcs_check.specs.Answers.{IsConversion, IsCut, IsDrawn, IsInformation, IsVerified}
 use Rattle.vcs_check.specs.Failures.{IsNoMemory, IsWriteFault}
 use Rattle.vcs_check.specs.declared.failure.Failure.{Failure}
@@ -54,10 +53,7 @@ abbrev pub ReadsFile : List ℕ → Option (List ℕ) → Option (List ℕ) → 
 ReadsFile name old new input = (name ≡ codes "-" → ReadsAll old new input) × (name ≢ codes "-" → Keeps old new)
 
 -- What a command answers, where standard input has the bytes `old` before it and `new` after it.
--- Without arguments standard input is judged, and no picture is kept.
 abbrev pub IsAnswered : Command → Option (List ℕ) → Option (List ℕ) → Status → List ℕ → Type 0
-IsAnswered Stdin old new status line =
-    (input : List ℕ) × ReadsAll old new input × ((keep : Keep) × (keep.count ≡ 0) × IsVerified keep input status line)
 IsAnswered (Verify file plan pictures) old new status line =
     (input : List ℕ) × ReadsFile (string_bytes file) old new input × IsVerified plan.keep input status line
 IsAnswered (Report file workers json) old new status line =

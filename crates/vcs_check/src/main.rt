@@ -2,8 +2,8 @@
 //! hold and how they were played.
 //!
 //! Status 0: done; 1: a false checkpoint; 2: a fault; 3: refused; 4: no command; 5: an error of
-//! files, memory or devices, which is printed on standard error. Without arguments it judges the
-//! movie on standard input.
+//! files, memory or devices, which is printed on standard error. Without arguments it does what
+//! `verify -` does.
 #![tactic(auto)]
 
 mod ending;
@@ -24,7 +24,7 @@ use ending::Ending;
 use failure::Failure;
 use making::make;
 use named_files::{Limited, Named, Room, STANDARD_INPUT, STANDARD_OUTPUT, null_if_closed};
-use options::{notation_of, plan_of_standard_input};
+use options::notation_of;
 use product::Product;
 use progress::Progress;
 use question::Question;
@@ -67,10 +67,6 @@ fn answer_command<
     ensures no_thread { IfErr result (λ failure. IsNoThread failure → StartsThreads command.now) }
 {
     match command {
-        Command::Stdin => {
-            let question = Question::Verify(plan_of_standard_input());
-            question.answer_of(rt, input, STDIN, line, gate)
-        }
         Command::Verify {
             file,
             plan,

@@ -86,7 +86,7 @@ fn hint_of_refusal<'a, R: Files + AllocGlobal>(
     rt: &R,
     command: &'a Command,
 ) -> Option<(&'a str, Hint)> {
-    let file = match command {
+    let file: &str = match command {
         Command::Make {
             rom,
             inputs,
@@ -95,7 +95,6 @@ fn hint_of_refusal<'a, R: Files + AllocGlobal>(
             ..
         } => return hint_of_making(rt, rom, inputs, *form, *every),
         Command::Convert { old, .. } => return Some((old, hint_of_movie(rt, old)?)),
-        Command::Stdin => STDIN,
         Command::Verify { file, .. }
         | Command::Report { file, .. }
         | Command::Info { file, .. }

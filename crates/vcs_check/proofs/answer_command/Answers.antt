@@ -1,9 +1,5 @@
-use Rattle.vcs_check.proofs.Answering.{standard_input_answers, report_answers, make_answers}
+use Rattle.vcs_check.proofs.Answering.{report_answers, make_answers}
 use Rattle.vcs_check.proofs.answer_command.Goals as goal
-
-pub returns-in-Stdin-clause-ok : goal.returns-in-Stdin-clause-ok
-returns-in-Stdin-clause-ok g c = rw c.in-Stdin.is
-    (standard_input_answers _ _ _ _ c.plan_of_standard_input.result c.plan_of_standard_input.ensures.keep.1 c.answer_of.result c.answer_of.ensures.ok)
 
 pub returns-in-Report-clause-ok : goal.returns-in-Report-clause-ok
 returns-in-Report-clause-ok g c = rw c.in-Report.is

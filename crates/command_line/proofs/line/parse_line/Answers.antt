@@ -1,11 +1,10 @@
-use Rattle.std.proofs.Common.{◌∙◌, map, refl, subst, sym}
+use Rattle.std.proofs.Common.{◌∙◌, map, subst, sym}
 use Rattle.std.proofs.lemmas.Result.{IfErr-weaker, IfOk-weaker}
 use Rattle.clap.specs.Words.{app_of, found_of, rows_of}
 use Rattle.command_line.specs.Meanings.{IsCommand}
-use Rattle.command_line.specs.declared.command.Command.TheVariants.{Stdin}
 use Rattle.command_line.proofs.Known.{bad_value, both_of, failing, in_both, meets, none_of, refused, taken}
 use Rattle.command_line.proofs.Numbers.{numbers_met}
-use Rattle.command_line.proofs.Stops.{named, only_without}
+use Rattle.command_line.proofs.Stops.{listed_met, named}
 use Rattle.command_line.proofs.line.parse_line.Goals as goal
 
 pub returns-in-Err-clause-err : goal.returns-in-Err-clause-err
@@ -13,13 +12,21 @@ returns-in-Err-clause-err g c =
     let words = map g.S.AsStr.text c.args.words.now in
     refused words _ c.fault_of.result (failing (app_of c.in_ok-program.program) words c.in-Err.error c.in_ok-program.ensures.0 c.in-Err.ensures.kinds) c.fault_of.ensures
 
-pub command_of-requires : goal.command_of-requires
-command_of-requires g c =
+pub command_of-requires-clause-numbers : goal.command_of-requires-clause-numbers
+command_of-requires-clause-numbers g c =
     let words = map g.S.AsStr.text c.args.words.now in
     let none = taken (app_of c.in_ok-program.program) words c.in_ok-program.ensures.0 c.in-Ok.ensures.kinds in
     let met = meets (app_of c.in_ok-program.program) words c.in-Ok.matches c.in_ok-program.ensures.0 c.in-Ok.ensures.matches in
     let both = both_of _ _ _ c.in-Some.name.now (rows_of (found_of c.in-Some.inner.now)) c.in-Some.ensures.name c.in-Some.ensures.rows in
     numbers_met words c.in-Some.name.now (rows_of (found_of c.in-Some.inner.now)) none (sym met ∙ both)
+
+pub command_of-requires-clause-listed : goal.command_of-requires-clause-listed
+command_of-requires-clause-listed g c =
+    let words = map g.S.AsStr.text c.args.words.now in
+    let none = taken (app_of c.in_ok-program.program) words c.in_ok-program.ensures.0 c.in-Ok.ensures.kinds in
+    let met = meets (app_of c.in_ok-program.program) words c.in-Ok.matches c.in_ok-program.ensures.0 c.in-Ok.ensures.matches in
+    let both = both_of _ _ _ c.in-Some.name.now (rows_of (found_of c.in-Some.inner.now)) c.in-Some.ensures.name c.in-Some.ensures.rows in
+    listed_met words c.in-Some.name.now (rows_of (found_of c.in-Some.inner.now)) none (sym met ∙ both)
 
 pub returns-in-Some-clause-taken : goal.returns-in-Some-clause-taken
 returns-in-Some-clause-taken g c =
@@ -36,15 +43,7 @@ returns-in-Some-clause-err g c =
 pub returns-clause-taken : goal.returns-clause-taken
 returns-clause-taken g c =
     let words = map g.S.AsStr.text c.args.words.now in
-    taken (app_of c.in_ok-program.program) words c.in_ok-program.ensures.0 c.in-Ok.ensures.kinds
-
-pub returns-in-Some-clause-stdin : goal.returns-in-Some-clause-stdin
-returns-in-Some-clause-stdin g c =
-    let words = map g.S.AsStr.text c.args.words.now in
-    let none = taken (app_of c.in_ok-program.program) words c.in_ok-program.ensures.0 c.in-Ok.ensures.kinds in
-    let met = meets (app_of c.in_ok-program.program) words c.in-Ok.matches c.in_ok-program.ensures.0 c.in-Ok.ensures.matches in
-    let both = both_of _ _ _ c.in-Some.name.now (rows_of (found_of c.in-Some.inner.now)) c.in-Some.ensures.name c.in-Some.ensures.rows in
-    IfOk-weaker c.command_of.result _ _ (λ command at. only_without words command none (named words _ _ command (sym met ∙ both) at)) c.command_of.ensures.ok
+    in_both c.command_of_no_words.result _ (taken (app_of c.in_ok-program.program) words c.in_ok-program.ensures.0 c.in-Ok.ensures.kinds)
 
 pub returns-in-Some-clause-ok : goal.returns-in-Some-clause-ok
 returns-in-Some-clause-ok g c =
@@ -53,15 +52,9 @@ returns-in-Some-clause-ok g c =
     let both = both_of _ _ _ c.in-Some.name.now (rows_of (found_of c.in-Some.inner.now)) c.in-Some.ensures.name c.in-Some.ensures.rows in
     IfOk-weaker c.command_of.result _ _ (λ command at. named words _ _ command (sym met ∙ both) at) c.command_of.ensures.ok
 
-pub returns-clause-stdin : goal.returns-clause-stdin
-returns-clause-stdin g c =
-    let words = map g.S.AsStr.text c.args.words.now in
-    let met = meets (app_of c.in_ok-program.program) words c.in-Ok.matches c.in_ok-program.ensures.0 c.in-Ok.ensures.matches in
-    λ is. sym met ∙ none_of _ _ _ c.in-None.ensures.name c.in-None.ensures.rows
-
 pub returns-clause-ok : goal.returns-clause-ok
 returns-clause-ok g c =
     let words = map g.S.AsStr.text c.args.words.now in
     let met = meets (app_of c.in_ok-program.program) words c.in-Ok.matches c.in_ok-program.ensures.0 c.in-Ok.ensures.matches in
     let none = none_of _ _ _ c.in-None.ensures.name c.in-None.ensures.rows in
-    subst (λ met. IsCommand met Stdin) (sym (sym met ∙ none)) refl
+    IfOk-weaker c.command_of_no_words.result _ _ (λ command is. subst (λ met. IsCommand met command) (sym (sym met ∙ none)) is) c.command_of_no_words.ensures.ok
