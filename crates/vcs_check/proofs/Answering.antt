@@ -42,7 +42,8 @@ module _ (before after : Option (List ℕ)) where
       says _ (IsAnswered (Report file workers json) old new)
       (λ status line h. (h.0, subst (λ n. ReadsFile n old new h.0) same h.1, subst (λ n. Reports n program_name h.0 status line) is h.2))
 
-  pub make_answers : (known : Option (List ℕ)) (rom inputs : String Global) (form : InputForm) (every : NonZeroU32) (out : String Global) → (result : Result Status Failure)
+  pub make_answers : (known : Option (List ℕ)) (rom inputs : String Global) (form : InputForm) (every : NonZeroU32) (out : String Global)
+      → (result : Result Status Failure)
       → Writes before after (IsMade form (non_zero_u32_get every)) result → Writes before after (IsAnswered (Make rom inputs form every out) known known) result
   make_answers known rom inputs form every out =
       says _ (IsAnswered (Make rom inputs form every out) known known) (λ status line h. (keeps known, h))

@@ -16,7 +16,7 @@ use Rattle.replay_plan.specs.declared.input_form.InputForm.{InputForm}
 use Rattle.vcs_check.specs.Answers.{IsConversion, IsCut, IsDrawn, IsInformation, IsVerified}
 use Rattle.vcs_check.specs.Failures.{IsNoMemory, IsWriteFault}
 use Rattle.vcs_check.specs.declared.failure.Failure.{Failure}
-use Rattle.vcs_engine.specs.Answers.{Answer, Shows}
+use Rattle.vcs_engine.specs.Answers.{AnswerData, Shows}
 use Rattle.vcs_engine.specs.Listings.{Lists}
 use Rattle.vcs_engine.specs.Makings.{Makes}
 use Rattle.vcs_engine.specs.Reports.{Reports}
@@ -41,7 +41,7 @@ IsQuietUntilFull old new result =
 -- The line of a movie that was made of some bytes, or of why there is none.
 abbrev pub IsMade : InputForm → ℕ → Status → List ℕ → Type 0
 IsMade form every status line =
-    (rom : List ℕ) × (old new : Option (List ℕ)) × (answer : Answer) × Makes form rom old new every answer × Shows answer status line
+    (rom : List ℕ) × (old new : Option (List ℕ)) × (answer : AnswerData) × Makes form rom old new every answer × Shows answer status line
 
 -- How a command writes that is asked for JSON, or isn't.
 abbrev pub notation_of : Bool → Notation

@@ -7,39 +7,37 @@ use Rattle.movie_file.specs.MovieError.{refusal_text}
 use Rattle.movie_file.specs.declared.error.MovieError.{MovieError}
 use Rattle.movie_report.specs.declared.notation.Notation.{Notation}
 use Rattle.movie_report.specs.declared.notation.Notation.TheVariants.{Lines, Json}
-use Rattle.vcs_engine.specs.Lines.{line_bytes}
+use Rattle.vcs_engine.specs.Lines.{line_bytes, status_of}
 use Rattle.vcs_engine.specs.declared.line.Line.{Line}
 use Rattle.vcs_engine.specs.declared.line.Line.TheVariants as lines
 use Rattle.vcs_engine.specs.declared.status.Status.{Status}
-use Rattle.vcs_engine.specs.declared.status.Status.TheVariants as statuses
 
 -- A status, a line with its end, the bytes of a movie, and pictures. If no movie or no picture
 -- is written, that list is empty.
-pub record Answer : Type 0 where
+pub record AnswerData : Type 0 where
   pub status : Status
   pub line : List ℕ
   pub movie : List ℕ
   pub pictures : List Rows
 
 -- A line alone,
-abbrev pub line_answer : Status → Line → Answer
-line_answer status line = record { status = status; line = line_bytes line; movie = []; pictures = [] }
+abbrev pub line_answer : Line → AnswerData
+line_answer line = record { status = status_of line; line = line_bytes line; movie = []; pictures = [] }
 
 -- the line that bytes are refused,
-abbrev pub refusal : MovieError → Answer
-refusal error = line_answer statuses.Refused (lines.Refused error)
+abbrev pub refusal : MovieError → AnswerData
+refusal error = line_answer (lines.Refused error)
 
 -- the same as an object of JSON,
-abbrev pub refusal_in : Notation → MovieError → Answer
+abbrev pub refusal_in : Notation → MovieError → AnswerData
 refusal_in Lines error = refusal error
 refusal_in Json error =
-    record { status = statuses.Refused; line = codes "{\"verdict\":\"refused\",\"refusal\":\"" ++ (refusal_text error ++ (codes "\"}" ++ 10 ∷ [])); movie = []; pictures = [] }
+    record (refusal error) { line = codes "{\"verdict\":\"refused\",\"refusal\":\"" ++ (refusal_text error ++ (codes "\"}" ++ 10 ∷ [])) }
 
 -- and a movie with a line of how many frames and checkpoints it has.
-abbrev pub movie_answer : (ℕ → ℕ → Line) → MovieData → Answer
-movie_answer line m =
-    record { status = statuses.Done; line = line_bytes (line (length m.inputs) (length m.checkpoints)); movie = spelling m; pictures = [] }
+abbrev pub movie_answer : (ℕ → ℕ → Line) → MovieData → AnswerData
+movie_answer line m = record (line_answer (line (length m.inputs) (length m.checkpoints))) { movie = spelling m }
 
 -- The status and the line of an answer.
-abbrev pub Shows : Answer → Status → List ℕ → Type 0
+abbrev pub Shows : AnswerData → Status → List ℕ → Type 0
 Shows answer status line = (status ≡ answer.status) × (line ≡ answer.line)

@@ -4,12 +4,11 @@ use Rattle.std.specs.Prelude.{Result, Ok, Err, ◌==◌, if◌then◌else◌}
 use Rattle.movie_file.specs.Conversion.{in_version_2}
 use Rattle.movie_file.specs.Movie.{MovieData}
 use Rattle.movie_file.specs.declared.error.MovieError.{MovieError}
-use Rattle.vcs_engine.specs.Answers.{Answer, line_answer, movie_answer, refusal}
+use Rattle.vcs_engine.specs.Answers.{AnswerData, line_answer, movie_answer, refusal}
 use Rattle.vcs_engine.specs.declared.line.Line.TheVariants as lines
-use Rattle.vcs_engine.specs.declared.status.Status.TheVariants.{Refused}
 
 -- Of a movie the same one in version 2, or that it has that version already; of bytes that are
 -- refused, that they are.
-abbrev pub conversion_of : Result MovieData MovieError → Answer
-conversion_of (Ok m) = if m.version == 2 then line_answer Refused lines.AlreadyTwo else movie_answer lines.Converted (in_version_2 m)
+abbrev pub conversion_of : Result MovieData MovieError → AnswerData
+conversion_of (Ok m) = if m.version == 2 then line_answer lines.AlreadyTwo else movie_answer lines.Converted (in_version_2 m)
 conversion_of (Err error) = refusal error

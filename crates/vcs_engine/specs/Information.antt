@@ -5,14 +5,14 @@ use Rattle.movie_file.specs.Movie.{MovieData}
 use Rattle.movie_file.specs.declared.error.MovieError.{MovieError}
 use Rattle.movie_report.specs.declared.notation.Notation.{Notation}
 use Rattle.movie_report.specs.declared.notation.Notation.TheVariants.{Lines, Json}
-use Rattle.vcs_engine.specs.Answers.{Answer, line_answer, refusal, refusal_in}
+use Rattle.vcs_engine.specs.Answers.{AnswerData, line_answer, refusal, refusal_in}
 use Rattle.vcs_engine.specs.declared.line.Line.TheVariants as lines
 use Rattle.vcs_engine.specs.declared.status.Status.TheVariants.{Done}
 
 -- Of a movie its version, the length of its cartridge, and how many frames and checkpoints it has;
 -- of bytes that are refused, that they are.
-abbrev pub information_of : Result MovieData MovieError → Answer
-information_of (Ok m) = line_answer Done (lines.Movie m.version (length m.cart) (length m.inputs) (length m.checkpoints))
+abbrev pub information_of : Result MovieData MovieError → AnswerData
+information_of (Ok m) = line_answer (lines.Movie m.version (length m.cart) (length m.inputs) (length m.checkpoints))
 information_of (Err error) = refusal error
 
 -- The same as an object of JSON.
@@ -21,7 +21,7 @@ object_text m =
     codes "{\"version\":" ++ (decimal m.version ++ (codes ",\"cartridge\":" ++ (decimal (length m.cart) ++ (codes ",\"frames\":" ++ (decimal (length m.inputs)
     ++ (codes ",\"checkpoints\":" ++ (decimal (length m.checkpoints) ++ (codes "}" ++ 10 ∷ []))))))))
 
-abbrev pub information_in : Notation → Result MovieData MovieError → Answer
+abbrev pub information_in : Notation → Result MovieData MovieError → AnswerData
 information_in Lines found = information_of found
 information_in Json (Ok m) = record { status = Done; line = object_text m; movie = []; pictures = [] }
 information_in Json (Err error) = refusal_in Json error

@@ -8,6 +8,8 @@ use Rattle.vcs_engine.specs.declared.line.Line.TheVariants.{Genuine, FalseCheckp
 use Rattle.vcs_engine.specs.declared.line.Line.TheVariants.{Refused, BadLine, Made, Converted}
 use Rattle.vcs_engine.specs.declared.line.Line.TheVariants.{AlreadyTwo, Movie, Cut}
 use Rattle.vcs_engine.specs.declared.line.Line.TheVariants.{Pictures, Frame, NoFrame}
+use Rattle.vcs_engine.specs.declared.status.Status.{Status}
+use Rattle.vcs_engine.specs.declared.status.Status.TheVariants as statuses
 
 -- How many frames and checkpoints a movie has.
 abbrev pub counts_text : ℕ → ℕ → List ℕ
@@ -42,3 +44,13 @@ line_text (Movie version cartridge frames checkpoints) =
 -- With its end, a line feed.
 abbrev pub line_bytes : Line → List ℕ
 line_bytes line = line_text line ++ 10 ∷ []
+
+-- How a run ended whose last line this is.
+abbrev pub status_of : Line → Status
+status_of (FalseCheckpoint number frame) = statuses.False
+status_of (Fault frame kind) = statuses.Fault
+status_of (Refused error) = statuses.Refused
+status_of (BadLine number) = statuses.Refused
+status_of AlreadyTwo = statuses.Refused
+status_of (NoFrame frame) = statuses.Refused
+status_of other = statuses.Done

@@ -14,19 +14,18 @@ use Rattle.movie_file.specs.Movie.{MovieData}
 use Rattle.movie_file.specs.declared.error.MovieError.TheVariants.{BadCartSize, BadCounts}
 use Rattle.replay_plan.specs.declared.input_form.InputForm.{InputForm}
 use Rattle.replay_plan.specs.declared.input_form.InputForm.TheVariants.{Bytes, Text}
-use Rattle.vcs_engine.specs.Answers.{Answer, line_answer, movie_answer, refusal}
+use Rattle.vcs_engine.specs.Answers.{AnswerData, line_answer, movie_answer, refusal}
 use Rattle.vcs_engine.specs.Streams.{ReadsAll}
 use Rattle.vcs_engine.specs.declared.line.Line.{Line}
 use Rattle.vcs_engine.specs.declared.line.Line.TheVariants as lines
-use Rattle.vcs_engine.specs.declared.status.Status.TheVariants.{Fault, Refused}
 
 -- What is written of a cartridge and inputs: the movie of their run, which is genuine, or the run's
 -- first fault; or that their counts are refused.
-abbrev pub MakesOf : List ℕ → List InputData → ℕ → Answer → Type 0
+abbrev pub MakesOf : List ℕ → List InputData → ℕ → AnswerData → Type 0
 MakesOf cart inputs every answer =
     (IsTrue (counts_fit (length inputs) every)
     × (((m : MovieData) × IsMadeOf cart inputs every m × IsGenuine m × (answer ≡ movie_answer lines.Made m))
-    ⊎ ((frame : ℕ) × (kind : FaultKind) × IsFirstFault cart inputs frame kind × (answer ≡ line_answer Fault (lines.Fault frame kind)))))
+    ⊎ ((frame : ℕ) × (kind : FaultKind) × IsFirstFault cart inputs frame kind × (answer ≡ line_answer (lines.Fault frame kind)))))
     ⊎ ((¬ IsTrue (counts_fit (length inputs) every)) × (answer ≡ refusal BadCounts))
 
 -- The inputs that some bytes are in this form, or the line of why they are none.
@@ -35,13 +34,13 @@ inputs_by Bytes input = result_map_both (λ inputs. inputs) lines.Refused (all_i
 inputs_by Text input = result_map_both (λ inputs. inputs) lines.BadLine (inputs_in input)
 
 -- What is written of a cartridge and what reading the inputs found.
-abbrev pub MakesFrom : List ℕ → Result (List InputData) Line → ℕ → Answer → Type 0
+abbrev pub MakesFrom : List ℕ → Result (List InputData) Line → ℕ → AnswerData → Type 0
 MakesFrom cart (Ok inputs) every answer = MakesOf cart inputs every answer
-MakesFrom cart (Err line) every answer = answer ≡ line_answer Refused line
+MakesFrom cart (Err line) every answer = answer ≡ line_answer line
 
 -- What is written of the bytes of a ROM, and what is read of the inputs: if no cartridge has the
 -- ROM's length, nothing.
-abbrev pub Makes : InputForm → List ℕ → Option (List ℕ) → Option (List ℕ) → ℕ → Answer → Type 0
+abbrev pub Makes : InputForm → List ℕ → Option (List ℕ) → Option (List ℕ) → ℕ → AnswerData → Type 0
 Makes form rom old new every answer =
     (IsTrue (is_cart_length (length rom)) × ((input : List ℕ) × ReadsAll old new input × MakesFrom rom (inputs_by form input) every answer))
     ⊎ ((¬ IsTrue (is_cart_length (length rom))) × Keeps old new × (answer ≡ refusal BadCartSize))

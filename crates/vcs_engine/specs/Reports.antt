@@ -9,7 +9,8 @@ use Rattle.movie_report.specs.declared.notation.Notation.TheVariants.{Lines, Jso
 use Rattle.replay_segments.specs.Verdicts.{HasVerdict}
 use Rattle.replay_segments.specs.declared.verdict.Verdict.{Verdict}
 use Rattle.vcs_engine.specs.Answers.{Shows, refusal_in}
-use Rattle.vcs_engine.specs.Outputs.{verdict_answer}
+use Rattle.vcs_engine.specs.Lines.{line_bytes, status_of}
+use Rattle.vcs_engine.specs.Outputs.{verdict_line}
 use Rattle.vcs_engine.specs.declared.status.Status.{Status}
 
 -- The line of a verdict stands before lines of facts. An object of facts names the verdict itself.
@@ -21,8 +22,8 @@ line_in Json line = []
 -- facts, of a refusal that alone.
 abbrev pub ReportsOf : Notation → List ℕ → List ℕ → Result MovieData MovieError → Status → List ℕ → Type 0
 ReportsOf notation program bytes (Ok m) status text =
-    (verdict : Verdict) × HasVerdict m verdict × (status ≡ (verdict_answer m verdict).status)
-    × ((facts : List ℕ) × IsReport notation program bytes m verdict facts × (text ≡ line_in notation (verdict_answer m verdict).line ++ facts))
+    (verdict : Verdict) × HasVerdict m verdict × (status ≡ status_of (verdict_line m verdict))
+    × ((facts : List ℕ) × IsReport notation program bytes m verdict facts × (text ≡ line_in notation (line_bytes (verdict_line m verdict)) ++ facts))
 ReportsOf notation program bytes (Err error) status text = Shows (refusal_in notation error) status text
 
 -- Those of the bytes of an input.

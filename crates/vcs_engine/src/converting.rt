@@ -5,8 +5,8 @@ ghost use Rattle.movie_file.specs.Reading.{movie_at};
 ghost use Rattle.vcs_engine.specs.Conversions.{conversion_of};
 ghost use Rattle.vcs_engine.specs.Streams.{ReadsAll, WritesPart, IsTooLong};
 
+use crate::answer::Answer;
 use crate::line::Line;
-use crate::movie_answer::MovieAnswer;
 use crate::run_error::RunError;
 use crate::status::Status;
 use crate::streams::read_all;
@@ -15,13 +15,13 @@ use std::alloc::{AllocError, Global};
 use std::io::{Read, Write};
 
 /// What is written of the bytes of a movie.
-fn of_bytes(alloc: Global, bytes: &[u8]) -> Result<MovieAnswer, AllocError>
+fn of_bytes(alloc: Global, bytes: &[u8]) -> Result<Answer, AllocError>
     ensures { IfOk result (λ answer. answer ≡ conversion_of (movie_at bytes.now)) }
 {
     let movie = match read_movie(alloc, bytes) {
         Ok(movie) => movie,
         Err(MovieError::NoMemory) => return Err(AllocError),
-        Err(error) => return MovieAnswer::refusal(alloc, Line::Refused(error)),
+        Err(error) => return Answer::of_line(alloc, Line::Refused(error)),
     };
     match convert(movie) {
         Ok(movie) => {
@@ -31,9 +31,9 @@ fn of_bytes(alloc: Global, bytes: &[u8]) -> Result<MovieAnswer, AllocError>
                 frames,
                 checkpoints,
             };
-            MovieAnswer::of_movie(alloc, &movie, line)
+            Answer::of_movie(alloc, &movie, line)
         }
-        Err(ConvertError::AlreadyTwo(_)) => MovieAnswer::refusal(alloc, Line::AlreadyTwo),
+        Err(ConvertError::AlreadyTwo(_)) => Answer::of_line(alloc, Line::AlreadyTwo),
     }
 }
 
@@ -66,5 +66,5 @@ pub fn run_convert<R: Read, W: Write, L: Write>(
 {
     let bytes = read_all(alloc, movie)?;
     let answer = of_bytes(alloc, &bytes)?;
-    Ok(answer.write(new, line)?)
+    Ok(answer.write_movie(new, line)?)
 }

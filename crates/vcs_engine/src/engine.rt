@@ -1,21 +1,44 @@
 //! From the bytes of a movie to its verdict.
-ghost use Rattle.std.specs.Prelude.{◌≡◌, ◌≢◌, ◌≤◌, List, ℕ, IfOk, OnErr};
+ghost use Rattle.std.specs.Prelude.{◌≡◌, ◌≢◌, ◌≤◌, List, ℕ, Err, IfOk, OnErr};
 ghost use Rattle.std.specs.Io.KnownBytes.{Appends, Keeps};
 ghost use Rattle.picture_file.specs.PictureBytes.{pictures_bytes};
-ghost use Rattle.vcs_engine.specs.Answers.{Answer};
+ghost use Rattle.vcs_engine.specs.Answers.{AnswerData};
 ghost use Rattle.vcs_engine.specs.Outputs.{Tells};
 ghost use Rattle.vcs_engine.specs.Streams.{ReadsAll, IsTooLong, WritesPart};
 
+use crate::answer::Answer;
 use crate::counted_gate::CountedGate;
-use crate::output::Output;
-use crate::run_error::RunError;
+use crate::judging::verdict_of;
+use crate::line::Line;
+use crate::run_error::{JudgeError, RunError};
 use crate::status::Status;
 use crate::streams::read_all;
+use movie_file::{MovieError, read_movie};
 use replay_plan::Plan;
 use std::alloc::Global;
 use std::io::{Read, Write};
 use std::sync::Wait;
 use std::thread::Threads;
+
+/// What is answered to the bytes of a movie.
+fn of_bytes<T: Threads + Wait + Sync, G: CountedGate + Sync>(
+    rt: &T,
+    alloc: Global,
+    bytes: &[u8],
+    plan: &Plan,
+    gate: &G,
+) -> Result<Answer, JudgeError>
+    ensures told { IfOk result (λ answer. Tells plan.now.keep bytes.now answer) }
+    ensures no_thread { result ≡ Err JudgeError.NoThread → 2 ≤ plan.now.workers.number }
+{
+    let movie = match read_movie(alloc, bytes) {
+        Ok(movie) => movie,
+        Err(MovieError::NoMemory) => return Err(JudgeError::NoMemory),
+        Err(error) => return Ok(Answer::of_line(alloc, Line::Refused(error))?),
+    };
+    let verdict = verdict_of(rt, alloc, &movie, plan, gate)?;
+    Ok(Answer::of_verdict(alloc, &movie, verdict)?)
+}
 
 /// Reads a movie, judges it by the plan's workers, and writes its line, which ends with a line
 /// feed, and then the kept pictures of a genuine movie.
@@ -37,10 +60,10 @@ pub fn run<T: Threads + Wait + Sync, R: Read, W: Write, P: Write, G: CountedGate
     gate: &G,
 ) -> Result<Status, RunError>
     // The output is that of the bytes read, and nothing else.
-    ensures ok { IfOk result (λ status. (input : List ℕ) × (answer : Answer) × ReadsAll (R.remaining movie.old) (R.remaining movie.new) input
+    ensures ok { IfOk result (λ status. (input : List ℕ) × (answer : AnswerData) × ReadsAll (R.remaining movie.old) (R.remaining movie.new) input
         × Tells plan.now.keep input answer × (status ≡ answer.status) × Appends (W.contents verdict.old) (W.contents verdict.new) answer.line
         × Appends (P.contents pictures.old) (P.contents pictures.new) (pictures_bytes answer.pictures)) }
-    ensures write_fault { result ≡ Err RunError.WriteFault → (input : List ℕ) × (answer : Answer) × ReadsAll (R.remaining movie.old) (R.remaining movie.new) input
+    ensures write_fault { result ≡ Err RunError.WriteFault → (input : List ℕ) × (answer : AnswerData) × ReadsAll (R.remaining movie.old) (R.remaining movie.new) input
         × Tells plan.now.keep input answer × WritesPart (W.contents verdict.old) (W.contents verdict.new) answer.line
         (P.contents pictures.old) (P.contents pictures.new) (pictures_bytes answer.pictures) }
 
@@ -51,6 +74,6 @@ pub fn run<T: Threads + Wait + Sync, R: Read, W: Write, P: Write, G: CountedGate
     ensures no_thread { result ≡ Err RunError.NoThread → 2 ≤ plan.now.workers.number }
 {
     let bytes = read_all(alloc, movie)?;
-    let output = Output::of_bytes(rt, alloc, &bytes, plan, gate)?;
-    Ok(output.write(verdict, pictures)?)
+    let answer = of_bytes(rt, alloc, &bytes, plan, gate)?;
+    Ok(answer.write_pictures(verdict, pictures)?)
 }

@@ -1,26 +1,25 @@
 //! From the bytes of a movie to what is in it.
-ghost use Rattle.std.specs.Prelude.{◌≡◌, ◌≢◌, List, [], ℕ, IfOk, OnErr, string_bytes};
+ghost use Rattle.std.specs.Prelude.{◌≡◌, ◌≢◌, List, ℕ, IfOk, Ok, OnErr};
 ghost use Rattle.std.specs.Io.KnownBytes.{Appends, Keeps};
 ghost use Rattle.movie_file.specs.Reading.{movie_at};
 ghost use Rattle.picture_file.specs.Prefixes.{AppendsPrefix};
 ghost use Rattle.vcs_engine.specs.Information.{information_in, information_of};
 ghost use Rattle.vcs_engine.specs.Streams.{ReadsAll, IsTooLong};
 
+use crate::answer::Answer;
 use crate::line::Line;
-use crate::output::refusal_text;
+use crate::refusing::refusal_of;
 use crate::run_error::RunError;
 use crate::status::Status;
 use crate::streams::read_all;
 use movie_file::{Movie, MovieError, read_movie};
 use movie_report::Notation;
-use picture_file::write_bytes;
 use std::alloc::{AllocError, Global};
 use std::io::{Read, Write};
 
-/// What a movie holds, with the text's end.
-fn information_text(alloc: Global, notation: Notation, movie: &Movie) -> Result<String, AllocError>
-    ensures { IfOk result (λ text. string_bytes text
-        ≡ (information_in notation (Ok movie.now)).line) }
+/// What a movie holds.
+fn of_movie(alloc: Global, notation: Notation, movie: &Movie) -> Result<Answer, AllocError>
+    ensures { IfOk result (λ answer. answer ≡ information_in notation (Ok movie.now)) }
 {
     let version = movie.version();
     let cartridge = movie.cart().len();
@@ -34,27 +33,25 @@ fn information_text(alloc: Global, notation: Notation, movie: &Movie) -> Result<
                 frames,
                 checkpoints,
             };
-            line.text(alloc)
+            Answer::of_line(alloc, line)
         }
-        Notation::Json => format!(in alloc;
-            "{{\"version\":{version},\"cartridge\":{cartridge},\"frames\":{frames},\"checkpoints\":{checkpoints}}}\n"
-        ),
+        Notation::Json => {
+            let text = format!(in alloc;
+                "{{\"version\":{version},\"cartridge\":{cartridge},\"frames\":{frames},\"checkpoints\":{checkpoints}}}\n"
+            )?;
+            Ok(Answer::of_text(alloc, Status::Done, text))
+        }
     }
 }
 
-/// A status, and what is said of the bytes of an input.
-fn status_and_text(
-    alloc: Global,
-    notation: Notation,
-    bytes: &[u8],
-) -> Result<(Status, String), AllocError>
-    ensures { IfOk result (λ told. information_in notation (movie_at bytes.now)
-        ≡ record { status = told.0; line = string_bytes told.1; movie = []; pictures = [] }) }
+/// What is answered to the bytes of a movie.
+fn of_bytes(alloc: Global, notation: Notation, bytes: &[u8]) -> Result<Answer, AllocError>
+    ensures { IfOk result (λ answer. answer ≡ information_in notation (movie_at bytes.now)) }
 {
     match read_movie(alloc, bytes) {
-        Ok(movie) => Ok((Status::Done, information_text(alloc, notation, &movie)?)),
+        Ok(movie) => of_movie(alloc, notation, &movie),
         Err(MovieError::NoMemory) => Err(AllocError),
-        Err(error) => Ok((Status::Refused, refusal_text(alloc, notation, error)?)),
+        Err(error) => refusal_of(alloc, notation, error),
     }
 }
 
@@ -82,9 +79,8 @@ pub fn run_information<R: Read, W: Write>(
     ensures no_thread { result ≢ Err RunError.NoThread }
 {
     let bytes = read_all(alloc, movie)?;
-    let (status, output) = status_and_text(alloc, notation, &bytes)?;
-    write_bytes(output.as_bytes(), text)?;
-    Ok(status)
+    let answer = of_bytes(alloc, notation, &bytes)?;
+    Ok(answer.write_text(text)?)
 }
 
 /// The same as a line: `run_information` by lines.

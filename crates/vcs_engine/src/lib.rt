@@ -3,20 +3,22 @@
 //! and of inputs to a movie.
 #![tactic(auto)]
 
+mod answer;
 mod converting;
 mod counted_gate;
 mod engine;
 mod information;
+mod judging;
 mod line;
 mod listing;
 mod making;
-mod movie_answer;
-mod output;
+mod refusing;
 mod reporting;
 mod run_error;
 mod status;
 mod streams;
 
+pub use answer::Answer;
 pub use converting::run_convert;
 pub use counted_gate::CountedGate;
 pub use engine::run;
@@ -24,7 +26,6 @@ pub use information::{run_info, run_information};
 pub use line::Line;
 pub use listing::run_inputs;
 pub use making::run_make;
-pub use movie_answer::MovieAnswer;
 pub use movie_report::Notation;
 pub use picture_file::{WriteFault, ppm, rgb};
 pub use replay_plan::InputForm;

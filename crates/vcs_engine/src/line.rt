@@ -1,8 +1,11 @@
 //! The lines that commands write.
 ghost use Rattle.std.specs.Prelude.{◌≡◌, IfOk, string_bytes};
-ghost use Rattle.vcs_engine.specs.Lines.{line_bytes};
+ghost use Rattle.vcs_engine.specs.Lines.{line_bytes, status_of};
+ghost use Rattle.vcs_engine.specs.Outputs.{verdict_line};
 
-use movie_file::MovieError;
+use crate::status::Status;
+use movie_file::{Movie, MovieError};
+use replay_segments::Verdict;
 use std::alloc::{AllocError, Global};
 use std::fmt;
 use vcs_machine::FaultKind;
@@ -98,6 +101,38 @@ impl Line {
         ensures { IfOk result (λ text. string_bytes text ≡ line_bytes self) }
     {
         format!(in alloc; "{self}\n")
+    }
+
+    /// How a run ended whose last line this is.
+    pub fn status(self) -> Status
+        ensures { result ≡ status_of self }
+    {
+        match self {
+            Line::FalseCheckpoint { .. } => Status::False,
+            Line::Fault { .. } => Status::Fault,
+            Line::Refused(_) | Line::BadLine(_) | Line::AlreadyTwo | Line::NoFrame(_) => {
+                Status::Refused
+            }
+            _ => Status::Done,
+        }
+    }
+
+    /// The line of a movie with this verdict.
+    pub(crate) fn of_verdict(movie: &Movie, verdict: &Verdict) -> Line
+        ensures { result ≡ verdict_line movie.now verdict.now }
+    {
+        match *verdict {
+            Verdict::Genuine { .. } => {
+                let frames = movie.frames();
+                let checkpoints = movie.checkpoints();
+                Line::Genuine {
+                    frames,
+                    checkpoints,
+                }
+            }
+            Verdict::FalseCheckpoint { number, frame } => Line::FalseCheckpoint { number, frame },
+            Verdict::Fault { frame, kind } => Line::Fault { frame, kind },
+        }
     }
 }
 

@@ -1,29 +1,32 @@
 //! From the bytes of a movie to its inputs as text.
-ghost use Rattle.std.specs.Prelude.{◌≡◌, ◌≢◌, List, ℕ, IfOk, OnErr, string_bytes};
+ghost use Rattle.std.specs.Prelude.{◌≡◌, ◌≢◌, List, ℕ, IfOk, OnErr};
 ghost use Rattle.std.specs.Io.KnownBytes.{Appends, Keeps};
 ghost use Rattle.movie_file.specs.Reading.{movie_at};
 ghost use Rattle.picture_file.specs.Prefixes.{AppendsPrefix};
 ghost use Rattle.vcs_engine.specs.Listings.{Lists};
 ghost use Rattle.vcs_engine.specs.Streams.{ReadsAll, IsTooLong};
 
+use crate::answer::Answer;
 use crate::line::Line;
 use crate::run_error::RunError;
 use crate::status::Status;
 use crate::streams::read_all;
 use input_text::write_text;
 use movie_file::{MovieError, read_movie};
-use picture_file::write_bytes;
 use std::alloc::{AllocError, Global};
 use std::io::{Read, Write};
 
-/// A status, and what is written of the inputs of a movie.
-fn status_and_text(alloc: Global, bytes: &[u8]) -> Result<(Status, String), AllocError>
-    ensures { IfOk result (λ found. Lists (movie_at bytes.now) found.0 (string_bytes found.1)) }
+/// What is answered to the bytes of a movie.
+fn of_bytes(alloc: Global, bytes: &[u8]) -> Result<Answer, AllocError>
+    ensures { IfOk result (λ answer. Lists (movie_at bytes.now) answer.status answer.line) }
 {
     match read_movie(alloc, bytes) {
-        Ok(movie) => Ok((Status::Done, write_text(alloc, movie.inputs())?)),
+        Ok(movie) => {
+            let text = write_text(alloc, movie.inputs())?;
+            Ok(Answer::of_text(alloc, Status::Done, text))
+        }
         Err(MovieError::NoMemory) => Err(AllocError),
-        Err(error) => Ok((Status::Refused, Line::Refused(error).text(alloc)?)),
+        Err(error) => Answer::of_line(alloc, Line::Refused(error)),
     }
 }
 
@@ -50,7 +53,6 @@ pub fn run_inputs<R: Read, W: Write>(
     ensures no_thread { result ≢ Err RunError.NoThread }
 {
     let bytes = read_all(alloc, movie)?;
-    let (status, output) = status_and_text(alloc, &bytes)?;
-    write_bytes(output.as_bytes(), text)?;
-    Ok(status)
+    let answer = of_bytes(alloc, &bytes)?;
+    Ok(answer.write_text(text)?)
 }

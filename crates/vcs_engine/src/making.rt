@@ -1,12 +1,12 @@
 //! From the bytes of a ROM and of inputs to a movie.
 ghost use Rattle.std.specs.Prelude.{◌≡◌, ◌≢◌, ◌⊎◌, List, ℕ, IfOk, OnErr};
 ghost use Rattle.std.specs.Io.KnownBytes.{Appends, Keeps};
-ghost use Rattle.vcs_engine.specs.Answers.{Answer};
+ghost use Rattle.vcs_engine.specs.Answers.{AnswerData};
 ghost use Rattle.vcs_engine.specs.Makings.{Makes, MakesFrom, MakesOf, inputs_by};
 ghost use Rattle.vcs_engine.specs.Streams.{ReadsAll, WritesPart, IsTooLong};
 
+use crate::answer::Answer;
 use crate::line::Line;
-use crate::movie_answer::MovieAnswer;
 use crate::run_error::{ReadError, RunError};
 use crate::status::Status;
 use crate::streams::read_all;
@@ -24,7 +24,7 @@ fn of_inputs(
     cart: Cart,
     inputs: Vec<Input>,
     every: u32,
-) -> Result<MovieAnswer, AllocError>
+) -> Result<Answer, AllocError>
     ensures { IfOk result (λ answer. MakesOf cart inputs.items every answer) }
 {
     match make_movie(alloc, cart, inputs, every) {
@@ -35,14 +35,14 @@ fn of_inputs(
                 frames,
                 checkpoints,
             };
-            MovieAnswer::of_movie(alloc, &movie, line)
+            Answer::of_movie(alloc, &movie, line)
         }
         Err(MakeError::Fault { frame, kind }) => {
             let line = Line::Fault { frame, kind };
-            MovieAnswer::of_line(alloc, Status::Fault, line)
+            Answer::of_line(alloc, line)
         }
         Err(MakeError::BadCounts) => {
-            MovieAnswer::refusal(alloc, Line::Refused(MovieError::BadCounts))
+            Answer::of_line(alloc, Line::Refused(MovieError::BadCounts))
         }
         Err(MakeError::NoMemory) => Err(AllocError),
     }
@@ -55,19 +55,19 @@ fn of_bytes(
     form: InputForm,
     inputs: &[u8],
     every: u32,
-) -> Result<MovieAnswer, AllocError>
+) -> Result<Answer, AllocError>
     ensures { IfOk result (λ answer. MakesFrom cart (inputs_by form inputs.now) every answer) }
 {
     match form {
         InputForm::Bytes => match read_inputs(alloc, inputs) {
             Ok(inputs) => of_inputs(alloc, cart, inputs, every),
             Err(MovieError::NoMemory) => Err(AllocError),
-            Err(error) => MovieAnswer::refusal(alloc, Line::Refused(error)),
+            Err(error) => Answer::of_line(alloc, Line::Refused(error)),
         },
         InputForm::Text => match read_text(alloc, inputs) {
             Ok(inputs) => of_inputs(alloc, cart, inputs, every),
             Err(TextError::NoMemory) => Err(AllocError),
-            Err(TextError::BadLine(number)) => MovieAnswer::refusal(alloc, Line::BadLine(number)),
+            Err(TextError::BadLine(number)) => Answer::of_line(alloc, Line::BadLine(number)),
         },
     }
 }
@@ -80,12 +80,12 @@ fn of_rom<S: Read>(
     form: InputForm,
     inputs: &mut S,
     every: u32,
-) -> Result<MovieAnswer, ReadError>
+) -> Result<Answer, ReadError>
     ensures makes { IfOk result (λ answer. Makes form rom.items (S.remaining inputs.old) (S.remaining inputs.new) every answer) }
     ensures too_long { result ≡ Err ReadError.TooLong → IsTooLong (S.remaining inputs.old) }
 {
     let Ok(cart) = Cart::new(rom) else {
-        return Ok(MovieAnswer::refusal(alloc, Line::Refused(MovieError::BadCartSize))?);
+        return Ok(Answer::of_line(alloc, Line::Refused(MovieError::BadCartSize))?);
     };
     let bytes = read_all(alloc, inputs)?;
     Ok(of_bytes(alloc, cart, form, &bytes, every)?)
@@ -109,10 +109,10 @@ pub fn run_make<R: Read, S: Read, W: Write, L: Write>(
     line: &mut L,
 ) -> Result<Status, RunError>
     // The output is that of the bytes read, and nothing else.
-    ensures ok { IfOk result (λ status. (read : List ℕ) × (answer : Answer) × ReadsAll (R.remaining rom.old) (R.remaining rom.new) read
+    ensures ok { IfOk result (λ status. (read : List ℕ) × (answer : AnswerData) × ReadsAll (R.remaining rom.old) (R.remaining rom.new) read
         × Makes form read (S.remaining inputs.old) (S.remaining inputs.new) every answer × (status ≡ answer.status)
         × Appends (W.contents movie.old) (W.contents movie.new) answer.movie × Appends (L.contents line.old) (L.contents line.new) answer.line) }
-    ensures write_fault { result ≡ Err RunError.WriteFault → (read : List ℕ) × (answer : Answer) × ReadsAll (R.remaining rom.old) (R.remaining rom.new) read
+    ensures write_fault { result ≡ Err RunError.WriteFault → (read : List ℕ) × (answer : AnswerData) × ReadsAll (R.remaining rom.old) (R.remaining rom.new) read
         × Makes form read (S.remaining inputs.old) (S.remaining inputs.new) every answer
         × WritesPart (W.contents movie.old) (W.contents movie.new) answer.movie (L.contents line.old) (L.contents line.new) answer.line }
 
@@ -124,5 +124,5 @@ pub fn run_make<R: Read, S: Read, W: Write, L: Write>(
 {
     let bytes = read_all(alloc, rom)?;
     let answer = of_rom(alloc, bytes, form, inputs, every)?;
-    Ok(answer.write(movie, line)?)
+    Ok(answer.write_movie(movie, line)?)
 }

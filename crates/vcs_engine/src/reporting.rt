@@ -1,26 +1,53 @@
 //! From the bytes of a movie to its verdict and facts.
-ghost use Rattle.std.specs.Prelude.{◌≡◌, ◌≢◌, ◌≤◌, List, ℕ, IfOk, OnErr, string_bytes};
+ghost use Rattle.std.specs.Prelude.{◌≡◌, ◌≢◌, ◌≤◌, ◌++◌, List, ℕ, IfOk, OnErr, string_bytes};
 ghost use Rattle.std.specs.Io.KnownBytes.{Appends, Keeps};
 ghost use Rattle.picture_file.specs.Prefixes.{AppendsPrefix};
-ghost use Rattle.vcs_engine.specs.Reports.{Reports};
+ghost use Rattle.vcs_engine.specs.Lines.{line_bytes};
+ghost use Rattle.vcs_engine.specs.Outputs.{verdict_line};
+ghost use Rattle.vcs_engine.specs.Reports.{Reports, line_in};
 ghost use Rattle.vcs_engine.specs.Streams.{ReadsAll, IsTooLong};
 
+use crate::answer::Answer;
 use crate::counted_gate::CountedGate;
-use crate::output::{line_of, refusal_text, verdict_of};
+use crate::judging::verdict_of;
+use crate::line::Line;
+use crate::refusing::refusal_of;
 use crate::run_error::{JudgeError, RunError};
 use crate::status::Status;
 use crate::streams::read_all;
-use movie_file::{MovieError, read_movie};
+use movie_file::{Movie, MovieError, read_movie};
 use movie_report::{Notation, report};
-use picture_file::write_bytes;
 use replay_plan::Plan;
-use std::alloc::Global;
+use replay_segments::Verdict;
+use std::alloc::{AllocError, Global};
 use std::io::{Read, Write};
 use std::sync::Wait;
 use std::thread::Threads;
 
-/// A status, and what is written of the bytes of an input.
-fn status_and_text<T: Threads + Wait + Sync, G: CountedGate + Sync>(
+/// What is written of a movie that has this verdict: its line before the lines of facts, or an object
+/// of facts.
+fn text_of(
+    alloc: Global,
+    movie: &Movie,
+    verdict: &Verdict,
+    notation: Notation,
+    facts: String,
+) -> Result<String, AllocError>
+    ensures { IfOk result (λ text. string_bytes text
+        ≡ line_in notation (line_bytes (verdict_line movie.now verdict.now)) ++ string_bytes facts) }
+{
+    match notation {
+        Notation::Lines => {
+            let mut text = Line::of_verdict(movie, verdict).text(alloc)?;
+            text.push_str(&facts)?;
+            Ok(text)
+        }
+        Notation::Json => Ok(facts),
+    }
+}
+
+/// What is answered to the bytes of a movie.
+fn of_bytes<T: Threads + Wait + Sync, G: CountedGate + Sync>(
     rt: &T,
     alloc: Global,
     bytes: &[u8],
@@ -28,27 +55,21 @@ fn status_and_text<T: Threads + Wait + Sync, G: CountedGate + Sync>(
     notation: Notation,
     program: &str,
     gate: &G,
-) -> Result<(Status, String), JudgeError>
-    ensures told { IfOk result (λ told.
-        Reports notation program.now bytes.now told.0 (string_bytes told.1)) }
+) -> Result<Answer, JudgeError>
+    ensures told { IfOk result (λ answer.
+        Reports notation program.now bytes.now answer.status answer.line) }
     ensures no_thread { result ≡ Err JudgeError.NoThread → 2 ≤ plan.now.workers.number }
 {
     let movie = match read_movie(alloc, bytes) {
         Ok(movie) => movie,
         Err(MovieError::NoMemory) => return Err(JudgeError::NoMemory),
-        Err(error) => return Ok((Status::Refused, refusal_text(alloc, notation, error)?)),
+        Err(error) => return Ok(refusal_of(alloc, notation, error)?),
     };
     let verdict = verdict_of(rt, alloc, &movie, plan, gate)?;
     let facts = report(alloc, notation, program, bytes, &movie, &verdict)?;
-    let (status, line) = line_of(&movie, &verdict);
-    match notation {
-        Notation::Lines => {
-            let mut text = line.text(alloc)?;
-            text.push_str(&facts)?;
-            Ok((status, text))
-        }
-        Notation::Json => Ok((status, facts)),
-    }
+    let status = Line::of_verdict(&movie, &verdict).status();
+    let text = text_of(alloc, &movie, &verdict, notation, facts)?;
+    Ok(Answer::of_text(alloc, status, text))
 }
 
 /// Reads a movie, judges it by the plan's workers, and writes its verdict and facts about it: the
@@ -86,7 +107,6 @@ pub fn run_report<T: Threads + Wait + Sync, R: Read, W: Write, G: CountedGate + 
     ensures no_thread { result ≡ Err RunError.NoThread → 2 ≤ plan.now.workers.number }
 {
     let bytes = read_all(alloc, movie)?;
-    let (status, output) = status_and_text(rt, alloc, &bytes, plan, notation, program, gate)?;
-    write_bytes(output.as_bytes(), text)?;
-    Ok(status)
+    let answer = of_bytes(rt, alloc, &bytes, plan, notation, program, gate)?;
+    Ok(answer.write_text(text)?)
 }

@@ -1,5 +1,6 @@
 -- The checkpoints of a cut, frame by frame.
-use Rattle.std.proofs.Common.{◌≡◌, ℕ, ◌+◌, ◌*◌, ◌/◌, ◌%◌, ◌≤◌, Bool, true, false, eqb, cond, List, [], ◌∷◌, ◌++◌, length, Some, refl, sym, ap, subst, ◌∙◌, arith}
+use Rattle.std.proofs.Common.{◌≡◌, ℕ, ◌+◌, ◌*◌, ◌/◌, ◌%◌, ◌≤◌, Bool, true, false, eqb, cond, List}
+use Rattle.std.proofs.Common.{[], ◌∷◌, ◌++◌, length, Some, refl, sym, ap, subst, ◌∙◌, arith}
 use Rattle.std.specs.Prelude.{IsTrue}
 use Rattle.std.proofs.lemmas.Bool.{eqb-true, eqb-false}
 use Rattle.std.proofs.lemmas.List.{append-nil, length-append}
@@ -20,11 +21,13 @@ Claims-none m from every = record {
   lawful = λ j c e. not_found c e;
 }
 
-pub Claims-next : (m : MovieData) (from every k : ℕ) (cs ds : List Checkpoint) (new : StateFields) → 1 ≤ every → Claims m from every k cs → run m m.start 0 (from + (k + 1)) ≡ Some new
+pub Claims-next : (m : MovieData) (from every k : ℕ) (cs ds : List Checkpoint) (new : StateFields) → 1 ≤ every → Claims m from every k cs
+    → run m m.start 0 (from + (k + 1)) ≡ Some new
     → ds ≡ cs ++ checkpoint_if every (k + 1) new → IsState new → Claims m from every (k + 1) ds
 Claims-next m from every k cs ds new some far ran ds-is lawful = rw ds-is (by (eqb ((k + 1) % every) 0) refl)
   where
-    by : (b : Bool) → eqb ((k + 1) % every) 0 ≡ b → Claims m from every (k + 1) (cs ++ cond {A = List Checkpoint} b (record { frame = k + 1; state = new } ∷ []) [])
+    by : (b : Bool) → eqb ((k + 1) % every) 0 ≡ b
+        → Claims m from every (k + 1) (cs ++ cond {A = List Checkpoint} b (record { frame = k + 1; state = new } ∷ []) [])
     by true e =
         let m' = next_multiple every k some (eqb-true _ _ e) in
         let d : Checkpoint = record { frame = k + 1; state = new } in
@@ -44,7 +47,8 @@ Claims-next m from every k cs ds new some far ran ds-is lawful = rw ds-is (by (e
 
 -- ---- states and checkpoints of the cut
 
-pub AreCheckpoints-cut : (m : MovieData) (from every len : ℕ) (cs : List Checkpoint) → 1 ≤ every → IsTrue (fits_bank (length m.cart) m.start) → Claims m from every len cs
+pub AreCheckpoints-cut : (m : MovieData) (from every len : ℕ) (cs : List Checkpoint) → 1 ≤ every → IsTrue (fits_bank (length m.cart) m.start)
+    → Claims m from every len cs
     → AreCheckpoints (length m.cart) 0 len cs
 AreCheckpoints-cut m from every len cs some first far =
     let none : every * 0 ≡ 0 = omega arith in

@@ -18,12 +18,14 @@ use Rattle.movie_file.proofs.MakingRuns.{bank_fits}
 use Rattle.view_engine.proofs.ClaimSteps.{AreCheckpoints-cut}
 
 -- the first so many inputs of those from frame `first` on are the ones that are asked for
-pub inputs_are_asked : (m : MovieData) (first count frames : ℕ) → frames ≡ frames_asked m first count → take frames (drop (first - 1) m.inputs) ≡ inputs_asked m first count
+pub inputs_are_asked : (m : MovieData) (first count frames : ℕ) → frames ≡ frames_asked m first count
+    → take frames (drop (first - 1) m.inputs) ≡ inputs_asked m first count
 inputs_are_asked m first count frames is =
     let rest = drop (first - 1) m.inputs in
     ap (λ (n : ℕ). take n rest) (is ∙ length-take count rest) ∙ take_min count rest
 
-pub range_is_asked : (m : MovieData) (first count from frames : ℕ) (all inputs : List InputData) → all ≡ m.inputs → from ≡ first - 1 → frames ≡ frames_asked m first count
+pub range_is_asked : (m : MovieData) (first count from frames : ℕ) (all inputs : List InputData) → all ≡ m.inputs → from ≡ first - 1
+    → frames ≡ frames_asked m first count
     → inputs ≡ slice_range all from (from + frames) → inputs ≡ inputs_asked m first count
 range_is_asked m first count from frames all inputs all_is from_is is taken =
     let len : from + frames - from ≡ frames = omega arith in
@@ -34,8 +36,10 @@ abbrev parts : ℕ → List ℕ → StateFields → List InputData → List Chec
 parts version cart start inputs checkpoints = record { version = version; cart = cart; start = start; inputs = inputs; checkpoints = checkpoints }
 
 module _ (m : MovieData) (from every version : ℕ) (cart : List ℕ) (start : StateFields) (inputs : List InputData) (cs : List Checkpoint)
-    (cart_is : cart ≡ m.cart) (version_is : version ≡ version_made (length cart) (length inputs)) (ran : run m m.start 0 from ≡ Some start) (far : Claims m from every (length inputs) cs) where
-  pub IsMovie-parts : IsMovie m → IsTrue (counts_fit (length inputs) every) → IsTrue (is_cart_length (length cart)) → IsState start → AllByRecursion (λ i. IsTrue (is_input i)) inputs
+    (cart_is : cart ≡ m.cart) (version_is : version ≡ version_made (length cart) (length inputs)) (ran : run m m.start 0 from ≡ Some start)
+    (far : Claims m from every (length inputs) cs) where
+  pub IsMovie-parts : IsMovie m → IsTrue (counts_fit (length inputs) every) → IsTrue (is_cart_length (length cart)) → IsState start
+      → AllByRecursion (λ i. IsTrue (is_input i)) inputs
       → IsMovie (parts version cart start inputs cs)
   IsMovie-parts movie fits lawful state all =
       let fit = counts_are (length inputs) every fits in

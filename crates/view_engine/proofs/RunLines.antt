@@ -1,5 +1,7 @@
 -- The lines of a run.
-use Rattle.std.proofs.Common.{◌≡◌, ℕ, zero, suc, ◌+◌, ◌-◌, ◌<◌, ◌≤◌, List, [], ◌++◌, Option, Some, None, refl, ap, subst, ◌∙◌, arith, add-zero, append_assoc, ◌⊎◌, inl, inr}
+use Rattle.std.proofs.Common.{◌≡◌, ℕ, zero, suc, ◌+◌, ◌-◌, ◌<◌, ◌≤◌, List, [], ◌++◌, Option, Some}
+use Rattle.std.proofs.Common.{None, refl, ap, subst, ◌∙◌, arith, add-zero, append_assoc, ◌⊎◌, inl}
+use Rattle.std.proofs.Common.{inr}
 use Rattle.std.specs.Prelude.{slice_get}
 use Rattle.std.proofs.lemmas.Bool.{cases_lt}
 use Rattle.std.proofs.lemmas.List.{append-nil}
@@ -33,13 +35,15 @@ module _ (m : MovieData) (details : Details) where
       by (inr ge) = let same : f ≡ x = omega arith in subst (λ (n : ℕ). frame_line m details n ≡ []) same (here fault)
 
   -- from a fault on there are no more lines
-  fault_ends : (from k d f : ℕ) (kind : FaultKind) → FaultsAt m m.start 0 f kind → f ≤ from + k → lines_after m details from (k + d) ≡ lines_after m details from k
+  fault_ends : (from k d f : ℕ) (kind : FaultKind) → FaultsAt m m.start 0 f kind → f ≤ from + k
+      → lines_after m details from (k + d) ≡ lines_after m details from k
   fault_ends from k zero f kind fault le = rw add-zero refl
   fault_ends from k (suc d) f kind fault le =
       let more : k + suc d ≡ suc (k + d) = omega arith in
       rw (more, no_line f (from + (k + d)) kind fault (omega arith), append-nil) (fault_ends from k d f kind fault le)
 
-  pub lines_end : (from k len f : ℕ) (kind : FaultKind) → FaultsAt m m.start 0 f kind → f ≤ from + k → k ≤ len → lines_after m details from len ≡ lines_after m details from k
+  pub lines_end : (from k len f : ℕ) (kind : FaultKind) → FaultsAt m m.start 0 f kind → f ≤ from + k → k ≤ len
+      → lines_after m details from len ≡ lines_after m details from k
   lines_end from k len f kind fault le within =
       let all : k + (len - k) ≡ len = omega arith in
       subst (λ (n : ℕ). lines_after m details from n ≡ lines_after m details from k) all (fault_ends from k (len - k) f kind fault le)

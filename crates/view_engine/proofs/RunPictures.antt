@@ -23,13 +23,15 @@ no_picture m f x kind fault le = by (cases_lt f x)
     by (inr ge) = let same : f ≡ x = omega arith in subst (λ (n : ℕ). picture_after m n (run m m.start 0 n) ≡ []) same (here fault)
 
 -- from a fault on there are no more pictures
-fault_ends : (m : MovieData) (from k d f : ℕ) (kind : FaultKind) → FaultsAt m m.start 0 f kind → f ≤ from + k → pictures_after m from (k + d) ≡ pictures_after m from k
+fault_ends : (m : MovieData) (from k d f : ℕ) (kind : FaultKind) → FaultsAt m m.start 0 f kind → f ≤ from + k
+    → pictures_after m from (k + d) ≡ pictures_after m from k
 fault_ends m from k zero f kind fault le = rw add-zero refl
 fault_ends m from k (suc d) f kind fault le =
     let more : k + suc d ≡ suc (k + d) = omega arith in
     rw (more, no_picture m f (from + (k + d)) kind fault (omega arith), append-nil) (fault_ends m from k d f kind fault le)
 
-pub pictures_end : (m : MovieData) (from k len f : ℕ) (kind : FaultKind) → FaultsAt m m.start 0 f kind → f ≤ from + k → k ≤ len → pictures_after m from len ≡ pictures_after m from k
+pub pictures_end : (m : MovieData) (from k len f : ℕ) (kind : FaultKind) → FaultsAt m m.start 0 f kind → f ≤ from + k → k ≤ len
+    → pictures_after m from len ≡ pictures_after m from k
 pictures_end m from k len f kind fault le within =
     let all : k + (len - k) ≡ len = omega arith in
     subst (λ (n : ℕ). pictures_after m from n ≡ pictures_after m from k) all (fault_ends m from k (len - k) f kind fault le)

@@ -1,5 +1,7 @@
 -- The one unbroken run of a movie, a frame further.
-use Rattle.std.proofs.Common.{◌≡◌, ℕ, zero, suc, ◌+◌, ◌-◌, ◌<◌, ◌≤◌, length, drop, Option, Some, None, refl, sym, ap, subst, ◌∙◌, arith, add-zero, ◌⊎◌, inl, inr, IsSome}
+use Rattle.std.proofs.Common.{◌≡◌, ℕ, zero, suc, ◌+◌, ◌-◌, ◌<◌, ◌≤◌, length, drop, Option, Some}
+use Rattle.std.proofs.Common.{None, refl, sym, ap, subst, ◌∙◌, arith, add-zero, ◌⊎◌, inl, inr}
+use Rattle.std.proofs.Common.{IsSome}
 use Rattle.std.specs.Prelude.{slice_get, min}
 use Rattle.std.proofs.lemmas.Bool.{cases_lt}
 use Rattle.std.proofs.lemmas.Option.{slice_get-get_or}
@@ -47,7 +49,8 @@ ends_or_faults m (suc n) le = elim (ends_or_faults m n (omega arith)) [
 ]
   where
     play : (input : InputData) (state : StateFields) → slice_get m.inputs n ≡ Some input → run m m.start 0 n ≡ Some state
-        → (outcome : FrameOutcome) → frame_of m.cart state input ≡ outcome → Ends m (suc n) ⊎ ((frame : ℕ) × (kind : FaultKind) × FaultsWithin m (suc n) frame kind)
+        → (outcome : FrameOutcome) → frame_of m.cart state input ≡ outcome
+        → Ends m (suc n) ⊎ ((frame : ℕ) × (kind : FaultKind) × FaultsWithin m (suc n) frame kind)
     play input state at ran (Played new rows) e =
         let next : n + 1 ≡ suc n = omega arith in
         inl (new, subst (λ (x : ℕ). run m m.start 0 x ≡ Some new) next (run_on m n state input ran at new rows e))
@@ -90,7 +93,8 @@ pub frames_asked-min : (m : MovieData) (first count : ℕ) → frames_asked m fi
 frames_asked-min m first count = length-take count (drop (first - 1) m.inputs) ∙ ap (λ (n : ℕ). min count n) (length-drop (first - 1) m.inputs)
 
 -- an input that is asked for is that of the movie
-pub input_asked : (m : MovieData) (first count k : ℕ) → k < frames_asked m first count → slice_get (inputs_asked m first count) k ≡ slice_get m.inputs (first - 1 + k)
+pub input_asked : (m : MovieData) (first count k : ℕ) → k < frames_asked m first count
+    → slice_get (inputs_asked m first count) k ≡ slice_get m.inputs (first - 1 + k)
 input_asked m first count k less =
     let d : InputData = record { swcha = 0; swchb = 0; buttons = 0 } in
     let is = frames_asked-min m first count in

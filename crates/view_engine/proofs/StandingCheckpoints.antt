@@ -55,7 +55,8 @@ nothing_there cs frame state none = rw (absent cs frame none, slice_get_past cs 
 -- ---- the ones before a frame
 
 -- none is left
-pub no_more : (m : MovieData) (next frame : ℕ) (state : StateFields) → IsNext m next frame → next ≡ length m.checkpoints → checkpoint_text m.checkpoints frame state ≡ []
+pub no_more : (m : MovieData) (next frame : ℕ) (state : StateFields) → IsNext m next frame → next ≡ length m.checkpoints
+    → checkpoint_text m.checkpoints frame state ≡ []
 no_more m next frame state is all =
     nothing_there m.checkpoints frame state (λ j c at here.
     let within = slice_get_within m.checkpoints j c at in
@@ -115,7 +116,8 @@ module _ (m : MovieData) (movie : IsMovie m) (next frame : ℕ) (c : Checkpoint)
       ])
 
   -- it stands after this one
-  pub stands_here : (state : StateFields) → IsNext m next frame → c.frame ≡ frame → checkpoint_text m.checkpoints frame state ≡ claim_text (next + 1) (Some c) state
+  pub stands_here : (state : StateFields) → IsNext m next frame → c.frame ≡ frame
+      → checkpoint_text m.checkpoints frame state ≡ claim_text (next + 1) (Some c) state
   stands_here state is this =
       let place = present m.checkpoints frame next c here this (λ j d at less there. let before = is.before j d at less in omega arith) in
       rw (place, here) refl

@@ -1,5 +1,5 @@
 -- What is written of a frame that is traced.
-use Rattle.std.proofs.Common.{◌≡◌, ℕ, ◌-◌, ◌<◌, ◌≤◌, List, ◌++◌, length, Option, refl, sym, ap, subst, ◌∙◌, append_assoc, inl, inr}
+use Rattle.std.proofs.Common.{◌≡◌, ℕ, ◌-◌, ◌≤◌, List, ◌++◌, length, Option, refl, sym, ap, subst, ◌∙◌, append_assoc, inl, inr}
 use Rattle.std.specs.Io.KnownBytes.{Appends}
 use Rattle.picture_file.specs.Prefixes.{AppendsPrefix}
 use Rattle.picture_file.proofs.BytesWritten.{appends_then, prefix_after, prefix_longer}

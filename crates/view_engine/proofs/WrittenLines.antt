@@ -46,7 +46,8 @@ module _ (m : MovieData) (details : Details) where
       subst (Appends a b) (sym (lines_end m details from k len f kind fault le within)) written
 
   -- a fault before the first one leaves none
-  pub no_line_written : (from len frame : ℕ) (kind : FaultKind) (a : Option (List ℕ)) → FaultsWithin m from frame kind → Appends a a (lines_after m details from len)
+  pub no_line_written : (from len frame : ℕ) (kind : FaultKind) (a : Option (List ℕ)) → FaultsWithin m from frame kind
+      → Appends a a (lines_after m details from len)
   no_line_written from len frame kind a (f, less, is, fault) = all_lines_before from 0 len f kind a a fault (omega arith) (omega arith) (appends_nothing a)
 
   -- what a writer has got where a frame has no line
@@ -106,7 +107,8 @@ module _ (m : MovieData) (details : Details) (first count frames : ℕ) (is : fr
         )
 
     pub described_fault : (frame : ℕ) (kind : FaultKind) (a b c : Option (List ℕ)) → FaultsWithin m (first - 1 + frames) frame kind
-        → Appends a b (lines_after m details (first - 1) frames) → Appends b c (line_bytes (lines.Fault frame kind)) → Described m details first count a c statuses.Fault
+        → Appends a b (lines_after m details (first - 1) frames) → Appends b c (line_bytes (lines.Fault frame kind))
+        → Described m details first count a c statuses.Fault
     described_fault frame kind a b c faults written last_line = (
       lines_after m details (first - 1) frames ++ line_bytes (lines.Fault frame kind),
       faulted frame kind faults,
@@ -126,7 +128,8 @@ module _ (m : MovieData) (details : Details) (first count frames : ℕ) (is : fr
     pub lines_in_part : (a b : Option (List ℕ)) → AppendsPrefix a b (lines_after m details (first - 1) frames) → InPart m details first count a b
     lines_in_part a b part = by (ends_or_faults m (first - 1 + frames) (omega (arith, frames_asked-min m first count)))
       where
-        by : Ends m (first - 1 + frames) ⊎ ((frame : ℕ) × (kind : FaultKind) × FaultsWithin m (first - 1 + frames) frame kind) → InPart m details first count a b
+        by : Ends m (first - 1 + frames) ⊎ ((frame : ℕ) × (kind : FaultKind) × FaultsWithin m (first - 1 + frames) frame kind)
+            → InPart m details first count a b
         by (inl ends) = (statuses.Done, lines_after m details (first - 1) frames, ended ends, part)
         by (inr (frame, kind, faults)) = (
           statuses.Fault,

@@ -1,5 +1,7 @@
 -- What is written of the pictures of a run.
-use Rattle.std.proofs.Common.{◌≡◌, ℕ, ◌+◌, ◌-◌, ◌<◌, ◌≤◌, Bool, true, false, eqb, cond, List, [], ◌∷◌, ◌++◌, Option, Some, None, Result, Ok, Err, refl, sym, ap, subst, ◌∙◌, arith, add-one, ◌⊎◌, inl, inr}
+use Rattle.std.proofs.Common.{◌≡◌, ℕ, ◌+◌, ◌-◌, ◌<◌, ◌≤◌, Bool, true, false, eqb, cond, List, []}
+use Rattle.std.proofs.Common.{◌∷◌, ◌++◌, Option, Some, None, Result, Ok, Err, refl, sym, ap, subst}
+use Rattle.std.proofs.Common.{◌∙◌, arith, add-one, ◌⊎◌, inl, inr}
 use Rattle.std.proofs.lemmas.Bool.{eqb-true, eqb-false}
 use Rattle.std.proofs.lemmas.List.{append-nil, flat_map_more}
 use Rattle.std.proofs.lemmas.List.Concat.{flat_map-append}
@@ -15,13 +17,11 @@ use Rattle.picture_file.specs.Prefixes.{AppendsPrefix}
 use Rattle.picture_file.proofs.BytesWritten.{appends_nothing, appends_then, prefix_after, prefix_longer}
 use Rattle.movie_file.specs.declared.error.MovieError.{MovieError}
 use Rattle.replay_segments.specs.KeptPictures.{picture_after}
-use Rattle.vcs_engine.specs.Answers.{Answer}
-use Rattle.vcs_engine.specs.declared.status.Status.{Status}
-use Rattle.vcs_engine.specs.declared.status.Status.TheVariants as statuses
+use Rattle.vcs_engine.specs.Answers.{AnswerData}
 use Rattle.vcs_machine.specs.declared.fault.FrameError.{FrameError}
 use Rattle.vcs_machine.specs.declared.fault.FrameError.TheVariants as frames
 use Rattle.view_engine.specs.Drawings.{AppendsSome, drawn, Draws, DrawsOf}
-use Rattle.vcs_engine.specs.Lines.{line_bytes}
+use Rattle.vcs_engine.specs.Lines.{line_bytes, status_of}
 use Rattle.view_engine.specs.Private.Stops.{PicturesFail, StopsDrawing, stop_of}
 use Rattle.view_engine.specs.Stretches.{frames_asked, last_asked, Ends, FaultsWithin, pictures_after}
 use Rattle.vcs_engine.specs.declared.line.Line.{Line}
@@ -57,7 +57,8 @@ all_before m from k len f kind a b fault le within written =
     subst (λ (ps : List Rows). Appends a b (pictures_bytes ps)) (sym (pictures_end m from k len f kind fault le within)) written
 
 -- a fault before the first one leaves none
-pub none_written : (m : MovieData) (from len frame : ℕ) (kind : FaultKind) (a : Option (List ℕ)) → FaultsWithin m from frame kind → Appends a a (pictures_bytes (pictures_after m from len))
+pub none_written : (m : MovieData) (from len frame : ℕ) (kind : FaultKind) (a : Option (List ℕ)) → FaultsWithin m from frame kind
+    → Appends a a (pictures_bytes (pictures_after m from len))
 none_written m from len frame kind a (f, less, is, fault) = all_before m from 0 len f kind a a fault (omega arith) (omega arith) (appends_nothing a)
 
 -- what a writer has got where a frame has no picture
@@ -83,38 +84,42 @@ last_of_none m first count none = by (eqb (frames_asked m first count) 0) refl
     by true e = refl
     by false e = absurd (eqb-false _ _ e none)
 
-pub drawn_none : (m : MovieData) (first count : ℕ) → frames_asked m first count ≡ 0 → DrawsOf m first count (drawn m first count statuses.Done (lines.Pictures (frames_asked m first count)))
+pub drawn_none : (m : MovieData) (first count : ℕ) → frames_asked m first count ≡ 0
+    → DrawsOf m first count (drawn m first count (lines.Pictures (frames_asked m first count)))
 drawn_none m first count none = inl (subst (Ends m) (sym (last_of_none m first count none)) (m.start, refl), refl)
 
 pub drawn_all : (m : MovieData) (first count : ℕ) → 0 < frames_asked m first count → Ends m (first - 1 + frames_asked m first count)
-    → DrawsOf m first count (drawn m first count statuses.Done (lines.Pictures (frames_asked m first count)))
+    → DrawsOf m first count (drawn m first count (lines.Pictures (frames_asked m first count)))
 drawn_all m first count some ends = inl (subst (Ends m) (sym (last_is m first count some)) ends, refl)
 
-pub drawn_fault : (m : MovieData) (first count frame : ℕ) (kind : FaultKind) → 0 < frames_asked m first count → FaultsWithin m (first - 1 + frames_asked m first count) frame kind
-    → DrawsOf m first count (drawn m first count statuses.Fault (lines.Fault frame kind))
-drawn_fault m first count frame kind some faults = inr (frame, kind, subst (λ (n : ℕ). FaultsWithin m n frame kind) (sym (last_is m first count some)) faults, refl)
+pub drawn_fault : (m : MovieData) (first count frame : ℕ) (kind : FaultKind) → 0 < frames_asked m first count
+    → FaultsWithin m (first - 1 + frames_asked m first count) frame kind
+    → DrawsOf m first count (drawn m first count (lines.Fault frame kind))
+drawn_fault m first count frame kind some faults =
+    inr (frame, kind, subst (λ (n : ℕ). FaultsWithin m n frame kind) (sym (last_is m first count some)) faults, refl)
 
 -- whatever comes of the run, there is one
 pub some_answer : (m : MovieData) (first count : ℕ) → 0 < frames_asked m first count
-    → (answer : Answer) × DrawsOf m first count answer × (answer.pictures ≡ pictures_after m (first - 1) (frames_asked m first count))
+    → (answer : AnswerData) × DrawsOf m first count answer × (answer.pictures ≡ pictures_after m (first - 1) (frames_asked m first count))
 some_answer m first count some = by (ends_or_faults m (first - 1 + frames_asked m first count) (omega (arith, frames_asked-min m first count)))
   where
     by : Ends m (first - 1 + frames_asked m first count) ⊎ ((frame : ℕ) × (kind : FaultKind) × FaultsWithin m (first - 1 + frames_asked m first count) frame kind)
-        → (answer : Answer) × DrawsOf m first count answer × (answer.pictures ≡ pictures_after m (first - 1) (frames_asked m first count))
-    by (inl ends) = (drawn m first count statuses.Done (lines.Pictures (frames_asked m first count)), drawn_all m first count some ends, refl)
-    by (inr (frame, kind, faults)) = (drawn m first count statuses.Fault (lines.Fault frame kind), drawn_fault m first count frame kind some faults, refl)
+        → (answer : AnswerData) × DrawsOf m first count answer × (answer.pictures ≡ pictures_after m (first - 1) (frames_asked m first count))
+    by (inl ends) = (drawn m first count (lines.Pictures (frames_asked m first count)), drawn_all m first count some ends, refl)
+    by (inr (frame, kind, faults)) = (drawn m first count (lines.Fault frame kind), drawn_fault m first count frame kind some faults, refl)
 
 -- ---- what is written of it
 
-abbrev Writes : MovieData → ℕ → ℕ → Option (List ℕ) → Option (List ℕ) → Status → Line → Type 0
-Writes m first count a b status line =
-    (answer : Answer) × DrawsOf m first count answer × (status ≡ answer.status) × (line_bytes line ≡ answer.line) × Appends a b (pictures_bytes answer.pictures)
+abbrev Writes : MovieData → ℕ → ℕ → Option (List ℕ) → Option (List ℕ) → Line → Type 0
+Writes m first count a b line =
+    (answer : AnswerData) × DrawsOf m first count answer × (status_of line ≡ answer.status) × (line_bytes line ≡ answer.line) × Appends a b
+    (pictures_bytes answer.pictures)
 
 pub told_none : (m : MovieData) (first count frames : ℕ) (a : Option (List ℕ)) → frames ≡ frames_asked m first count → frames ≡ 0
-    → Writes m first count a a statuses.Done (lines.Pictures frames)
+    → Writes m first count a a (lines.Pictures frames)
 told_none m first count frames a is none =
     let zero_asked : frames_asked m first count ≡ 0 = sym is ∙ none in (
-      drawn m first count statuses.Done (lines.Pictures (frames_asked m first count)),
+      drawn m first count (lines.Pictures (frames_asked m first count)),
       drawn_none m first count zero_asked,
       refl,
       ap (λ (n : ℕ). line_bytes (lines.Pictures n)) is,
@@ -122,19 +127,27 @@ told_none m first count frames a is none =
     )
 
 pub told_all : (m : MovieData) (first count frames : ℕ) (a b : Option (List ℕ)) → frames ≡ frames_asked m first count → 0 < frames → Ends m (first - 1 + frames)
-    → Appends a b (pictures_bytes (pictures_after m (first - 1) frames)) → Writes m first count a b statuses.Done (lines.Pictures frames)
+    → Appends a b (pictures_bytes (pictures_after m (first - 1) frames)) → Writes m first count a b (lines.Pictures frames)
 told_all m first count frames a b is some ends written =
-    subst (λ (n : ℕ). 0 < n → Ends m (first - 1 + n) → Appends a b (pictures_bytes (pictures_after m (first - 1) n)) → Writes m first count a b statuses.Done (lines.Pictures n)) (sym is)
-    (λ some ends written. (drawn m first count statuses.Done (lines.Pictures (frames_asked m first count)), drawn_all m first count some ends, refl, refl, written)) some ends written
+    subst
+    (λ (n : ℕ). 0 < n → Ends m (first - 1 + n) → Appends a b (pictures_bytes (pictures_after m (first - 1) n)) → Writes m first count a b (lines.Pictures n))
+    (sym is)
+    (λ some ends written. (drawn m first count (lines.Pictures (frames_asked m first count)), drawn_all m first count some ends, refl, refl, written))
+    some ends written
 
 pub told_fault : (m : MovieData) (first count frames frame : ℕ) (kind : FaultKind) (a b : Option (List ℕ)) → frames ≡ frames_asked m first count → 0 < frames
-    → FaultsWithin m (first - 1 + frames) frame kind → Appends a b (pictures_bytes (pictures_after m (first - 1) frames)) → Writes m first count a b statuses.Fault (lines.Fault frame kind)
+    → FaultsWithin m (first - 1 + frames) frame kind → Appends a b (pictures_bytes (pictures_after m (first - 1) frames))
+    → Writes m first count a b (lines.Fault frame kind)
 told_fault m first count frames frame kind a b is some faults written =
-    subst (λ (n : ℕ). 0 < n → FaultsWithin m (first - 1 + n) frame kind → Appends a b (pictures_bytes (pictures_after m (first - 1) n)) → Writes m first count a b statuses.Fault (lines.Fault frame kind)) (sym is)
-    (λ some faults written. (drawn m first count statuses.Fault (lines.Fault frame kind), drawn_fault m first count frame kind some faults, refl, refl, written)) some faults written
+    subst
+    (λ (n : ℕ). 0 < n → FaultsWithin m (first - 1 + n) frame kind → Appends a b (pictures_bytes (pictures_after m (first - 1) n)) → Writes m first count a b (lines.Fault frame kind))
+    (sym is)
+    (λ some faults written. (drawn m first count (lines.Fault frame kind), drawn_fault m first count frame kind some faults, refl, refl, written))
+    some faults written
 
 pub told_in_part : (m : MovieData) (first count frames : ℕ) (a b : Option (List ℕ)) → frames ≡ frames_asked m first count → 0 < frames
-    → AppendsPrefix a b (pictures_bytes (pictures_after m (first - 1) frames)) → (answer : Answer) × DrawsOf m first count answer × AppendsPrefix a b (pictures_bytes answer.pictures)
+    → AppendsPrefix a b (pictures_bytes (pictures_after m (first - 1) frames))
+    → (answer : AnswerData) × DrawsOf m first count answer × AppendsPrefix a b (pictures_bytes answer.pictures)
 told_in_part m first count frames a b is some part =
     let there = some_answer m first count (subst (λ (n : ℕ). 0 < n) is some) in
     let pictures : pictures_after m (first - 1) frames ≡ there.0.pictures = ap (pictures_after m (first - 1)) is ∙ sym there.2 in
@@ -147,11 +160,13 @@ keeps_of_nothing None b h = tt
 keeps_of_nothing (Some xs) None h = absurd h
 keeps_of_nothing (Some xs) (Some ys) h = h ∙ append-nil xs
 
-pub all_are_some : (read : Result MovieData MovieError) (first count : ℕ) (answer : Answer) (a b : Option (List ℕ)) → Draws read first count answer
+pub all_are_some : (read : Result MovieData MovieError) (first count : ℕ) (answer : AnswerData) (a b : Option (List ℕ)) → Draws read first count answer
     → Appends a b (pictures_bytes answer.pictures) → AppendsSome read first count a b
 all_are_some (Ok m) first count answer a b draws written = by draws
   where
     by : DrawsOf m first count answer → AppendsSome (Ok m) first count a b
-    by (inl (ends, is)) = (frames_asked m first count, omega arith, subst (λ (x : Answer). Appends a b (pictures_bytes x.pictures)) is written)
-    by (inr (frame, kind, faults, is)) = (frames_asked m first count, omega arith, subst (λ (x : Answer). Appends a b (pictures_bytes x.pictures)) is written)
-all_are_some (Err error) first count answer a b draws written = keeps_of_nothing a b (subst (λ (x : Answer). Appends a b (pictures_bytes x.pictures)) draws written)
+    by (inl (ends, is)) = (frames_asked m first count, omega arith, subst (λ (x : AnswerData). Appends a b (pictures_bytes x.pictures)) is written)
+    by (inr (frame, kind, faults, is)) =
+        (frames_asked m first count, omega arith, subst (λ (x : AnswerData). Appends a b (pictures_bytes x.pictures)) is written)
+all_are_some (Err error) first count answer a b draws written =
+    keeps_of_nothing a b (subst (λ (x : AnswerData). Appends a b (pictures_bytes x.pictures)) draws written)

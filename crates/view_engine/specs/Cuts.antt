@@ -8,8 +8,7 @@ use Rattle.movie_file.specs.Run.{run}
 use Rattle.movie_file.specs.declared.checkpoint.Checkpoint.{Checkpoint}
 use Rattle.movie_file.specs.declared.error.MovieError.{MovieError}
 use Rattle.movie_file.specs.declared.error.MovieError.TheVariants.{BadCounts}
-use Rattle.vcs_engine.specs.Answers.{Answer, line_answer, movie_answer, refusal}
-use Rattle.vcs_engine.specs.declared.status.Status.TheVariants as statuses
+use Rattle.vcs_engine.specs.Answers.{AnswerData, line_answer, movie_answer, refusal}
 use Rattle.view_engine.specs.Stretches.{inputs_asked, frames_asked, Ends, FaultsWithin}
 use Rattle.vcs_engine.specs.declared.line.Line.TheVariants as lines
 
@@ -33,15 +32,15 @@ pub record ClaimsEvery (m : MovieData) (every : ℕ) : Type 0 where
 
 -- What is written of a movie that is cut: the cut, which is genuine, or the first fault of a frame up
 -- to its last; or that the counts are refused.
-abbrev pub CutsOf : MovieData → ℕ → ℕ → ℕ → Answer → Type 0
+abbrev pub CutsOf : MovieData → ℕ → ℕ → ℕ → AnswerData → Type 0
 CutsOf m first count every answer =
     (IsTrue (counts_fit (frames_asked m first count) every)
     × (((c : MovieData) × IsMovie c × IsCutOf m first count every c × IsGenuine c × (answer ≡ movie_answer lines.Cut c))
     ⊎ ((frame : ℕ) × (kind : FaultKind) × FaultsWithin m (first - 1 + frames_asked m first count) frame kind
-    × (answer ≡ line_answer statuses.Fault (lines.Fault frame kind)))))
+    × (answer ≡ line_answer (lines.Fault frame kind)))))
     ⊎ ((¬ IsTrue (counts_fit (frames_asked m first count) every)) × (answer ≡ refusal BadCounts))
 
 -- That of what reading found: of a movie by its run, of a refusal by its name.
-abbrev pub Cuts : Result MovieData MovieError → ℕ → ℕ → ℕ → Answer → Type 0
+abbrev pub Cuts : Result MovieData MovieError → ℕ → ℕ → ℕ → AnswerData → Type 0
 Cuts (Ok m) first count every answer = CutsOf m first count every answer
 Cuts (Err error) first count every answer = answer ≡ refusal error

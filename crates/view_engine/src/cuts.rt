@@ -3,7 +3,7 @@ ghost use Rattle.std.specs.Prelude.{◌≡◌, ◌≢◌, List, ℕ, IfOk, OnErr
 ghost use Rattle.std.specs.Io.KnownBytes.{Appends, Keeps};
 ghost use Rattle.std.specs.NonZero.{non_zero_u32_get};
 ghost use Rattle.movie_file.specs.Reading.{movie_at};
-ghost use Rattle.vcs_engine.specs.Answers.{Answer, movie_answer};
+ghost use Rattle.vcs_engine.specs.Answers.{AnswerData, movie_answer};
 ghost use Rattle.vcs_engine.specs.declared.line.Line.TheVariants.{Cut};
 ghost use Rattle.vcs_engine.specs.Streams.{ReadsAll, WritesPart, IsTooLong};
 ghost use Rattle.view_engine.specs.Cuts.{Cuts, CutsOf};
@@ -13,10 +13,10 @@ use movie_file::{Movie, MovieError, read_movie};
 use std::alloc::{AllocError, Global};
 use std::io::{Read, Write};
 use std::num::NonZeroU32;
-use vcs_engine::{Line, MovieAnswer, RunError, Status, read_all};
+use vcs_engine::{Answer, Line, RunError, Status, read_all};
 
 /// What is written of a cut.
-fn of_cut(alloc: Global, cut: &Movie) -> Result<MovieAnswer, AllocError>
+fn of_cut(alloc: Global, cut: &Movie) -> Result<Answer, AllocError>
     ensures { IfOk result (λ answer. answer ≡ movie_answer Cut cut.now) }
 {
     let frames = cut.frames();
@@ -25,7 +25,7 @@ fn of_cut(alloc: Global, cut: &Movie) -> Result<MovieAnswer, AllocError>
         frames,
         checkpoints,
     };
-    MovieAnswer::of_movie(alloc, cut, line)
+    Answer::of_movie(alloc, cut, line)
 }
 
 /// What is written of a movie that is cut.
@@ -35,16 +35,14 @@ fn of_movie(
     first: NonZeroU32,
     count: u32,
     every: u32,
-) -> Result<MovieAnswer, AllocError>
+) -> Result<Answer, AllocError>
     ensures { IfOk result (λ answer. CutsOf movie.now (non_zero_u32_get first) count every answer) }
 {
     match cut(alloc, movie, first, count, every) {
         Ok(cut) => of_cut(alloc, &cut),
-        Err(CutError::BadCounts) => {
-            MovieAnswer::refusal(alloc, Line::Refused(MovieError::BadCounts))
-        }
+        Err(CutError::BadCounts) => { Answer::of_line(alloc, Line::Refused(MovieError::BadCounts)) }
         Err(CutError::Fault { frame, kind }) => {
-            MovieAnswer::of_line(alloc, Status::Fault, Line::Fault { frame, kind })
+            Answer::of_line(alloc, Line::Fault { frame, kind })
         }
         Err(CutError::NoMemory) => Err(AllocError),
     }
@@ -57,13 +55,13 @@ fn of_bytes(
     first: NonZeroU32,
     count: u32,
     every: u32,
-) -> Result<MovieAnswer, AllocError>
+) -> Result<Answer, AllocError>
     ensures { IfOk result (λ answer. Cuts (movie_at bytes.now) (non_zero_u32_get first) count every answer) }
 {
     match read_movie(alloc, bytes) {
         Ok(movie) => of_movie(alloc, &movie, first, count, every),
         Err(MovieError::NoMemory) => Err(AllocError),
-        Err(error) => MovieAnswer::refusal(alloc, Line::Refused(error)),
+        Err(error) => Answer::of_line(alloc, Line::Refused(error)),
     }
 }
 
@@ -85,10 +83,10 @@ pub fn run_cut<R: Read, W: Write, L: Write>(
     line: &mut L,
 ) -> Result<Status, RunError>
     // The output is that of the bytes read, and nothing else.
-    ensures ok { IfOk result (λ status. (input : List ℕ) × (answer : Answer) × ReadsAll (R.remaining movie.old) (R.remaining movie.new) input
+    ensures ok { IfOk result (λ status. (input : List ℕ) × (answer : AnswerData) × ReadsAll (R.remaining movie.old) (R.remaining movie.new) input
         × Cuts (movie_at input) (non_zero_u32_get first) count every answer × (status ≡ answer.status)
         × Appends (W.contents new.old) (W.contents new.new) answer.movie × Appends (L.contents line.old) (L.contents line.new) answer.line) }
-    ensures write_fault { result ≡ Err RunError.WriteFault → (input : List ℕ) × (answer : Answer) × ReadsAll (R.remaining movie.old) (R.remaining movie.new) input
+    ensures write_fault { result ≡ Err RunError.WriteFault → (input : List ℕ) × (answer : AnswerData) × ReadsAll (R.remaining movie.old) (R.remaining movie.new) input
         × Cuts (movie_at input) (non_zero_u32_get first) count every answer
         × WritesPart (W.contents new.old) (W.contents new.new) answer.movie (L.contents line.old) (L.contents line.new) answer.line }
 
@@ -100,5 +98,5 @@ pub fn run_cut<R: Read, W: Write, L: Write>(
 {
     let bytes = read_all(alloc, movie)?;
     let answer = of_bytes(alloc, &bytes, first, count, every)?;
-    Ok(answer.write(new, line)?)
+    Ok(answer.write_movie(new, line)?)
 }

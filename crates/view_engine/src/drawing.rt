@@ -9,9 +9,9 @@ ghost use Rattle.movie_file.specs.Run.{run};
 ghost use Rattle.picture_file.specs.PictureBytes.{pictures_bytes};
 ghost use Rattle.picture_file.specs.Prefixes.{AppendsPrefix};
 ghost use Rattle.replay_segments.specs.KeptPictures.{picture_after};
-ghost use Rattle.vcs_engine.specs.Answers.{Answer};
+ghost use Rattle.vcs_engine.specs.Answers.{AnswerData};
 ghost use Rattle.vcs_engine.specs.Streams.{ReadsAll, WritesPart, IsTooLong};
-ghost use Rattle.vcs_engine.specs.Lines.{line_bytes};
+ghost use Rattle.vcs_engine.specs.Lines.{line_bytes, status_of};
 ghost use Rattle.view_engine.specs.Private.Stops.{PicturesFail, StopsDrawing};
 ghost use Rattle.view_engine.specs.Drawings.{AppendsSome, Draws, DrawsOf};
 ghost use Rattle.view_engine.specs.Stretches.{Ends, pictures_after};
@@ -151,52 +151,51 @@ fn write_asked<P: Write>(
     }
 }
 
-/// Writes the pictures of a movie that are asked for; the answer is the status and the line.
+/// Writes the pictures of a movie that are asked for, and answers the last line.
 fn draw<P: Write>(
     alloc: Global,
     movie: &Movie,
     first: NonZeroU32,
     count: u32,
     pictures: &mut P,
-) -> Result<(Status, Line), DrawError>
-    ensures ok { IfOk result (λ told. (answer : Answer) × DrawsOf movie.now (non_zero_u32_get first) count answer × (told.0 ≡ answer.status)
-        × (line_bytes told.1 ≡ answer.line) × Appends (P.contents pictures.old) (P.contents pictures.new) (pictures_bytes answer.pictures)) }
+) -> Result<Line, DrawError>
+    ensures ok { IfOk result (λ told. (answer : AnswerData) × DrawsOf movie.now (non_zero_u32_get first) count answer × (status_of told ≡ answer.status)
+        × (line_bytes told ≡ answer.line) × Appends (P.contents pictures.old) (P.contents pictures.new) (pictures_bytes answer.pictures)) }
     ensures memory { result ≡ Err DrawError.NoMemory → AppendsSome (Ok movie.now) (non_zero_u32_get first) count (P.contents pictures.old) (P.contents pictures.new) }
-    ensures fault { result ≡ Err DrawError.WriteFault → (answer : Answer) × DrawsOf movie.now (non_zero_u32_get first) count answer
+    ensures fault { result ≡ Err DrawError.WriteFault → (answer : AnswerData) × DrawsOf movie.now (non_zero_u32_get first) count answer
         × AppendsPrefix (P.contents pictures.old) (P.contents pictures.new) (pictures_bytes answer.pictures) }
 {
     let frames = frames_asked(movie, first, count);
     if frames == 0 {
-        return Ok((Status::Done, Line::Pictures { frames }));
+        return Ok(Line::Pictures { frames });
     }
     match write_asked(alloc, movie, first.get() - 1, frames, pictures) {
-        Ok(()) => Ok((Status::Done, Line::Pictures { frames })),
-        Err(Stop::Fault { frame, kind }) => Ok((Status::Fault, Line::Fault { frame, kind })),
+        Ok(()) => Ok(Line::Pictures { frames }),
+        Err(Stop::Fault { frame, kind }) => Ok(Line::Fault { frame, kind }),
         Err(Stop::NoMemory) => Err(DrawError::NoMemory),
         Err(Stop::WriteFault) => Err(DrawError::WriteFault),
     }
 }
 
-/// Writes the pictures of the bytes of a movie that are asked for; the answer is the status and
-/// the line.
+/// Writes the pictures of the bytes of a movie that are asked for, and answers the last line.
 fn draw_bytes<P: Write>(
     alloc: Global,
     bytes: &[u8],
     first: NonZeroU32,
     count: u32,
     pictures: &mut P,
-) -> Result<(Status, Line), DrawError>
-    ensures ok { IfOk result (λ told. (answer : Answer) × Draws (movie_at bytes.now) (non_zero_u32_get first) count answer × (told.0 ≡ answer.status)
-        × (line_bytes told.1 ≡ answer.line) × Appends (P.contents pictures.old) (P.contents pictures.new) (pictures_bytes answer.pictures)) }
+) -> Result<Line, DrawError>
+    ensures ok { IfOk result (λ told. (answer : AnswerData) × Draws (movie_at bytes.now) (non_zero_u32_get first) count answer × (status_of told ≡ answer.status)
+        × (line_bytes told ≡ answer.line) × Appends (P.contents pictures.old) (P.contents pictures.new) (pictures_bytes answer.pictures)) }
     ensures memory { result ≡ Err DrawError.NoMemory → Keeps (P.contents pictures.old) (P.contents pictures.new)
         ⊎ AppendsSome (movie_at bytes.now) (non_zero_u32_get first) count (P.contents pictures.old) (P.contents pictures.new) }
-    ensures fault { result ≡ Err DrawError.WriteFault → (answer : Answer) × Draws (movie_at bytes.now) (non_zero_u32_get first) count answer
+    ensures fault { result ≡ Err DrawError.WriteFault → (answer : AnswerData) × Draws (movie_at bytes.now) (non_zero_u32_get first) count answer
         × AppendsPrefix (P.contents pictures.old) (P.contents pictures.new) (pictures_bytes answer.pictures) }
 {
     match read_movie(alloc, bytes) {
         Ok(movie) => draw(alloc, &movie, first, count, pictures),
         Err(MovieError::NoMemory) => Err(DrawError::NoMemory),
-        Err(error) => Ok((Status::Refused, Line::Refused(error))),
+        Err(error) => Ok(Line::Refused(error)),
     }
 }
 
@@ -230,11 +229,11 @@ pub fn run_pictures<R: Read, P: Write, L: Write>(
     line: &mut L,
 ) -> Result<Status, RunError>
     // The output is that of the bytes read, and nothing else.
-    ensures ok { IfOk result (λ status. (input : List ℕ) × (answer : Answer) × ReadsAll (R.remaining movie.old) (R.remaining movie.new) input
+    ensures ok { IfOk result (λ status. (input : List ℕ) × (answer : AnswerData) × ReadsAll (R.remaining movie.old) (R.remaining movie.new) input
         × Draws (movie_at input) (non_zero_u32_get first) count answer × (status ≡ answer.status)
         × Appends (P.contents pictures.old) (P.contents pictures.new) (pictures_bytes answer.pictures)
         × Appends (L.contents line.old) (L.contents line.new) answer.line) }
-    ensures write_fault { result ≡ Err RunError.WriteFault → (input : List ℕ) × (answer : Answer) × ReadsAll (R.remaining movie.old) (R.remaining movie.new) input
+    ensures write_fault { result ≡ Err RunError.WriteFault → (input : List ℕ) × (answer : AnswerData) × ReadsAll (R.remaining movie.old) (R.remaining movie.new) input
         × Draws (movie_at input) (non_zero_u32_get first) count answer
         × WritesPart (P.contents pictures.old) (P.contents pictures.new) (pictures_bytes answer.pictures) (L.contents line.old) (L.contents line.new) answer.line }
 
@@ -249,9 +248,9 @@ pub fn run_pictures<R: Read, P: Write, L: Write>(
     ensures no_thread { result ≢ Err RunError.NoThread }
 {
     let bytes = read_all(alloc, movie)?;
-    let (status, told) = draw_bytes(alloc, &bytes, first, count, pictures)?;
+    let told = draw_bytes(alloc, &bytes, first, count, pictures)?;
     let text = told.text(alloc)?;
     flush(pictures)?;
     write_bytes(text.as_bytes(), line)?;
-    Ok(status)
+    Ok(told.status())
 }

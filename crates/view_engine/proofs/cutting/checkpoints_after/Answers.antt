@@ -17,7 +17,8 @@ loop-k-init c =
 pub claim-requires-clause-room : goal.claim-requires-clause-room
 claim-requires-clause-room c = λ h.
     let count : vec_len c.loop-k.checkpoints ≡ c.loop-k.k / c.args.every = omega (arith, c.loop-k.invariant.made.count, c.loop-k.checkpoints.ok.0) in
-    has_room c.args.every c.loop-k.k c.args.frames (vec_len c.loop-k.checkpoints) (vec_capacity c.loop-k.checkpoints) c.requires.every count c.loop-k-test.true c.loop-k.invariant.room h
+    has_room c.args.every c.loop-k.k c.args.frames (vec_len c.loop-k.checkpoints) (vec_capacity c.loop-k.checkpoints) c.requires.every count
+    c.loop-k-test.true c.loop-k.invariant.room h
 
 pub loop-k-preserved : goal.loop-k-preserved
 loop-k-preserved c =

@@ -11,7 +11,8 @@ use Rattle.view_engine.proofs.describing.describe.Goals as goal
 
 pub returns-then-frames-eq0-clause-ok : goal.returns-then-frames-eq0-clause-ok
 returns-then-frames-eq0-clause-ok g c =
-    described_none c.args.movie.now c.args.details.now (non_zero_u32_get c.args.first) c.args.count c.frames_asked-frames.result c.frames_asked-frames.ensures.value (g.L.Write.contents c.args.lines.now) c.if-frames-eq0.true
+    described_none c.args.movie.now c.args.details.now (non_zero_u32_get c.args.first) c.args.count c.frames_asked-frames.result
+    c.frames_asked-frames.ensures.value (g.L.Write.contents c.args.lines.now) c.if-frames-eq0.true
 
 pub returns-in_ok-write_last-in-Err-Fault-clause-ok : goal.returns-in_ok-write_last-in-Err-Fault-clause-ok
 returns-in_ok-write_last-in-Err-Fault-clause-ok g c =
@@ -24,7 +25,8 @@ returns-in_ok-write_last-in-Err-Fault-clause-ok g c =
     let from_is : c.get.result - 1 ≡ first - 1 = ap (λ (n : ℕ). n - 1) c.get.ensures.value in
     let some : 0 < frames = omega arith in
     let stop = rw c.in-Err-Fault.field-0-is at c.in-Err-Fault.ensures.err in
-    described_fault m d first c.args.count frames c.frames_asked-frames.ensures.value some c.in-Err-Fault.frame c.in-Err-Fault.kind a b (g.L.Write.contents c.write_last.new.lines)
+    described_fault m d first c.args.count frames c.frames_asked-frames.ensures.value some c.in-Err-Fault.frame c.in-Err-Fault.kind a b
+    (g.L.Write.contents c.write_last.new.lines)
     (subst (λ (n : ℕ). FaultsWithin m (n + frames) c.in-Err-Fault.frame c.in-Err-Fault.kind) from_is stop.0)
     (subst (λ (n : ℕ). Appends a b (lines_after m d n frames)) from_is stop.1) c.in_ok-write_last-in-Err-Fault.ensures.ok
 
@@ -40,9 +42,11 @@ returns-in_err-write_last-in-Err-Fault-clause-fault g c = λ is.
     let some : 0 < frames = omega arith in
     let stop = rw c.in-Err-Fault.field-0-is at c.in-Err-Fault.ensures.err in
     let p = err_from_is_err_and c.from_residual.result c.from_residual.ensures.1 in
-    fault_in_part m d first c.args.count frames c.frames_asked-frames.ensures.value some c.in-Err-Fault.frame c.in-Err-Fault.kind a b (g.L.Write.contents c.write_last.new.lines)
+    fault_in_part m d first c.args.count frames c.frames_asked-frames.ensures.value some c.in-Err-Fault.frame c.in-Err-Fault.kind a b
+    (g.L.Write.contents c.write_last.new.lines)
     (subst (λ (n : ℕ). FaultsWithin m (n + frames) c.in-Err-Fault.frame c.in-Err-Fault.kind) from_is stop.0)
-    (subst (λ (n : ℕ). Appends a b (lines_after m d n frames)) from_is stop.1) (c.in_err-write_last-in-Err-Fault.ensures.fault (ap Err (sym p.2 ∙ same_error p.0 WriteFault (sym p.1 ∙ is))))
+    (subst (λ (n : ℕ). Appends a b (lines_after m d n frames)) from_is stop.1)
+    (c.in_err-write_last-in-Err-Fault.ensures.fault (ap Err (sym p.2 ∙ same_error p.0 WriteFault (sym p.1 ∙ is))))
 
 pub returns-in-Err-WriteFault-clause-fault : goal.returns-in-Err-WriteFault-clause-fault
 returns-in-Err-WriteFault-clause-fault g c = λ is.
@@ -55,4 +59,5 @@ returns-in-Err-WriteFault-clause-fault g c = λ is.
     let from_is : c.get.result - 1 ≡ first - 1 = ap (λ (n : ℕ). n - 1) c.get.ensures.value in
     let some : 0 < frames = omega arith in
     let part = rw c.in-Err-WriteFault.field-0-is at c.in-Err-WriteFault.ensures.err in
-    lines_in_part m d first c.args.count frames c.frames_asked-frames.ensures.value some a b (subst (λ (n : ℕ). AppendsPrefix a b (lines_after m d n frames)) from_is part)
+    lines_in_part m d first c.args.count frames c.frames_asked-frames.ensures.value some a b
+    (subst (λ (n : ℕ). AppendsPrefix a b (lines_after m d n frames)) from_is part)

@@ -18,13 +18,17 @@ loop-k-init g c =
 pub returns-in_err-write_bytes-in-Ok-clause-err : goal.returns-in_err-write_bytes-in-Ok-clause-err
 returns-in_err-write_bytes-in-Ok-clause-err g c =
     let p = err_from_is_err_and c.from_residual.result c.from_residual.ensures.1 in
-    let part = part_of_line c.args.movie.now c.args.details.now c.args.from c.loop-k.k c.as_bytes.result.now (g.L.Write.contents c.args.lines.now) (g.L.Write.contents c.loop-k.lines)
-    (g.L.Write.contents c.write_bytes.new.writer) (c.as_bytes.ensures.value ∙ c.in-Ok.ensures.line) c.loop-k.invariant.written c.args.frames c.loop-k-test.true c.in_err-write_bytes-in-Ok.ensures.err in
+    let part =
+    part_of_line c.args.movie.now c.args.details.now c.args.from c.loop-k.k c.as_bytes.result.now (g.L.Write.contents c.args.lines.now)
+    (g.L.Write.contents c.loop-k.lines)
+    (g.L.Write.contents c.write_bytes.new.writer) (c.as_bytes.ensures.value ∙ c.in-Ok.ensures.line) c.loop-k.invariant.written c.args.frames
+    c.loop-k-test.true c.in_err-write_bytes-in-Ok.ensures.err in
     rw (p.1, p.2) part
 
 pub returns-in-Err-clause-err : goal.returns-in-Err-clause-err
 returns-in-Err-clause-err g c =
-    rw c.of_frame.ensures (stops_telling c.args.movie.now c.args.details.now c.args.from c.loop-k.k c.args.frames (g.L.Write.contents c.args.lines.now) (g.L.Write.contents c.loop-k.lines) c.in-Err.error
+    rw c.of_frame.ensures
+    (stops_telling c.args.movie.now c.args.details.now c.args.from c.loop-k.k c.args.frames (g.L.Write.contents c.args.lines.now) (g.L.Write.contents c.loop-k.lines) c.in-Err.error
     c.loop-k-test.true c.in-Err.ensures.err c.loop-k.invariant.written)
 
 pub loop-k-preserved : goal.loop-k-preserved
@@ -32,9 +36,13 @@ loop-k-preserved g c =
     let next : c.args.from + c.loop-k.k + 1 ≡ c.args.from + (c.loop-k.k + 1) = omega arith in
     record {
       ran = subst (λ (n : ℕ). run c.args.movie.now c.args.movie.now.start 0 n ≡ Some c.played_line.new.state) next c.in-Ok.ensures.ran;
-      written = one_more_line c.args.movie.now c.args.details.now c.args.from c.loop-k.k c.as_bytes.result.now (g.L.Write.contents c.args.lines.now) (g.L.Write.contents c.loop-k.lines)
-          (g.L.Write.contents c.write_bytes.new.writer) (c.as_bytes.ensures.value ∙ c.in-Ok.ensures.line) c.loop-k.invariant.written c.in_ok-write_bytes-in-Ok.ensures.ok;
-      passed = stand_before c.args.movie.now c.checkpoints_before-next.result (c.args.from + c.loop-k.k + 1) (c.args.from + (c.loop-k.k + 1) + 1) c.checkpoints_before-next.ensures (omega arith);
+      written =
+          one_more_line c.args.movie.now c.args.details.now c.args.from c.loop-k.k c.as_bytes.result.now (g.L.Write.contents c.args.lines.now)
+          (g.L.Write.contents c.loop-k.lines)
+          (g.L.Write.contents c.write_bytes.new.writer) (c.as_bytes.ensures.value ∙ c.in-Ok.ensures.line) c.loop-k.invariant.written
+          c.in_ok-write_bytes-in-Ok.ensures.ok;
+      passed = stand_before c.args.movie.now c.checkpoints_before-next.result (c.args.from + c.loop-k.k + 1) (c.args.from + (c.loop-k.k + 1) + 1)
+          c.checkpoints_before-next.ensures (omega arith);
     }
 
 pub returns-clause-ends : goal.returns-clause-ends

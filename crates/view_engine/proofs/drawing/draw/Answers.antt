@@ -9,7 +9,8 @@ use Rattle.view_engine.proofs.drawing.draw.Goals as goal
 
 pub returns-then-frames-eq0-clause-ok : goal.returns-then-frames-eq0-clause-ok
 returns-then-frames-eq0-clause-ok g c =
-    told_none c.args.movie.now (non_zero_u32_get c.args.first) c.args.count c.frames_asked-frames.result (g.P.Write.contents c.args.pictures.now) c.frames_asked-frames.ensures.value c.if-frames-eq0.true
+    told_none c.args.movie.now (non_zero_u32_get c.args.first) c.args.count c.frames_asked-frames.result (g.P.Write.contents c.args.pictures.now)
+    c.frames_asked-frames.ensures.value c.if-frames-eq0.true
 
 pub returns-in-Ok-clause-ok : goal.returns-in-Ok-clause-ok
 returns-in-Ok-clause-ok g c =

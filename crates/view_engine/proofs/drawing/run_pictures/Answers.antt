@@ -10,7 +10,7 @@ use Rattle.view_engine.proofs.drawing.run_pictures.Goals as goal
 pub returns-in_err-text-clause-memory : goal.returns-in_err-text-clause-memory
 returns-in_err-text-clause-memory g c = λ is.
     let input = c.in_ok-bytes.bytes.items in
-    let told = c.in_ok-status.ensures.ok in
+    let told = c.in_ok-told.ensures.ok in
     let draws = subst (λ (xs : List ℕ). Draws (movie_at xs) (non_zero_u32_get c.args.first) c.args.count told.0) c.deref.ensures.value told.1 in
     inr (
       input,
@@ -22,7 +22,7 @@ returns-in_err-text-clause-memory g c = λ is.
 pub returns-in_err-flush-clause-write_fault : goal.returns-in_err-flush-clause-write_fault
 returns-in_err-flush-clause-write_fault g c = λ is.
     let input = c.in_ok-bytes.bytes.items in
-    let told = c.in_ok-status.ensures.ok in
+    let told = c.in_ok-told.ensures.ok in
     let draws = subst (λ (xs : List ℕ). Draws (movie_at xs) (non_zero_u32_get c.args.first) c.args.count told.0) c.deref.ensures.value told.1 in
     let a = g.P.Write.contents c.args.pictures.now in
     let b = g.P.Write.contents c.draw_bytes.new.pictures in

@@ -7,13 +7,16 @@ use Rattle.view_engine.proofs.drawing.write_frames.Goals as goal
 pub returns-in_err-ppm-in-Ok-clause-err : goal.returns-in_err-ppm-in-Ok-clause-err
 returns-in_err-ppm-in-Ok-clause-err g c =
     let p = err_from_is_err_and c.from_residual.result c.from_residual.ensures.1 in
-    let part = part_of_one c.args.movie.now c.args.from c.loop-k.k c.in-Ok.picture (g.P.Write.contents c.args.pictures.now) (g.P.Write.contents c.loop-k.pictures) (g.P.Write.contents c.ppm.new.writer)
+    let part =
+    part_of_one c.args.movie.now c.args.from c.loop-k.k c.in-Ok.picture (g.P.Write.contents c.args.pictures.now)
+    (g.P.Write.contents c.loop-k.pictures) (g.P.Write.contents c.ppm.new.writer)
     c.in-Ok.ensures.picture c.loop-k.invariant.written c.args.frames c.loop-k-test.true c.in_err-ppm-in-Ok.ensures.err in
     rw (p.1, p.2) part
 
 pub returns-in-Err-clause-err : goal.returns-in-Err-clause-err
 returns-in-Err-clause-err g c =
-    rw c.of_frame.ensures (stops_here c.args.movie.now c.args.from c.loop-k.k c.args.frames (g.P.Write.contents c.args.pictures.now) (g.P.Write.contents c.loop-k.pictures) c.in-Err.error
+    rw c.of_frame.ensures
+    (stops_here c.args.movie.now c.args.from c.loop-k.k c.args.frames (g.P.Write.contents c.args.pictures.now) (g.P.Write.contents c.loop-k.pictures) c.in-Err.error
     c.loop-k-test.true c.in-Err.ensures.err c.loop-k.invariant.written)
 
 pub loop-k-preserved : goal.loop-k-preserved
@@ -21,7 +24,9 @@ loop-k-preserved g c =
     let next : c.args.from + c.loop-k.k + 1 ≡ c.args.from + (c.loop-k.k + 1) = omega arith in
     record {
       ran = subst (λ (n : ℕ). run c.args.movie.now c.args.movie.now.start 0 n ≡ Some c.picture_of.new.state) next c.in-Ok.ensures.ran;
-      written = one_more c.args.movie.now c.args.from c.loop-k.k c.in-Ok.picture (g.P.Write.contents c.args.pictures.now) (g.P.Write.contents c.loop-k.pictures) (g.P.Write.contents c.ppm.new.writer)
+      written =
+          one_more c.args.movie.now c.args.from c.loop-k.k c.in-Ok.picture (g.P.Write.contents c.args.pictures.now)
+          (g.P.Write.contents c.loop-k.pictures) (g.P.Write.contents c.ppm.new.writer)
           c.in-Ok.ensures.picture c.loop-k.invariant.written c.in_ok-ppm-in-Ok.ensures.ok;
     }
 

@@ -12,7 +12,8 @@ loop-watched-preserved c =
     let part : string_bytes c.in_ok-part.part ≡ f c.watched-item.result = search rules in
     let before = take c.loop-watched.watched-index items in
     let next : take (c.loop-watched.watched-index + 1) items ≡ before ++ c.watched-item.result ∷ [] =
-    take_more items c.loop-watched.watched-index c.watched-item.result c.loop-watched-test.true ∙ ap (λ (a : Address). before ++ a ∷ []) (sym c.watched-item.is) in
+    take_more items c.loop-watched.watched-index c.watched-item.result c.loop-watched-test.true
+    ∙ ap (λ (a : Address). before ++ a ∷ []) (sym c.watched-item.is) in
     c.in_ok-push_str.ensures.bytes
     ∙ ap₂ (λ (xs ys : List ℕ). xs ++ ys) c.loop-watched.invariant (c.deref.ensures ∙ part)
     ∙ flat_map_more f [] before c.watched-item.result

@@ -1,4 +1,4 @@
-use Rattle.std.proofs.Common.{◌≡◌, ◌∙◌, ℕ, List, Err, ap, sym, subst}
+use Rattle.std.proofs.Common.{◌∙◌, ℕ, List, Err, ap, sym, subst}
 use Rattle.std.proofs.lemmas.Result.{err_from_is_err_and}
 use Rattle.std.specs.NonZero.{non_zero_u32_get}
 use Rattle.movie_file.specs.Reading.{movie_at}

@@ -1,4 +1,4 @@
-use Rattle.std.proofs.Common.{◌≡◌, ◌∙◌, ℕ, Err, ap, sym}
+use Rattle.std.proofs.Common.{◌∙◌, ℕ, Err, ap, sym}
 use Rattle.std.proofs.lemmas.Result.{err_from_is_err_and}
 use Rattle.vcs_machine.specs.Pictures.{rows_of}
 use Rattle.view_engine.specs.declared.drawing.DrawError.TheVariants.{WriteFault}
@@ -20,7 +20,8 @@ returns-in_err-write_last-in-None-clause-fault g c = λ is.
     let all = rw (c.in-None.is, c.begin-stepping.ensures, c.has_banks.ensures.value, c.cart-cart.ensures) at c.in_ok-write_instructions.ensures.ok in
     ended_part c.args.movie.now c.args.frame c.args.state.now c.input.result (c.requires.ran, c.input.ensures) all.0
     (g.L.Write.contents c.args.lines.now) (g.L.Write.contents c.write_instructions.new.lines) (g.L.Write.contents c.write_last.new.lines) all.2
-    c.write_instructions.new.stepping c.cycles.result c.rows.result all.1 c.cycles.ensures (c.rows.ensures ∙ ap (λ (n : ℕ). rows_of n c.write_instructions.new.stepping.cycles) c.line_cycle.ensures.value)
+    c.write_instructions.new.stepping c.cycles.result c.rows.result all.1 c.cycles.ensures
+    (c.rows.ensures ∙ ap (λ (n : ℕ). rows_of n c.write_instructions.new.stepping.cycles) c.line_cycle.ensures.value)
     (c.in_err-write_last-in-None.ensures.fault (ap Err (sym p.2 ∙ same_error p.0 WriteFault (sym p.1 ∙ is))))
 
 pub returns-in_err-write_last-in-Some-clause-fault : goal.returns-in_err-write_last-in-Some-clause-fault
@@ -37,7 +38,8 @@ returns-in_ok-write_last-in-None-clause-ok g c =
     let all = rw (c.in-None.is, c.begin-stepping.ensures, c.has_banks.ensures.value, c.cart-cart.ensures) at c.in_ok-write_instructions.ensures.ok in
     ended_whole c.args.movie.now c.args.frame c.args.state.now c.input.result (c.requires.ran, c.input.ensures) all.0
     (g.L.Write.contents c.args.lines.now) (g.L.Write.contents c.write_instructions.new.lines) (g.L.Write.contents c.write_last.new.lines) all.2
-    c.write_instructions.new.stepping c.cycles.result c.rows.result all.1 c.cycles.ensures (c.rows.ensures ∙ ap (λ (n : ℕ). rows_of n c.write_instructions.new.stepping.cycles) c.line_cycle.ensures.value)
+    c.write_instructions.new.stepping c.cycles.result c.rows.result all.1 c.cycles.ensures
+    (c.rows.ensures ∙ ap (λ (n : ℕ). rows_of n c.write_instructions.new.stepping.cycles) c.line_cycle.ensures.value)
     c.in_ok-write_last-in-None.ensures.ok
 
 pub returns-in_ok-write_last-in-Some-clause-ok : goal.returns-in_ok-write_last-in-Some-clause-ok

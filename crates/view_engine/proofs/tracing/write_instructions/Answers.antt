@@ -1,11 +1,11 @@
-use Rattle.std.proofs.Common.{◌≡◌, ◌+◌, ◌-◌, ◌<◌, ◌≤◌, ◌∙◌, ℕ, Err, Option, List, true, false, ap, sym, subst, arith}
+use Rattle.std.proofs.Common.{◌≡◌, ◌∙◌, Err, ap, sym, subst, arith}
 use Rattle.std.proofs.lemmas.Result.{err_from_is_err_and}
 use Rattle.std.specs.Io.KnownBytes.{Appends}
 use Rattle.picture_file.specs.Prefixes.{AppendsPrefix}
 use Rattle.trace_text.specs.TraceLines.{trace_line}
 use Rattle.vcs_machine.specs.Faults.{stop_with}
-use Rattle.vcs_machine.specs.Frame.{Faulted, is_over}
-use Rattle.vcs_machine.specs.Instructions.{ExecutedData, undrawn_rules}
+use Rattle.vcs_machine.specs.Frame.{Faulted}
+use Rattle.vcs_machine.specs.Instructions.{ExecutedData}
 use Rattle.view_engine.specs.declared.drawing.DrawError.TheVariants.{NoMemory, WriteFault}
 use Rattle.view_engine.proofs.TraceSteps.{ended_here, faulted_here, halts_as, long_of, one_written, overlong_here}
 use Rattle.view_engine.proofs.TraceSteps.{part_written, short_of, some_written}
@@ -37,8 +37,10 @@ loop-alloc-preserved g c =
 pub returns-in_err-write_instruction-in-Ok-clause-memory : goal.returns-in_err-write_instruction-in-Ok-clause-memory
 returns-in_err-write_instruction-in-Ok-clause-memory g c = λ is.
     let p = err_from_is_err_and c.from_residual.result c.from_residual.ensures.1 in
-    some_written c.args.has_banks c.args.stepping.now c.loop-alloc.stepping (g.L.Write.contents c.args.lines.now) (g.L.Write.contents c.loop-alloc.lines) c.loop-alloc.invariant
-    (g.L.Write.contents c.write_instruction.new.lines) (c.in_err-write_instruction-in-Ok.ensures.memory (ap Err (sym p.2 ∙ same_error p.0 NoMemory (sym p.1 ∙ is))))
+    some_written c.args.has_banks c.args.stepping.now c.loop-alloc.stepping (g.L.Write.contents c.args.lines.now)
+    (g.L.Write.contents c.loop-alloc.lines) c.loop-alloc.invariant
+    (g.L.Write.contents c.write_instruction.new.lines)
+    (c.in_err-write_instruction-in-Ok.ensures.memory (ap Err (sym p.2 ∙ same_error p.0 NoMemory (sym p.1 ∙ is))))
 
 pub returns-in_err-write_instruction-in-Ok-clause-fault : goal.returns-in_err-write_instruction-in-Ok-clause-fault
 returns-in_err-write_instruction-in-Ok-clause-fault g c = λ is.

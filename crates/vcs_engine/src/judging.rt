@@ -1,0 +1,37 @@
+//! The verdict of a movie.
+ghost use Rattle.std.specs.Prelude.{◌≡◌, ◌≤◌, Err, IfOk};
+ghost use Rattle.replay_segments.specs.Verdicts.{IsVerdict};
+
+use crate::counted_gate::CountedGate;
+use crate::run_error::JudgeError;
+use movie_file::Movie;
+use replay_plan::Plan;
+use replay_segments::{Cuts, Verdict};
+use std::alloc::Global;
+use std::sync::Wait;
+use std::thread::Threads;
+use verify_pool::{VerifyError, verify};
+
+/// The verdict of a movie, by the workers of a plan.
+pub(crate) fn verdict_of<T: Threads + Wait + Sync, G: CountedGate + Sync>(
+    rt: &T,
+    alloc: Global,
+    movie: &Movie,
+    plan: &Plan,
+    gate: &G,
+) -> Result<Verdict, JudgeError>
+    ensures verdict { IfOk result (λ verdict. IsVerdict movie.now plan.now.keep verdict) }
+    ensures no_thread { result ≡ Err JudgeError.NoThread → 2 ≤ plan.now.workers.number }
+{
+    let Ok(cuts) = Cuts::every(alloc, movie, plan.every) else {
+        return Err(JudgeError::NoMemory);
+    };
+    gate.begin(cuts.segments());
+    let answer = verify(rt, alloc, movie, &cuts, plan.workers, plan.keep, gate);
+    gate.end();
+    match answer {
+        Ok(verdict) => Ok(verdict),
+        Err(VerifyError::NoMemory) => Err(JudgeError::NoMemory),
+        Err(VerifyError::NoThread) => Err(JudgeError::NoThread),
+    }
+}
