@@ -22,19 +22,22 @@ no_address words addresses i word at none are = go (slice_get addresses i) refl
 
     go : (o : Option Address) → slice_get addresses i ≡ o → ⊥
     go None e =
-        let bad : Some (decode_sized word 1) ≡ option_map (λ (a : Address). Ok (a.number ∷ [])) None = there ∙ ap (option_map (λ (a : Address). Ok (a.number ∷ []))) e in
+        let bad : Some (decode_sized word 1) ≡ option_map (λ (a : Address). Ok (a.number ∷ [])) None =
+        there ∙ ap (option_map (λ (a : Address). Ok (a.number ∷ []))) e in
         cc
     go (Some a) e =
         let same : Some (decode_sized word 1) ≡ Some (Ok (a.number ∷ [])) = there ∙ ap (option_map (λ (a : Address). Ok (a.number ∷ []))) e in
         none a (ap (λ o. unwrap_or o (Ok [])) same)
 
 -- the words that `clap` found
-pub words_read : (m : ArgMatches) (id : Text) (r : Option (Bor (List (Bor Text)))) → option_map (λ s. map (λ v. v.now) s.now) r ≡ option_map raw_values (matched_of (found_of m) id)
+pub words_read : (m : ArgMatches) (id : Text) (r : Option (Bor (List (Bor Text))))
+    → option_map (λ s. map (λ v. v.now) s.now) r ≡ option_map raw_values (matched_of (found_of m) id)
     → unwrap_or (all_of id (rows_of (found_of m))) [] ≡ unwrap_or (option_map (λ s. map (λ v. v.now) s.now) r) []
 words_read m id r is = ap (λ o. unwrap_or o []) (sym (is ∙ raw_values-rows (found_of m) id))
 
 -- The same of a word of a slice.
-pub no_address_at : (words : List (Bor Text)) (i : ℕ) (d : Bor Text) → i < length words → ((a : Address) → decode_sized (get_or words i d).now 1 ≡ Ok (a.number ∷ []) → ⊥)
+pub no_address_at : (words : List (Bor Text)) (i : ℕ) (d : Bor Text) → i < length words
+    → ((a : Address) → decode_sized (get_or words i d).now 1 ≡ Ok (a.number ∷ []) → ⊥)
     → (addresses : List Address) → AreAddresses (map (λ word. word.now) words) addresses → ⊥
 no_address_at words i d less none addresses are =
     no_address (map (λ word. word.now) words) addresses i (get_or words i d).now

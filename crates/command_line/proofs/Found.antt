@@ -1,5 +1,8 @@
 -- Where the parse of a command finds no mistake, what was found for a number is in its range.
-use Rattle.std.proofs.Common.{◌≡◌, ◌∙◌, ◌&&◌, ◌||◌, ◌<◌, ◌==◌, ◌++◌, ℕ, Bool, true, false, zero, suc, cond, drop, length, List, [], ◌∷◌, Option, Some, None, if◌then◌else◌, is_some, sym, subst, refl, ap, unwrap_or, true≢false, arith}
+use Rattle.std.proofs.Common.{◌≡◌, ◌∙◌, ◌&&◌, ◌||◌, ◌<◌, ◌==◌, ◌++◌, ℕ, Bool, true, false, zero}
+use Rattle.std.proofs.Common.{suc, cond, drop, length, List, [], ◌∷◌, Option, Some, None}
+use Rattle.std.proofs.Common.{if◌then◌else◌, is_some, sym, subst, refl, ap, unwrap_or, true≢false}
+use Rattle.std.proofs.Common.{arith}
 use Rattle.std.specs.Prelude.{◌+◌, min, find, fold, pos, slice_get, encode_utf8}
 use Rattle.std.specs.Option.{option_map_or}
 use Rattle.std.specs.Str.{bytes_eq, chars}
@@ -9,9 +12,23 @@ use Rattle.std.proofs.lemmas.Int.{ints}
 use Rattle.std.proofs.lemmas.Slice.Eq.{bytes_eq-Decides}
 use Rattle.std.proofs.lemmas.Str.Parse.{digit_from_value}
 use Rattle.clap.specs.Words.{Row, Rule, Shape, Text}
-use Rattle.clap.specs.Walk.{Held, Names, Outcome, Step, Waiting, Walk, action_of, after_flag, after_step, arg_by_id, arg_by_index, arg_by_long, arg_by_short, at_row, attached_value, bundle, bundle_met, bundle_step, count_of, done, flag_met, has_row, idle, is_empty, is_pending, long_met, long_or_other, more_values, most_values, new_count, next, option, option_met, option_word, plain, plain_word, positional, positional_held, reacted, reading_by, refused, settled, settled_rows, short_met, short_or_plain, subcommand, subcommand_met, subcommand_or_other, takes_several, takes_values, to_positional, trailing, used, used_as, used_by_id, value, values_or_missing, waits, walked, walked_from, with_count, with_default, with_values, without, default_rows, word_met}
+use Rattle.clap.specs.Walk.{Held, Names, Outcome, Step, Waiting, Walk, action_of, after_flag}
+use Rattle.clap.specs.Walk.{after_step, arg_by_id, arg_by_index, arg_by_long, arg_by_short, at_row}
+use Rattle.clap.specs.Walk.{attached_value, bundle, bundle_met, bundle_step, count_of, done}
+use Rattle.clap.specs.Walk.{flag_met, has_row, idle, is_empty, is_pending, long_met, long_or_other}
+use Rattle.clap.specs.Walk.{more_values, most_values, new_count, next, option, option_met}
+use Rattle.clap.specs.Walk.{option_word, plain, plain_word, positional, positional_held, reacted}
+use Rattle.clap.specs.Walk.{reading_by, refused, settled, settled_rows, short_met, short_or_plain}
+use Rattle.clap.specs.Walk.{subcommand, subcommand_met, subcommand_or_other, takes_several}
+use Rattle.clap.specs.Walk.{takes_values, to_positional, trailing, used, used_as, used_by_id, value}
+use Rattle.clap.specs.Walk.{values_or_missing, waits, walked, walked_from, with_count, with_default}
+use Rattle.clap.specs.Walk.{with_values, without, default_rows, word_met}
 use Rattle.clap.specs.declared.error.ErrorKind.TheVariants as kind
-use Rattle.clap.specs.Faults.{action_fault, bundle_fault, bundle_step_fault, default_fault, defaults_fault, flag_word_fault, flags_fault, given_default_fault, long_fault, option_fault, other_fault, positional_fault, react_fault, settle_fault, short_fault, step_fault, stray_fault, turn_fault, use_fault, values_fault, walk_fault, word_fault}
+use Rattle.clap.specs.Faults.{action_fault, bundle_fault, bundle_step_fault, default_fault}
+use Rattle.clap.specs.Faults.{defaults_fault, flag_word_fault, flags_fault, given_default_fault}
+use Rattle.clap.specs.Faults.{long_fault, option_fault, other_fault, positional_fault, react_fault}
+use Rattle.clap.specs.Faults.{settle_fault, short_fault, step_fault, stray_fault, turn_fault}
+use Rattle.clap.specs.Faults.{use_fault, values_fault, walk_fault, word_fault}
 use Rattle.clap.specs.Kinds.{Kinds, or_else, range_kinds, request_kinds, value_kinds, values_kinds}
 use Rattle.clap.specs.Values.{IsSignedIn, refused_kind}
 use Rattle.clap.specs.declared.error.ErrorKind.{ErrorKind}
@@ -131,7 +148,8 @@ module _ (id : Text) (least most : ℕ) where
   at_good name change missing [] each none good = none
   at_good name change missing (r ∷ rs) each none good = go (bytes_eq r.id name) refl (at_good name change missing rs each none good.1)
     where
-      go : (b : Bool) → bytes_eq r.id name ≡ b → AreGood (at_row name change missing rs) → AreGood (if b then change r ++ rs else r ∷ at_row name change missing rs)
+      go : (b : Bool) → bytes_eq r.id name ≡ b → AreGood (at_row name change missing rs)
+          → AreGood (if b then change r ++ rs else r ∷ at_row name change missing rs)
       go true e later = both_good (change r) rs (each r e good.0) good.1
       go false e later = (good.0, later)
 
@@ -204,7 +222,8 @@ module _ (id : Text) (least most : ℕ) where
       let bad : range_kinds 1 1 0 ≡ [] = rw rule.range at first in
       cc
   own_used a again (v ∷ vs) rows rule none good =
-      let acted : action_fault (action_of a) again a (v ∷ vs) rows ≡ [] = none_then (range_kinds (unwrap_or_range a.range).start_inclusive (most_values a) (length (v ∷ vs))) _ none in
+      let acted : action_fault (action_of a) again a (v ∷ vs) rows ≡ [] =
+      none_then (range_kinds (unwrap_or_range a.range).start_inclusive (most_values a) (length (v ∷ vs))) _ none in
       let set : action_fault action.Set again a (v ∷ vs) rows ≡ [] = rw rule.action at acted in
       let some : 0 < length (v ∷ vs) = omega arith in
       let fine = fault_free a (v ∷ vs) rule (none_then _ _ set) in
@@ -393,7 +412,8 @@ module _ (id : Text) (least most : ℕ) where
           let fault : given_default_fault a (v ∷ vs) ≡ [] = rw some at n in
           let length_some : 0 < length (v ∷ vs) = omega arith in
           values_good a.id (reading_by a) DefaultValue (v ∷ vs) rows
-          (λ mine. (length_some, fault_free a (v ∷ vs) (own mine) (none_then (request_kinds (action_of a)) (values_fault a (v ∷ vs)) fault), reads a (own mine))) good
+          (λ mine. (length_some, fault_free a (v ∷ vs) (own mine) (none_then (request_kinds (action_of a)) (values_fault a (v ∷ vs)) fault), reads a (own mine)))
+          good
 
       go : (b : Bool) → (if b || is_empty a.defaults then [] else given_default_fault a a.defaults) ≡ []
           → AreGood (if b then rows else default_rows a.id (reading_by a) a.defaults rows)

@@ -75,7 +75,8 @@ pub none_if_zero : {X : Type 0} (r : Option X) (n : ℕ) (get : X → ℕ) (P : 
 none_if_zero None n get P zero some = λ p. let h : 1 ≤ n = some p in absurd (omega (arith, h, zero))
 none_if_zero (Some x) n get P zero some = tt
 
-pub some_if : {X : Type 0} (r : Option X) (o : Option ℕ) (n : ℕ) (get : X → ℕ) (P : Type 0) → MatchOption r P (λ x. get x ≡ n) → o ≡ Some n → IfSome r (λ x. o ≡ Some (get x))
+pub some_if : {X : Type 0} (r : Option X) (o : Option ℕ) (n : ℕ) (get : X → ℕ) (P : Type 0) → MatchOption r P (λ x. get x ≡ n) → o ≡ Some n
+    → IfSome r (λ x. o ≡ Some (get x))
 some_if None o n get P h is = tt
 some_if (Some x) o n get P h is = is ∙ ap Some (sym h)
 

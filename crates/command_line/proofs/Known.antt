@@ -26,7 +26,8 @@ pub failing : (app : App) (words : List Text) (error : Error) → app ≡ progra
     → HasKind (fault_of program_app words) error
 failing app words error is kinds = subst (λ (a : App). is_simple_and_free a ≡ true → HasKind (fault_of a words) error) is kinds program_is_free
 
-pub meets : (app : App) (words : List Text) (m : ArgMatches) → app ≡ program_app → HasMatchesOf app words m → subcommand_rows_of m ≡ subcommand_of program_app words
+pub meets : (app : App) (words : List Text) (m : ArgMatches) → app ≡ program_app → HasMatchesOf app words m
+    → subcommand_rows_of m ≡ subcommand_of program_app words
 meets app words m is has = (subst (λ (a : App). HasMatchesOf a words m) is has program_is_simple).1
 
 -- A name and a value of the same thing.

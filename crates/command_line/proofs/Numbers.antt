@@ -1,12 +1,16 @@
 -- Where the parse of a command finds no mistake, each of its numbers is there, and in its range.
-use Rattle.std.proofs.Common.{◌≡◌, ◌&&◌, ◌||◌, ◌⊎◌, ◌++◌, ℕ, Bool, true, false, not, List, [], ◌∷◌, Option, Some, None, if◌then◌else◌, is_some, codes, sym, subst, refl, ap, inl, inr, unwrap_or, IfSome, true≢false, arith}
+use Rattle.std.proofs.Common.{◌≡◌, ◌&&◌, ◌||◌, ◌⊎◌, ◌++◌, ℕ, Bool, true, false, not, List, [], ◌∷◌}
+use Rattle.std.proofs.Common.{Option, Some, None, if◌then◌else◌, is_some, codes, sym, subst, refl}
+use Rattle.std.proofs.Common.{ap, inl, inr, unwrap_or, IfSome, true≢false, arith}
 use Rattle.std.specs.Prelude.{find, fold, slice_get, option_and_then, option_map}
 use Rattle.std.specs.List.{list_any}
 use Rattle.std.specs.Option.{option_map_or}
 use Rattle.std.specs.Str.{bytes_eq}
 use Rattle.std.proofs.lemmas.Slice.Eq.{bytes_eq-Decides}
 use Rattle.clap.specs.Words.{App, Row, Rule, Shape, Text, fault_of, one_of, read_as, subcommand_of}
-use Rattle.clap.specs.Walk.{Held, answers_to, finished, has_row, is_empty, more_values, nothing_held, reading_by, row_text, rows_after, settled, stop_after, walk, walk_from, with_default, with_values, default_rows}
+use Rattle.clap.specs.Walk.{Held, answers_to, finished, has_row, is_empty, more_values}
+use Rattle.clap.specs.Walk.{nothing_held, reading_by, row_text, rows_after, settled, stop_after}
+use Rattle.clap.specs.Walk.{walk, walk_from, with_default, with_values, default_rows}
 use Rattle.clap.specs.Simple.{argument_words, built, entered, label_of, names_of, rows_at}
 use Rattle.clap.specs.Faults.{built_fault, check_fault, defaults_fault, entered_fault, level_fault, settle_fault, walk_fault}
 use Rattle.clap.specs.Kinds.{check_kinds, or_else}
@@ -115,7 +119,8 @@ module _ (id : Text) (least most : ℕ) where
       go false g e n = absurd (true≢false (sym e))
   needed_there (a ∷ more) rows (inr later) none = needed_there more rows later (go (a.required && not (is_given a.id rows)) none)
     where
-      go : (b : Bool) → (b || list_any (λ a. a.required && not (is_given a.id rows)) more) ≡ false → list_any (λ a. a.required && not (is_given a.id rows)) more ≡ false
+      go : (b : Bool) → (b || list_any (λ a. a.required && not (is_given a.id rows)) more) ≡ false
+          → list_any (λ a. a.required && not (is_given a.id rows)) more ≡ false
       go true n = absurd (true≢false n)
       go false n = n
 

@@ -1,10 +1,17 @@
 -- Where the walk over the words finds no mistake, it stops at no `help`.
-use Rattle.std.proofs.Common.{◌≡◌, ◌∙◌, ◌&&◌, ◌||◌, ℕ, Bool, true, false, not, List, [], ◌∷◌, Option, Some, None, option_map, if◌then◌else◌, is_some, codes, sym, subst, refl, ap, inl, inr, ◌⊎◌, unwrap_or, IfSome}
+use Rattle.std.proofs.Common.{◌≡◌, ◌∙◌, ◌&&◌, ◌||◌, ℕ, Bool, true, false, not, List, [], ◌∷◌}
+use Rattle.std.proofs.Common.{Option, Some, None, option_map, if◌then◌else◌, is_some, codes, sym}
+use Rattle.std.proofs.Common.{subst, refl, ap, inl, inr, ◌⊎◌, unwrap_or, IfSome}
 use Rattle.std.specs.Prelude.{find, fold}
 use Rattle.std.specs.Str.{bytes_eq}
 use Rattle.std.proofs.lemmas.Slice.Eq.{bytes_eq-Decides}
 use Rattle.clap.specs.Words.{App, Row, Rule, Shape, Text, fault_of, subcommand_of}
-use Rattle.clap.specs.Walk.{Held, Names, Outcome, Step, Waiting, Walk, after_flag, arg_by_long, bundle, long_met, short_or_plain, after_step, answers_to, arg_by_index, done, idle, long_or_other, next, nothing_held, option, plain, plain_word, positional, refused, stop_after, subcommand, subcommand_met, subcommand_or_other, to_positional, trailing, value, waits, walk_from, walked, walked_from, word_met}
+use Rattle.clap.specs.Walk.{Held, Names, Outcome, Step, Waiting, Walk, after_flag, arg_by_long}
+use Rattle.clap.specs.Walk.{bundle, long_met, short_or_plain, after_step, answers_to, arg_by_index}
+use Rattle.clap.specs.Walk.{done, idle, long_or_other, next, nothing_held, option, plain}
+use Rattle.clap.specs.Walk.{plain_word, positional, refused, stop_after, subcommand, subcommand_met}
+use Rattle.clap.specs.Walk.{subcommand_or_other, to_positional, trailing, value, waits, walk_from}
+use Rattle.clap.specs.Walk.{walked, walked_from, word_met}
 use Rattle.clap.specs.Simple.{argument_words, built, entered, label_of, names_of, rows_at}
 use Rattle.clap.specs.Faults.{other_fault, step_fault, turn_fault, walk_fault, word_fault}
 use Rattle.clap.specs.Kinds.{or_else}
@@ -60,7 +67,8 @@ at_positional : (c : List Rule) (o : Option Rule) (word : Text) (w : Walk) (h : 
 at_positional c None word w h clear = clear
 at_positional c (Some a) word w h clear = tt
 
-no_help_after : (c : List Rule) (word : Text) (w : Walk) (h : Held) (step : Step) → NoHelp w.stopped → IsOther step → NoHelp (after_step c word w h step).stopped
+no_help_after : (c : List Rule) (word : Text) (w : Walk) (h : Held) (step : Step) → NoHelp w.stopped → IsOther step
+    → NoHelp (after_step c word w h step).stopped
 no_help_after c word w h (next waiting) clear other = clear
 no_help_after c word w h (trailing position) clear other = clear
 no_help_after c word w h (subcommand name) clear other = absurd other
@@ -77,7 +85,8 @@ by_name : (s : Shape) (w : Walk) (word : Text) (t : Bool) (m : Option Text) → 
     (if t then (w.held, value) else subcommand_or_other s.rules m w.waiting w.position word w.held).1).stopped
 by_name s w word true m off clear none = no_help_after s.rules word w w.held value clear tt
 by_name s w word false None off clear none =
-    no_help_after s.rules word w (subcommand_or_other s.rules None w.waiting w.position word w.held).0 (subcommand_or_other s.rules None w.waiting w.position word w.held).1 clear
+    no_help_after s.rules word w (subcommand_or_other s.rules None w.waiting w.position word w.held).0
+    (subcommand_or_other s.rules None w.waiting w.position word w.held).1 clear
     (no_name s.rules w.waiting w.position word w.held)
 by_name s w word false (Some name) off clear none = name_is_other (bytes_eq name (codes "help")) s.disable_help_subcommand _ _ off none
 
@@ -87,14 +96,17 @@ unfolding walked
 one_word s names w word off going none =
     let met = word_met s.rules names w.is_trailing w.waiting w.position word w.held in
     let fault : or_else (word_fault s names w.is_trailing w.waiting word w.held) (step_fault s w.position met.0 met.1) ≡ [] =
-    subst (λ (o : Option (Text × List Text)). (if is_some o then [] else or_else (word_fault s names w.is_trailing w.waiting word w.held) (step_fault s w.position met.0 met.1)) ≡ []) going none in
+    subst
+    (λ (o : Option (Text × List Text)). (if is_some o then [] else or_else (word_fault s names w.is_trailing w.waiting word w.held) (step_fault s w.position met.0 met.1)) ≡ [])
+    going none in
     let unstopped : NoHelp w.stopped = subst NoHelp (sym going) tt in
     let good = by_name s w word w.is_trailing (subcommand_met names w.waiting word) off unstopped (none_first _ _ fault) in
     subst (λ (o : Option (Text × List Text)). NoHelp (walked_from s.rules names o w word).stopped) (sym going) good
 
 -- ---- all words
 
-stays : (c : List Rule) (names : Names) (w : Walk) (words : List Text) → NoHelp w.stopped → is_some w.stopped ≡ true → NoHelp (fold (walked c names) w words).stopped
+stays : (c : List Rule) (names : Names) (w : Walk) (words : List Text) → NoHelp w.stopped → is_some w.stopped ≡ true
+    → NoHelp (fold (walked c names) w words).stopped
 unfolding walked
 stays c names w [] clear is = clear
 stays c names w (word ∷ rest) clear is = go (λ v a b. stays c names v rest a b) w.stopped refl
@@ -116,7 +128,8 @@ all_words s names w [] off going none = subst NoHelp (sym going) tt
 all_words s names w (word ∷ rest) off going none = go (λ v a b. all_words s names v rest off a b) (walked s.rules names w word).stopped refl
   where
     go : ((v : Walk) → v.stopped ≡ None → walk_fault s names v rest ≡ [] → NoHelp (fold (walked s.rules names) v rest).stopped)
-        → (o : Option (Text × List Text)) → (walked s.rules names w word).stopped ≡ o → NoHelp (fold (walked s.rules names) (walked s.rules names w word) rest).stopped
+        → (o : Option (Text × List Text)) → (walked s.rules names w word).stopped ≡ o
+        → NoHelp (fold (walked s.rules names) (walked s.rules names w word) rest).stopped
     go later None e = later (walked s.rules names w word) e (none_then (turn_fault s names w word) (walk_fault s names (walked s.rules names w word) rest) none)
     go later (Some p) e = stays s.rules names (walked s.rules names w word) rest
         (one_word s names w word off going (none_first (turn_fault s names w word) (walk_fault s names (walked s.rules names w word) rest) none)) (ap is_some e)
@@ -139,11 +152,13 @@ answers_by_name s word bare h =
     yes true h = refl
     yes false h = h
 
-found_by_name : (subs : List Shape) (word : Text) (s : Shape) → HasNoAliases subs → find (λ s. answers_to word (label_of s)) subs ≡ Some s → bytes_eq s.name word ≡ true
+found_by_name : (subs : List Shape) (word : Text) (s : Shape) → HasNoAliases subs → find (λ s. answers_to word (label_of s)) subs ≡ Some s
+    → bytes_eq s.name word ≡ true
 found_by_name [] word s bare is = cc
 found_by_name (x ∷ more) word s bare is = go (λ later. found_by_name more word s bare.1 later) (answers_to word (label_of x)) refl
   where
-    go : (find (λ s. answers_to word (label_of s)) more ≡ Some s → bytes_eq s.name word ≡ true) → (b : Bool) → answers_to word (label_of x) ≡ b → bytes_eq s.name word ≡ true
+    go : (find (λ s. answers_to word (label_of s)) more ≡ Some s → bytes_eq s.name word ≡ true) → (b : Bool) → answers_to word (label_of x) ≡ b
+        → bytes_eq s.name word ≡ true
     go more_found true e =
         let same : Some x ≡ Some s = rw e at is in
         let it : x ≡ s = some_same x s same in
@@ -195,7 +210,8 @@ built_met a words off bare none =
 
 program_met : (words : List Text) → fault_of program_app words ≡ [] → IfSome (subcommand_of program_app words) (λ met. IsMet (built program_app) met.0)
 program_met words none =
-    built_met (built program_app) (argument_words program_app words) refl (refl, (refl, (refl, (refl, (refl, (refl, (refl, (refl, (refl, (refl, (refl, tt))))))))))) (none_first _ _ none)
+    built_met (built program_app) (argument_words program_app words) refl
+    (refl, (refl, (refl, (refl, (refl, (refl, (refl, (refl, (refl, (refl, (refl, tt))))))))))) (none_first _ _ none)
 
 -- No command of the table was met only where none was.
 unlisted : (name : Text) → IsMet (built program_app) name → IsUnlisted name commands → ⊥

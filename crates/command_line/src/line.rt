@@ -10,8 +10,9 @@ ghost use Rattle.command_line.specs.Private.Names.{IsUnlisted};
 ghost use Rattle.command_line.specs.Private.Numbers.{HasNumbers, HasNumbersOf, Suits};
 ghost use Rattle.command_line.specs.Pictures.{KeepsWhatIsTaken};
 ghost use Rattle.command_line.specs.declared.command.LineFault.TheVariants.{Memory};
-ghost use Rattle.command_line.specs.Table.{program_app, verify_listed, report_listed, make_listed};
-ghost use Rattle.command_line.specs.Table.{commands, workers_row, cuts_row, first_row, count_row};
+ghost use Rattle.command_line.specs.Table.{commands, program_app, verify_listed, report_listed};
+ghost use Rattle.command_line.specs.Table.{make_listed};
+ghost use Rattle.command_line.specs.Table.{workers_row, cuts_row, first_row, count_row};
 ghost use Rattle.command_line.specs.Table.{asked_row, checkpoints_row, cut_listed, drawing_listed};
 ghost use Rattle.command_line.specs.Table.{frame_row, pictures_row, text_row, trace_listed};
 ghost use Rattle.replay_plan.specs.declared.input_form.InputForm.TheVariants.{Text};
@@ -349,8 +350,8 @@ fn command_of_no_words(alloc: Global) -> Result<Command, LineFault>
 
 /// The command of some arguments, of which the first is the program's name.
 ///
-/// If they name no command it is `verify -` by one worker. `clap` tries each number, so that each is in its
-/// range here.
+/// If they name no command it is `verify -` by one worker. `clap` tries each number, so that each is
+/// in its range here.
 pub fn parse_line<S: AsStr>(alloc: Global, words: &[S]) -> Result<Command, LineFault>
     ensures kept { IfOk result KeepsWhatIsTaken }
     ensures taken { IfOk result (λ _. faults_at program_app (map S.text words.now) ≡ []) }

@@ -26,7 +26,8 @@ record IsPrintable (s : Stretch) : Type 0 where
   small : s.count < 2 ^ 64
   lawful : IsInputOfBytes s.input
 
-lawful_first : (n : ℕ) (input : InputData) (others : List InputData) → 1 ≤ n → AllByRecursion IsInputOfBytes (replicate n input ++ others) → IsInputOfBytes input
+lawful_first : (n : ℕ) (input : InputData) (others : List InputData) → 1 ≤ n → AllByRecursion IsInputOfBytes (replicate n input ++ others)
+    → IsInputOfBytes input
 lawful_first zero input others h lawful = absurd (omega arith)
 lawful_first (suc n) input others h lawful = lawful.0
 

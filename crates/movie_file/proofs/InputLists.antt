@@ -42,7 +42,8 @@ spelled_inputs_are_read bytes inputs h =
     let long : length bytes ≡ input_length * length inputs = ap length h.spelled ∙ length-inputs inputs in
     let even : length bytes % input_length ≡ 0 = omega (arith, long) in
     let n : length bytes / input_length ≡ length inputs = omega (arith, long) in
-    let read : inputs_at (length inputs) 1 bytes ≡ Ok (inputs, []) = ap (inputs_at (length inputs) 1) (h.spelled ∙ sym (append-nil text)) ∙ inputs_again inputs 1 [] h.lawful in
+    let read : inputs_at (length inputs) 1 bytes ≡ Ok (inputs, []) =
+    ap (inputs_at (length inputs) 1) (h.spelled ∙ sym (append-nil text)) ∙ inputs_again inputs 1 [] h.lawful in
     rw (even, n, read) refl
 
 -- ---- what is said of an answer
@@ -52,7 +53,8 @@ module _ {X : Type 0} (view : X → List InputData) (bytes : List ℕ) where
   found_spelled (Ok x) fits h = inputs_are_spelled bytes (view x) fits h
   found_spelled (Err e) fits h = tt
 
-  pub spelled_only : (r : Result X MovieError) (inputs : List InputData) → Gives view r (all_inputs_at bytes) → SpellsInputs bytes inputs → Gives view r (Ok inputs)
+  pub spelled_only : (r : Result X MovieError) (inputs : List InputData) → Gives view r (all_inputs_at bytes) → SpellsInputs bytes inputs
+      → Gives view r (Ok inputs)
   spelled_only (Ok x) inputs h spelled = sym (spelled_inputs_are_read bytes inputs spelled) ∙ h
   spelled_only (Err e) inputs h spelled = fails_is e (all_inputs_at bytes) (Ok inputs) (spelled_inputs_are_read bytes inputs spelled) h
 

@@ -70,7 +70,8 @@ pub not_found : {P : Type 0} (c : Checkpoint) → None ≡ found c → P
 not_found c e = absurd cc
 
 -- what holds of each of a list and of one more holds of each of both
-pub each_more : (P : ℕ → Checkpoint → Type 0) (cs : List Checkpoint) (d : Checkpoint) → ((j : ℕ) (c : Checkpoint) → slice_get cs j ≡ Some c → P j c) → P (length cs) d
+pub each_more : (P : ℕ → Checkpoint → Type 0) (cs : List Checkpoint) (d : Checkpoint) → ((j : ℕ) (c : Checkpoint) → slice_get cs j ≡ Some c → P j c)
+    → P (length cs) d
     → (j : ℕ) (c : Checkpoint) → slice_get (cs ++ d ∷ []) j ≡ Some c → P j c
 each_more P [] d each here zero c e = let same : d ≡ c = cc in subst (P 0) same here
 each_more P [] d each here (suc j) c e = not_found c e
@@ -81,18 +82,22 @@ each_more P (b ∷ cs) d each here (suc j) c e = each_more (λ (i : ℕ). P (suc
 
 module _ (cart : List ℕ) (inputs : List InputData) (k : ℕ) (state : StateFields) (input : InputData)
     (is : run (bare cart inputs) (state_at_power_on cart) 0 k ≡ Some state) (at : slice_get inputs k ≡ Some input) where
-  pub run_next : (new : StateFields) (rows : Rows) → frame_of cart state input ≡ Played new rows → run (bare cart inputs) (state_at_power_on cart) 0 (k + 1) ≡ Some new
+  pub run_next : (new : StateFields) (rows : Rows) → frame_of cart state input ≡ Played new rows
+      → run (bare cart inputs) (state_at_power_on cart) 0 (k + 1) ≡ Some new
   run_next = run-next (bare cart inputs) (state_at_power_on cart) 0 k k state input is (omega arith) at
 
-  sound_next : (new : StateFields) (rows : Rows) → frame_of cart state input ≡ Played new rows → AllSound (bare cart inputs) (state_at_power_on cart) 0 k → AllSound (bare cart inputs) (state_at_power_on cart) 0 (k + 1)
+  sound_next : (new : StateFields) (rows : Rows) → frame_of cart state input ≡ Played new rows
+      → AllSound (bare cart inputs) (state_at_power_on cart) 0 k → AllSound (bare cart inputs) (state_at_power_on cart) 0 (k + 1)
   sound_next new rows ends sound =
       below_more (λ (i : ℕ). IsSound (bare cart inputs) (state_at_power_on cart) 0 i) k sound (new, run_next new rows ends, λ j c e here. not_found c e)
 
-  pub Records-next : (every : ℕ) (cs ds : List Checkpoint) (new : StateFields) (rows : Rows) → 1 ≤ every → Records cart inputs every k cs → frame_of cart state input ≡ Played new rows
+  pub Records-next : (every : ℕ) (cs ds : List Checkpoint) (new : StateFields) (rows : Rows) → 1 ≤ every → Records cart inputs every k cs
+      → frame_of cart state input ≡ Played new rows
       → ds ≡ cs ++ checkpoint_if every (k + 1) new → IsState new → Records cart inputs every (k + 1) ds
   Records-next every cs ds new rows some far ends ds-is lawful = rw ds-is (by (eqb ((k + 1) % every) 0) refl)
     where
-      by : (b : Bool) → eqb ((k + 1) % every) 0 ≡ b → Records cart inputs every (k + 1) (cs ++ cond {A = List Checkpoint} b (record { frame = k + 1; state = new } ∷ []) [])
+      by : (b : Bool) → eqb ((k + 1) % every) 0 ≡ b
+          → Records cart inputs every (k + 1) (cs ++ cond {A = List Checkpoint} b (record { frame = k + 1; state = new } ∷ []) [])
       by true e =
           let m = next_multiple every k some (eqb-true _ _ e) in
           let d : Checkpoint = record { frame = k + 1; state = new } in
@@ -101,7 +106,9 @@ module _ (cart : List ℕ) (inputs : List InputData) (k : ℕ) (state : StateFie
             sound = sound_next new rows ends far.sound;
             count = omega (arith, length-append cs (d ∷ []), far.count, m.0);
             places = each_more (λ (j : ℕ) (c : Checkpoint). c.frame ≡ every * (j + 1)) cs d far.places place;
-            states = each_more (λ (j : ℕ) (c : Checkpoint). run (bare cart inputs) (state_at_power_on cart) 0 c.frame ≡ Some c.state) cs d far.states (run_next new rows ends);
+            states =
+                each_more (λ (j : ℕ) (c : Checkpoint). run (bare cart inputs) (state_at_power_on cart) 0 c.frame ≡ Some c.state) cs d far.states
+                (run_next new rows ends);
             lawful = each_more (λ (j : ℕ) (c : Checkpoint). IsState c.state) cs d far.lawful lawful;
           }
       by false e = rw (append-nil cs) (record {
@@ -124,13 +131,16 @@ Records-none cart inputs every = record {
 -- ---- the movie
 
 abbrev pub with_checkpoints : List ℕ → List InputData → List Checkpoint → MovieData
-with_checkpoints cart inputs cs = record { version = version_made (length cart) (length inputs); cart = cart; start = state_at_power_on cart; inputs = inputs; checkpoints = cs }
+with_checkpoints cart inputs cs =
+    record { version = version_made (length cart) (length inputs); cart = cart; start = state_at_power_on cart; inputs = inputs; checkpoints = cs }
 
 -- a run knows nothing of checkpoints
-pub run_same : (cart : List ℕ) (inputs : List InputData) (cs : List Checkpoint) (k : ℕ) → run (bare cart inputs) (state_at_power_on cart) 0 k ≡ run (with_checkpoints cart inputs cs) (state_at_power_on cart) 0 k
+pub run_same : (cart : List ℕ) (inputs : List InputData) (cs : List Checkpoint) (k : ℕ)
+    → run (bare cart inputs) (state_at_power_on cart) 0 k ≡ run (with_checkpoints cart inputs cs) (state_at_power_on cart) 0 k
 run_same cart inputs cs zero = refl
 run_same cart inputs cs (suc k) =
-    ap (λ (before : Option StateFields). option_and_then (λ state. state_after (frame_after (bare cart inputs) (0 + k) state)) before) (run_same cart inputs cs k)
+    ap (λ (before : Option StateFields). option_and_then (λ state. state_after (frame_after (bare cart inputs) (0 + k) state)) before)
+    (run_same cart inputs cs k)
 
 -- ---- the bank
 
@@ -148,11 +158,13 @@ outcome_bank : (outcome : FrameOutcome) (s t : StateFields) → (left_by outcome
 outcome_bank (Played left rows) s t kept e = rw (← same_state left t e) kept
 outcome_bank (Failed kind left) s t kept e = no_state t e
 
-frame_bank : (cart : List ℕ) (u t : StateFields) (input : Option InputData) → has_banks (length cart) ≡ false → state_after (option_map (λ input. frame_of cart u input) input) ≡ Some t → t.bank ≡ u.bank
+frame_bank : (cart : List ℕ) (u t : StateFields) (input : Option InputData) → has_banks (length cart) ≡ false
+    → state_after (option_map (λ input. frame_of cart u input) input) ≡ Some t → t.bank ≡ u.bank
 frame_bank cart u t (Some input) single e = outcome_bank (frame_of cart u input) u t (frame_of-bank cart u input single) e
 frame_bank cart u t None single e = no_state t e
 
-step_bank : (m : MovieData) (s : StateFields) (from k : ℕ) (t : StateFields) (before : Option StateFields) → has_banks (length m.cart) ≡ false → ((u : StateFields) → before ≡ Some u → u.bank ≡ s.bank)
+step_bank : (m : MovieData) (s : StateFields) (from k : ℕ) (t : StateFields) (before : Option StateFields) → has_banks (length m.cart) ≡ false
+    → ((u : StateFields) → before ≡ Some u → u.bank ≡ s.bank)
     → option_and_then (λ state. state_after (frame_after m (from + k) state)) before ≡ Some t → t.bank ≡ s.bank
 step_bank m s from k t (Some u) single earlier e = frame_bank m.cart u t (slice_get m.inputs (from + k)) single e ∙ earlier u refl
 step_bank m s from k t None single earlier e = no_state t e
@@ -171,7 +183,8 @@ bank_at_start cart = by (has_banks (length cart))
     by false = refl
 
 -- each state of a run fits the cartridge, if the first does
-pub bank_fits : (m : MovieData) (k : ℕ) (t : StateFields) → IsTrue (fits_bank (length m.cart) m.start) → run m m.start 0 k ≡ Some t → IsTrue (fits_bank (length m.cart) t)
+pub bank_fits : (m : MovieData) (k : ℕ) (t : StateFields) → IsTrue (fits_bank (length m.cart) m.start) → run m m.start 0 k ≡ Some t
+    → IsTrue (fits_bank (length m.cart) t)
 bank_fits m k t first ran = by (has_banks (length m.cart)) refl
   where
     by : (banks : Bool) → has_banks (length m.cart) ≡ banks → IsTrue (banks || eqb t.bank 0)
@@ -194,7 +207,8 @@ rising cart every n b (d ∷ cs) some places lawful fits =
     in
     (omega arith, omega arith, lawful 0 d refl, subst (λ (f : ℕ). AreCheckpoints cart f n cs) next later)
 
-module _ (cart : List ℕ) (inputs : List InputData) (every : ℕ) (cs : List Checkpoint) (some : 1 ≤ every) (far : Records cart inputs every (length inputs) cs) where
+module _ (cart : List ℕ) (inputs : List InputData) (every : ℕ) (cs : List Checkpoint) (some : 1 ≤ every)
+    (far : Records cart inputs every (length inputs) cs) where
   pub IsMadeOf-run : IsMadeOf cart inputs every (with_checkpoints cart inputs cs)
   IsMadeOf-run = record {
     version = refl;
@@ -232,13 +246,16 @@ from_start cart inputs cs version start = record { version = version; cart = car
 
 -- the movie of these parts is the made one
 pub made_of_parts : (cart : List ℕ) (inputs seen : List InputData) (every : ℕ) (cs : List Checkpoint) (version : ℕ) (start : StateFields) (m : MovieData)
-    → IsTrue (counts_fit (length inputs) every) → seen ≡ inputs → Records cart seen every (length seen) cs → version ≡ version_made (length cart) (length inputs) → start ≡ state_at_power_on cart
+    → IsTrue (counts_fit (length inputs) every) → seen ≡ inputs → Records cart seen every (length seen) cs
+    → version ≡ version_made (length cart) (length inputs) → start ≡ state_at_power_on cart
     → m ≡ from_start cart inputs cs version start
     → IsMadeOf cart inputs every m × IsGenuine m
 made_of_parts cart inputs seen every cs version start m fit seen-is made version-is start-is m-is =
     let some = (counts_are (length inputs) every fit).2 in
     let far = subst (λ (is : List InputData). Records cart is every (length is) cs) seen-is made in
-    let is = sym (m-is ∙ ap (λ (v : ℕ). from_start cart inputs cs v start) version-is ∙ ap (from_start cart inputs cs (version_made (length cart) (length inputs))) start-is) in
+    let is =
+    sym
+    (m-is ∙ ap (λ (v : ℕ). from_start cart inputs cs v start) version-is ∙ ap (from_start cart inputs cs (version_made (length cart) (length inputs))) start-is) in
     (subst (IsMadeOf cart inputs every) is (IsMadeOf-run cart inputs every cs some far), subst IsGenuine is (IsGenuine-run cart inputs every cs some far))
 
 -- a version that is made has room for the cartridge and the inputs
@@ -253,7 +270,8 @@ version_takes cart frames lawful few = by (has_banks cart) (ltb 65535 frames) re
     by false false e f = (refl, grind (arith, nat_tests), ltb-false 65535 frames f)
 
 -- why a run stopped is why no movie is made
-pub explains : (cart : List ℕ) (inputs seen : List InputData) (every : ℕ) (e : MakeError) → seen ≡ inputs → IsTrue (counts_fit (length inputs) every) → RunFails cart seen e → Explains cart inputs every e
+pub explains : (cart : List ℕ) (inputs seen : List InputData) (every : ℕ) (e : MakeError) → seen ≡ inputs → IsTrue (counts_fit (length inputs) every)
+    → RunFails cart seen e → Explains cart inputs every e
 explains cart inputs seen every (Fault frame kind) is fit fails = (fit, rw is at fails)
 explains cart inputs seen every BadCounts is fit fails = absurd fails
 explains cart inputs seen every NoMemory is fit fails = absurd fails

@@ -49,8 +49,11 @@ body_takes h bytes m long fits e =
     let w = checkpoint_length h.version * h.checkpoints in
     let b1 = drop h.cart bytes in
     let b2 = drop n b1 in
-    let last = λ (s : StateFields) (i : List InputData × List ℕ) (c : List Checkpoint × List ℕ). cond {A = Result MovieData MovieError} (eqb (length c.1) 0) (Ok (record { version = h.version; cart = take h.cart bytes; start = s; inputs = i.0; checkpoints = c.0 })) (Err Trailing) in
-    let s = bind_ok (ok_or (head_state_at h b1) (BadState 0)) (λ s. inputs_at h.frames 1 b2 >>= λ i. checkpoints_at h h.checkpoints 1 0 i.1 >>= λ c. last s i c) m e in
+    let last =
+    λ (s : StateFields) (i : List InputData × List ℕ) (c : List Checkpoint × List ℕ). cond {A = Result MovieData MovieError} (eqb (length c.1) 0)
+    (Ok (record { version = h.version; cart = take h.cart bytes; start = s; inputs = i.0; checkpoints = c.0 })) (Err Trailing) in
+    let s =
+    bind_ok (ok_or (head_state_at h b1) (BadState 0)) (λ s. inputs_at h.frames 1 b2 >>= λ i. checkpoints_at h h.checkpoints 1 0 i.1 >>= λ c. last s i c) m e in
     let i = bind_ok (inputs_at h.frames 1 b2) (λ i. checkpoints_at h h.checkpoints 1 0 i.1 >>= λ c. last s.0 i c) m s.2 in
     let c = bind_ok (checkpoints_at h h.checkpoints 1 0 i.0.1) (λ c. last s.0 i.0 c) m i.2 in
     let made : MovieData = record { version = h.version; cart = take h.cart bytes; start = s.0; inputs = i.0.0; checkpoints = c.0.0 } in
@@ -65,7 +68,8 @@ body_takes h bytes m long fits e =
     let start = movie_record h.version s.0 in
     let a1 = Takes-then bytes (take h.cart bytes) b1 start b2 t0 st.1 in
     let a2 = Takes-then bytes (take h.cart bytes ++ start) b2 (flat_map input_bytes i.0.0) i.0.1 a1 ti.takes in
-    let a3 = Takes-then bytes (take h.cart bytes ++ start ++ flat_map input_bytes i.0.0) i.0.1 (flat_map (checkpoint_bytes h.version) c.0.0) c.0.1 a2 tc.takes in
+    let a3 =
+    Takes-then bytes (take h.cart bytes ++ start ++ flat_map input_bytes i.0.0) i.0.1 (flat_map (checkpoint_bytes h.version) c.0.0) c.0.1 a2 tc.takes in
     let prefix = take h.cart bytes ++ start ++ flat_map input_bytes i.0.0 ++ flat_map (checkpoint_bytes h.version) c.0.0 in
     subst (BodyRead h bytes) {x = made} g.1 (record {
       parts = no_rest bytes prefix c.0.1 a3.parts nothing;
@@ -82,7 +86,8 @@ body_takes h bytes m long fits e =
 abbrev sizes_of : MovieData → Sizes
 sizes_of m = sizes_are m.version (length m.cart) (length m.inputs) (length m.checkpoints)
 
-body_again : (m : MovieData) → IsMovie m → body_at (sizes_of m) (m.cart ++ (movie_record m.version m.start ++ (flat_map input_bytes m.inputs ++ flat_map (checkpoint_bytes m.version) m.checkpoints))) ≡ Ok m
+body_again : (m : MovieData) → IsMovie m
+    → body_at (sizes_of m) (m.cart ++ (movie_record m.version m.start ++ (flat_map input_bytes m.inputs ++ flat_map (checkpoint_bytes m.version) m.checkpoints))) ≡ Ok m
 unfolding body_at
 body_again m l =
     let h = sizes_of m in
@@ -91,8 +96,11 @@ body_again m l =
     let b2 = flat_map input_bytes m.inputs ++ checkpoints in
     let b1 = movie_record m.version m.start ++ b2 in
     let bytes = m.cart ++ b1 in
-    let last = λ (cart : List ℕ) (s : StateFields) (i : List InputData × List ℕ) (c : List Checkpoint × List ℕ). cond {A = Result MovieData MovieError} (eqb (length c.1) 0) (Ok (record { version = m.version; cart = cart; start = s; inputs = i.0; checkpoints = c.0 })) (Err Trailing) in
-    let k1 = λ (cart b : List ℕ) (s : StateFields). inputs_at (length m.inputs) 1 b >>= λ i. checkpoints_at h (length m.checkpoints) 1 0 i.1 >>= λ c. last cart s i c in
+    let last =
+    λ (cart : List ℕ) (s : StateFields) (i : List InputData × List ℕ) (c : List Checkpoint × List ℕ). cond {A = Result MovieData MovieError}
+    (eqb (length c.1) 0) (Ok (record { version = m.version; cart = cart; start = s; inputs = i.0; checkpoints = c.0 })) (Err Trailing) in
+    let k1 =
+    λ (cart b : List ℕ) (s : StateFields). inputs_at (length m.inputs) 1 b >>= λ i. checkpoints_at h (length m.checkpoints) 1 0 i.1 >>= λ c. last cart s i c in
     let cart-is : take (length m.cart) bytes ≡ m.cart = take_at m.cart b1 (length m.cart) refl in
     let b1-is : drop (length m.cart) bytes ≡ b1 = drop_at m.cart b1 (length m.cart) refl in
     let s-is : head_state_at h b1 ≡ Some m.start = head_state_again h m.start b2 l.cart l.start in
@@ -104,7 +112,9 @@ body_again m l =
     ∙ ap (λ (b : List ℕ). ok_or (head_state_at h b) (BadState 0) >>= λ s. k1 m.cart (drop n b) s) b1-is
     ∙ ap (λ (o : Option StateFields). ok_or o (BadState 0) >>= λ s. k1 m.cart (drop n b1) s) s-is
     ∙ ap (λ (b : List ℕ). k1 m.cart b m.start) b2-is
-    ∙ ap (λ (r : Result (List InputData × List ℕ) MovieError). r >>= λ i. checkpoints_at h (length m.checkpoints) 1 0 i.1 >>= λ c. last m.cart m.start i c) (inputs_again m.inputs 1 checkpoints l.inputs)
+    ∙ ap
+    (λ (r : Result (List InputData × List ℕ) MovieError). r >>= λ i. checkpoints_at h (length m.checkpoints) 1 0 i.1 >>= λ c. last m.cart m.start i c)
+    (inputs_again m.inputs 1 checkpoints l.inputs)
     ∙ ap (λ (r : Result (List Checkpoint × List ℕ) MovieError). r >>= λ c. last m.cart m.start (m.inputs, checkpoints) c) checkpoints-is
 
 movie_takes : (bytes : List ℕ) (m : MovieData) → IsBytes bytes → movie_at bytes ≡ Ok m → IsMovie m × (bytes ≡ spelling m)
@@ -114,8 +124,10 @@ movie_takes bytes m fits e =
     let sized = sizes_take bytes s.0 fits s.1 in
     let body = body_takes s.0.0 s.0.1 m sized.long sized.takes.rest_fits s.2 in
     let same : s.0.0 ≡ sizes_of m =
-    ap (λ (v : ℕ). sizes_are v s.0.0.cart s.0.0.frames s.0.0.checkpoints) (sym body.version) ∙ ap (λ (v : ℕ). sizes_are m.version v s.0.0.frames s.0.0.checkpoints) (sym body.cart)
-    ∙ ap (λ (v : ℕ). sizes_are m.version (length m.cart) v s.0.0.checkpoints) (sym body.inputs_len) ∙ ap (λ (v : ℕ). sizes_are m.version (length m.cart) (length m.inputs) v) (sym body.checkpoints_len) in
+    ap (λ (v : ℕ). sizes_are v s.0.0.cart s.0.0.frames s.0.0.checkpoints) (sym body.version)
+    ∙ ap (λ (v : ℕ). sizes_are m.version v s.0.0.frames s.0.0.checkpoints) (sym body.cart)
+    ∙ ap (λ (v : ℕ). sizes_are m.version (length m.cart) v s.0.0.checkpoints) (sym body.inputs_len)
+    ∙ ap (λ (v : ℕ). sizes_are m.version (length m.cart) (length m.inputs) v) (sym body.checkpoints_len) in
     (lawful same sized body, spelled same sized body)
   where
     lawful : {h : Sizes} {rest : List ℕ} → h ≡ sizes_of m → Sized bytes (h, rest) → BodyRead h rest m → IsMovie m
@@ -139,7 +151,8 @@ movie_takes bytes m fits e =
         let read = subst (λ (k : Sizes). BodyRead k rest m) same body in
         is.takes.parts ∙ ap (λ (b : List ℕ). header_of m ++ b) read.parts ∙ simp append_assoc
 
-spelling_parts : (m : MovieData) → spelling m ≡ header_of m ++ (m.cart ++ (movie_record m.version m.start ++ (flat_map input_bytes m.inputs ++ flat_map (checkpoint_bytes m.version) m.checkpoints)))
+spelling_parts : (m : MovieData)
+    → spelling m ≡ header_of m ++ (m.cart ++ (movie_record m.version m.start ++ (flat_map input_bytes m.inputs ++ flat_map (checkpoint_bytes m.version) m.checkpoints)))
 spelling_parts m = simp append_assoc
 
 movie_again : (m : MovieData) → IsMovie m → movie_at (spelling m) ≡ Ok m
@@ -150,9 +163,12 @@ movie_again m h =
     let b2 = flat_map input_bytes m.inputs ++ checkpoints in
     let b1 = movie_record m.version m.start ++ b2 in
     let body = m.cart ++ b1 in
-    let long : body_length sizes ≤ length body = omega (arith, length-append m.cart b1, length-append (movie_record m.version m.start) b2, length-append (flat_map input_bytes m.inputs) checkpoints, length-movie_record m.version m.start h.start.state, length-inputs m.inputs, length-checkpoints m.version (length m.cart) m.checkpoints 0 (length m.inputs) h.checkpoints) in
+    let long : body_length sizes ≤ length body =
+    omega
+    (arith, length-append m.cart b1, length-append (movie_record m.version m.start) b2, length-append (flat_map input_bytes m.inputs) checkpoints, length-movie_record m.version m.start h.start.state, length-inputs m.inputs, length-checkpoints m.version (length m.cart) m.checkpoints 0 (length m.inputs) h.checkpoints) in
     ap movie_at (spelling_parts m)
-    ∙ ap (λ (r : Result (Sizes × List ℕ) MovieError). r >>= λ x. body_at x.0 x.1) (sizes_again sizes body h.version h.cart h.some_frames h.few_frames h.few_checkpoints long)
+    ∙ ap (λ (r : Result (Sizes × List ℕ) MovieError). r >>= λ x. body_at x.0 x.1)
+    (sizes_again sizes body h.version h.cart h.some_frames h.few_frames h.few_checkpoints long)
     ∙ body_again m h
 
 -- reading finds what is spelled, and what it finds is spelled so

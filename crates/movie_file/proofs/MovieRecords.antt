@@ -63,16 +63,19 @@ length-movie_record version f h = omega (arith, length-take (record_length versi
 
 -- ---- there and back
 
-whole_again : (version cart : ℕ) (f : StateFields) → IsTrue (takes_cart version cart) → IsStateWith cart f → whole_record version (movie_record version f) ≡ record_of f
+whole_again : (version cart : ℕ) (f : StateFields) → IsTrue (takes_cart version cart) → IsStateWith cart f
+    → whole_record version (movie_record version f) ≡ record_of f
 whole_again version cart f takes h = by (eqb version 1) refl
   where
-    by : (old : Bool) → eqb version 1 ≡ old → cond {A = List ℕ} old (take (cond {A = ℕ} old 187 188) (record_of f) ++ 0 ∷ []) (take (cond {A = ℕ} old 187 188) (record_of f)) ≡ record_of f
+    by : (old : Bool) → eqb version 1 ≡ old
+        → cond {A = List ℕ} old (take (cond {A = ℕ} old 187 188) (record_of f) ++ 0 ∷ []) (take (cond {A = ℕ} old 187 188) (record_of f)) ≡ record_of f
     by true e =
         let none : f.bank ≡ 0 = bank_of_old version cart f.bank e takes h.bank in
         ap (λ (w : List ℕ). w ++ 0 ∷ []) (take_prefix f h.state) ∙ ap (λ (bank : ℕ). prefix_bytes f ++ bank ∷ []) (sym none) ∙ sym (record_parts f)
     by false e = take_all 188 (record_of f) (omega (arith, length-record_of f h.state))
 
-pub movie_state_again : (version cart : ℕ) (f : StateFields) → IsTrue (takes_cart version cart) → IsStateWith cart f → movie_state_at version cart (movie_record version f) ≡ Some f
+pub movie_state_again : (version cart : ℕ) (f : StateFields) → IsTrue (takes_cart version cart) → IsStateWith cart f
+    → movie_state_at version cart (movie_record version f) ≡ Some f
 unfolding movie_state_at
 movie_state_again version cart f takes h =
     ap (λ (b : List ℕ). with_fitting_bank cart (recorded_state b)) (whole_again version cart f takes h)
@@ -110,7 +113,8 @@ fitting cart (Some g) f e =
     (ap (λ (x : StateFields). Some x) c.1, rw (← c.1) c.0)
 fitting cart None f e = absurd (cc)
 
-pub movie_state_takes : (version cart : ℕ) (bytes : List ℕ) (f : StateFields) → IsBytes bytes → length bytes ≡ record_length version → movie_state_at version cart bytes ≡ Some f
+pub movie_state_takes : (version cart : ℕ) (bytes : List ℕ) (f : StateFields) → IsBytes bytes → length bytes ≡ record_length version
+    → movie_state_at version cart bytes ≡ Some f
     → IsStateWith cart f × (bytes ≡ movie_record version f)
 unfolding movie_state_at
 movie_state_takes version cart bytes f fits len e =

@@ -17,7 +17,8 @@ use Rattle.movie_file.proofs.MakingRuns.{with_checkpoints, run_same}
 use Rattle.movie_file.proofs.RunLemmas.{run-fault, sound_no_fault, same_kind}
 
 -- lists of one length whose elements are the same at each place
-pub same_lists : (cs ds : List Checkpoint) → length cs ≡ length ds → ((j : ℕ) (c d : Checkpoint) → slice_get cs j ≡ Some c → slice_get ds j ≡ Some d → c ≡ d) → cs ≡ ds
+pub same_lists : (cs ds : List Checkpoint) → length cs ≡ length ds
+    → ((j : ℕ) (c d : Checkpoint) → slice_get cs j ≡ Some c → slice_get ds j ≡ Some d → c ≡ d) → cs ≡ ds
 same_lists [] [] e same = refl
 same_lists [] (d ∷ ds) e same = absurd (omega arith)
 same_lists (c ∷ cs) [] e same = absurd (omega arith)
@@ -37,7 +38,8 @@ same_claim c d frames states =
     ap (λ (f : ℕ). claim f c.state) frames ∙ ap (claim d.frame) same
 
 -- a movie has each frame that faults
-fault_within : (cart : List ℕ) (inputs : List InputData) (k : ℕ) (kind : FaultKind) → FaultsAt (bare cart inputs) (state_at_power_on cart) 0 k kind → k < length inputs
+fault_within : (cart : List ℕ) (inputs : List InputData) (k : ℕ) (kind : FaultKind) → FaultsAt (bare cart inputs) (state_at_power_on cart) 0 k kind
+    → k < length inputs
 fault_within cart inputs k kind (state, left, ran, faults) = by (cases_lt k (length inputs))
   where
     by : (k < length inputs) ⊎ (length inputs ≤ k) → k < length inputs
@@ -54,15 +56,21 @@ module _ (cart : List ℕ) (inputs : List InputData) (every : ℕ) (m : MovieDat
   made_parts : m ≡ with_checkpoints cart inputs m.checkpoints
   made_parts =
       let version = version_made (length cart) (length inputs) in
-      ap (λ (v : ℕ). movie_of v m.cart m.start m.inputs m.checkpoints) made.version ∙ ap (λ (c : List ℕ). movie_of version c m.start m.inputs m.checkpoints) made.cart_is
-      ∙ ap (λ (s : StateFields). movie_of version cart s m.inputs m.checkpoints) made.start ∙ ap (λ (i : List InputData). movie_of version cart (state_at_power_on cart) i m.checkpoints) made.inputs_are
+      ap (λ (v : ℕ). movie_of v m.cart m.start m.inputs m.checkpoints) made.version
+      ∙ ap (λ (c : List ℕ). movie_of version c m.start m.inputs m.checkpoints) made.cart_is
+      ∙ ap (λ (s : StateFields). movie_of version cart s m.inputs m.checkpoints) made.start
+      ∙ ap (λ (i : List InputData). movie_of version cart (state_at_power_on cart) i m.checkpoints) made.inputs_are
 
   -- its run is that of the movie that claims nothing
   made_run : (k : ℕ) → run m m.start 0 k ≡ run (bare cart inputs) (state_at_power_on cart) 0 k
-  made_run k = subst (λ (n : MovieData). run n n.start 0 k ≡ run (bare cart inputs) (state_at_power_on cart) 0 k) (sym made_parts) (sym (run_same cart inputs m.checkpoints k))
+  made_run k =
+      subst (λ (n : MovieData). run n n.start 0 k ≡ run (bare cart inputs) (state_at_power_on cart) 0 k) (sym made_parts)
+      (sym (run_same cart inputs m.checkpoints k))
 
-  made_state : (j : ℕ) (c : Checkpoint) → slice_get m.checkpoints j ≡ Some c → run (bare cart inputs) (state_at_power_on cart) 0 (every * (j + 1)) ≡ Some c.state
-  made_state j c at = ap (λ (k : ℕ). run (bare cart inputs) (state_at_power_on cart) 0 k) (sym (made.places j c at)) ∙ sym (made_run c.frame) ∙ made.states j c at
+  made_state : (j : ℕ) (c : Checkpoint) → slice_get m.checkpoints j ≡ Some c
+      → run (bare cart inputs) (state_at_power_on cart) 0 (every * (j + 1)) ≡ Some c.state
+  made_state j c at =
+      ap (λ (k : ℕ). run (bare cart inputs) (state_at_power_on cart) 0 k) (sym (made.places j c at)) ∙ sym (made_run c.frame) ∙ made.states j c at
 
   pub no_made_fault : IsGenuine m → (frame : ℕ) (kind : FaultKind) → IsFirstFault cart inputs frame kind → ⊥
   no_made_fault genuine frame kind (k, is, before, fault) =
@@ -72,15 +80,20 @@ module _ (cart : List ℕ) (inputs : List InputData) (every : ℕ) (m : MovieDat
       let ran = sound.1 in
       absurd cc
 
-pub one_made_movie : (cart : List ℕ) (inputs : List InputData) (every : ℕ) (m n : MovieData) → IsMadeOf cart inputs every m → IsMadeOf cart inputs every n → m ≡ n
+pub one_made_movie : (cart : List ℕ) (inputs : List InputData) (every : ℕ) (m n : MovieData) → IsMadeOf cart inputs every m
+    → IsMadeOf cart inputs every n → m ≡ n
 one_made_movie cart inputs every m n made again =
     let lengths : length m.checkpoints ≡ length n.checkpoints = made.count ∙ sym again.count in
     let each = λ (j : ℕ) (c d : Checkpoint) (at : slice_get m.checkpoints j ≡ Some c) (here : slice_get n.checkpoints j ≡ Some d).
-    same_claim c d (made.places j c at ∙ sym (again.places j d here)) (sym (made_state cart inputs every m made j c at) ∙ made_state cart inputs every n again j d here)
+    same_claim c d (made.places j c at ∙ sym (again.places j d here))
+    (sym (made_state cart inputs every m made j c at) ∙ made_state cart inputs every n again j d here)
     in
-    made_parts cart inputs every m made ∙ ap (with_checkpoints cart inputs) (same_lists m.checkpoints n.checkpoints lengths each) ∙ sym (made_parts cart inputs every n again)
+    made_parts cart inputs every m made
+    ∙ ap (with_checkpoints cart inputs) (same_lists m.checkpoints n.checkpoints lengths each)
+    ∙ sym (made_parts cart inputs every n again)
 
-pub one_first_fault : (cart : List ℕ) (inputs : List InputData) (frame other : ℕ) (kind other_kind : FaultKind) → IsFirstFault cart inputs frame kind → IsFirstFault cart inputs other other_kind
+pub one_first_fault : (cart : List ℕ) (inputs : List InputData) (frame other : ℕ) (kind other_kind : FaultKind) → IsFirstFault cart inputs frame kind
+    → IsFirstFault cart inputs other other_kind
     → (frame ≡ other) × (kind ≡ other_kind)
 one_first_fault cart inputs frame other kind other_kind (k, is, before, fault) (k', is', before', fault') = by (cases_lt k k') (cases_lt k' k)
   where

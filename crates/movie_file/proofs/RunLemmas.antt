@@ -28,7 +28,8 @@ IsSound-shift m s a i t k is sound =
     (sound.0, rw (more, run-shift m s a i t is (k + 1)) sound.1, λ j c at here. sound.2 j c at (omega arith))
 
 -- two stretches of sound frames, of which the second begins where the first ends, are one
-pub AllSound-shift : (m : MovieData) (s : StateFields) (a i : ℕ) (t : StateFields) (j : ℕ) → run m s a i ≡ Some t → AllSound m s a i → AllSound m t (a + i) j → AllSound m s a (i + j)
+pub AllSound-shift : (m : MovieData) (s : StateFields) (a i : ℕ) (t : StateFields) (j : ℕ) → run m s a i ≡ Some t → AllSound m s a i
+    → AllSound m t (a + i) j → AllSound m s a (i + j)
 AllSound-shift m s a i t j is first second x less = by (cases_lt x i)
   where
     by : (x < i) ⊎ (i ≤ x) → IsSound m s a x

@@ -1,5 +1,6 @@
--- Definitions of how things are kept and done. Only private contracts and proofs cite them:
--- what is promised can be read without them.
+-- Definitions of how things are kept and done. What is promised can be read without them: only
+-- private contracts and proofs cite them, and `recorded_state`, of which `law_of_records` says the
+-- whole.
 pub mod MakingSteps
 pub mod MovieParts
 pub mod RecordNumbers

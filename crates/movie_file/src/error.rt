@@ -25,7 +25,8 @@ pub enum MovieError {
     /// The start state (0), or the state of a checkpoint (from 1), is no state, or has a bank that
     /// the cartridge doesn't have.
     BadState(u16),
-    /// The input of this number, from 1, has a bit set that no input has.
+    /// The input of this number, from 1, has a bit set that no input has. A list of inputs may have
+    /// any length.
     BadInput(u64),
     /// The checkpoint of this number, from 1, isn't after the one before it, or is after the end.
     BadOrder(u16),

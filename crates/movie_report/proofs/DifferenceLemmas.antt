@@ -54,7 +54,8 @@ unfolding pairs_text
 IsUpTo-start notation comparison a b = record { text_is = refl; bytes = omega (arith, bytes_in-numbers) }
 
 -- After the last number all is there.
-pub IsUpTo-end : (notation : Notation) (comparison : Comparison) (a b : List ℕ) (place at : ℕ) (text : List ℕ) → 185 ≤ place → place ≤ 185 → IsUpTo notation comparison a b place at text
+pub IsUpTo-end : (notation : Notation) (comparison : Comparison) (a b : List ℕ) (place at : ℕ) (text : List ℕ) → 185 ≤ place → place ≤ 185
+    → IsUpTo notation comparison a b place at text
     → text ≡ pairs_text notation comparison a b
 IsUpTo-end notation comparison a b place at text high low is =
     let last : place ≡ length state_names = omega (arith, length-numbers) in
@@ -75,13 +76,15 @@ module _ (notation : Notation) (comparison : Comparison) (a b : List ℕ) (place
 
   -- The number at the place, in both records.
   pair : Pair
-  pair = record { name = (state_number_at place).name; first = take (state_number_at place).length (drop at a); second = take (state_number_at place).length (drop at b) }
+  pair =
+      record { name = (state_number_at place).name; first = take (state_number_at place).length (drop at a); second = take (state_number_at place).length (drop at b) }
 
   rest-next : rest_text notation comparison a b place at ≡ text_if_different notation comparison pair ++ rest_text notation comparison a b (place + 1) (at + (state_number_at place).length)
   unfolding pair
   rest-next = rw (drop-numbers, drop-drop (state_number_at place).length at a, drop-drop (state_number_at place).length at b) refl
 
-  pub IsUpTo-next : (text line new : List ℕ) (one other : List ℕ) (length : ℕ) → IsUpTo notation comparison a b place at text → length ≡ (state_number_at place).length
+  pub IsUpTo-next : (text line new : List ℕ) (one other : List ℕ) (length : ℕ) → IsUpTo notation comparison a b place at text
+      → length ≡ (state_number_at place).length
       → one ≡ take length (drop at a) → other ≡ take length (drop at b)
       → line ≡ text_if_different notation comparison (record { name = (state_number_at place).name; first = one; second = other }) → new ≡ text ++ line
       → IsUpTo notation comparison a b (place + 1) (at + length) new

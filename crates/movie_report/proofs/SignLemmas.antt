@@ -76,6 +76,10 @@ pub lines-next : (signs : List Sign) (k from to : ℕ) (old characters line new 
     → line ≡ codes "segments: " ++ (characters ++ 10 ∷ []) → new ≡ old ++ line → new ≡ flat_map (signs_line signs) (range_with_len 0 (k + 1))
 lines-next signs k from to old characters line new begin end old_is characters_is line_is new_is =
     let cut = take-line signs from to end in
-    let all : characters ≡ map character_of (take 64 (drop (64 * k) signs)) = characters_is ∙ ap (map character_of) (cut ∙ ap (λ n. take 64 (drop n signs)) begin) in
+    let all : characters ≡ map character_of (take 64 (drop (64 * k) signs)) =
+    characters_is ∙ ap (map character_of) (cut ∙ ap (λ n. take 64 (drop n signs)) begin) in
     let same : line ≡ signs_line signs k = line_is ∙ ap (λ text. codes "segments: " ++ (text ++ 10 ∷ [])) all in
-    new_is ∙ ap (λ text. text ++ line) old_is ∙ ap (λ text. flat_map (signs_line signs) (range_with_len 0 k) ++ text) same ∙ sym (flat_map_more (signs_line signs) k)
+    new_is
+    ∙ ap (λ text. text ++ line) old_is
+    ∙ ap (λ text. flat_map (signs_line signs) (range_with_len 0 k) ++ text) same
+    ∙ sym (flat_map_more (signs_line signs) k)

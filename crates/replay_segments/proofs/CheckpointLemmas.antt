@@ -20,7 +20,8 @@ IsNext-start m movie = record {
 pub ruleset at_start = IsNext-start
 
 -- No checkpoint is left: each frame to come has none.
-pub IsClaim-none : (m : MovieData) (next frame : ℕ) (state : StateFields) → IsNext m next frame → next ≡ length m.checkpoints → IsClaim m next frame state (Some next)
+pub IsClaim-none : (m : MovieData) (next frame : ℕ) (state : StateFields) → IsNext m next frame → next ≡ length m.checkpoints
+    → IsClaim m next frame state (Some next)
 IsClaim-none m next frame state is all = (
   record {
     within = is.within;

@@ -68,7 +68,8 @@ compose m keep s a i t j kept (Fault frame kind) first is (k, less, at, sound, (
     )
 
 -- What is bad stays bad over more kept.
-IsJudged-longer : (m : MovieData) (keep : Keep) (s : StateFields) (a len more : ℕ) (v : Verdict) → IsFalse (passed (Judged v)) → len ≤ more → IsJudged m keep s a len v → IsJudged m keep s a more v
+IsJudged-longer : (m : MovieData) (keep : Keep) (s : StateFields) (a len more : ℕ) (v : Verdict) → IsFalse (passed (Judged v)) → len ≤ more
+    → IsJudged m keep s a len v → IsJudged m keep s a more v
 IsJudged-longer m keep s a len more (Genuine kept) bad le judged = absurd cc
 IsJudged-longer m keep s a len more (FalseCheckpoint number frame) bad le (k, less, at, sound, other) = (k, omega arith, at, sound, other)
 IsJudged-longer m keep s a len more (Fault frame kind) bad le (k, less, at, sound, other) = (k, omega arith, at, sound, other)

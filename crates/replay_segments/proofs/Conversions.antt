@@ -18,7 +18,8 @@ picture_after-converted : (m : MovieData) (k : ℕ) (state : Option StateFields)
 picture_after-converted m k None = refl
 picture_after-converted m k (Some state) = refl
 
-pictures-converted : (m : MovieData) (keep : Keep) (start : StateFields) (from k : ℕ) → pictures (in_version_2 m) keep start from k ≡ pictures m keep start from k
+pictures-converted : (m : MovieData) (keep : Keep) (start : StateFields) (from k : ℕ)
+    → pictures (in_version_2 m) keep start from k ≡ pictures m keep start from k
 pictures-converted m keep start from zero = refl
 pictures-converted m keep start from (suc k) =
     rw (pictures-converted m keep start from k, run-converted m start from k, picture_after-converted m (from + k) (run m start from k)) refl

@@ -28,7 +28,8 @@ passed_pictures (Judged (Fault frame kind)) good = absurd cc
 passed_pictures NoMemoryOutcome good = absurd cc
 
 -- Segments that passed are a genuine beginning.
-prefix_of : (job : Job) (pieces : List PieceData) → NamesAll job pieces → (number : ℕ) → ArePassedBelow pieces number → (kept : List Rows) × IsPrefix job number kept
+prefix_of : (job : Job) (pieces : List PieceData) → NamesAll job pieces → (number : ℕ) → ArePassedBelow pieces number
+    → (kept : List Rows) × IsPrefix job number kept
 prefix_of job pieces names zero below = ([], IsPrefix-start job)
 prefix_of job pieces names (suc k) below =
     let (kept, begun) = prefix_of job pieces names k (λ j less. below j (omega arith)) in

@@ -47,7 +47,8 @@ module _ (m : MovieData) (cuts : List ℕ) (i n : ℕ) (c : Checkpoint) (at : At
   start_of-after = rw (add-one i, at.cut, at.checkpoint) refl
 
   -- What is judged from a cut to the next is the segment.
-  pub IsSegment-cut : (keep : Keep) (len : ℕ) (v : Verdict) → c.frame + len ≡ end_of m cuts (i + 1) → IsJudged m keep c.state c.frame len v → IsSegment m cuts keep (i + 1) v
+  pub IsSegment-cut : (keep : Keep) (len : ℕ) (v : Verdict) → c.frame + len ≡ end_of m cuts (i + 1) → IsJudged m keep c.state c.frame len v
+      → IsSegment m cuts keep (i + 1) v
   IsSegment-cut keep len v ends judged = (
     len,
     rw from_of-after ends,
@@ -85,7 +86,9 @@ module _ (m : MovieData) (cuts : List ℕ) (movie : IsMovie m) (fits : Fits cuts
       let (n', c', at) = at_cut (suc i) less in
       let rises = fits.rising i (suc i) n n' (omega arith) was.cut at.cut in
       let p = was.positive in
-      let h = checkpoints_rise (length m.cart) m.checkpoints 0 (length m.inputs) (n - 1) (n' - 1) c c' movie.checkpoints (omega (arith, rises, p)) was.checkpoint at.checkpoint in
+      let h =
+      checkpoints_rise (length m.cart) m.checkpoints 0 (length m.inputs) (n - 1) (n' - 1) c c' movie.checkpoints (omega (arith, rises, p))
+      was.checkpoint at.checkpoint in
       rw (end_of-cut m cuts i n c was, end_of-cut m cuts (suc i) n' c' at) h
 
   from_of-le : (i : ℕ) → from_of m cuts i ≤ end_of m cuts i
@@ -105,7 +108,8 @@ pub record IsStretch (m : MovieData) (cuts : List ℕ) (i n : ℕ) (c : Checkpoi
   pub le : c.frame ≤ end
   pub ends : c.frame + (end - c.frame) ≡ end_of m cuts (i + 1)
 
-pub IsStretch-found : (m : MovieData) (cuts : List ℕ) (i n : ℕ) (c : Checkpoint) (end : ℕ) → IsMovie m → Fits cuts m → slice_get cuts i ≡ Some n → slice_get m.checkpoints (n - 1) ≡ Some c
+pub IsStretch-found : (m : MovieData) (cuts : List ℕ) (i n : ℕ) (c : Checkpoint) (end : ℕ) → IsMovie m → Fits cuts m → slice_get cuts i ≡ Some n
+    → slice_get m.checkpoints (n - 1) ≡ Some c
     → end ≡ end_of m cuts (i + 1) → IsStretch m cuts i n c end
 IsStretch-found m cuts i n c end movie fits cut here is =
     let at : AtCut m cuts i n c = record { cut = cut; positive = (fits.range i n cut).0; checkpoint = here } in

@@ -36,7 +36,8 @@ IsTaken-set old number i q x kept (p, at, is, passed, _) here genuine new lawful
     let within = slice_get_within old i q here in
     let sums = sum_by-set (λ (y : PieceData). outcome_pictures y.outcome) old i x q within in
     let there = get_or_from_slice_get old i q q here in
-    let had : outcome_pictures (get_or old i q).outcome ≡ length kept = ap (λ (y : PieceData). outcome_pictures y.outcome) there ∙ ap outcome_pictures genuine in
+    let had : outcome_pictures (get_or old i q).outcome ≡ length kept =
+    ap (λ (y : PieceData). outcome_pictures y.outcome) there ∙ ap outcome_pictures genuine in
     let has : outcome_pictures x.outcome ≡ 0 = ap (λ (y : PieceData). outcome_pictures y.outcome) new in
     record {
       of = λ job names. of_job job old i q number (Genuine kept) names here number_is genuine lawful;

@@ -52,7 +52,8 @@ impl Cuts {
         Ok(Cuts { numbers })
     }
 
-    /// The cuts at checkpoints k, 2k, .. up to the movie's last one.
+    /// The cuts at checkpoints k, 2k, .. up to the movie's last one; none if k is greater than the
+    /// number of its checkpoints.
     ///
     /// AllocError comes only if the allocation of the list of their numbers was refused.
     pub fn every(alloc: Global, movie: &Movie, k: NonZeroU16) -> Result<Cuts, AllocError>

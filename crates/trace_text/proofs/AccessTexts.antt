@@ -15,4 +15,5 @@ one_more items i d fits =
     ap (λ (n : ℕ). flat_map access_text (take n items)) next
     ∙ ap (flat_map access_text) (take-suc items i d fits)
     ∙ flat_map-append access_text (take i items) (get_or items i d ∷ [])
-    ∙ ap (λ (bytes : List ℕ). flat_map access_text (take i items) ++ bytes) (flat_map-cons access_text (get_or items i d) [] ∙ append-nil (access_text (get_or items i d)))
+    ∙ ap (λ (bytes : List ℕ). flat_map access_text (take i items) ++ bytes)
+    (flat_map-cons access_text (get_or items i d) [] ∙ append-nil (access_text (get_or items i d)))

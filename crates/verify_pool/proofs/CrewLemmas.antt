@@ -42,16 +42,20 @@ worked_united desk job a b first second hand own known part items one two = reco
   known = known;
   ended = ap (λ (v : Part). v.ended) part ∙ ap (λ e. e || second.ticket.part.ended) one.ended;
   share_is = omega (arith, ap (λ (v : Part). v.share) part, one.share_is, two.share_is);
-  exact = exact_handed job first.pieces.items second.pieces.items hand.pieces.items first.ticket.part second.ticket.part hand.ticket.part items part one.exact two.exact;
+  exact =
+      exact_handed job first.pieces.items second.pieces.items hand.pieces.items first.ticket.part second.ticket.part hand.ticket.part items part
+      one.exact two.exact;
 }
 
 -- What a worker promised, at the values that the promise was made of.
 pub promised : (m : MovieData) (cuts : List ℕ) (keep : Keep) (desk : DeskView) (given : Hand) (p : WorkerPromise)
     → p.movie.value ≡ m → p.cuts.value ≡ cuts → p.keep ≡ keep → p.desk.value ≡ desk → p.hand.value ≡ given
-    → (hand : Hand) → IsWorked p.desk.value (job_of p.movie.value p.cuts.value p.keep) p.hand.value.ticket.part.share hand × (vec_len hand.pieces ≤ p.desk.value.segments)
+    → (hand : Hand)
+    → IsWorked p.desk.value (job_of p.movie.value p.cuts.value p.keep) p.hand.value.ticket.part.share hand × (vec_len hand.pieces ≤ p.desk.value.segments)
     → IsWorked desk (job_of m cuts keep) given.ticket.part.share hand × (vec_len hand.pieces ≤ desk.segments)
 promised m cuts keep desk given p of_movie of_cuts of_keep of_desk of_hand hand kept =
-    let P : MovieData → List ℕ → Keep → DeskView → Hand → Type 0 = λ m c k d h. IsWorked d (job_of m c k) h.ticket.part.share hand × (vec_len hand.pieces ≤ d.segments) in
+    let P : MovieData → List ℕ → Keep → DeskView → Hand → Type 0 =
+    λ m c k d h. IsWorked d (job_of m c k) h.ticket.part.share hand × (vec_len hand.pieces ≤ d.segments) in
     let one : P m p.cuts.value p.keep p.desk.value p.hand.value = subst (λ (x : MovieData). P x p.cuts.value p.keep p.desk.value p.hand.value) of_movie kept in
     let two : P m cuts p.keep p.desk.value p.hand.value = subst (λ (x : List ℕ). P m x p.keep p.desk.value p.hand.value) of_cuts one in
     let three : P m cuts keep p.desk.value p.hand.value = subst (λ (x : Keep). P m cuts x p.desk.value p.hand.value) of_keep two in
@@ -63,11 +67,13 @@ module _ (desk : DeskView) (all rest : List Hand) (last : Hand) (is : all ≡ re
   more = omega (arith, ap (λ n. desk.segments * n) (ap length is ∙ length-append rest (last ∷ [])))
 
   -- The pieces of the last hand fit behind those of the rest.
-  pub pieces_fit : (theirs others room : ℕ) → AreReady desk all → first_room rest ≤ room → theirs ≤ desk.segments * length rest → others ≤ desk.segments → theirs + others ≤ room
+  pub pieces_fit : (theirs others room : ℕ) → AreReady desk all → first_room rest ≤ room → theirs ≤ desk.segments * length rest
+      → others ≤ desk.segments → theirs + others ≤ room
   pieces_fit theirs others room ready le few one =
       let first : desk.segments * length all ≤ first_room rest = rw (← first_room-append rest last some, ← is) ready.first in omega (arith, first, more)
 
-  pub pieces_few : (theirs others len : ℕ) → theirs ≤ desk.segments * length rest → others ≤ desk.segments → len ≡ theirs + others → len ≤ desk.segments * length all
+  pub pieces_few : (theirs others len : ℕ) → theirs ≤ desk.segments * length rest → others ≤ desk.segments → len ≡ theirs + others
+      → len ≤ desk.segments * length all
   pieces_few theirs others len few one sum = omega (arith, more)
 
   pub room_stays : (room after : ℕ) → first_room rest ≤ room → room ≤ after → first_room all ≤ after
@@ -77,6 +83,7 @@ module _ (desk : DeskView) (all rest : List Hand) (last : Hand) (is : all ≡ re
   worked_all job hand worked = subst (λ n. IsWorked desk job n hand) (sym (ap shares is ∙ shares-append rest last)) worked
 
 -- A hand behind others is the first only where there is no other.
-pub first_room-more : (need : ℕ) (hands : List Hand) (hand : Hand) → (length hands ≡ 0 → need ≤ vec_capacity hand.pieces) → (0 < length hands → need ≤ first_room hands) → need ≤ first_room (hands ++ hand ∷ [])
+pub first_room-more : (need : ℕ) (hands : List Hand) (hand : Hand) → (length hands ≡ 0 → need ≤ vec_capacity hand.pieces)
+    → (0 < length hands → need ≤ first_room hands) → need ≤ first_room (hands ++ hand ∷ [])
 first_room-more need [] hand alone others = alone refl
 first_room-more need (first ∷ hands) hand alone others = others (omega arith)

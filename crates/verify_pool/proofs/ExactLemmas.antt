@@ -34,15 +34,18 @@ added k xs none = tested (λ (ys : List ℕ). ys ≡ xs ++ k ∷ []) 0 (times k 
 reports : (good : Bool) (k : ℕ) (old new : Part) → times k old.reported ≡ 0 → IsReplayed good k old new
     → (j : ℕ) → times j new.reported ≡ times j old.reported + times j (if good then [] else k ∷ [])
 reports true k old new none is j = omega (arith, ap (λ (v : Part). times j v.reported) is)
-reports false k old new none is j = omega (arith, ap (λ (v : Part). times j v.reported) is.1, ap (times j) (added k old.reported none), times-append j old.reported (k ∷ []))
+reports false k old new none is j =
+    omega (arith, ap (λ (v : Part). times j v.reported) is.1, ap (times j) (added k old.reported none), times-append j old.reported (k ∷ []))
 
 -- It changes nothing that is said of other fields.
-pub replay_keeps : {A : Type 0} (f : Part → A) → ((x k : ℕ) (v : Part) → f (report_at x k v) ≡ f v) → (good : Bool) (k : ℕ) (old new : Part) → IsReplayed good k old new → f new ≡ f old
+pub replay_keeps : {A : Type 0} (f : Part → A) → ((x k : ℕ) (v : Part) → f (report_at x k v) ≡ f v) → (good : Bool) (k : ℕ) (old new : Part)
+    → IsReplayed good k old new → f new ≡ f old
 replay_keeps f same true k old new is = ap f is
 replay_keeps f same false k old new is = ap f is.1 ∙ same is.0 k old
 
 -- A worker draws k, which is above all that its ticket drew before.
-module _ (job : Job) (pieces : List PieceData) (v : Part) (k : ℕ) (exact : IsExact job v pieces) (known : IsKnown v) (above : (j : ℕ) → 0 < times j v.drawn → j < k) where
+module _ (job : Job) (pieces : List PieceData) (v : Part) (k : ℕ) (exact : IsExact job v pieces) (known : IsKnown v)
+    (above : (j : ℕ) → 0 < times j v.drawn → j < k) where
   undrawn : times k v.drawn ≡ 0
   undrawn = dite (dec_le (times k v.drawn) 0) (λ h. omega arith) (λ h. let some_drawn = lt_of_not-le h in absurd (omega (arith, above k some_drawn)))
 
@@ -50,7 +53,8 @@ module _ (job : Job) (pieces : List PieceData) (v : Part) (k : ℕ) (exact : IsE
   pub exact_over : (x : ℕ) (w : Part) → x < k → w ≡ look_at x (with_drawn k v) → IsExact job w pieces
   exact_over x w lt is = let unpassed : times k v.passed_over ≡ 0 = omega (arith, known.passes k, undrawn) in
       let over : (if nat_lt x k then with_number k v.passed_over else v.passed_over) ≡ v.passed_over ++ k ∷ [] =
-      tested (λ (ys : List ℕ). ys ≡ v.passed_over ++ k ∷ []) x k (with_number k v.passed_over) v.passed_over (λ _. added k v.passed_over unpassed) (λ le. absurd (omega arith)) in
+      tested (λ (ys : List ℕ). ys ≡ v.passed_over ++ k ∷ []) x k (with_number k v.passed_over) v.passed_over (λ _. added k v.passed_over unpassed)
+      (λ le. absurd (omega arith)) in
       subst (λ (u : Part). IsExact job u pieces) (sym is) (record {
         names = exact.names;
         pieces_of = λ j. omega (arith, exact.pieces_of j, ap (times j) over, times-append j v.passed_over (k ∷ []), times-append j v.drawn (k ∷ []));
@@ -59,23 +63,30 @@ module _ (job : Job) (pieces : List PieceData) (v : Part) (k : ℕ) (exact : IsE
       })
 
   -- Else it gets a piece.
-  pub exact_more : (x : ℕ) (old new : Part) (p : PieceData) → k ≤ x → old ≡ look_at x (with_drawn k v) → p.number ≡ k → p.job ≡ job → (p.outcome ≡ NoMemory → HasKept job k)
+  pub exact_more : (x : ℕ) (old new : Part) (p : PieceData) → k ≤ x → old ≡ look_at x (with_drawn k v) → p.number ≡ k → p.job ≡ job
+      → (p.outcome ≡ NoMemory → HasKept job k)
       → IsReplayed (passed p.outcome) k old new → IsExact job new (pieces ++ p ∷ [])
   exact_more x old new p le is number of wants replayed = let unreported : times k v.reported ≡ 0 = omega (arith, known.reports k, undrawn) in
       let stays : (if nat_lt x k then with_number k v.passed_over else v.passed_over) ≡ v.passed_over =
       tested (λ (ys : List ℕ). ys ≡ v.passed_over) x k (with_number k v.passed_over) v.passed_over (λ lt. absurd (omega arith)) (λ _. refl) in
-      let over : new.passed_over ≡ v.passed_over = replay_keeps (λ (u : Part). u.passed_over) (λ _ _ _. refl) (passed p.outcome) k old new replayed ∙ (ap (λ (u : Part). u.passed_over) is ∙ stays) in
-      let drawn : new.drawn ≡ v.drawn ++ k ∷ [] = replay_keeps (λ (u : Part). u.drawn) (λ _ _ _. refl) (passed p.outcome) k old new replayed ∙ ap (λ (u : Part). u.drawn) is in
+      let over : new.passed_over ≡ v.passed_over =
+      replay_keeps (λ (u : Part). u.passed_over) (λ _ _ _. refl) (passed p.outcome) k old new replayed ∙ (ap (λ (u : Part). u.passed_over) is ∙ stays) in
+      let drawn : new.drawn ≡ v.drawn ++ k ∷ [] =
+      replay_keeps (λ (u : Part). u.drawn) (λ _ _ _. refl) (passed p.outcome) k old new replayed ∙ ap (λ (u : Part). u.drawn) is in
       let before : old.reported ≡ v.reported = ap (λ (u : Part). u.reported) is in
       let told = reports (passed p.outcome) k old new (ap (times k) before ∙ unreported) replayed in record {
         names = All-push (λ (q : PieceData). q.job ≡ job) pieces p exact.names of;
-        pieces_of = λ j. omega (arith, exact.pieces_of j, times-numbers j pieces (p ∷ []), ap (λ (n : ℕ). times j (n ∷ [])) number, ap (times j) over, ap (times j) drawn, times-append j v.drawn (k ∷ []));
-        reports_of = λ j. omega (arith, exact.reports_of j, times-bad j pieces (p ∷ []), times-append j (if_bad p.number p.outcome) [], ap (λ (n : ℕ). times j (if_bad n p.outcome)) number, told j, ap (times j) before);
-        memory = All-push WantsMemoryForPictures pieces p exact.memory (λ none. subst (λ (j : Job). HasKept j p.number) (sym of) (subst (HasKept job) (sym number) (wants none)));
+        pieces_of = λ j. omega
+            (arith, exact.pieces_of j, times-numbers j pieces (p ∷ []), ap (λ (n : ℕ). times j (n ∷ [])) number, ap (times j) over, ap (times j) drawn, times-append j v.drawn (k ∷ []));
+        reports_of = λ j. omega
+            (arith, exact.reports_of j, times-bad j pieces (p ∷ []), times-append j (if_bad p.number p.outcome) [], ap (λ (n : ℕ). times j (if_bad n p.outcome)) number, told j, ap (times j) before);
+        memory = All-push WantsMemoryForPictures pieces p exact.memory
+            (λ none. subst (λ (j : Job). HasKept j p.number) (sym of) (subst (HasKept job) (sym number) (wants none)));
       }
 
 pub exact_end : (job : Job) (pieces : List PieceData) (v w : Part) → w ≡ at_end v → IsExact job v pieces → IsExact job w pieces
-exact_end job pieces v w is e = subst (λ (u : Part). IsExact job u pieces) (sym is) (record { names = e.names; pieces_of = e.pieces_of; reports_of = e.reports_of; memory = e.memory })
+exact_end job pieces v w is e =
+    subst (λ (u : Part). IsExact job u pieces) (sym is) (record { names = e.names; pieces_of = e.pieces_of; reports_of = e.reports_of; memory = e.memory })
 
 -- Who has drawn nothing has nothing reported or passed over.
 pub exact_start : (job : Job) (pieces : List PieceData) (v : Part) → pieces ≡ [] → v.drawn ≡ [] → IsKnown v → IsExact job v pieces
@@ -87,13 +98,16 @@ exact_start job pieces v empty none known = let undrawn : (k : ℕ) → times k 
       memory = λ k d lt. absurd (omega arith);
     })
 
-pub exact_handed : (job : Job) (ps qs rs : List PieceData) (v u w : Part) → rs ≡ ps ++ qs → w ≡ with_handed_in v u → IsExact job v ps → IsExact job u qs → IsExact job w rs
-exact_handed job ps qs rs v u w items is a b = subst (λ (xs : List PieceData). IsExact job w xs) (sym items) (subst (λ (x : Part). IsExact job x (ps ++ qs)) (sym is) (record {
-  names = All-append (λ (q : PieceData). q.job ≡ job) ps qs a.names b.names;
-  pieces_of = λ k. omega (arith, a.pieces_of k, b.pieces_of k, times-numbers k ps qs, times-append k v.passed_over u.passed_over, times-append k v.drawn u.drawn);
-  reports_of = λ k. omega (arith, a.reports_of k, b.reports_of k, times-bad k ps qs, times-append k v.reported u.reported);
-  memory = All-append WantsMemoryForPictures ps qs a.memory b.memory;
-}))
+pub exact_handed : (job : Job) (ps qs rs : List PieceData) (v u w : Part) → rs ≡ ps ++ qs → w ≡ with_handed_in v u → IsExact job v ps
+    → IsExact job u qs → IsExact job w rs
+exact_handed job ps qs rs v u w items is a b =
+    subst (λ (xs : List PieceData). IsExact job w xs) (sym items) (subst (λ (x : Part). IsExact job x (ps ++ qs)) (sym is) (record {
+      names = All-append (λ (q : PieceData). q.job ≡ job) ps qs a.names b.names;
+      pieces_of = λ k. omega
+          (arith, a.pieces_of k, b.pieces_of k, times-numbers k ps qs, times-append k v.passed_over u.passed_over, times-append k v.drawn u.drawn);
+      reports_of = λ k. omega (arith, a.reports_of k, b.reports_of k, times-bad k ps qs, times-append k v.reported u.reported);
+      memory = All-append WantsMemoryForPictures ps qs a.memory b.memory;
+    }))
 
 -- How many draws are left.
 

@@ -19,7 +19,8 @@ times-numbers-cons k p ps = times-append k (p.number ∷ []) (piece_numbers ps)
 
 missing-none : (k : ℕ) (ps : List PieceData) → IsMissing ps k → times k (piece_numbers ps) ≡ 0
 missing-none k [] missing = refl
-missing-none k (p ∷ ps) missing = omega (arith, times-numbers-cons k p ps, times-other k p.number (missing 0 p refl), missing-none k ps (λ i q at. missing (suc i) q at))
+missing-none k (p ∷ ps) missing =
+    omega (arith, times-numbers-cons k p ps, times-other k p.number (missing 0 p refl), missing-none k ps (λ i q at. missing (suc i) q at))
 
 bad_one : (k number : ℕ) (o : Outcome) → times k (if_bad number o) ≤ times k (number ∷ [])
 bad_one k number o = of (passed o)
@@ -33,20 +34,25 @@ passed_one k number o good = ap (λ (b : Bool). times k (if b then [] else numbe
 
 bad-le : (k : ℕ) (ps : List PieceData) → times k (bad_numbers ps) ≤ times k (piece_numbers ps)
 bad-le k [] = omega arith
-bad-le k (p ∷ ps) = omega (arith, bad-le k ps, bad_one k p.number p.outcome, times-numbers-cons k p ps, times-append k (if_bad p.number p.outcome) (bad_numbers ps))
+bad-le k (p ∷ ps) =
+    omega (arith, bad-le k ps, bad_one k p.number p.outcome, times-numbers-cons k p ps, times-append k (if_bad p.number p.outcome) (bad_numbers ps))
 
 -- A number with a piece that passed has fewer bad pieces than pieces.
-passed-less : (k : ℕ) (ps : List PieceData) (i : ℕ) (p : PieceData) → slice_get ps i ≡ Some p → p.number ≡ k → IsTrue (passed p.outcome) → times k (bad_numbers ps) < times k (piece_numbers ps)
+passed-less : (k : ℕ) (ps : List PieceData) (i : ℕ) (p : PieceData) → slice_get ps i ≡ Some p → p.number ≡ k → IsTrue (passed p.outcome)
+    → times k (bad_numbers ps) < times k (piece_numbers ps)
 passed-less k [] i p at is good = absurd cc
 passed-less k (q ∷ ps) zero p at is good = let same : q ≡ p = cc in
     let here : times k (q.number ∷ []) ≡ 1 = ap (λ (n : ℕ). times k (n ∷ [])) (ap (λ (x : PieceData). x.number) same ∙ is) ∙ times-same k k refl in
-    let none : times k (if_bad q.number q.outcome) ≡ 0 = ap (λ (x : PieceData). times k (if_bad x.number x.outcome)) same ∙ passed_one k p.number p.outcome good in
+    let none : times k (if_bad q.number q.outcome) ≡ 0 =
+    ap (λ (x : PieceData). times k (if_bad x.number x.outcome)) same ∙ passed_one k p.number p.outcome good in
     omega (arith, bad-le k ps, here, none, times-numbers-cons k q ps, times-append k (if_bad q.number q.outcome) (bad_numbers ps))
 passed-less k (q ∷ ps) (suc i) p at is good =
-    omega (arith, passed-less k ps i p at is good, bad_one k q.number q.outcome, times-numbers-cons k q ps, times-append k (if_bad q.number q.outcome) (bad_numbers ps))
+    omega
+    (arith, passed-less k ps i p at is good, bad_one k q.number q.outcome, times-numbers-cons k q ps, times-append k (if_bad q.number q.outcome) (bad_numbers ps))
 
 -- No piece is missing whose segment would have to be known.
-pub none_missing : (desk : DeskView) (job : Job) (hand : Hand) (k : ℕ) → IsWorked desk job desk.workers hand → IsFirstMissing hand.pieces.items desk.segments k → ⊥
+pub none_missing : (desk : DeskView) (job : Job) (hand : Hand) (k : ℕ) → IsWorked desk job desk.workers hand
+    → IsFirstMissing hand.pieces.items desk.segments k → ⊥
 none_missing desk job hand k worked (less, missing, below) =
     let v = hand.ticket.part in
     let pieces = hand.pieces.items in

@@ -21,7 +21,8 @@ pub piece_send : IsSend Piece.the_row
 piece_send = view_send inside.the_row _ _ _ _ fields_send
 
 pub hand_send : IsSend Hand.the_row
-hand_send = recorded_send Hand.the_field.row _ _ Hand.the_type.to_one (struct_send (shape Hand.the_type) (ticket.the_send, (search (crosses, piece_send) depth 20, tt)))
+hand_send =
+    recorded_send Hand.the_field.row _ _ Hand.the_type.to_one (struct_send (shape Hand.the_type) (ticket.the_send, (search (crosses, piece_send) depth 20, tt)))
 
 -- A closure over seven values may go where each of them may.
 pub seven_send : (name : Sym) (A B C D E F G : RattleType) → IsSend A → IsSend B → IsSend C → IsSend D → IsSend E → IsSend F → IsSend G

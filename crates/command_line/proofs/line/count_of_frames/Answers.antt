@@ -8,4 +8,5 @@ returns-clause-some c =
 
 pub returns-clause-none : goal.returns-clause-none
 returns-clause-none c =
-    number_none 32 _ c.get_one.result 0 4294967295 (omega arith) (number_read 32 c.args.matches.now (codes "count") c.get_one.result c.get_one.ensures.none c.get_one.ensures.value)
+    number_none 32 _ c.get_one.result 0 4294967295 (omega arith)
+    (number_read 32 c.args.matches.now (codes "count") c.get_one.result c.get_one.ensures.none c.get_one.ensures.value)

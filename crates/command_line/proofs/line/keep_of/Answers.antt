@@ -24,7 +24,8 @@ returns-clause-count c =
     let is = one_read 32 _ _ _ read c.in_ok-wanted.was in
     elim c.if-pictures.branch [
       | then-pictures w ↦ rw c.ok.ensures.value (keep_count c.new.result _ _ _ _ c.new.ensures.value (λ on. is ∙ ap Some (sym w.count-is)))
-      | else-pictures w ↦ rw c.ok.ensures.value (keep_count c.new.result _ _ _ _ c.new.ensures.value (λ on. let bad : true ≡ false = sym on ∙ w.if-pictures.false in cc))
+      | else-pictures w ↦ rw c.ok.ensures.value
+          (keep_count c.new.result _ _ _ _ c.new.ensures.value (λ on. let bad : true ≡ false = sym on ∙ w.if-pictures.false in cc))
     ]
 
 pub returns-clause-none : goal.returns-clause-none

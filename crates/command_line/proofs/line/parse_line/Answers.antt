@@ -10,7 +10,8 @@ use Rattle.command_line.proofs.line.parse_line.Goals as goal
 pub returns-in-Err-clause-err : goal.returns-in-Err-clause-err
 returns-in-Err-clause-err g c =
     let words = map g.S.AsStr.text c.args.words.now in
-    refused words _ c.fault_of.result (failing (app_of c.in_ok-program.program) words c.in-Err.error c.in_ok-program.ensures.0 c.in-Err.ensures.kinds) c.fault_of.ensures
+    refused words _ c.fault_of.result
+    (failing (app_of c.in_ok-program.program) words c.in-Err.error c.in_ok-program.ensures.0 c.in-Err.ensures.kinds) c.fault_of.ensures
 
 pub command_of-requires-clause-numbers : goal.command_of-requires-clause-numbers
 command_of-requires-clause-numbers g c =

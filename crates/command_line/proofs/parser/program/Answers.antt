@@ -18,16 +18,23 @@ bare = long_versioned (versioned (new_app (codes "vcs_check")))
 
 pub returns : goal.returns
 returns c =
-    let with_version : app_of c.version.result ≡ versioned (new_app (codes "vcs_check")) = ap app_of_fields c.version.ensures ∙ ap versioned c.new.ensures.app in
+    let with_version : app_of c.version.result ≡ versioned (new_app (codes "vcs_check")) =
+    ap app_of_fields c.version.ensures ∙ ap versioned c.new.ensures.app in
     let with_long : app_of c.long_version.result ≡ bare = ap app_of_fields c.long_version.ensures ∙ ap long_versioned with_version in
     let start : app_of c.after_help-program.result ≡ bare = ap app_of_fields c.after_help-program.ensures ∙ ap app_of_fields c.about.ensures ∙ with_long in
     let local : (out-Command c.after_help-program.result).has_globals ≡ false =
-    ap (λ f. f.has_globals) c.after_help-program.ensures ∙ ap (λ f. f.has_globals) c.about.ensures ∙ ap (λ f. f.has_globals) c.long_version.ensures ∙ ap (λ f. f.has_globals) c.version.ensures ∙ c.new.ensures.local in
+    ap (λ f. f.has_globals) c.after_help-program.ensures
+    ∙ ap (λ f. f.has_globals) c.about.ensures
+    ∙ ap (λ f. f.has_globals) c.long_version.ensures
+    ∙ ap (λ f. f.has_globals) c.version.ensures
+    ∙ c.new.ensures.local in
     let judges = c.in_ok-program.ensures in
     let makes = c.in_ok-program-2.ensures in
     IfOk-weaker c.with_looking.result _ _
     (λ r looks. (
-      looks.0 ∙ ap (λ (app : App). with_listed app looking) (makes.0 ∙ ap (λ (app : App). with_listed app making) (judges.0 ∙ ap (λ (app : App). with_listed app judging) start)),
+      looks.0
+          ∙ ap (λ (app : App). with_listed app looking)
+          (makes.0 ∙ ap (λ (app : App). with_listed app making) (judges.0 ∙ ap (λ (app : App). with_listed app judging) start)),
       looks.1 (makes.1 (judges.1 local)),
     ))
     c.with_looking.ensures

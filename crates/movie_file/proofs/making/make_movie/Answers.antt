@@ -38,11 +38,13 @@ returns-clause-made c =
     let fit : IsTrue (counts_fit (length c.args.inputs.items) c.args.every) = search rules in
     (made_of_parts c.args.cart c.args.inputs.items c.deref.result.now c.args.every c.in-Ok-checkpoints_of_run.checkpoints.items c.version_made-version.result c.power_on-start.result c.movie_of.result
     fit c.deref.ensures.value c.in-Ok-checkpoints_of_run.ensures.ok
-    (c.version_made-version.ensures.value ∙ ap (λ (n : ℕ). version_made (length c.args.cart) n) (omega (arith, c.len-3.ensures, c.args.inputs.ok.0))) c.power_on-start.ensures c.movie_of.ensures).0
+    (c.version_made-version.ensures.value ∙ ap (λ (n : ℕ). version_made (length c.args.cart) n) (omega (arith, c.len-3.ensures, c.args.inputs.ok.0)))
+    c.power_on-start.ensures c.movie_of.ensures).0
 
 pub returns-clause-genuine : goal.returns-clause-genuine
 returns-clause-genuine c =
     let fit : IsTrue (counts_fit (length c.args.inputs.items) c.args.every) = search rules in
     (made_of_parts c.args.cart c.args.inputs.items c.deref.result.now c.args.every c.in-Ok-checkpoints_of_run.checkpoints.items c.version_made-version.result c.power_on-start.result c.movie_of.result
     fit c.deref.ensures.value c.in-Ok-checkpoints_of_run.ensures.ok
-    (c.version_made-version.ensures.value ∙ ap (λ (n : ℕ). version_made (length c.args.cart) n) (omega (arith, c.len-3.ensures, c.args.inputs.ok.0))) c.power_on-start.ensures c.movie_of.ensures).1
+    (c.version_made-version.ensures.value ∙ ap (λ (n : ℕ). version_made (length c.args.cart) n) (omega (arith, c.len-3.ensures, c.args.inputs.ok.0)))
+    c.power_on-start.ensures c.movie_of.ensures).1

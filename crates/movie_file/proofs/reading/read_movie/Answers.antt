@@ -15,7 +15,9 @@ pub from_parts-requires : goal.from_parts-requires
 from_parts-requires c = (read_is_spelled c.args.bytes.now (data_of c.in-Ok.parts) (λ i. omega (arith, c.type_inv.bytes i)) c.in-Ok.ensures.gives).lawful
 
 pub returns-in-Ok-clause-found : goal.returns-in-Ok-clause-found
-returns-in-Ok-clause-found c = subst (Spells c.args.bytes.now) (sym c.from_parts.ensures) (read_is_spelled c.args.bytes.now (data_of c.in-Ok.parts) (λ i. omega (arith, c.type_inv.bytes i)) c.in-Ok.ensures.gives)
+returns-in-Ok-clause-found c =
+    subst (Spells c.args.bytes.now) (sym c.from_parts.ensures)
+    (read_is_spelled c.args.bytes.now (data_of c.in-Ok.parts) (λ i. omega (arith, c.type_inv.bytes i)) c.in-Ok.ensures.gives)
 
 pub returns-in-Ok-clause-only : goal.returns-in-Ok-clause-only
 returns-in-Ok-clause-only c = λ m h. sym (spelled_is_read c.args.bytes.now m h) ∙ c.in-Ok.ensures.gives ∙ ap read (sym c.from_parts.ensures)

@@ -38,7 +38,8 @@ returns-clause-ok c =
     c.in_ok-extend_from_slice.ensures.items c.in_ok-extend_from_slice-2.ensures.items c.in_ok-put_state.ensures.ok in
     let e4 = one_more o c.put_state.new.out.items c.put_inputs.new.out.items prefix i e3 c.in_ok-put_inputs.ensures.ok in
     one_more o c.put_inputs.new.out.items c.put_checkpoints.new.out.items (prefix ++ i) k e4 c.in_ok-put_checkpoints.ensures.ok
-    ∙ same_five o c.header.result c.bytes.result.now s i k (header_of m) m.cart (movie_record m.version m.start) (flat_map input_bytes m.inputs) (flat_map (checkpoint_bytes m.version) m.checkpoints)
+    ∙ same_five o c.header.result c.bytes.result.now s i k (header_of m) m.cart (movie_record m.version m.start) (flat_map input_bytes m.inputs)
+    (flat_map (checkpoint_bytes m.version) m.checkpoints)
     c.header.ensures (c.bytes.ensures.value ∙ c.cart.ensures)
     (ap (λ (v : ℕ). movie_record v c.start.result.now) version ∙ ap (movie_record m.version) c.start.ensures)
     (ap (flat_map input_bytes) c.inputs.ensures)

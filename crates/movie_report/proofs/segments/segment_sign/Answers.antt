@@ -3,5 +3,6 @@ use Rattle.movie_report.proofs.segments.segment_sign.Goals as goal
 
 pub returns-in-Some : goal.returns-in-Some
 returns-in-Some c =
-    HasSign-piece c.args.movie.now c.args.cuts.now _ c.replay-piece.result c.args.number c.in-Some.verdict.now c.of.result c.verdict.ensures.lawful c.replay-piece.ensures.number
+    HasSign-piece c.args.movie.now c.args.cuts.now _ c.replay-piece.result c.args.number c.in-Some.verdict.now c.of.result c.verdict.ensures.lawful
+    c.replay-piece.ensures.number
     c.replay-piece.ensures.job c.in-Some.ensures.some c.of.ensures

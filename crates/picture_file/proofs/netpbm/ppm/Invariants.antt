@@ -5,4 +5,5 @@ use Rattle.picture_file.specs.PictureBytes.{row_bytes, header_bytes}
 use Rattle.picture_file.proofs.netpbm.ppm.Given as goal
 
 abbrev pub invariant-loop-y : goal.invariant-loop-y
-invariant-loop-y g l = Appends (g.W.Write.contents l.fn.writer) (g.W.Write.contents l.writer) (header_bytes (length l.picture) ++ flat_map row_bytes (take l.y l.picture))
+invariant-loop-y g l =
+    Appends (g.W.Write.contents l.fn.writer) (g.W.Write.contents l.writer) (header_bytes (length l.picture) ++ flat_map row_bytes (take l.y l.picture))

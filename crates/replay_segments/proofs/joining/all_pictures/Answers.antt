@@ -29,7 +29,8 @@ loop-number-preserved c =
           let of = taken.of job (c.loop-number.invariant.names job names) in
           let begun = c.loop-number.invariant.prefix job names whole in
           let next = IsPrefix-next job c.loop-number.number c.loop-number.all.items c.take_passed.result of.0 of.1 begun of.2 in
-          let items : c.append.new.self.items ≡ c.loop-number.all.items ++ c.take_passed.result = c.in-Ok-append.ensures.items ∙ ap (λ (xs : List Rows). c.loop-number.all.items ++ xs) c.into_vec-part.ensures in
+          let items : c.append.new.self.items ≡ c.loop-number.all.items ++ c.take_passed.result =
+          c.in-Ok-append.ensures.items ∙ ap (λ (xs : List Rows). c.loop-number.all.items ++ xs) c.into_vec-part.ensures in
           subst (λ (xs : List Rows). IsPrefix job (c.loop-number.number + 1) xs) (sym items) next;
       room =
           let part : vec_len c.into_vec-part.result ≡ length c.take_passed.result = c.into_vec-part.result.ok.0 ∙ ap length c.into_vec-part.ensures in

@@ -7,7 +7,8 @@ use Rattle.replay_segments.proofs.judge.judge_frames.Goals as goal
 pub returns-in_default-next_checkpoint-clause-judged : goal.returns-in_default-next_checkpoint-clause-judged
 returns-in_default-next_checkpoint-clause-judged c =
     let a = c.in-Ok-advance.ensures.advance in
-    IsJudged-false c.args.movie.now c.args.keep c.args.start.now c.args.from c.loop-k.k c.args.len c.loop-k.state c.advance.new.state c.loop-k.next a.0 c.loop-k.pictures.items
+    IsJudged-false c.args.movie.now c.args.keep c.args.start.now c.args.from c.loop-k.k c.args.len c.loop-k.state c.advance.new.state c.loop-k.next
+    a.0 c.loop-k.pictures.items
     c.loop-k.invariant.far a.1 c.loop-k-test.true c.in_default-next_checkpoint.ensures
 
 pub loop-k-preserved : goal.loop-k-preserved
@@ -15,7 +16,9 @@ loop-k-preserved c =
     let a = c.in-Ok-advance.ensures.advance in
     let claim = c.in-Some.ensures in
     record {
-      far = SoFar-next c.args.movie.now c.args.keep c.args.start.now c.args.from c.loop-k.k c.loop-k.state c.advance.new.state a.0 c.loop-k.pictures.items c.advance.new.pictures.items
+      far =
+          SoFar-next c.args.movie.now c.args.keep c.args.start.now c.args.from c.loop-k.k c.loop-k.state c.advance.new.state a.0
+          c.loop-k.pictures.items c.advance.new.pictures.items
           c.loop-k.invariant.far a.1 claim.1 a.2;
       count = let e = kept_count-next c.args.keep c.args.from c.loop-k.k in cc (c.in-Ok-advance.ensures.len);
       room = omega arith;
@@ -33,5 +36,6 @@ loop-k-init c = record {
 pub returns-clause-judged : goal.returns-clause-judged
 returns-clause-judged c =
     let all : c.loop-k.k ≡ c.args.len = omega arith in
-    let far = subst (λ (k : ℕ). SoFar c.args.movie.now c.args.keep c.args.start.now c.args.from k c.loop-k.state c.loop-k.pictures.items) all c.loop-k.invariant.far in
+    let far =
+    subst (λ (k : ℕ). SoFar c.args.movie.now c.args.keep c.args.start.now c.args.from k c.loop-k.state c.loop-k.pictures.items) all c.loop-k.invariant.far in
     (far.sound, c.new.ensures ∙ far.kept_are)

@@ -15,4 +15,5 @@ pub loop-k-preserved : goal.loop-k-preserved
 loop-k-preserved c =
     let place : c.args.from + c.loop-k.k + 1 - 1 ≡ c.args.from + c.loop-k.k = omega arith in
     let ends = rw c.cart.ensures at c.in-None.ensures.ended in
-    run-next c.args.movie.now c.args.start.now c.args.from c.loop-k.k _ c.loop-k.state c.input.result c.loop-k.invariant place c.input.ensures c.halt.new.state ends.0 ends.1
+    run-next c.args.movie.now c.args.start.now c.args.from c.loop-k.k _ c.loop-k.state c.input.result c.loop-k.invariant place c.input.ensures
+    c.halt.new.state ends.0 ends.1

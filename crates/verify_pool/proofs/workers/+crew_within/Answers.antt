@@ -10,14 +10,20 @@ crew_within-rest-requires-clause-ready g t c κs within =
 pub unite-requires-clause-room : goal.unite-requires-clause-room
 unite-requires-clause-room g t c =
     let shared = c.args.shared.now in let told = c.in_ok-worker.ensures in
-    let theirs = promised shared.movie.now shared.cuts.now shared.keep shared.desk.now c.in-Some.hand _ told.movie told.cuts told.keep told.desk told.hand c.join-last.result c.join-last.ensures in
+    let theirs =
+    promised shared.movie.now shared.cuts.now shared.keep shared.desk.now c.in-Some.hand _ told.movie told.cuts told.keep told.desk told.hand
+    c.join-last.result c.join-last.ensures in
     let some : 0 < length c.pop.new.self.items = search rules in
-    pieces_fit shared.desk.now c.args.hands.items c.pop.new.self.items c.in-Some.hand c.in-Some.ensures.items some _ _ _ c.requires.ready c.in-Ok.ensures.room c.in-Ok.ensures.few theirs.1
+    pieces_fit shared.desk.now c.args.hands.items c.pop.new.self.items c.in-Some.hand c.in-Some.ensures.items some _ _ _ c.requires.ready
+    c.in-Ok.ensures.room c.in-Ok.ensures.few theirs.1
 
 pub returns-clause-worked : goal.returns-clause-worked
 returns-clause-worked g t c =
     let shared = c.args.shared.now in let told = c.in_ok-worker.ensures in
-    let theirs = promised shared.movie.now shared.cuts.now shared.keep shared.desk.now c.in-Some.hand _ told.movie told.cuts told.keep told.desk told.hand c.join-last.result c.join-last.ensures in
+    let theirs =
+    promised shared.movie.now shared.cuts.now shared.keep shared.desk.now c.in-Some.hand _ told.movie told.cuts told.keep told.desk told.hand
+    c.join-last.result c.join-last.ensures in
     let some : 0 < length c.pop.new.self.items = search rules in
-    worked_all shared.desk.now c.args.hands.items c.pop.new.self.items c.in-Some.hand c.in-Some.ensures.items some (job_of shared.movie.now shared.cuts.now shared.keep) c.unite.result
+    worked_all shared.desk.now c.args.hands.items c.pop.new.self.items c.in-Some.hand c.in-Some.ensures.items some
+    (job_of shared.movie.now shared.cuts.now shared.keep) c.unite.result
     (c.unite.ensures.worked _ _ _ c.in-Ok.ensures.worked theirs.0)

@@ -25,7 +25,8 @@ returns-then-number-last-clause-fit c =
     let less : c.loop-i.i < length c.args.numbers.items = omega (arith, len, end) in
     let at = slice_get_read c.args.numbers.items _ c.loop-i.i c.index-number.result.now refl less c.index-number.ensures in
     let most = c.checkpoints-most.ensures.value in
-    let not = AreCutsBelow-not (length c.args.movie.now.checkpoints) c.args.numbers.items c.loop-i.i c.loop-i.last c.index-number.result.now at c.loop-i.invariant in (
+    let not =
+    AreCutsBelow-not (length c.args.movie.now.checkpoints) c.args.numbers.items c.loop-i.i c.loop-i.last c.index-number.result.now at c.loop-i.invariant in (
       λ e. absurd cc,
       λ fits. absurd (elim c.then-number-last.either [
         | inl w ↦ not (inl w) fits
@@ -37,7 +38,8 @@ pub invariant_of-result : goal.invariant_of-result
 invariant_of-result c =
     let len = c.args.numbers.ok.0 in
     let end = c.len-i-end.ensures in
-    let are = AreCutsBelow-whole (length c.args.movie.now.checkpoints) c.args.numbers.items c.loop-i.i c.loop-i.last (omega (arith, len, end)) c.loop-i.invariant in
+    let are =
+    AreCutsBelow-whole (length c.args.movie.now.checkpoints) c.args.numbers.items c.loop-i.i c.loop-i.last (omega (arith, len, end)) c.loop-i.invariant in
     AreCuts-more (length c.args.movie.now.checkpoints) most_checkpoints c.args.numbers.items c.checkpoints-most.ensures.lawful.few_checkpoints are
 
 pub returns-clause-fit : goal.returns-clause-fit
