@@ -7,7 +7,7 @@ use Rattle.mos_cpu.specs.Opcodes.{row_of}
 use Rattle.mos_cpu.specs.Operands.{and_then, instruction_word, next_in_page_of, operand_by_mode}
 use Rattle.mos_cpu.specs.Operands.{takes_vector, instruction_at}
 use Rattle.mos_cpu.specs.Registers.{Registers}
-use Rattle.mos_cpu.specs.Private.Ways.{row_here, undocumented, fault_by}
+use Rattle.mos_cpu.specs.Private.OpcodeRuns.{row_here, undocumented, fault_by}
 use Rattle.mos_cpu.specs.declared.fault.CpuFault.{CpuFault}
 use Rattle.mos_cpu.specs.declared.fault.CpuFault.TheVariants.{FetchOutside}
 use Rattle.mos_cpu.specs.declared.opcode_row.Row.{Row}

@@ -8,7 +8,7 @@ use Rattle.mos_cpu.specs.Accesses.{use_of}
 use Rattle.mos_cpu.specs.Opcodes.{Entry, entries, row_at, row_in, row_of}
 use Rattle.mos_cpu.specs.Operands.{takes_vector}
 use Rattle.mos_cpu.specs.Timing.{least_of, most_cycles, IsTimed}
-use Rattle.mos_cpu.specs.Private.Ways.{has_low}
+use Rattle.mos_cpu.specs.Private.OpcodeRuns.{has_low}
 use Rattle.mos_cpu.specs.declared.mode.Mode.{Mode}
 use Rattle.mos_cpu.specs.declared.mode.Mode.TheVariants.{Implied, Accumulator}
 use Rattle.mos_cpu.specs.declared.opcode_row.Row.{Row}

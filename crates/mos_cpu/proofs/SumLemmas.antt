@@ -113,7 +113,9 @@ signed_sum-modulo x y c hx hy =
     let sum = signed-sum x y c hx hy in
     let bx : biased x ≡ (x + 128) % 256 = refl in
     let by : biased y ≡ (y + 128) % 256 = refl in
-    let e : modulo (signed x +ℤ signed y +ℤ pos c) 256 ≡ (biased x + biased y + c) % 256 = modulo_is _ 256 1 (biased x + biased y + c) (omega arith) (omega (arith, ints, sum)) in
+    let e : modulo (signed x +ℤ signed y +ℤ pos c) 256
+    ≡ (biased x + biased y + c) % 256 = modulo_is _ 256 1 (biased x + biased y + c)
+    (omega arith) (omega (arith, ints, sum)) in
     e ∙ omega arith
 
 signed-not : (m : ℕ) → m < 256

@@ -1,3 +1,3 @@
 -- Definitions of how things are kept and done. Only private contracts and proofs cite them: what is
 -- promised can be read without them.
-pub mod Ways
+pub mod OpcodeRuns

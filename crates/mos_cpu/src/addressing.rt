@@ -3,7 +3,7 @@
 ghost use Rattle.std.specs.Prelude.{◌≡◌, ◌+◌, ◌*◌, ◌/◌, ◌%◌, false, IfSome, IfNone, IsErr, Ok};
 ghost use Rattle.mos_cpu.specs.Operands.{Place, operand_word, pointer_at, indexed_place};
 ghost use Rattle.mos_cpu.specs.Operands.{branch_target, next_in_page_of};
-ghost use Rattle.mos_cpu.specs.Private.Ways.{IsLow};
+ghost use Rattle.mos_cpu.specs.Private.OpcodeRuns.{IsLow};
 
 use crate::bus::Bus;
 use crate::registers::Cpu;

@@ -3,7 +3,7 @@
 ghost use Rattle.std.specs.Prelude.{◌≡◌, false, refl};
 ghost use Rattle.mos_cpu.specs.Accesses.{is_taken};
 ghost use Rattle.mos_cpu.specs.declared.operation.Operation.{Operation};
-ghost use Rattle.mos_cpu.specs.Private.Ways.{IsBranch, IsRow, IsLow, IsWay};
+ghost use Rattle.mos_cpu.specs.Private.OpcodeRuns.{IsBranch, IsRow, IsLow, IsOpcodeRun};
 
 use crate::addressing::branch_by;
 use crate::bus::Bus;
@@ -132,7 +132,7 @@ impl Conditional for Bvs {
 pub fn branch<O: Conditional, B: Bus>(cpu: &mut Cpu, bus: &mut B, low: u8) -> Option<u8>
     requires row { IsRow B.meaning (B.state bus.old) cpu.old O.operation Mode.Relative 2 false }
     requires low { IsLow B.meaning (B.state bus.old) cpu.old low }
-    ensures { IsWay B.meaning cpu.old (B.state bus.old) result cpu.new (B.state bus.new) }
+    ensures { IsOpcodeRun B.meaning cpu.old (B.state bus.old) result cpu.new (B.state bus.new) }
 {
     let next = cpu.pc.wrapping_add(2);
     if !O::is_taken(cpu.p) {

@@ -21,28 +21,28 @@ pub trait Bus {
         ensures { state self.new ≡ meaning.passed (state self.old) cycles };
 
     /// A data read, at the end of the cycle that passed last. It may change what it reads from.
-    fn read(&mut self, addr: u16) -> u8
-        ensures value { result ≡ meaning.read_value (state self.old) addr }
-        ensures bus { state self.new ≡ meaning.after_read (state self.old) addr };
+    fn read(&mut self, address: u16) -> u8
+        ensures value { result ≡ meaning.read_value (state self.old) address }
+        ensures bus { state self.new ≡ meaning.after_read (state self.old) address };
 
     /// A data write, at the end of the cycle that passed last.
-    fn write(&mut self, addr: u16, value: u8)
-        ensures { state self.new ≡ meaning.after_write (state self.old) addr value };
+    fn write(&mut self, address: u16, value: u8)
+        ensures { state self.new ≡ meaning.after_write (state self.old) address value };
 
     /// An opcode, operand, pointer or vector byte, looked at with no effect. None if a register
     /// of a device would answer.
-    fn peek(&self, addr: u16) -> Option<u8>
-        ensures { result ≡ meaning.peeked (state self.now) addr };
+    fn peek(&self, address: u16) -> Option<u8>
+        ensures { result ≡ meaning.peeked (state self.now) address };
 
     /// The byte after an address, looked at with no effect, if the bus has both at hand together.
     /// None says nothing of it.
-    fn peek_after(&self, _addr: u16) -> Option<u8>
-        ensures { IfSome result (λ byte. meaning.peeked (state self.now) ((_addr + 1) % 65536) ≡ Some byte) }
+    fn peek_after(&self, _address: u16) -> Option<u8>
+        ensures { IfSome result (λ byte. meaning.peeked (state self.now) ((_address + 1) % 65536) ≡ Some byte) }
     {
         None
     }
 
     /// A byte of a pointer in page zero, looked at with no effect: what a read of it would give.
-    fn peek_zero(&self, addr: u8) -> u8
-        ensures { result ≡ meaning.peeked_zero (state self.now) addr };
+    fn peek_zero(&self, address: u8) -> u8
+        ensures { result ≡ meaning.peeked_zero (state self.now) address };
 }

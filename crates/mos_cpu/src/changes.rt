@@ -3,7 +3,7 @@
 ghost use Rattle.std.specs.Prelude.{◌≡◌, ◌+◌, ◌/◌, ◌%◌, false, refl, if◌then◌else◌};
 ghost use Rattle.mos_cpu.specs.Effects.{changed_of};
 ghost use Rattle.mos_cpu.specs.declared.operation.Operation.{Operation};
-ghost use Rattle.mos_cpu.specs.Private.Ways.{IsChanger, IsRow, IsLow, IsWay};
+ghost use Rattle.mos_cpu.specs.Private.OpcodeRuns.{IsChanger, IsRow, IsLow, IsOpcodeRun};
 
 use crate::arithmetic::{Alu, dec, inc};
 use crate::bus::Bus;
@@ -108,7 +108,7 @@ impl Changer for Ror {
 pub fn change<O: Changer, M: PlaceMode, B: Bus>(cpu: &mut Cpu, bus: &mut B, low: u8) -> Option<u8>
     requires row { IsRow B.meaning (B.state bus.old) cpu.old O.operation M.mode (M.CYCLES + 2 + (if M.INDEXED then 1 else 0)) false }
     requires low { IsLow B.meaning (B.state bus.old) cpu.old low }
-    ensures { IsWay B.meaning cpu.old (B.state bus.old) result cpu.new (B.state bus.new) }
+    ensures { IsOpcodeRun B.meaning cpu.old (B.state bus.old) result cpu.new (B.state bus.new) }
 {
     let target = M::target(cpu, bus, low)?;
     let reading = M::CYCLES + u8::from(M::INDEXED);
@@ -128,7 +128,7 @@ pub fn change<O: Changer, M: PlaceMode, B: Bus>(cpu: &mut Cpu, bus: &mut B, low:
 /// A is changed.
 pub fn change_a<O: Changer, B: Bus>(cpu: &mut Cpu, bus: &mut B) -> Option<u8>
     requires { IsRow B.meaning (B.state bus.old) cpu.old O.operation Mode.Accumulator 2 false }
-    ensures { IsWay B.meaning cpu.old (B.state bus.old) result cpu.new (B.state bus.new) }
+    ensures { IsOpcodeRun B.meaning cpu.old (B.state bus.old) result cpu.new (B.state bus.new) }
 {
     cpu.set_pc(cpu.pc.wrapping_add(1));
     cpu.set_a(O::change(cpu.a, cpu.p));

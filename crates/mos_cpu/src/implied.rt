@@ -4,7 +4,7 @@ ghost use Rattle.std.specs.Prelude.{◌≡◌, [], false, refl};
 ghost use Rattle.mos_cpu.specs.Effects.{effect};
 ghost use Rattle.mos_cpu.specs.Operands.{Register};
 ghost use Rattle.mos_cpu.specs.declared.operation.Operation.{Operation};
-ghost use Rattle.mos_cpu.specs.Private.Ways.{IsImplied, IsRow, IsWay};
+ghost use Rattle.mos_cpu.specs.Private.OpcodeRuns.{IsImplied, IsRow, IsOpcodeRun};
 
 use crate::arithmetic::{dec, inc, load};
 use crate::bus::Bus;
@@ -259,7 +259,7 @@ impl ImpliedOperation for Tya {
 /// An operation on registers, whose opcode is the whole instruction.
 pub fn implied<O: ImpliedOperation, B: Bus>(cpu: &mut Cpu, bus: &mut B) -> Option<u8>
     requires { IsRow B.meaning (B.state bus.old) cpu.old O.operation Mode.Implied 2 false }
-    ensures { IsWay B.meaning cpu.old (B.state bus.old) result cpu.new (B.state bus.new) }
+    ensures { IsOpcodeRun B.meaning cpu.old (B.state bus.old) result cpu.new (B.state bus.new) }
 {
     cpu.set_pc(cpu.pc.wrapping_add(1));
     O::act(cpu);

@@ -1,7 +1,7 @@
 //! Addressing modes that name a place in memory, each a type of its own.
 
 ghost use Rattle.std.specs.Prelude.{◌≤◌, ℕ, Bool, false, true};
-ghost use Rattle.mos_cpu.specs.Private.Ways.{IsLow, IsNamed};
+ghost use Rattle.mos_cpu.specs.Private.OpcodeRuns.{IsLow, IsNamed};
 ghost use Rattle.std.proofs.Common.{rules};
 ghost use Rattle.mos_cpu.specs.declared.mode.Mode.{Mode};
 

@@ -5,7 +5,7 @@ ghost use Rattle.std.specs.Prelude.{Err, IsErr};
 ghost use Rattle.mos_cpu.specs.Buses.{IsClock};
 ghost use Rattle.mos_cpu.specs.Execution.{step_of};
 ghost use Rattle.mos_cpu.specs.Operands.{instruction_word, instruction_at};
-ghost use Rattle.mos_cpu.specs.Private.Ways.{IsLow, IsWay, has_low, row_here, undocumented, fault_by};
+ghost use Rattle.mos_cpu.specs.Private.OpcodeRuns.{IsLow, IsOpcodeRun, has_low, row_here, undocumented, fault_by};
 
 use crate::addressing::next_in_page;
 use crate::branches::{Bcc, Bcs, Beq, Bmi, Bne, Bpl, Bvc, Bvs, branch};
@@ -57,7 +57,7 @@ fn low_byte<B: Bus>(cpu: Cpu, bus: &B, opcode: u8) -> Option<u8>
 fn run_bytes<B: Bus>(cpu: &mut Cpu, bus: &mut B, opcode: u8, low: u8) -> Option<u8>
     requires opcode { B.meaning.peeked (B.state bus.old) cpu.old.pc ≡ Some opcode }
     requires low { has_low opcode ≡ true → IsLow B.meaning (B.state bus.old) cpu.old low }
-    ensures { IsWay B.meaning cpu.old (B.state bus.old) result cpu.new (B.state bus.new) }
+    ensures { IsOpcodeRun B.meaning cpu.old (B.state bus.old) result cpu.new (B.state bus.new) }
 {
     match opcode {
         0x69 => value::<Adc, B>(cpu, bus, low),
@@ -219,7 +219,7 @@ fn run_bytes<B: Bus>(cpu: &mut Cpu, bus: &mut B, opcode: u8, low: u8) -> Option<
 /// fault.
 #[inline(always)]
 fn run_opcode<B: Bus>(cpu: &mut Cpu, bus: &mut B) -> Option<u8>
-    ensures { IsWay B.meaning cpu.old (B.state bus.old) result cpu.new (B.state bus.new) }
+    ensures { IsOpcodeRun B.meaning cpu.old (B.state bus.old) result cpu.new (B.state bus.new) }
 {
     let opcode = bus.peek(cpu.pc)?;
     let low = match bus.peek_after(cpu.pc) {

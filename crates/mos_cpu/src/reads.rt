@@ -4,7 +4,7 @@ ghost use Rattle.std.specs.Prelude.{◌≡◌, ◌+◌, [], false, refl};
 ghost use Rattle.mos_cpu.specs.Effects.{effect};
 ghost use Rattle.mos_cpu.specs.Operands.{Value};
 ghost use Rattle.mos_cpu.specs.declared.operation.Operation.{Operation};
-ghost use Rattle.mos_cpu.specs.Private.Ways.{IsReader, IsRow, IsLow, IsWay};
+ghost use Rattle.mos_cpu.specs.Private.OpcodeRuns.{IsReader, IsRow, IsLow, IsOpcodeRun};
 
 use crate::addressing::Target;
 use crate::arithmetic::{and, bit, compare, eor, load, ora};
@@ -186,7 +186,7 @@ impl Reader for Sbc {
 pub fn read<O: Reader, M: PlaceMode, B: Bus>(cpu: &mut Cpu, bus: &mut B, low: u8) -> Option<u8>
     requires row { IsRow B.meaning (B.state bus.old) cpu.old O.operation M.mode M.CYCLES M.INDEXED }
     requires low { IsLow B.meaning (B.state bus.old) cpu.old low }
-    ensures { IsWay B.meaning cpu.old (B.state bus.old) result cpu.new (B.state bus.new) }
+    ensures { IsOpcodeRun B.meaning cpu.old (B.state bus.old) result cpu.new (B.state bus.new) }
 {
     let Target {
         address,
@@ -206,7 +206,7 @@ pub fn read<O: Reader, M: PlaceMode, B: Bus>(cpu: &mut Cpu, bus: &mut B, low: u8
 pub fn value<O: Reader, B: Bus>(cpu: &mut Cpu, bus: &mut B, low: u8) -> Option<u8>
     requires row { IsRow B.meaning (B.state bus.old) cpu.old O.operation Mode.Immediate 2 false }
     requires low { IsLow B.meaning (B.state bus.old) cpu.old low }
-    ensures { IsWay B.meaning cpu.old (B.state bus.old) result cpu.new (B.state bus.new) }
+    ensures { IsOpcodeRun B.meaning cpu.old (B.state bus.old) result cpu.new (B.state bus.new) }
 {
     cpu.set_pc(cpu.pc.wrapping_add(2));
     O::take(cpu, low);

@@ -2,7 +2,7 @@
 
 ghost use Rattle.std.specs.Prelude.{◌≡◌, ◌+◌, false};
 ghost use Rattle.mos_cpu.specs.Registers.{after_pushes, after_pulls};
-ghost use Rattle.mos_cpu.specs.Private.Ways.{IsRow, IsLow, IsWay};
+ghost use Rattle.mos_cpu.specs.Private.OpcodeRuns.{IsRow, IsLow, IsOpcodeRun};
 
 use crate::addressing::{next_in_page, word_after};
 use crate::arithmetic::load;
@@ -32,7 +32,7 @@ fn pulled_at(s: u8, n: u8) -> u16
 pub fn jmp<B: Bus>(cpu: &mut Cpu, bus: &mut B, low: u8) -> Option<u8>
     requires row { IsRow B.meaning (B.state bus.old) cpu.old Operation.Jmp Mode.Absolute 3 false }
     requires low { IsLow B.meaning (B.state bus.old) cpu.old low }
-    ensures { IsWay B.meaning cpu.old (B.state bus.old) result cpu.new (B.state bus.new) }
+    ensures { IsOpcodeRun B.meaning cpu.old (B.state bus.old) result cpu.new (B.state bus.new) }
 {
     let target = word_after(cpu, bus, low)?;
     cpu.set_pc(target);
@@ -44,7 +44,7 @@ pub fn jmp<B: Bus>(cpu: &mut Cpu, bus: &mut B, low: u8) -> Option<u8>
 pub fn jsr<B: Bus>(cpu: &mut Cpu, bus: &mut B, low: u8) -> Option<u8>
     requires row { IsRow B.meaning (B.state bus.old) cpu.old Operation.Jsr Mode.Absolute 6 false }
     requires low { IsLow B.meaning (B.state bus.old) cpu.old low }
-    ensures { IsWay B.meaning cpu.old (B.state bus.old) result cpu.new (B.state bus.new) }
+    ensures { IsOpcodeRun B.meaning cpu.old (B.state bus.old) result cpu.new (B.state bus.new) }
 {
     let target = word_after(cpu, bus, low)?;
     let [return_low, return_high] = cpu.pc.wrapping_add(2).to_le_bytes();
@@ -61,7 +61,7 @@ pub fn jsr<B: Bus>(cpu: &mut Cpu, bus: &mut B, low: u8) -> Option<u8>
 /// RTS: pulls an address, and goes to the one after it.
 pub fn rts<B: Bus>(cpu: &mut Cpu, bus: &mut B) -> Option<u8>
     requires { IsRow B.meaning (B.state bus.old) cpu.old Operation.Rts Mode.Implied 6 false }
-    ensures { IsWay B.meaning cpu.old (B.state bus.old) result cpu.new (B.state bus.new) }
+    ensures { IsOpcodeRun B.meaning cpu.old (B.state bus.old) result cpu.new (B.state bus.new) }
 {
     bus.pass(4);
     let low = bus.read(pulled_at(cpu.s, 1));
@@ -76,7 +76,7 @@ pub fn rts<B: Bus>(cpu: &mut Cpu, bus: &mut B) -> Option<u8>
 /// PHA: pushes A.
 pub fn pha<B: Bus>(cpu: &mut Cpu, bus: &mut B) -> Option<u8>
     requires { IsRow B.meaning (B.state bus.old) cpu.old Operation.Pha Mode.Implied 3 false }
-    ensures { IsWay B.meaning cpu.old (B.state bus.old) result cpu.new (B.state bus.new) }
+    ensures { IsOpcodeRun B.meaning cpu.old (B.state bus.old) result cpu.new (B.state bus.new) }
 {
     bus.pass(3);
     bus.write(pushed_at(cpu.s, 0), cpu.a);
@@ -89,7 +89,7 @@ pub fn pha<B: Bus>(cpu: &mut Cpu, bus: &mut B) -> Option<u8>
 /// PLA: pulls A, with N and Z.
 pub fn pla<B: Bus>(cpu: &mut Cpu, bus: &mut B) -> Option<u8>
     requires { IsRow B.meaning (B.state bus.old) cpu.old Operation.Pla Mode.Implied 4 false }
-    ensures { IsWay B.meaning cpu.old (B.state bus.old) result cpu.new (B.state bus.new) }
+    ensures { IsOpcodeRun B.meaning cpu.old (B.state bus.old) result cpu.new (B.state bus.new) }
 {
     bus.pass(4);
     let byte = bus.read(pulled_at(cpu.s, 1));
@@ -103,7 +103,7 @@ pub fn pla<B: Bus>(cpu: &mut Cpu, bus: &mut B) -> Option<u8>
 /// PHP: pushes the status, with bits 5 and 4 set.
 pub fn php<B: Bus>(cpu: &mut Cpu, bus: &mut B) -> Option<u8>
     requires { IsRow B.meaning (B.state bus.old) cpu.old Operation.Php Mode.Implied 3 false }
-    ensures { IsWay B.meaning cpu.old (B.state bus.old) result cpu.new (B.state bus.new) }
+    ensures { IsOpcodeRun B.meaning cpu.old (B.state bus.old) result cpu.new (B.state bus.new) }
 {
     bus.pass(3);
     bus.write(pushed_at(cpu.s, 0), pushed_status(cpu.p));
@@ -116,7 +116,7 @@ pub fn php<B: Bus>(cpu: &mut Cpu, bus: &mut B) -> Option<u8>
 /// PLP: pulls the status.
 pub fn plp<B: Bus>(cpu: &mut Cpu, bus: &mut B) -> Option<u8>
     requires { IsRow B.meaning (B.state bus.old) cpu.old Operation.Plp Mode.Implied 4 false }
-    ensures { IsWay B.meaning cpu.old (B.state bus.old) result cpu.new (B.state bus.new) }
+    ensures { IsOpcodeRun B.meaning cpu.old (B.state bus.old) result cpu.new (B.state bus.new) }
 {
     bus.pass(4);
     let byte = bus.read(pulled_at(cpu.s, 1));
@@ -130,7 +130,7 @@ pub fn plp<B: Bus>(cpu: &mut Cpu, bus: &mut B) -> Option<u8>
 /// RTI: pulls the status and an address, and goes there.
 pub fn rti<B: Bus>(cpu: &mut Cpu, bus: &mut B) -> Option<u8>
     requires { IsRow B.meaning (B.state bus.old) cpu.old Operation.Rti Mode.Implied 6 false }
-    ensures { IsWay B.meaning cpu.old (B.state bus.old) result cpu.new (B.state bus.new) }
+    ensures { IsOpcodeRun B.meaning cpu.old (B.state bus.old) result cpu.new (B.state bus.new) }
 {
     bus.pass(4);
     let status = bus.read(pulled_at(cpu.s, 1));
@@ -148,7 +148,7 @@ pub fn rti<B: Bus>(cpu: &mut Cpu, bus: &mut B) -> Option<u8>
 /// BRK: pushes the address two bytes on and the status, sets I, and goes where the vector says.
 pub fn brk<B: Bus>(cpu: &mut Cpu, bus: &mut B) -> Option<u8>
     requires { IsRow B.meaning (B.state bus.old) cpu.old Operation.Brk Mode.Implied 7 false }
-    ensures { IsWay B.meaning cpu.old (B.state bus.old) result cpu.new (B.state bus.new) }
+    ensures { IsOpcodeRun B.meaning cpu.old (B.state bus.old) result cpu.new (B.state bus.new) }
 {
     let low = bus.peek(0xFFFE)?;
     let high = bus.peek(0xFFFF)?;
@@ -170,7 +170,7 @@ pub fn brk<B: Bus>(cpu: &mut Cpu, bus: &mut B) -> Option<u8>
 pub fn jmp_indirect<B: Bus>(cpu: &mut Cpu, bus: &mut B, low: u8) -> Option<u8>
     requires row { IsRow B.meaning (B.state bus.old) cpu.old Operation.Jmp Mode.Indirect 5 false }
     requires low { IsLow B.meaning (B.state bus.old) cpu.old low }
-    ensures { IsWay B.meaning cpu.old (B.state bus.old) result cpu.new (B.state bus.new) }
+    ensures { IsOpcodeRun B.meaning cpu.old (B.state bus.old) result cpu.new (B.state bus.new) }
 {
     let at = word_after(cpu, bus, low)?;
     let target_low = bus.peek(at)?;

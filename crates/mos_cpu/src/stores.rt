@@ -3,7 +3,7 @@
 ghost use Rattle.std.specs.Prelude.{◌≡◌, ◌+◌, false, refl, if◌then◌else◌};
 ghost use Rattle.mos_cpu.specs.Accesses.{stored_byte, RegisterA, RegisterX, RegisterY};
 ghost use Rattle.mos_cpu.specs.declared.operation.Operation.{Operation};
-ghost use Rattle.mos_cpu.specs.Private.Ways.{IsStorer, IsRow, IsLow, IsWay};
+ghost use Rattle.mos_cpu.specs.Private.OpcodeRuns.{IsStorer, IsRow, IsLow, IsOpcodeRun};
 
 use crate::addressing::Target;
 use crate::bus::Bus;
@@ -75,7 +75,7 @@ impl Storer for Sty {
 pub fn store<O: Storer, M: PlaceMode, B: Bus>(cpu: &mut Cpu, bus: &mut B, low: u8) -> Option<u8>
     requires row { IsRow B.meaning (B.state bus.old) cpu.old O.operation M.mode (M.CYCLES + (if M.INDEXED then 1 else 0)) false }
     requires low { IsLow B.meaning (B.state bus.old) cpu.old low }
-    ensures { IsWay B.meaning cpu.old (B.state bus.old) result cpu.new (B.state bus.new) }
+    ensures { IsOpcodeRun B.meaning cpu.old (B.state bus.old) result cpu.new (B.state bus.new) }
 {
     let target = M::target(cpu, bus, low)?;
     let cycles = M::CYCLES + u8::from(M::INDEXED);

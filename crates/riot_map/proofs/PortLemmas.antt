@@ -64,7 +64,9 @@ bit_a p k h t =
     let g = bit-not p.direction k h t in
     rw (e, f, g) (bools_a (has_bit p.pins k) (has_bit p.output k) (has_bit p.direction k))
 
-bit_b : (p : Port) (k : ℕ) → p.direction < 256 → turns k → has_bit (bit_or (bit_and p.output p.direction) (bit_and p.pins (255 - p.direction))) k ≡ port_b_bit p k
+bit_b : (p : Port) (k : ℕ) → p.direction < 256 → turns k
+    → has_bit (bit_or (bit_and p.output p.direction) (bit_and p.pins (255 - p.direction))) k
+    ≡ port_b_bit p k
 bit_b p k h t =
     let e = bit-or (bit_and p.output p.direction) (bit_and p.pins (255 - p.direction)) k in
     let f = bit-and p.output p.direction k in

@@ -25,6 +25,8 @@ pub lawful_past : (f : RiotFields) → is_riot f ≡ true → (f.past_zero == 1)
 unfolding is_riot
 lawful_past f h e = grind (arith, nat_tests)
 
+pub ruleset lawful_timers = (lawful_interval, lawful_some, lawful_most, lawful_past)
+
 pub lawful_parts : (f : RiotFields) → f.timer < 256 → is_riot f ≡ true → ArePartsLawful f.timer f.part (interval_of f.interval) (f.past_zero == 1)
 lawful_parts f k h = record { byte = k; some = lawful_some f h; most = lawful_most f h; past = lawful_past f h }
 
@@ -47,7 +49,8 @@ code_back (suc (suc zero)) h = refl
 code_back (suc (suc (suc zero))) h = refl
 code_back (suc (suc (suc (suc n)))) h = let none : ⊥ = omega (arith, h) in absurd none
 
-same_fields : (f : RiotFields) (timer part interval past_zero flag : ℕ) → timer ≡ f.timer → part ≡ f.part → interval ≡ f.interval → past_zero ≡ f.past_zero → flag ≡ f.flag
+same_fields : (f : RiotFields) (timer part interval past_zero flag : ℕ) → timer ≡ f.timer
+    → part ≡ f.part → interval ≡ f.interval → past_zero ≡ f.past_zero → flag ≡ f.flag
     → record f { timer = timer; part = part; interval = interval; past_zero = past_zero; flag = flag } ≡ f
 same_fields f timer part interval past_zero flag e1 e2 e3 e4 e5 = rw (e1, e2, e3, e4, e5) refl
 

@@ -51,7 +51,16 @@ interval-positive code = grind (arith, nat_tests)
 
 pub IsTimer-started : (code value : ℕ) → value < 256 → IsTimer (timer_of_write (interval_of code) value)
 unfolding timer_of_write
-IsTimer-started code value h = record { interval = interval-back code; least = omega (arith, ints); most = omega (arith, ints, interval-positive code, mul-le-mul_right {m = value + 1} {n = 256} (interval_of code) (omega arith)) }
+IsTimer-started code value h = record {
+  interval = interval-back code;
+  least = omega (arith, ints);
+  most = omega (
+    arith,
+    ints,
+    interval-positive code,
+    mul-le-mul_right {m = value + 1} {n = 256} (interval_of code) (omega arith),
+  );
+}
 
 -- the parts that a timer has
 record HasParts (r : ℤ) (i : ℕ) : Type 0 where
@@ -62,7 +71,18 @@ record HasParts (r : ℤ) (i : ℕ) : Type 0 where
   count : r ≡ count_of value part i past
 
 parts_of : (r : ℤ) (i : ℕ) → 0 < i → negsuc 254 ≤ℤ r → r ≤ℤ pos (256 * i) → HasParts r i
-parts_of (pos zero) i h l m = record { value = 255; part = 1; past = true; lawful = record { byte = omega arith; some = omega arith; most = omega arith; past = λ _. refl }; count = refl }
+parts_of (pos zero) i h l m = record {
+  value = 255;
+  part = 1;
+  past = true;
+  lawful = record {
+    byte = omega arith;
+    some = omega arith;
+    most = omega arith;
+    past = λ _. refl;
+  };
+  count = refl;
+}
 parts_of (pos (suc n)) i h l m = record {
   value = n / i;
   part = n % i + 1;
@@ -70,7 +90,18 @@ parts_of (pos (suc n)) i h l m = record {
   lawful = record { byte = (div-lt_iff_lt-mul h).1 (omega (arith, ints)); some = omega arith; most = omega arith; past = λ e. cc };
   count = omega (arith, ints, div-add-mod' n i);
 }
-parts_of (negsuc n) i h l m = record { value = 254 - n; part = 1; past = true; lawful = record { byte = omega arith; some = omega arith; most = omega arith; past = λ _. refl }; count = omega (arith, ints) }
+parts_of (negsuc n) i h l m = record {
+  value = 254 - n;
+  part = 1;
+  past = true;
+  lawful = record {
+    byte = omega arith;
+    some = omega arith;
+    most = omega arith;
+    past = λ _. refl;
+  };
+  count = omega (arith, ints);
+}
 
 -- a timer is known by what it shows, the cycles left, and whether zero is behind
 same_count : (v w p q i j : ℕ) (b c : Bool) → v ≡ w → p ≡ q → i ≡ j → b ≡ c → count_of v p i b ≡ count_of w q j c
@@ -89,7 +120,9 @@ flag_again false = refl
 
 -- the timer that the numbers of another name
 abbrev rebuilt : Countdown → Countdown
-rebuilt t = timer (count_of (intim t) (part_left t) (interval_of (interval_code t.interval)) ((if is_running t then 0 else 1) == 1)) (interval_of (interval_code t.interval)) ((if t.flag then 1 else 0) == 1)
+rebuilt t = timer (count_of (intim t) (part_left t) (interval_of (interval_code t.interval))
+    ((if is_running t then 0 else 1) == 1)) (interval_of (interval_code t.interval))
+    ((if t.flag then 1 else 0) == 1)
 
 rebuilt-parts : (v q i : ℕ) (past b : Bool) → ArePartsLawful v q i past → interval_of (interval_code i) ≡ i
     → rebuilt (timer (count_of v q i past) i b) ≡ timer (count_of v q i past) i b
@@ -149,14 +182,21 @@ not_running false e = refl
 code-small : (i : ℕ) → interval_code i < 4
 code-small i = grind (arith, nat_tests)
 
-is_riot-from : (f : RiotFields) → f.interval < 4 → 1 ≤ f.part → f.part ≤ interval_of f.interval → f.past_zero < 2 → (f.past_zero ≡ 1 → f.part ≡ 1) → f.flag < 2 → is_riot f ≡ true
+is_riot-from : (f : RiotFields) → f.interval < 4 → 1 ≤ f.part → f.part ≤ interval_of f.interval
+    → f.past_zero < 2 → (f.past_zero ≡ 1 → f.part ≡ 1) → f.flag < 2 → is_riot f ≡ true
 unfolding is_riot
 is_riot-from f h1 h2 h3 h4 h5 h6 = grind (arith, nat_tests)
 
 -- a RIOT comes back from its numbers
 pub riot_of-fields_of : (r : RiotState) → IsRiot r → riot_of (fields_of r) ≡ with_pins 255 255 r
 unfolding riot_of fields_of timer_of
-riot_of-fields_of r h = ap (λ t. record { ram = r.ram; port_a = record r.port_a { pins = 255 }; port_b = record r.port_b { pins = 255 }; timer = t }) (rebuilt-same r.timer h.timer)
+riot_of-fields_of r h = ap
+    (λ t. record {
+      ram = r.ram;
+      port_a = record r.port_a { pins = 255 };
+      port_b = record r.port_b { pins = 255 };
+      timer = t;
+    }) (rebuilt-same r.timer h.timer)
 
 pub is_riot-fields_of : (r : RiotState) → IsRiot r → is_riot (fields_of r) ≡ true
 unfolding fields_of
@@ -219,25 +259,73 @@ kept-if : (b : Bool) (r s : RiotState) → IsRiot r → IsRiot s → IsRiot (if 
 kept-if true r s h k = h
 kept-if false r s h k = k
 
-pub IsRiot-read : (r : RiotState) (io : ℕ) → IsRiot r → IsRiot (after_read r io)
+pub IsRiot-read : (r : RiotState) (register : ℕ) → IsRiot r → IsRiot (after_read r register)
 unfolding after_read after_timer_read
-IsRiot-read r io h = kept-if (is_timer io) _ _ (kept-if (has_bit io 0) _ _ h (record { memory = h.memory; bytes = h.bytes; port_a = h.port_a; port_b = h.port_b; timer = IsTimer-clear r.timer h.timer })) h
+IsRiot-read r register h = kept-if (is_timer register) _ _
+    (kept-if (has_bit register 0) _ _ h
+    (record {
+      memory = h.memory;
+      bytes = h.bytes;
+      port_a = h.port_a;
+      port_b = h.port_b;
+      timer = IsTimer-clear r.timer h.timer;
+    })) h
 
-pub IsRiot-write : (r : RiotState) (io value : ℕ) → value < 256 → IsRiot r → IsRiot (after_write r io value)
+pub IsRiot-write : (r : RiotState) (register value : ℕ) → value < 256 → IsRiot r → IsRiot (after_write r register value)
 unfolding after_write
-IsRiot-write r io value k h =
-    kept-if (is_timer io) _ _
-    (kept-if (has_bit io 4) _ _ (record { memory = h.memory; bytes = h.bytes; port_a = h.port_a; port_b = h.port_b; timer = IsTimer-started (io % 4) value k }) h)
-    (kept-if (io % 4 == 0) _ _ (record { memory = h.memory; bytes = h.bytes; port_a = record { output = k; direction = h.port_a.direction }; port_b = h.port_b; timer = h.timer })
-    (kept-if (io % 4 == 1) _ _ (record { memory = h.memory; bytes = h.bytes; port_a = record { output = h.port_a.output; direction = k }; port_b = h.port_b; timer = h.timer })
-    (kept-if (io % 4 == 2) _ _ (record { memory = h.memory; bytes = h.bytes; port_a = h.port_a; port_b = record { output = k; direction = h.port_b.direction }; timer = h.timer })
+IsRiot-write r register value k h =
+    kept-if (is_timer register) _ _
+    (kept-if (has_bit register 4) _ _
+    (record {
+      memory = h.memory;
+      bytes = h.bytes;
+      port_a = h.port_a;
+      port_b = h.port_b;
+      timer = IsTimer-started (register % 4) value k;
+    }) h)
+    (kept-if (register % 4 == 0) _ _
+    (record {
+      memory = h.memory;
+      bytes = h.bytes;
+      port_a = record { output = k; direction = h.port_a.direction };
+      port_b = h.port_b;
+      timer = h.timer;
+    })
+    (kept-if (register % 4 == 1) _ _
+    (record {
+      memory = h.memory;
+      bytes = h.bytes;
+      port_a = record { output = h.port_a.output; direction = k };
+      port_b = h.port_b;
+      timer = h.timer;
+    })
+    (kept-if (register % 4 == 2) _ _
+    (record {
+      memory = h.memory;
+      bytes = h.bytes;
+      port_a = h.port_a;
+      port_b = record { output = k; direction = h.port_b.direction };
+      timer = h.timer;
+    })
     (record { memory = h.memory; bytes = h.bytes; port_a = h.port_a; port_b = record { output = h.port_b.output; direction = k }; timer = h.timer }))))
 
 pub IsRiot-ram : (r : RiotState) (i value : ℕ) → value < 256 → IsRiot r → IsRiot (with_ram i value r)
-IsRiot-ram r i value k h = record { memory = length-set r.ram i value ∙ h.memory; bytes = All-set (λ b. b < 256) r.ram i value k h.bytes; port_a = h.port_a; port_b = h.port_b; timer = h.timer }
+IsRiot-ram r i value k h = record {
+  memory = length-set r.ram i value ∙ h.memory;
+  bytes = All-set (λ b. b < 256) r.ram i value k h.bytes;
+  port_a = h.port_a;
+  port_b = h.port_b;
+  timer = h.timer;
+}
 
 pub IsRiot-pins : (r : RiotState) (a b : ℕ) → IsRiot r → IsRiot (with_pins a b r)
-IsRiot-pins r a b h = record { memory = h.memory; bytes = h.bytes; port_a = record { output = h.port_a.output; direction = h.port_a.direction }; port_b = record { output = h.port_b.output; direction = h.port_b.direction }; timer = h.timer }
+IsRiot-pins r a b h = record {
+  memory = h.memory;
+  bytes = h.bytes;
+  port_a = record { output = h.port_a.output; direction = h.port_a.direction };
+  port_b = record { output = h.port_b.output; direction = h.port_b.direction };
+  timer = h.timer;
+}
 
 -- a read of the timer forgets the one before it
 clear-again : (n : ℕ) (t : Countdown) → with_clear_flag (iterate after_cycle n (with_clear_flag t)) ≡ with_clear_flag (iterate after_cycle n t)
@@ -254,20 +342,23 @@ intim-again n t =
     let e = iterate-but_for_flag n (with_clear_flag t) t (record { count = refl; interval = refl }) in
     rw (e.count, e.interval) refl
 
-pub read-again : (n io : ℕ) (r : RiotState) → is_timer io ≡ true → after_read (after_cycles n (after_read r io)) io ≡ after_read (after_cycles n r) io
+pub read-again : (n register : ℕ) (r : RiotState) → is_timer register ≡ true
+    → after_read (after_cycles n (after_read r register)) register ≡ after_read (after_cycles n r) register
 unfolding after_read after_timer_read after_cycles
-read-again n io r h = rw h (by_register (has_bit io 0))
+read-again n register r h = rw h (by_register (has_bit register 0))
   where
+    cleared : Bool → RiotState → RiotState
+    cleared flag s = if flag then s else record s { timer = with_clear_flag s.timer }
+
     by_register : (flag : Bool)
-        → (if flag then after_cycles n (if flag then r else record r { timer = with_clear_flag r.timer })
-        else record (after_cycles n (if flag then r else record r { timer = with_clear_flag r.timer })) { timer = with_clear_flag (after_cycles n (if flag then r else record r { timer = with_clear_flag r.timer })).timer })
-        ≡ (if flag then after_cycles n r else record (after_cycles n r) { timer = with_clear_flag (after_cycles n r).timer })
+        → cleared flag (after_cycles n (cleared flag r)) ≡ cleared flag (after_cycles n r)
     by_register true = refl
     by_register false = ap (λ (t : Countdown). record r { timer = t }) (clear-again n r.timer)
 
-pub value-again : (n io : ℕ) (r : RiotState) → is_timer io ≡ true → riot_read (after_cycles n (after_read r io)) io ≡ riot_read (after_cycles n r) io
+pub value-again : (n register : ℕ) (r : RiotState) → is_timer register ≡ true
+    → riot_read (after_cycles n (after_read r register)) register ≡ riot_read (after_cycles n r) register
 unfolding riot_read after_read after_timer_read after_cycles
-value-again n io r h = rw h (by_register (has_bit io 0))
+value-again n register r h = rw h (by_register (has_bit register 0))
   where
     by_register : (flag : Bool)
         → (if flag then (if (iterate after_cycle n (if flag then r else record r { timer = with_clear_flag r.timer }).timer).flag then 128 else 0)

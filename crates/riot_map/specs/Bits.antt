@@ -11,4 +11,6 @@ bit_weight b k = if b then 2 ^ k else 0
 
 -- the byte of eight bits, each named by its number
 abbrev pub byte_of_bits : (ℕ → Bool) → ℕ
-byte_of_bits b = bit_weight (b 7) 7 + bit_weight (b 6) 6 + bit_weight (b 5) 5 + bit_weight (b 4) 4 + bit_weight (b 3) 3 + bit_weight (b 2) 2 + bit_weight (b 1) 1 + bit_weight (b 0) 0
+byte_of_bits b =
+    bit_weight (b 7) 7 + bit_weight (b 6) 6 + bit_weight (b 5) 5 + bit_weight (b 4) 4
+    + bit_weight (b 3) 3 + bit_weight (b 2) 2 + bit_weight (b 1) 1 + bit_weight (b 0) 0

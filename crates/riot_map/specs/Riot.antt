@@ -71,7 +71,7 @@ with_ram i value r = record r { ram = slice_set r.ram i value }
 
 -- A2 selects the timer, else the ports
 abbrev pub is_timer : ℕ → Bool
-is_timer io = has_bit io 2
+is_timer register = has_bit register 2
 
 -- A1 and A0 select SWCHA, SWACNT, SWCHB and SWBCNT; a direction register reads itself
 abbrev pub port_read : RiotState → ℕ → ℕ
@@ -81,19 +81,19 @@ port_read r register =
 
 -- INTIM if A0 is 0, else the flag in bit 7. That the other bits are 0 is this project's own.
 abbrev pub timer_read : Countdown → ℕ → ℕ
-timer_read t io = if has_bit io 0 then (if t.flag then 128 else 0) else intim t
+timer_read t register = if has_bit register 0 then (if t.flag then 128 else 0) else intim t
 
 -- the byte that a read gives
 unfoldable pub riot_read : RiotState → ℕ → ℕ
-riot_read r io = if is_timer io then timer_read r.timer io else port_read r (io % 4)
+riot_read r register = if is_timer register then timer_read r.timer register else port_read r (register % 4)
 
 -- a read of INTIM clears the flag
 unfoldable pub after_timer_read : RiotState → ℕ → RiotState
-after_timer_read r io = if has_bit io 0 then r else record r { timer = with_clear_flag r.timer }
+after_timer_read r register = if has_bit register 0 then r else record r { timer = with_clear_flag r.timer }
 
 -- no other read changes anything
 unfoldable pub after_read : RiotState → ℕ → RiotState
-after_read r io = if is_timer io then after_timer_read r io else r
+after_read r register = if is_timer register then after_timer_read r register else r
 
 -- SWCHA and SWCHB take an output latch, SWACNT and SWBCNT a direction
 abbrev pub after_port_write : RiotState → ℕ → ℕ → RiotState
@@ -106,7 +106,7 @@ after_port_write r register value =
 -- if A4 is 1 the timer starts with the interval of A1 and A0 (TIM1T, TIM8T, TIM64T, T1024T).
 -- That nothing happens if A4 is 0 is this project's own.
 abbrev pub after_timer_write : RiotState → ℕ → ℕ → RiotState
-after_timer_write r io value = if has_bit io 4 then record r { timer = timer_of_write (interval_of (io % 4)) value } else r
+after_timer_write r register value = if has_bit register 4 then record r { timer = timer_of_write (interval_of (register % 4)) value } else r
 
 unfoldable pub after_write : RiotState → ℕ → ℕ → RiotState
-after_write r io value = if is_timer io then after_timer_write r io value else after_port_write r (io % 4) value
+after_write r register value = if is_timer register then after_timer_write r register value else after_port_write r (register % 4) value

@@ -90,24 +90,24 @@ impl Cart {
     /// The byte that a read of an address gives while this bank is selected. A cartridge without
     /// banks stands there again and again, whatever the bank.
     #[tactic(auto, using(crate::proofs::CartLemmas::mask_is_mirror))]
-    pub fn at(&self, bank: u8, addr: u16) -> u8
+    pub fn at(&self, bank: u8, address: u16) -> u8
         requires { bank < 2 }
-        ensures { result ≡ cart_byte self.now bank addr }
+        ensures { result ≡ cart_byte self.now bank address }
     {
-        let place = BANK_LENGTH * bank as usize + addr as usize % BANK_LENGTH;
+        let place = BANK_LENGTH * bank as usize + address as usize % BANK_LENGTH;
         // The length is a power of two, so this is the remainder by it.
         self.bytes[place & (self.bytes.len() - 1)]
     }
 
     /// The bank after a data access to this address. A cartridge without banks leaves it.
-    pub fn select(&self, bank: u8, addr: u16) -> u8
-        ensures value { result ≡ bank_after self.now bank addr }
+    pub fn select(&self, bank: u8, address: u16) -> u8
+        ensures value { result ≡ bank_after self.now bank address }
         ensures range { bank < 2 → result < 2 }
     {
         if !self.has_banks() {
             return bank;
         }
-        match addr % 8192 {
+        match address % 8192 {
             0x1FF8 => 0,
             0x1FF9 => 1,
             _ => bank,

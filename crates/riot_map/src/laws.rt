@@ -23,8 +23,8 @@ pub fn law_of_lawful_riots()
     ensures power_on { IsRiot riot_at_power_on }
     ensures fields { (f : RiotFields) → AreInRange f → is_riot f ≡ true → IsRiot (riot_of f) }
     ensures cycles { (r : RiotState) (n : ℕ) → IsRiot r → IsRiot (after_cycles n r) }
-    ensures read { (r : RiotState) (io : ℕ) → IsRiot r → IsRiot (after_read r io) }
-    ensures write { (r : RiotState) (io value : ℕ) → value < 256 → IsRiot r → IsRiot (after_write r io value) }
+    ensures read { (r : RiotState) (register : ℕ) → IsRiot r → IsRiot (after_read r register) }
+    ensures write { (r : RiotState) (register value : ℕ) → value < 256 → IsRiot r → IsRiot (after_write r register value) }
     ensures ram { (r : RiotState) (i value : ℕ) → value < 256 → IsRiot r → IsRiot (with_ram i value r) }
     ensures pins { (r : RiotState) (a b : ℕ) → IsRiot r → IsRiot (with_pins a b r) }
 {}

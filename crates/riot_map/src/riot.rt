@@ -112,16 +112,16 @@ impl Riot {
         self.timer.cycles(n);
     }
 
-    /// What a read of a register of the ports or the timer would give. The low five bits of `io`
+    /// What a read of a register of the ports or the timer would give. The low five bits of `register`
     /// are the address lines A0 to A4; the others don't count.
     #[tactic(auto, unfolding(crate::specs::Riot::riot_read))]
     #[inline(always)]
-    pub fn peek(&self, io: u8) -> u8
-        ensures { result ≡ riot_read self.now io }
+    pub fn peek(&self, register: u8) -> u8
+        ensures { result ≡ riot_read self.now register }
     {
-        if !has_bit(u16::from(io), 2) {
-            self.read_port(io)
-        } else if !has_bit(u16::from(io), 0) {
+        if !has_bit(u16::from(register), 2) {
+            self.read_port(register)
+        } else if !has_bit(u16::from(register), 0) {
             self.timer.value()
         } else if self.timer.flag() {
             0x80
@@ -133,22 +133,22 @@ impl Riot {
     /// Reads a register of the ports or the timer: what `peek` says. A read of INTIM clears the
     /// flag.
     #[tactic(auto, unfolding(crate::specs::Riot::after_read, crate::specs::Riot::after_timer_read))]
-    pub fn read(&mut self, io: u8) -> u8
-        ensures value { result ≡ riot_read self.old io }
-        ensures after { self.new ≡ after_read self.old io }
+    pub fn read(&mut self, register: u8) -> u8
+        ensures value { result ≡ riot_read self.old register }
+        ensures after { self.new ≡ after_read self.old register }
     {
-        let value = self.peek(io);
-        if has_bit(u16::from(io), 2) && !has_bit(u16::from(io), 0) {
+        let value = self.peek(register);
+        if has_bit(u16::from(register), 2) && !has_bit(u16::from(register), 0) {
             self.timer.clear_flag();
         }
         value
     }
 
     /// Reads SWCHA, SWACNT, SWCHB or SWBCNT.
-    fn read_port(&self, io: u8) -> u8
-        ensures { result ≡ port_read self.now (io % 4) }
+    fn read_port(&self, register: u8) -> u8
+        ensures { result ≡ port_read self.now (register % 4) }
     {
-        match io % 4 {
+        match register % 4 {
             0 => self.port_a.read_a(),
             1 => self.port_a.direction,
             2 => self.port_b.read_b(),
@@ -156,18 +156,18 @@ impl Riot {
         }
     }
 
-    /// Writes a register of the ports or the timer. The low five bits of `io` are the address
+    /// Writes a register of the ports or the timer. The low five bits of `register` are the address
     /// lines A0 to A4; the others don't count.
     #[tactic(auto, unfolding(crate::specs::Riot::after_write))]
-    pub fn write(&mut self, io: u8, value: u8)
-        ensures { self.new ≡ after_write self.old io value }
+    pub fn write(&mut self, register: u8, value: u8)
+        ensures { self.new ≡ after_write self.old register value }
     {
-        if has_bit(u16::from(io), 2) {
-            if has_bit(u16::from(io), 4) {
-                self.timer = Timer::start(Interval::of_code(io % 4), value);
+        if has_bit(u16::from(register), 2) {
+            if has_bit(u16::from(register), 4) {
+                self.timer = Timer::start(Interval::of_code(register % 4), value);
             }
         } else {
-            match io % 4 {
+            match register % 4 {
                 0 => self.port_a.output = value,
                 1 => self.port_a.direction = value,
                 2 => self.port_b.output = value,

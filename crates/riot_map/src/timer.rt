@@ -31,7 +31,11 @@ impl Model for Timer {
 
     ghost Value = { Countdown };
 
-    ghost view = { λ t. record { count = count_of t.value t.part (interval_cycles t.interval) t.past_zero; interval = interval_cycles t.interval; flag = t.flag } };
+    ghost view = { λ t. record {
+      count = count_of t.value t.part (interval_cycles t.interval) t.past_zero;
+      interval = interval_cycles t.interval;
+      flag = t.flag;
+    } };
 
     ghost invariant = { λ t. ArePartsLawful t.value t.part (interval_cycles t.interval) t.past_zero };
 }
@@ -68,7 +72,7 @@ impl Timer {
     }
 
     /// The timer of some numbers; none if they aren't lawful.
-    #[tactic(auto, using(crate::proofs::RiotFieldLemmas::lawful_interval, crate::proofs::RiotFieldLemmas::lawful_some, crate::proofs::RiotFieldLemmas::lawful_most, crate::proofs::RiotFieldLemmas::lawful_past), unfolding(crate::specs::RiotFields::timer_of),)]
+    #[tactic(auto, using(crate::proofs::RiotFieldLemmas::lawful_timers), unfolding(crate::specs::RiotFields::timer_of))]
     pub fn from_fields(fields: &RiotFields) -> Option<Timer>
         ensures { result ≡ (if is_riot fields.now then Some (timer_of fields.now) else None) }
     {

@@ -55,25 +55,27 @@ impl Bus for LogBus {
         self.clock = before.wrapping_add(cycles as u32);
     }
 
-    fn read(&mut self, addr: u16) -> u8 {
-        let _ = self.events.try_push(Event::Read(self.clock, addr));
-        self.memory[addr as usize]
+    fn read(&mut self, address: u16) -> u8 {
+        let _ = self.events.try_push(Event::Read(self.clock, address));
+        self.memory[address as usize]
     }
 
-    fn write(&mut self, addr: u16, value: u8) {
-        let _ = self.events.try_push(Event::Write(self.clock, addr, value));
-        self.memory[addr as usize] = value;
+    fn write(&mut self, address: u16, value: u8) {
+        let _ = self
+            .events
+            .try_push(Event::Write(self.clock, address, value));
+        self.memory[address as usize] = value;
     }
 
-    fn peek(&self, addr: u16) -> Option<u8> {
-        if addr >> 8 == self.device_page {
+    fn peek(&self, address: u16) -> Option<u8> {
+        if address >> 8 == self.device_page {
             None
         } else {
-            Some(self.memory[addr as usize])
+            Some(self.memory[address as usize])
         }
     }
 
-    fn peek_zero(&self, addr: u8) -> u8 {
-        self.memory[addr as usize]
+    fn peek_zero(&self, address: u8) -> u8 {
+        self.memory[address as usize]
     }
 }

@@ -25,7 +25,8 @@ iterate-add f zero n a = let e : zero + n ≡ n = omega arith in rw e
 iterate-add f (suc m) n a = let e : suc m + n ≡ suc (m + n) = omega arith in rw e (iterate-add f m n (f a))
 
 -- pixels in two parts are drawn one part after the other
-pub painted-append : {S : Type 0} (drawn : S → ℕ → ℕ → ℕ → S) (sink : S) (ps qs : List Pixel) → sink_after_pixels drawn sink (ps ++ qs) ≡ sink_after_pixels drawn (sink_after_pixels drawn sink ps) qs
+pub painted-append : {S : Type 0} (drawn : S → ℕ → ℕ → ℕ → S) (sink : S) (ps qs : List Pixel)
+    → sink_after_pixels drawn sink (ps ++ qs) ≡ sink_after_pixels drawn (sink_after_pixels drawn sink ps) qs
 painted-append drawn sink [] qs = refl
 painted-append drawn sink (p ∷ ps) qs = painted-append drawn (drawn sink p.line p.x p.colour) ps qs
 
@@ -33,7 +34,9 @@ pub pixels-add : (m n : ℕ) (s : TiaState) → pixels (m + n) s ≡ pixels m s 
 pixels-add zero n s = let e : zero + n ≡ n = omega arith in rw e
 pixels-add (suc m) n s =
     let e : suc m + n ≡ suc (m + n) = omega arith in
-    rw e (ap (λ (ps : List Pixel). pixels_of s ++ ps) (pixels-add m n (after_clock s)) ∙ sym (append_assoc (pixels_of s) (pixels m (after_clock s)) (pixels n (iterate after_clock m (after_clock s)))))
+    rw e (ap (λ (ps : List Pixel). pixels_of s ++ ps) (pixels-add m n (after_clock s))
+    ∙ sym (append_assoc (pixels_of s) (pixels m (after_clock s))
+    (pixels n (iterate after_clock m (after_clock s)))))
 
 pub painted-add : {S : Type 0} (drawn : S → ℕ → ℕ → ℕ → S) (sink : S) (m n : ℕ) (s : TiaState)
     → sink_after_pixels drawn sink (pixels (m + n) s) ≡ sink_after_pixels drawn (sink_after_pixels drawn sink (pixels m s)) (pixels n (iterate after_clock m s))
@@ -47,7 +50,9 @@ pub iterate_left : {A : Type 0} (f : A → A) (n i : ℕ) (a : A) → i < n → 
 iterate_left f n i a h = rw (one_less n i h)
 
 pub painted_left : {S : Type 0} (drawn : S → ℕ → ℕ → ℕ → S) (n i : ℕ) (sink : S) (s : TiaState) → i < n
-    → sink_after_pixels drawn sink (pixels (n - i) s) ≡ sink_after_pixels drawn (sink_after_pixels drawn sink (pixels_of s)) (pixels (n - (i + 1)) (after_clock s))
+    → sink_after_pixels drawn sink (pixels (n - i) s)
+    ≡ sink_after_pixels drawn (sink_after_pixels drawn sink (pixels_of s))
+    (pixels (n - (i + 1)) (after_clock s))
 painted_left drawn n i sink s h = rw (one_less n i h) (painted-append drawn sink (pixels_of s) (pixels (n - (i + 1)) (after_clock s)))
 
 -- ---- one clock by cases
@@ -97,21 +102,26 @@ iterate-clocked-beam n s h k =
     omega arith
 
 -- ---- what clocks leave alone: all but the collisions, the clock, the comb and the line
-clocked-others : (s : TiaState) → s.fields.clock < 228
-    → after_clock s ≡ record s { fields = record s.fields { collisions = (after_clock s).fields.collisions; clock = (after_clock s).fields.clock; comb = (after_clock s).fields.comb }; line = (after_clock s).line }
+abbrev pub with_beam_of : TiaState → TiaState → TiaState
+with_beam_of after s = record s {
+  fields = after_beam s.fields after.fields.collisions after.fields.clock after.fields.comb;
+  line = after.line;
+}
+
+clocked-others : (s : TiaState) → s.fields.clock < 228 → after_clock s ≡ with_beam_of (after_clock s) s
 clocked-others s h = elim (inside_or_last s h) [
   | inl lt ↦ rw (clocked-inside s lt) refl
   | inr eq ↦ rw (clocked-last s eq) refl
 ]
 
 pub iterate-clocked-others : (n : ℕ) (s : TiaState) → s.fields.clock < 228
-    → iterate after_clock n s ≡ record s { fields = record s.fields { collisions = (iterate after_clock n s).fields.collisions; clock = (iterate after_clock n s).fields.clock; comb = (iterate after_clock n s).fields.comb }; line = (iterate after_clock n s).line }
+    → iterate after_clock n s ≡ with_beam_of (iterate after_clock n s) s
 iterate-clocked-others zero s h = refl
 iterate-clocked-others (suc n) s h =
     let e = clocked-clock s h in
     let after : TiaState = iterate after_clock n (after_clock s) in
     iterate-clocked-others n (after_clock s) (omega arith)
-    ∙ ap (λ (z : TiaState). record z { fields = record z.fields { collisions = after.fields.collisions; clock = after.fields.clock; comb = after.fields.comb }; line = after.line }) (clocked-others s h)
+    ∙ ap (with_beam_of after) (clocked-others s h)
 
 pub iterate-clocked-fields : (n : ℕ) (s : TiaState) → s.fields.clock < 228
     → let f = (iterate after_clock n s).fields in f ≡ after_beam s.fields f.collisions f.clock f.comb
@@ -119,14 +129,17 @@ iterate-clocked-fields n s h = ap (λ (z : TiaState). z.fields) (iterate-clocked
 
 -- ---- writes that change nothing wherever the beam is change nothing after clocks
 pub written-after-clocks : (n : ℕ) (s : TiaState) (number v : ℕ) → s.fields.clock < 228
-    → ((fire0 fire1 : Bool) (collisions clock comb : ℕ) → fields_after (after_beam s.fields collisions clock comb) fire0 fire1 (register_of number) v ≡ after_beam s.fields collisions clock comb)
+    → ((fire0 fire1 : Bool) (collisions clock comb : ℕ)
+    → fields_after (after_beam s.fields collisions clock comb) fire0 fire1
+    (register_of number) v ≡ after_beam s.fields collisions clock comb)
     → tia_after_write (iterate after_clock n s) number v ≡ iterate after_clock n s
 unfolding tia_after_write
 written-after-clocks n s number v h kept =
     let t : TiaState = iterate after_clock n s in
     let e = iterate-clocked-fields n s h in
     ap (λ (f : TiaFields). record t { fields = f })
-    (ap (λ (f : TiaFields). fields_after f t.fire0 t.fire1 (register_of number) v) e ∙ kept t.fire0 t.fire1 t.fields.collisions t.fields.clock t.fields.comb ∙ sym e)
+    (ap (λ (f : TiaFields). fields_after f t.fire0 t.fire1 (register_of number) v) e
+    ∙ kept t.fire0 t.fire1 t.fields.collisions t.fields.clock t.fields.comb ∙ sym e)
 
 pub effect-after-clocks : (n : ℕ) (s : TiaState) (number v : ℕ) → s.fields.clock < 228
     → ((collisions clock comb : ℕ) → effect_after (after_beam s.fields collisions clock comb) (register_of number) v ≡ Nothing)
@@ -151,7 +164,21 @@ collisions_after-keeps t k h = either (nat_lt t.clock 68) where
 
 clocked-keeps : (s : TiaState) (k : ℕ) → has_bit s.fields.collisions k ≡ true → has_bit (after_clock s).fields.collisions k ≡ true
 clocked-keeps s k h = either (s.fields.clock == 227) where
-  either : (b : Bool) → has_bit (if b then (record s { fields = record s.fields { collisions = collisions_after s.fields; clock = 0; comb = 0 }; line = (s.line + 1) % 65536 }) else (record s { fields = record s.fields { collisions = collisions_after s.fields; clock = s.fields.clock + 1 } })).fields.collisions k ≡ true
+  either : (b : Bool) → has_bit
+      (if b then (record s {
+        fields = record s.fields {
+          collisions = collisions_after s.fields;
+          clock = 0;
+          comb = 0;
+        };
+        line = (s.line + 1) % 65536;
+      })
+      else (record s {
+        fields = record s.fields {
+          collisions = collisions_after s.fields;
+          clock = s.fields.clock + 1;
+        };
+      })).fields.collisions k ≡ true
   either true = collisions_after-keeps s.fields k h
   either false = collisions_after-keeps s.fields k h
 

@@ -51,4 +51,20 @@ pairs_of-bit o k h = number_from-digit 0 (pairs_list o) k h
 
 pub byte_at-pairs : (t : TiaFields) (fire0 fire1 : Bool) (o : Objects)
     → map (register_byte (record t { collisions = pairs_of o }) fire0 fire1) (0 ∷ 1 ∷ 2 ∷ 3 ∷ 4 ∷ 5 ∷ 6 ∷ 7 ∷ []) ≡ collision_bytes o
-byte_at-pairs t fire0 fire1 o = rw (pairs_of-bit o 14 (omega arith), pairs_of-bit o 13 (omega arith), pairs_of-bit o 12 (omega arith), pairs_of-bit o 11 (omega arith), pairs_of-bit o 10 (omega arith), pairs_of-bit o 9 (omega arith), pairs_of-bit o 8 (omega arith), pairs_of-bit o 7 (omega arith), pairs_of-bit o 6 (omega arith), pairs_of-bit o 5 (omega arith), pairs_of-bit o 4 (omega arith), pairs_of-bit o 3 (omega arith), pairs_of-bit o 2 (omega arith), pairs_of-bit o 1 (omega arith), pairs_of-bit o 0 (omega arith)) refl
+byte_at-pairs t fire0 fire1 o = rw (
+  pairs_of-bit o 14 (omega arith),
+  pairs_of-bit o 13 (omega arith),
+  pairs_of-bit o 12 (omega arith),
+  pairs_of-bit o 11 (omega arith),
+  pairs_of-bit o 10 (omega arith),
+  pairs_of-bit o 9 (omega arith),
+  pairs_of-bit o 8 (omega arith),
+  pairs_of-bit o 7 (omega arith),
+  pairs_of-bit o 6 (omega arith),
+  pairs_of-bit o 5 (omega arith),
+  pairs_of-bit o 4 (omega arith),
+  pairs_of-bit o 3 (omega arith),
+  pairs_of-bit o 2 (omega arith),
+  pairs_of-bit o 1 (omega arith),
+  pairs_of-bit o 0 (omega arith),
+) refl

@@ -61,10 +61,12 @@ strobed_position-lt : (blank delay clock : ℕ) → blank < 160 → strobed_posi
 strobed_position-lt blank delay clock h = grind arith
 
 moved_position-lt : (motion position : ℕ) → moved_position motion position < 160
-moved_position-lt motion position = if_lt (nat_lt (motion / 16) 8) (modulo_160-lt (pos position -ℤ pos (motion / 16))) (modulo_160-lt (pos position +ℤ pos (16 - motion / 16))) where
-  if_lt : {m n : ℕ} (b : Bool) → m < 160 → n < 160 → (if b then m else n) < 160
-  if_lt true h k = h
-  if_lt false h k = k
+moved_position-lt motion position = if_lt (nat_lt (motion / 16) 8)
+    (modulo_160-lt (pos position -ℤ pos (motion / 16)))
+    (modulo_160-lt (pos position +ℤ pos (16 - motion / 16))) where
+      if_lt : {m n : ℕ} (b : Bool) → m < 160 → n < 160 → (if b then m else n) < 160
+      if_lt true h k = h
+      if_lt false h k = k
 
 released_position-lt : (old new nusiz player missile : ℕ) → missile < 160 → released_position old new nusiz player missile < 160
 released_position-lt old new nusiz player missile h = grind arith
@@ -116,18 +118,24 @@ fields_after-lawful t fire0 fire1 Cxclr v h = search bounds
 fields_after-lawful t fire0 fire1 Ignored v h = h
 
 collisions_after-lt : (t : TiaFields) → t.collisions < 2 ^ 15 → collisions_after t < 2 ^ 15
-collisions_after-lt t h = if_lt (nat_lt t.clock 68) h (or_lt 15 t.collisions (pairs_of (objects_at t (t.clock - 68))) h (pairs_of-lt (objects_at t (t.clock - 68)))) where
-  if_lt : {m n : ℕ} (b : Bool) → m < 2 ^ 15 → n < 2 ^ 15 → (if b then m else n) < 2 ^ 15
-  if_lt true h k = h
-  if_lt false h k = k
+collisions_after-lt t h = if_lt (nat_lt t.clock 68) h
+    (or_lt 15 t.collisions (pairs_of (objects_at t (t.clock - 68))) h
+    (pairs_of-lt (objects_at t (t.clock - 68)))) where
+      if_lt : {m n : ℕ} (b : Bool) → m < 2 ^ 15 → n < 2 ^ 15 → (if b then m else n) < 2 ^ 15
+      if_lt true h k = h
+      if_lt false h k = k
 
 placed-lawful : (t : TiaFields) (c h b : ℕ) → IsLawfulTia t → c < 2 ^ 15 → h < 228 → b < 2 → IsLawfulTia (record t { collisions = c; clock = h; comb = b })
 placed-lawful t c h b l p q r = search (rules, l.unlatched)
 
 pub clocked-lawful : (s : TiaState) → IsLawfulTia s.fields → IsLawfulTia (after_clock s).fields
 clocked-lawful s h = elim (inside_or_last s h.clock) [
-  | inl lt ↦ rw (clocked-inside s lt) (placed-lawful s.fields (collisions_after s.fields) (s.fields.clock + 1) s.fields.comb h (collisions_after-lt s.fields h.collisions) (omega arith) h.comb)
-  | inr eq ↦ rw (clocked-last s eq) (placed-lawful s.fields (collisions_after s.fields) 0 0 h (collisions_after-lt s.fields h.collisions) (omega arith) (omega arith))
+  | inl lt ↦ rw (clocked-inside s lt)
+      (placed-lawful s.fields (collisions_after s.fields) (s.fields.clock + 1) s.fields.comb h
+      (collisions_after-lt s.fields h.collisions) (omega arith) h.comb)
+  | inr eq ↦ rw (clocked-last s eq)
+      (placed-lawful s.fields (collisions_after s.fields) 0 0 h
+      (collisions_after-lt s.fields h.collisions) (omega arith) (omega arith))
 ]
 
 pub iterate-clocked-lawful : (n : ℕ) (s : TiaState) → IsLawfulTia s.fields → IsLawfulTia (iterate after_clock n s).fields

@@ -37,7 +37,8 @@ movers t = record {
   playfield = false;
 }
 
-six-same : (a b : Objects) → a.player0 ≡ b.player0 → a.player1 ≡ b.player1 → a.missile0 ≡ b.missile0 → a.missile1 ≡ b.missile1 → a.ball ≡ b.ball → a.playfield ≡ b.playfield → a ≡ b
+six-same : (a b : Objects) → a.player0 ≡ b.player0 → a.player1 ≡ b.player1 → a.missile0 ≡ b.missile0
+    → a.missile1 ≡ b.missile1 → a.ball ≡ b.ball → a.playfield ≡ b.playfield → a ≡ b
 six-same a b p q r s t u = rw (p, q, r, s, t, u) refl
 
 pub moved-objects : (t : TiaFields) (fire0 fire1 : Bool) (v x : ℕ) → IsLawfulTia t

@@ -54,7 +54,8 @@ unfolding zip_or
 number_or m n [] [] none = refl
 number_or m n [] (b ∷ qs) h = elim h [ ]
 number_or m n (a ∷ ps) [] h = elim h [ ]
-number_or m n (a ∷ ps) (b ∷ qs) (more _ _ _ _ s) = number_or (2 * m + (if a then 1 else 0)) (2 * n + (if b then 1 else 0)) ps qs s ∙ ap (λ (z : ℕ). number_from z (zip_or ps qs)) (or_digit m n a b)
+number_or m n (a ∷ ps) (b ∷ qs) (more _ _ _ _ s) = number_or (2 * m + (if a then 1 else 0))
+    (2 * n + (if b then 1 else 0)) ps qs s ∙ ap (λ (z : ℕ). number_from z (zip_or ps qs)) (or_digit m n a b)
 
 -- the bits after a stretch, from those before it
 unfoldable pub or_from : TiaFields → ℕ → ℕ → ℕ → ℕ
@@ -63,13 +64,22 @@ or_from t x (suc k) c = or_from t (x + 1) k (bit_or c (pairs_of (objects_at t x)
 
 -- fifteen pairs of two pixels
 fifteen : (a b c d e f g h i j k l m n o a' b' c' d' e' f' g' h' i' j' k' l' m' n' o' : Bool)
-    → SameLength (a ∷ b ∷ c ∷ d ∷ e ∷ f ∷ g ∷ h ∷ i ∷ j ∷ k ∷ l ∷ m ∷ n ∷ o ∷ []) (a' ∷ b' ∷ c' ∷ d' ∷ e' ∷ f' ∷ g' ∷ h' ∷ i' ∷ j' ∷ k' ∷ l' ∷ m' ∷ n' ∷ o' ∷ [])
+    → SameLength (a ∷ b ∷ c ∷ d ∷ e ∷ f ∷ g ∷ h ∷ i ∷ j ∷ k ∷ l ∷ m ∷ n ∷ o ∷ [])
+    (a' ∷ b' ∷ c' ∷ d' ∷ e' ∷ f' ∷ g' ∷ h' ∷ i' ∷ j' ∷ k' ∷ l' ∷ m' ∷ n' ∷ o' ∷ [])
 fifteen a b c d e f g h i j k l m n o a' b' c' d' e' f' g' h' i' j' k' l' m' n' o' =
-    more _ _ _ _ (more _ _ _ _ (more _ _ _ _ (more _ _ _ _ (more _ _ _ _ (more _ _ _ _ (more _ _ _ _ (more _ _ _ _ (more _ _ _ _ (more _ _ _ _ (more _ _ _ _ (more _ _ _ _ (more _ _ _ _ (more _ _ _ _ (more _ _ _ _ none))))))))))))))
+    more _ _ _ _ (more _ _ _ _
+    (more _ _ _ _ (more _ _ _ _
+    (more _ _ _ _ (more _ _ _ _
+    (more _ _ _ _ (more _ _ _ _
+    (more _ _ _ _ (more _ _ _ _
+    (more _ _ _ _ (more _ _ _ _ (more _ _ _ _ (more _ _ _ _ (more _ _ _ _ none))))))))))))))
 
-pairs-then-stretch : (t : TiaFields) (x k : ℕ) → bit_or (pairs_of (objects_at t x)) (number_from 0 (stretch_pairs t (x + 1) k)) ≡ number_from 0 (stretch_pairs t x (suc k))
+pairs-then-stretch : (t : TiaFields) (x k : ℕ)
+    → bit_or (pairs_of (objects_at t x)) (number_from 0 (stretch_pairs t (x + 1) k))
+    ≡ number_from 0 (stretch_pairs t x (suc k))
 unfolding pairs_of zip_or
-pairs-then-stretch t x k = number_or 0 0 (pairs_list (objects_at t x)) (stretch_pairs t (x + 1) k) (fifteen _ _ _ _ _ _ _ _ _ _ _ _ _ _ _ _ _ _ _ _ _ _ _ _ _ _ _ _ _ _)
+pairs-then-stretch t x k = number_or 0 0 (pairs_list (objects_at t x)) (stretch_pairs t (x + 1) k)
+    (fifteen _ _ _ _ _ _ _ _ _ _ _ _ _ _ _ _ _ _ _ _ _ _ _ _ _ _ _ _ _ _)
 
 pub or_from-stretch : (t : TiaFields) (x k c : ℕ) → or_from t x k c ≡ bit_or c (number_from 0 (stretch_pairs t x k))
 unfolding or_from
@@ -103,7 +113,8 @@ or_from-bounded t bound c x (suc k) h e fits =
     ap (or_from t (x + 1) k) (or-within c bound (pairs_of (objects_at t x)) (h x (omega arith)) e) ∙ or_from-bounded t bound c (x + 1) k h e (omega arith)
 
 -- where a bound is latched already, a stretch latches nothing
-pub stretch-bounded : (t : TiaFields) (bound c x k : ℕ) → IsBound t bound → bit_or c bound ≡ c → x + k ≤ 160 → c ≡ bit_or c (number_from 0 (stretch_pairs t x k))
+pub stretch-bounded : (t : TiaFields) (bound c x k : ℕ) → IsBound t bound → bit_or c bound ≡ c
+    → x + k ≤ 160 → c ≡ bit_or c (number_from 0 (stretch_pairs t x k))
 stretch-bounded t bound c x k h e fits = sym (or_from-bounded t bound c x k h e fits) ∙ or_from-stretch t x k c
 
 -- a stretch without pairs latches nothing
@@ -115,7 +126,9 @@ or_from-none t c x (suc k) h =
     ∙ ap (or_from t (x + 1) k) (or_zero_r c)
     ∙ or_from-none t c (x + 1) k (λ y le lt. h y (omega arith) (omega arith))
 
-pub stretch-none : (t : TiaFields) (c x k : ℕ) → ((y : ℕ) → x ≤ y → y < x + k → pairs_of (objects_at t y) ≡ 0) → c ≡ bit_or c (number_from 0 (stretch_pairs t x k))
+pub stretch-none : (t : TiaFields) (c x k : ℕ)
+    → ((y : ℕ) → x ≤ y → y < x + k → pairs_of (objects_at t y) ≡ 0)
+    → c ≡ bit_or c (number_from 0 (stretch_pairs t x k))
 stretch-none t c x k h = sym (or_from-none t c x k h) ∙ or_from-stretch t x k c
 
 -- where no two objects are there, no pair is
@@ -179,5 +192,6 @@ pairs-within l o e =
   where
     same-list : {a b c d e f g h i j k l m n o a' b' c' d' e' f' g' h' i' j' k' l' m' n' o' : Bool}
         → a ≡ a' → b ≡ b' → c ≡ c' → d ≡ d' → e ≡ e' → f ≡ f' → g ≡ g' → h ≡ h' → i ≡ i' → j ≡ j' → k ≡ k' → l ≡ l' → m ≡ m' → n ≡ n' → o ≡ o'
-        → ◌≡◌ {A = List Bool} (a ∷ b ∷ c ∷ d ∷ e ∷ f ∷ g ∷ h ∷ i ∷ j ∷ k ∷ l ∷ m ∷ n ∷ o ∷ []) (a' ∷ b' ∷ c' ∷ d' ∷ e' ∷ f' ∷ g' ∷ h' ∷ i' ∷ j' ∷ k' ∷ l' ∷ m' ∷ n' ∷ o' ∷ [])
+        → ◌≡◌ {A = List Bool} (a ∷ b ∷ c ∷ d ∷ e ∷ f ∷ g ∷ h ∷ i ∷ j ∷ k ∷ l ∷ m ∷ n ∷ o ∷ [])
+        (a' ∷ b' ∷ c' ∷ d' ∷ e' ∷ f' ∷ g' ∷ h' ∷ i' ∷ j' ∷ k' ∷ l' ∷ m' ∷ n' ∷ o' ∷ [])
     same-list e1 e2 e3 e4 e5 e6 e7 e8 e9 e10 e11 e12 e13 e14 e15 = rw (e1, e2, e3, e4, e5, e6, e7, e8, e9, e10, e11, e12, e13, e14, e15) refl

@@ -15,7 +15,15 @@ pairs_table =
     0x001C ∷ 0x161C ∷ 0x099C ∷ 0x1F9E ∷ 0x007D ∷ 0x367D ∷ 0x49FD ∷ 0x7FFF ∷ []
 
 pub table-pairs : (a b c d e f : Bool)
-    → slice_index_or pairs_table (set_number a b c d e f) 0 ≡ pairs_of (record { player0 = a; player1 = b; missile0 = c; missile1 = d; ball = e; playfield = f })
+    → slice_index_or pairs_table (set_number a b c d e f) 0
+    ≡ pairs_of (record {
+      player0 = a;
+      player1 = b;
+      missile0 = c;
+      missile1 = d;
+      ball = e;
+      playfield = f;
+    })
 unfolding pairs_of
 table-pairs true true true true true true = refl
 table-pairs true true true true true false = refl

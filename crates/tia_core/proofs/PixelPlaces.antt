@@ -84,7 +84,9 @@ InTime start n p = (start ≤ beam_of_pixel p) × (beam_of_pixel p < start + n)
 pixels_of-in_time : (n : ℕ) (s : TiaState) → All (InTime (beam_of s) (suc n)) (pixels_of s)
 pixels_of-in_time n s = elim (blank_or_visible s) [
   | inl lt ↦ rw (pixels_of-blank s lt) (All-nil (InTime (beam_of s) (suc n)))
-  | inr le ↦ rw (pixels_of-visible s le) (All-cons (InTime (beam_of s) (suc n)) (pixel_of s) [] (omega arith, omega arith) (All-nil (InTime (beam_of s) (suc n))))
+  | inr le ↦ rw (pixels_of-visible s le)
+      (All-cons (InTime (beam_of s) (suc n)) (pixel_of s) [] (omega arith, omega arith)
+      (All-nil (InTime (beam_of s) (suc n))))
 ]
 
 later : (start next n : ℕ) → next ≡ start + 1 → (p : Pixel) → InTime next n p → InTime start (suc n) p

@@ -12,7 +12,8 @@ pub distance_of-natural : (x position copy : ℕ) → position < 160 → distanc
 distance_of-natural x position copy h =
     modulo_160-is (pos x -ℤ pos position -ℤ pos copy) (copy + 1) (x + (copy + 1) * 160 - position - copy) (omega (arith, ints))
 
-pub distance_of-round : (x position copy k : ℕ) → x < 160 → position < 160 → distance_of ((x + k) % 160) ((position + k) % 160) copy ≡ distance_of x position copy
+pub distance_of-round : (x position copy k : ℕ) → x < 160 → position < 160
+    → distance_of ((x + k) % 160) ((position + k) % 160) copy ≡ distance_of x position copy
 distance_of-round x position copy k h p =
     distance_of-natural ((x + k) % 160) ((position + k) % 160) copy (omega arith)
     ∙ omega arith
@@ -32,5 +33,6 @@ pub missile_covers-round : (mode size position x k : ℕ) → x < 160 → positi
 missile_covers-round mode size position x k h p =
     list_any-same _ _ (copies_of mode) (λ c. ap (λ (d : ℕ). nat_lt d size) (distance_of-round x position c k h p))
 
-pub ball_covers-round : (size position x k : ℕ) → x < 160 → position < 160 → ball_covers size ((position + k) % 160) ((x + k) % 160) ≡ ball_covers size position x
+pub ball_covers-round : (size position x k : ℕ) → x < 160 → position < 160
+    → ball_covers size ((position + k) % 160) ((x + k) % 160) ≡ ball_covers size position x
 ball_covers-round size position x k h p = ap (λ (d : ℕ). nat_lt d size) (distance_of-round x position 0 k h p)

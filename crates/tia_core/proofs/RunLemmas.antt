@@ -30,12 +30,15 @@ run_drawn-step drawn sink line x to colour h = rw (one_less to x h) refl
 -- pixels of one colour, and then others
 pub stretch-run : {S : Type 0} (drawn : S → ℕ → ℕ → ℕ → S) (sink : S) (t : TiaFields) (line x k n colour : ℕ)
     → ((y : ℕ) → x ≤ y → y < x + k → colour_at t (objects_at t y) y ≡ colour)
-    → sink_after_pixels drawn sink (stretch_pixels t line x (k + n)) ≡ sink_after_pixels drawn (run_drawn drawn sink line x k colour) (stretch_pixels t line (x + k) n)
+    → sink_after_pixels drawn sink (stretch_pixels t line x (k + n))
+    ≡ sink_after_pixels drawn (run_drawn drawn sink line x k colour) (stretch_pixels t line (x + k) n)
 stretch-run drawn sink t line x zero n colour h = let e : x + 0 ≡ x = omega arith in let f : zero + n ≡ n = omega arith in rw (e, f) refl
 stretch-run drawn sink t line x (suc k) n colour h =
     let e : x + 1 + k ≡ x + suc k = omega arith in
     let f : suc k + n ≡ suc (k + n) = omega arith in
-    rw (f, h x (omega arith) (omega arith), ← e) (stretch-run drawn (drawn sink line x colour) t line (x + 1) k n colour (λ y le lt. h y (omega arith) (omega arith)))
+    rw (f, h x (omega arith) (omega arith), ← e)
+    (stretch-run drawn (drawn sink line x colour) t line (x + 1) k n colour
+    (λ y le lt. h y (omega arith) (omega arith)))
 
 -- the colour of a pixel is that of another that the same objects cover, on the same side of the
 -- comb and of the line's middle
@@ -89,11 +92,14 @@ pub or-clear : (a b k : ℕ) → has_bit (bit_or a b) k ≡ false → (has_bit a
 or-clear a b k h = either-false (has_bit a k) (has_bit b k) (sym (bit_or-is a b k) ∙ h)
 
 -- the bits from one on that are as it is
-pub changes-one : (word first k : ℕ) → bit_and (word / 2 ^ first) 1 ≡ 1 → k < 32 → has_bit (bit_xor (word / 2 ^ first) 4294967295) k ≡ false → has_bit word (first + k) ≡ has_bit word first
+pub changes-one : (word first k : ℕ) → bit_and (word / 2 ^ first) 1 ≡ 1 → k < 32
+    → has_bit (bit_xor (word / 2 ^ first) 4294967295) k ≡ false
+    → has_bit word (first + k) ≡ has_bit word first
 changes-one word first k one lt e =
     sym (bit-high word first k) ∙ bit-turned (word / 2 ^ first) k lt e ∙ sym (ap (λ (n : ℕ). n == 1) (sym (shr_and_one word first) ∙ one))
 
-pub changes-zero : (word first k : ℕ) → (bit_and (word / 2 ^ first) 1 ≡ 1 → ⊥) → has_bit (word / 2 ^ first) k ≡ false → has_bit word (first + k) ≡ has_bit word first
+pub changes-zero : (word first k : ℕ) → (bit_and (word / 2 ^ first) 1 ≡ 1 → ⊥)
+    → has_bit (word / 2 ^ first) k ≡ false → has_bit word (first + k) ≡ has_bit word first
 changes-zero word first k none e =
     let p = shr_and_one word first in
     let q = bit_at-lt word first in
@@ -101,21 +107,27 @@ changes-zero word first k none e =
     sym (bit-high word first k) ∙ e ∙ sym clear
 
 pub covers-alike : (words : List ℕ) (x k : ℕ) → x < 160 → x % 32 + k < 32
-    → has_bit (slice_index_or words (x / 32) 0) (x % 32 + k) ≡ has_bit (slice_index_or words (x / 32) 0) (x % 32) → covers (pixels_in words) (x + k) ≡ covers (pixels_in words) x
+    → has_bit (slice_index_or words (x / 32) 0) (x % 32 + k)
+    ≡ has_bit (slice_index_or words (x / 32) 0) (x % 32)
+    → covers (pixels_in words) (x + k) ≡ covers (pixels_in words) x
 covers-alike words x k h lt e =
     let i : (x + k) / 32 ≡ x / 32 = omega arith in
     let j : (x + k) % 32 ≡ x % 32 + k = omega arith in
     covers-is words (x + k) (omega arith) ∙ rw (i, j) e ∙ sym (covers-is words x h)
 
 -- objects that are covered alike
-pub objects-alike : (m : Masks) (x y : ℕ) → covers m.player0 y ≡ covers m.player0 x → covers m.player1 y ≡ covers m.player1 x → covers m.missile0 y ≡ covers m.missile0 x
-    → covers m.missile1 y ≡ covers m.missile1 x → covers m.ball y ≡ covers m.ball x → covers m.playfield y ≡ covers m.playfield x → objects_in m y ≡ objects_in m x
+pub objects-alike : (m : Masks) (x y : ℕ) → covers m.player0 y ≡ covers m.player0 x
+    → covers m.player1 y ≡ covers m.player1 x → covers m.missile0 y ≡ covers m.missile0 x
+    → covers m.missile1 y ≡ covers m.missile1 x → covers m.ball y ≡ covers m.ball x
+    → covers m.playfield y ≡ covers m.playfield x → objects_in m y ≡ objects_in m x
 objects-alike m x y a b c d e f = rw (a, b, c, d, e, f) refl
 
 -- ---- a stretch in two parts
 pub stretch-run-to : {S : Type 0} (drawn : S → ℕ → ℕ → ℕ → S) (sink : S) (t : TiaFields) (line x end to colour : ℕ) → x ≤ end → end ≤ to
     → ((y : ℕ) → x ≤ y → y < end → colour_at t (objects_at t y) y ≡ colour)
-    → sink_after_pixels drawn (run_drawn drawn sink line x (end - x) colour) (stretch_pixels t line end (to - end)) ≡ sink_after_pixels drawn sink (stretch_pixels t line x (to - x))
+    → sink_after_pixels drawn (run_drawn drawn sink line x (end - x) colour)
+    (stretch_pixels t line end (to - end))
+    ≡ sink_after_pixels drawn sink (stretch_pixels t line x (to - x))
 stretch-run-to drawn sink t line x end to colour le most h =
     let p : end - x + (to - end) ≡ to - x = omega arith in
     let q : x + (end - x) ≡ end = omega arith in
@@ -123,7 +135,8 @@ stretch-run-to drawn sink t line x end to colour le most h =
     ∙ stretch-run drawn sink t line x (end - x) (to - end) colour (λ y a b. h y a (omega arith))
     ∙ ap (λ (n : ℕ). sink_after_pixels drawn (run_drawn drawn sink line x (end - x) colour) (stretch_pixels t line n (to - end))) q)
 
-pub stretch-one : {S : Type 0} (drawn : S → ℕ → ℕ → ℕ → S) (sink : S) (t : TiaFields) (line x k colour : ℕ) → ((y : ℕ) → colour_at t (objects_at t y) y ≡ colour)
+pub stretch-one : {S : Type 0} (drawn : S → ℕ → ℕ → ℕ → S) (sink : S) (t : TiaFields)
+    (line x k colour : ℕ) → ((y : ℕ) → colour_at t (objects_at t y) y ≡ colour)
     → run_drawn drawn sink line x k colour ≡ sink_after_pixels drawn sink (stretch_pixels t line x k)
 stretch-one drawn sink t line x zero colour h = refl
 stretch-one drawn sink t line x (suc k) colour h = rw (h x) (stretch-one drawn (drawn sink line x colour) t line (x + 1) k colour h)

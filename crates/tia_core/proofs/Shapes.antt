@@ -57,13 +57,17 @@ left-bit pf0 pf1 pf2 back i h b r l = elim (low_or_high i 4) [
   ]
 ]
 
-pub mirrored-bit : (pf0 pf1 pf2 back half i : ℕ) → pf1 < 256 → back < 256 → ((k : ℕ) → k < 8 → has_bit back k ≡ has_bit pf2 (7 - k)) → ((k : ℕ) → k < 4 → has_bit half k ≡ has_bit (pf0 / 2 ^ 4) (3 - k)) → i < 20
+pub mirrored-bit : (pf0 pf1 pf2 back half i : ℕ) → pf1 < 256 → back < 256
+    → ((k : ℕ) → k < 8 → has_bit back k ≡ has_bit pf2 (7 - k))
+    → ((k : ℕ) → k < 4 → has_bit half k ≡ has_bit (pf0 / 2 ^ 4) (3 - k)) → i < 20
     → has_bit ((half * 2 ^ 8 + pf1) * 2 ^ 8 + back) i ≡ playfield_bit pf0 pf1 pf2 (19 - i)
 mirrored-bit pf0 pf1 pf2 back half i h b r q l = elim (low_or_high i 8) [
   | inl lt ↦ cat-low (half * 2 ^ 8 + pf1) 8 back i lt ∙ r i lt ∙ ap (has_bit pf2) (omega arith) ∙ sym (at_2 pf0 pf1 pf2 (19 - i) (omega arith))
   | inr le ↦ cat-high (half * 2 ^ 8 + pf1) 8 back i b le ∙ elim (low_or_high i 16) [
     | inl lt ↦ cat-low half 8 pf1 (i - 8) (omega arith) ∙ ap (has_bit pf1) (omega arith) ∙ sym (at_1 pf0 pf1 pf2 (19 - i) (omega arith) (omega arith))
-    | inr le2 ↦ cat-high half 8 pf1 (i - 8) h (omega arith) ∙ q (i - 8 - 8) (omega arith) ∙ bit-high pf0 4 (3 - (i - 8 - 8)) ∙ ap (has_bit pf0) (omega arith) ∙ sym (at_0 pf0 pf1 pf2 (19 - i) (omega arith))
+    | inr le2 ↦ cat-high half 8 pf1 (i - 8) h (omega arith) ∙ q (i - 8 - 8) (omega arith)
+        ∙ bit-high pf0 4 (3 - (i - 8 - 8)) ∙ ap (has_bit pf0) (omega arith)
+        ∙ sym (at_0 pf0 pf1 pf2 (19 - i) (omega arith))
   ]
 ]
 
@@ -88,15 +92,21 @@ module _ (pf0 pf1 pf2 : ℕ) (mirrored : Bool) (left right : ℕ)
 
   pub word-2 : (k : ℕ) → k < 32 → has_bit ((right % 2 ^ 4) * 2 ^ 4 + left / 2 ^ 16 % 2 ^ 4) (k / 4) ≡ shows (64 + k)
   word-2 k h = elim (low_or_high (k / 4) 4) [
-    | inl lt ↦ cat-low (right % 2 ^ 4) 4 (left / 2 ^ 16 % 2 ^ 4) (k / 4) lt ∙ bit-low (left / 2 ^ 16) 4 (k / 4) lt ∙ bit-high left 16 (k / 4) ∙ on_left (64 + k) (16 + k / 4) (omega arith) (omega arith)
-    | inr le ↦ cat-high (right % 2 ^ 4) 4 (left / 2 ^ 16 % 2 ^ 4) (k / 4) (omega arith) le ∙ bit-low right 4 (k / 4 - 4) (omega arith) ∙ on_right (64 + k) (k / 4 - 4) (omega arith) (omega arith) (omega arith)
+    | inl lt ↦ cat-low (right % 2 ^ 4) 4 (left / 2 ^ 16 % 2 ^ 4) (k / 4) lt
+        ∙ bit-low (left / 2 ^ 16) 4 (k / 4) lt ∙ bit-high left 16 (k / 4)
+        ∙ on_left (64 + k) (16 + k / 4) (omega arith) (omega arith)
+    | inr le ↦ cat-high (right % 2 ^ 4) 4 (left / 2 ^ 16 % 2 ^ 4) (k / 4) (omega arith) le
+        ∙ bit-low right 4 (k / 4 - 4) (omega arith)
+        ∙ on_right (64 + k) (k / 4 - 4) (omega arith) (omega arith) (omega arith)
   ]
 
   pub word-3 : (k : ℕ) → k < 32 → has_bit (right / 2 ^ 4 % 2 ^ 8) (k / 4) ≡ shows (96 + k)
-  word-3 k h = bit-low (right / 2 ^ 4) 8 (k / 4) (omega arith) ∙ bit-high right 4 (k / 4) ∙ on_right (96 + k) (4 + k / 4) (omega arith) (omega arith) (omega arith)
+  word-3 k h = bit-low (right / 2 ^ 4) 8 (k / 4) (omega arith) ∙ bit-high right 4 (k / 4)
+      ∙ on_right (96 + k) (4 + k / 4) (omega arith) (omega arith) (omega arith)
 
   pub word-4 : (k : ℕ) → k < 32 → has_bit (right / 2 ^ 12 % 2 ^ 8) (k / 4) ≡ shows (128 + k)
-  word-4 k h = bit-low (right / 2 ^ 12) 8 (k / 4) (omega arith) ∙ bit-high right 12 (k / 4) ∙ on_right (128 + k) (12 + k / 4) (omega arith) (omega arith) (omega arith)
+  word-4 k h = bit-low (right / 2 ^ 12) 8 (k / 4) (omega arith) ∙ bit-high right 12 (k / 4)
+      ∙ on_right (128 + k) (12 + k / 4) (omega arith) (omega arith) (omega arith)
 
 -- ---- objects that can't be seen
 list_any-none : (p : ℕ → Bool) (xs : List ℕ) → ((x : ℕ) → p x ≡ false) → list_any p xs ≡ false
@@ -108,7 +118,8 @@ is_shown_at-empty width reflected d =
     let index : ℕ = if reflected then d / (width / 8) else 7 - d / (width / 8) in
     ap (λ (b : Bool). nat_lt d width && b) (bit-zero index) ∙ and-false (nat_lt d width)
 
-pub player-unseen : (mode : ℕ) (reflected : Bool) (graphic position x : ℕ) → (not (graphic == 0) || player_covers mode reflected graphic position x) ≡ not (graphic == 0)
+pub player-unseen : (mode : ℕ) (reflected : Bool) (graphic position x : ℕ)
+    → (not (graphic == 0) || player_covers mode reflected graphic position x) ≡ not (graphic == 0)
 player-unseen mode reflected graphic position x = elim (cases_eq graphic 0) [
   | inl e ↦ rw e
       (list_any-none (λ copy. is_shown_at (width_of mode) reflected 0 (distance_of x position copy)) (copies_of mode)

@@ -70,7 +70,8 @@ bit-outside row x at h le = bit-above row 32 (distance_of x at 0) h le
 low_word : (row s j x at : ℕ) → row < 2 ^ 32 → at < 160 → x < 160 → s ≡ at % 32 → j ≡ x % 32 → x / 32 ≡ at / 32
     → has_bit (row * 2 ^ s % 2 ^ 32) j ≡ has_bit row (distance_of x at 0)
 low_word row s j x at h p q es ej same = elim (order j s) [
-  | inl lt ↦ bit-low (row * 2 ^ s) 32 j (omega arith) ∙ bit-shifted_low row s j lt ∙ sym (bit-outside row x at h (let d = distance-natural x at p in omega arith))
+  | inl lt ↦ bit-low (row * 2 ^ s) 32 j (omega arith) ∙ bit-shifted_low row s j lt
+      ∙ sym (bit-outside row x at h (let d = distance-natural x at p in omega arith))
   | inr le ↦ bit-low (row * 2 ^ s) 32 j (omega arith) ∙ bit-shifted row s j le ∙ ap (has_bit row) (let d = distance-natural x at p in omega arith)
 ] where
   order : (j s : ℕ) → (j < s) ⊎ (s ≤ j)
@@ -92,18 +93,22 @@ shifted-fits row s h k =
 
 -- the words with a row in two of them
 abbrev placed : List ℕ → ℕ → ℕ → ℕ → ℕ → List ℕ
-placed words i low j high = slice_set (slice_set words i (bit_or (slice_index_or words i 0) low)) j (bit_or (slice_index_or (slice_set words i (bit_or (slice_index_or words i 0) low)) j 0) high)
+placed words i low j high = slice_set (slice_set words i (bit_or (slice_index_or words i 0) low)) j
+    (bit_or (slice_index_or (slice_set words i (bit_or (slice_index_or words i 0) low)) j 0) high)
 
 word_bit-in : (words : List ℕ) (x i w : ℕ) → slice_index_or words (x / 32) 0 ≡ w → word_bit words x ≡ has_bit w (x % 32)
 word_bit-in words x i w e = ap (λ (n : ℕ). has_bit n (x % 32)) e
 
-placed-first : (words : List ℕ) (i low j high k : ℕ) → i ≢ j → i < length words → k ≡ i → slice_index_or (placed words i low j high) k 0 ≡ bit_or (slice_index_or words k 0) low
+placed-first : (words : List ℕ) (i low j high k : ℕ) → i ≢ j → i < length words → k ≡ i
+    → slice_index_or (placed words i low j high) k 0 ≡ bit_or (slice_index_or words k 0) low
 placed-first words i low j high k ne lt e = rw (e, get_or-set_other, get_or-set_same) refl
 
-placed-second : (words : List ℕ) (i low j high k : ℕ) → j ≢ i → j < length words → k ≡ j → slice_index_or (placed words i low j high) k 0 ≡ bit_or (slice_index_or words k 0) high
+placed-second : (words : List ℕ) (i low j high k : ℕ) → j ≢ i → j < length words → k ≡ j
+    → slice_index_or (placed words i low j high) k 0 ≡ bit_or (slice_index_or words k 0) high
 placed-second words i low j high k ne lt e =
     rw e
-    (get_or-set_same (slice_set words i (bit_or (slice_index_or words i 0) low)) j _ 0 (omega (arith, length-set words i (bit_or (slice_index_or words i 0) low)))
+    (get_or-set_same (slice_set words i (bit_or (slice_index_or words i 0) low)) j _ 0
+    (omega (arith, length-set words i (bit_or (slice_index_or words i 0) low)))
     ∙ ap (λ (n : ℕ). bit_or n high) (get_or-set_other words i j (bit_or (slice_index_or words i 0) low) 0 ne))
 
 placed-other : (words : List ℕ) (i low j high k : ℕ) → k ≢ i → k ≢ j → slice_index_or (placed words i low j high) k 0 ≡ slice_index_or words k 0
@@ -115,7 +120,8 @@ or-false false = refl
 
 -- the words of a mask in which a row was placed
 pub word_bit-placed : (words : List ℕ) (row at x : ℕ) → length words ≡ 5 → row < 2 ^ 32 → at < 160 → x < 160
-    → word_bit (placed words (at / 32) (row * 2 ^ (at % 32) % 18446744073709551616 % 4294967296) ((at / 32 + 1) % 5) (row * 2 ^ (at % 32) % 18446744073709551616 / 4294967296)) x
+    → word_bit (placed words (at / 32) (row * 2 ^ (at % 32) % 18446744073709551616 % 4294967296)
+    ((at / 32 + 1) % 5) (row * 2 ^ (at % 32) % 18446744073709551616 / 4294967296)) x
     ≡ (word_bit words x || has_bit row (distance_of x at 0))
 word_bit-placed words row at x len h p q = rw (shifted-fits row (at % 32) h (omega arith)) (at_word (where_is (x / 32) (at / 32))) where
   low : ℕ
@@ -162,7 +168,9 @@ and-assoc true b c = refl
 and-assoc false b c = refl
 
 bit_and3-is : (a b c k : ℕ) → has_bit (bit_and (bit_and a b) c) k ≡ (has_bit a k && has_bit b k && has_bit c k)
-bit_and3-is a b c k = bit_and-is (bit_and a b) c k ∙ ap (λ (p : Bool). p && has_bit c k) (bit_and-is a b k) ∙ and-assoc (has_bit a k) (has_bit b k) (has_bit c k)
+bit_and3-is a b c k = bit_and-is (bit_and a b) c k
+    ∙ ap (λ (p : Bool). p && has_bit c k) (bit_and-is a b k)
+    ∙ and-assoc (has_bit a k) (has_bit b k) (has_bit c k)
 
 -- whether three words have a bit in common
 abbrev common : List ℕ → List ℕ → List ℕ → ℕ → ℕ
@@ -178,7 +186,12 @@ pub common-some : (ws vs us : List ℕ) (i : ℕ) → i < 5 → slice_index_or w
     → (x : ℕ) × (x < 160) × ((covers (pixels_in ws) x && covers (pixels_in vs) x && covers (pixels_in us) x) ≡ true)
 common-some ws vs us i h small some =
     let n : ℕ = common ws vs us i in
-    let fits : n < 2 ^ 32 = omega (arith, and_le_l (bit_and (slice_index_or ws i 0) (slice_index_or vs i 0)) (slice_index_or us i 0), and_le_l (slice_index_or ws i 0) (slice_index_or vs i 0)) in
+    let fits : n < 2 ^ 32 = omega (
+      arith,
+      and_le_l (bit_and (slice_index_or ws i 0) (slice_index_or vs i 0))
+          (slice_index_or us i 0),
+      and_le_l (slice_index_or ws i 0) (slice_index_or vs i 0),
+    ) in
     let k : ℕ = trailing_zeros w32 n in
     let t : (k < 32) × (bit_at n k ≡ 1) × ((j : ℕ) → j < k → bit_at n j ≡ 0) = bit_at-trailing_zeros w32 n some fits in
     let lt : k < 32 = t.0 in
@@ -231,11 +244,15 @@ pub stretch-word : (x y first m n k : ℕ) → IsLeftOf x first m → IsLeftOf y
 stretch-word x y first m n k l r h lt =
     let a = left-least x first m l in
     let b = left-least y first n r in
-    rw (one_shl n 64 (omega arith), one_shl m 64 (omega arith)) (stretch-bit m n k (left-order x y first m n l r h) ∙ rw (left-le x first m k l lt, left-lt y first n k r lt) refl)
+    rw (one_shl n 64 (omega arith), one_shl m 64 (omega arith))
+    (stretch-bit m n k (left-order x y first m n l r h)
+    ∙ rw (left-le x first m k l lt, left-lt y first n k r lt) refl)
 
 -- five words that are each right
-pub five-words : (a b c d e : ℕ) (f : ℕ → Bool) → ((k : ℕ) → k < 32 → has_bit a k ≡ f (0 + k)) → ((k : ℕ) → k < 32 → has_bit b k ≡ f (32 + k)) → ((k : ℕ) → k < 32 → has_bit c k ≡ f (64 + k))
-    → ((k : ℕ) → k < 32 → has_bit d k ≡ f (96 + k)) → ((k : ℕ) → k < 32 → has_bit e k ≡ f (128 + k)) → (x : ℕ) → x < 160 → covers (pixels_in (a ∷ b ∷ c ∷ d ∷ e ∷ [])) x ≡ f x
+pub five-words : (a b c d e : ℕ) (f : ℕ → Bool) → ((k : ℕ) → k < 32 → has_bit a k ≡ f (0 + k))
+    → ((k : ℕ) → k < 32 → has_bit b k ≡ f (32 + k)) → ((k : ℕ) → k < 32 → has_bit c k ≡ f (64 + k))
+    → ((k : ℕ) → k < 32 → has_bit d k ≡ f (96 + k)) → ((k : ℕ) → k < 32 → has_bit e k ≡ f (128 + k))
+    → (x : ℕ) → x < 160 → covers (pixels_in (a ∷ b ∷ c ∷ d ∷ e ∷ [])) x ≡ f x
 five-words a b c d e f p q r s t x h = covers-is (a ∷ b ∷ c ∷ d ∷ e ∷ []) x h ∙ at_word (x / 32) refl where
   at_word : (i : ℕ) → x / 32 ≡ i → has_bit (slice_index_or (a ∷ b ∷ c ∷ d ∷ e ∷ []) i 0) (x % 32) ≡ f x
   at_word zero w = p (x % 32) (omega arith) ∙ ap f (omega arith)
@@ -304,7 +321,10 @@ meets-is false a b w from to most within some none = sym (meets-none a b w from 
 
 -- ---- two of six
 pub set_twice-bit : (a b c d e f k : ℕ)
-    → has_bit (bit_or (bit_or (bit_or (bit_or (bit_and a b) (bit_and (bit_or a b) c)) (bit_and (bit_or (bit_or a b) c) d)) (bit_and (bit_or (bit_or (bit_or a b) c) d) e)) (bit_and (bit_or (bit_or (bit_or (bit_or a b) c) d) e) f)) k
+    → has_bit (bit_or (bit_or
+    (bit_or (bit_or (bit_and a b) (bit_and (bit_or a b) c)) (bit_and (bit_or (bit_or a b) c) d))
+    (bit_and (bit_or (bit_or (bit_or a b) c) d) e))
+    (bit_and (bit_or (bit_or (bit_or (bit_or a b) c) d) e) f)) k
     ≡ has_two (has_bit a k) (has_bit b k) (has_bit c k) (has_bit d k) (has_bit e k) (has_bit f k)
 set_twice-bit a b c d e f k = simp (bit_or-is, bit_and-is)
 
@@ -315,9 +335,13 @@ and-true false b h e = refl
 -- where a word has no bit that is set in two of six words, none of its pixels is covered by two
 -- masks
 pub none-twice : (a b c d e f : List ℕ) (w twice i x : ℕ)
-    → ((k : ℕ) → has_bit twice k ≡ has_two (has_bit (slice_index_or a i 0) k) (has_bit (slice_index_or b i 0) k) (has_bit (slice_index_or c i 0) k) (has_bit (slice_index_or d i 0) k) (has_bit (slice_index_or e i 0) k) (has_bit (slice_index_or f i 0) k))
+    → ((k : ℕ) → has_bit twice k
+    ≡ has_two (has_bit (slice_index_or a i 0) k) (has_bit (slice_index_or b i 0) k)
+    (has_bit (slice_index_or c i 0) k) (has_bit (slice_index_or d i 0) k)
+    (has_bit (slice_index_or e i 0) k) (has_bit (slice_index_or f i 0) k))
     → bit_and twice w ≡ 0 → x / 32 ≡ i → x < 160 → has_bit w (x % 32) ≡ true
-    → has_two (covers (pixels_in a) x) (covers (pixels_in b) x) (covers (pixels_in c) x) (covers (pixels_in d) x) (covers (pixels_in e) x) (covers (pixels_in f) x) ≡ false
+    → has_two (covers (pixels_in a) x) (covers (pixels_in b) x) (covers (pixels_in c) x)
+    (covers (pixels_in d) x) (covers (pixels_in e) x) (covers (pixels_in f) x) ≡ false
 none-twice a b c d e f w twice i x two none at h there =
     let k : ℕ = x % 32 in
     let miss : (has_bit twice k && has_bit w k) ≡ false = sym (bit_and-is twice w k) ∙ ap (λ (n : ℕ). has_bit n k) none ∙ bit-zero k in

@@ -23,7 +23,10 @@ use Rattle.tia_core.specs.declared.effect.Effect.TheVariants.{Nothing, Sync, Fra
 -- the numbers of a TIA after a write of this register, with the two buttons pressed or not
 abbrev pub fields_after : TiaFields → Bool → Bool → Register → ℕ → TiaFields
 fields_after t fire0 fire1 Vsync v = record t { vsync = register_bits Vsync v }
-fields_after t fire0 fire1 Vblank v = record t { vblank = register_bits Vblank v; latches = latches_after_vblank t.latches fire0 fire1 (register_bits Vblank v) }
+fields_after t fire0 fire1 Vblank v = record t {
+  vblank = register_bits Vblank v;
+  latches = latches_after_vblank t.latches fire0 fire1 (register_bits Vblank v);
+}
 fields_after t fire0 fire1 Nusiz0 v = record t { nusiz0 = register_bits Nusiz0 v }
 fields_after t fire0 fire1 Nusiz1 v = record t { nusiz1 = register_bits Nusiz1 v }
 fields_after t fire0 fire1 Colup0 v = record t { colup0 = register_bits Colup0 v }

@@ -9,64 +9,64 @@ use crate::objects::Objects;
 
 /// Whether each pixel is black whatever covers it.
 #[inline]
-pub fn is_dark(t: &TiaFields) -> bool
-    ensures { result ≡ (has_bit t.now.vblank 1 || has_bit t.now.vsync 1) }
+pub fn is_dark(tia: &TiaFields) -> bool
+    ensures { result ≡ (has_bit tia.now.vblank 1 || has_bit tia.now.vsync 1) }
 {
-    has_bit(t.vblank, 1) || has_bit(t.vsync, 1)
+    has_bit(tia.vblank, 1) || has_bit(tia.vsync, 1)
 }
 
 /// Whether pixel `x` is black whatever covers it.
 #[inline]
-fn is_blanked(t: &TiaFields, x: u8) -> bool
-    ensures { result ≡ is_blanked t.now x }
+fn is_blanked(tia: &TiaFields, x: u8) -> bool
+    ensures { result ≡ is_blanked tia.now x }
 {
-    has_bit(t.vblank, 1) || has_bit(t.vsync, 1) || (has_bit(t.comb, 0) && x < 8)
+    has_bit(tia.vblank, 1) || has_bit(tia.vsync, 1) || (has_bit(tia.comb, 0) && x < 8)
 }
 
 /// The playfield's colour at pixel `x`.
 #[inline]
-fn playfield_colour(t: &TiaFields, x: u8) -> u8
-    ensures { result ≡ playfield_colour t.now x }
+fn playfield_colour(tia: &TiaFields, x: u8) -> u8
+    ensures { result ≡ playfield_colour tia.now x }
 {
-    if has_bit(t.ctrlpf, 1) && !has_bit(t.ctrlpf, 2) {
-        if x < 80 { t.colup0 } else { t.colup1 }
+    if has_bit(tia.ctrlpf, 1) && !has_bit(tia.ctrlpf, 2) {
+        if x < 80 { tia.colup0 } else { tia.colup1 }
     } else {
-        t.colupf
+        tia.colupf
     }
 }
 
 /// The colour byte of pixel `x`, which these objects cover.
 #[inline]
 #[tactic(auto, unfolding(crate::specs::Colour::colour_at))]
-pub fn colour_at(t: &TiaFields, o: Objects, x: u8) -> u8
-    ensures { result ≡ colour_at t.now o x }
+pub fn colour_at(tia: &TiaFields, objects: Objects, x: u8) -> u8
+    ensures { result ≡ colour_at tia.now objects x }
 {
-    if is_blanked(t, x) {
+    if is_blanked(tia, x) {
         return 0;
     }
-    let first = o.player0 || o.missile0;
-    let second = o.player1 || o.missile1;
-    if has_bit(t.ctrlpf, 2) {
-        if o.ball {
-            t.colupf
-        } else if o.playfield {
-            playfield_colour(t, x)
+    let first = objects.player0 || objects.missile0;
+    let second = objects.player1 || objects.missile1;
+    if has_bit(tia.ctrlpf, 2) {
+        if objects.ball {
+            tia.colupf
+        } else if objects.playfield {
+            playfield_colour(tia, x)
         } else if first {
-            t.colup0
+            tia.colup0
         } else if second {
-            t.colup1
+            tia.colup1
         } else {
-            t.colubk
+            tia.colubk
         }
     } else if first {
-        t.colup0
+        tia.colup0
     } else if second {
-        t.colup1
-    } else if o.ball {
-        t.colupf
-    } else if o.playfield {
-        playfield_colour(t, x)
+        tia.colup1
+    } else if objects.ball {
+        tia.colupf
+    } else if objects.playfield {
+        playfield_colour(tia, x)
     } else {
-        t.colubk
+        tia.colubk
     }
 }

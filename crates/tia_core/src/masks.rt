@@ -37,8 +37,8 @@ pub struct Masks {
 
 impl Masks {
     /// Masks that are all to be made anew.
-    pub fn stale(t: &TiaFields) -> Self
-        ensures { MasksFit t.now result }
+    pub fn stale(tia: &TiaFields) -> Self
+        ensures { MasksFit tia.now result }
     {
         Masks {
             player0: Mask::empty(),
@@ -65,75 +65,75 @@ impl Masks {
         ensures { self.new ≡ with_stale self.old changed }
     {
         self.stale = self.stale.union(changed);
-        if changed.is_any() {
+        if changed.has_any() {
             self.bound = 0x7FFF;
         }
     }
 
     /// Makes anew each mask that is to be.
-    pub fn renew(&mut self, t: &TiaFields)
-        requires lawful { IsLawfulTia t.now }
-        requires fit { MasksFit t.now self.old }
-        ensures fit { MasksFit t.now self.new }
+    pub fn renew(&mut self, tia: &TiaFields)
+        requires lawful { IsLawfulTia tia.now }
+        requires fit { MasksFit tia.now self.old }
+        ensures fit { MasksFit tia.now self.new }
         ensures fresh { self.new.stale ≡ no_objects }
     {
-        renew_player0(&mut self.player0, self.stale.player0, t);
-        renew_player1(&mut self.player1, self.stale.player1, t);
-        renew_missile0(&mut self.missile0, self.stale.missile0, t);
-        renew_missile1(&mut self.missile1, self.stale.missile1, t);
-        renew_ball(&mut self.ball, self.stale.ball, t);
-        renew_playfield(&mut self.playfield, self.stale.playfield, t);
+        renew_player0(&mut self.player0, self.stale.player0, tia);
+        renew_player1(&mut self.player1, self.stale.player1, tia);
+        renew_missile0(&mut self.missile0, self.stale.missile0, tia);
+        renew_missile1(&mut self.missile1, self.stale.missile1, tia);
+        renew_ball(&mut self.ball, self.stale.ball, tia);
+        renew_playfield(&mut self.playfield, self.stale.playfield, tia);
         self.stale = NOTHING;
     }
 
     /// The collision bits with those of the pairs that meet in pixels `from..to`.
     #[inline(always)]
-    pub fn collisions_after(&mut self, t: &TiaFields, from: u8, to: u8) -> u16
-        requires lawful { IsLawfulTia t.now }
-        requires fit { MasksFit t.now self.old }
+    pub fn collisions_after(&mut self, tia: &TiaFields, from: u8, to: u8) -> u16
+        requires lawful { IsLawfulTia tia.now }
+        requires fit { MasksFit tia.now self.old }
         requires order { from ≤ to }
         requires range { to ≤ 160 }
-        ensures value { result ≡ bit_or t.now.collisions (number_from 0 (stretch_pairs t.now from (to - from))) }
+        ensures value { result ≡ bit_or tia.now.collisions (number_from 0 (stretch_pairs tia.now from (to - from))) }
         ensures range { result < 2 ^ 15 }
-        ensures fit { MasksFit t.now self.new }
+        ensures fit { MasksFit tia.now self.new }
     {
-        self.find_bound(t);
-        if t.collisions | self.bound == t.collisions {
-            return t.collisions;
+        self.find_bound(tia);
+        if tia.collisions | self.bound == tia.collisions {
+            return tia.collisions;
         }
-        self.latched_anew(t, from, to)
+        self.latched_anew(tia, from, to)
     }
 
     /// The collision bits with those of the pairs that meet in pixels `from..to`, by the masks.
     #[inline(never)]
-    fn latched_anew(&mut self, t: &TiaFields, from: u8, to: u8) -> u16
-        requires lawful { IsLawfulTia t.now }
-        requires fit { MasksFit t.now self.old }
+    fn latched_anew(&mut self, tia: &TiaFields, from: u8, to: u8) -> u16
+        requires lawful { IsLawfulTia tia.now }
+        requires fit { MasksFit tia.now self.old }
         requires order { from ≤ to }
         requires range { to ≤ 160 }
-        ensures value { result ≡ bit_or t.now.collisions (number_from 0 (stretch_pairs t.now from (to - from))) }
+        ensures value { result ≡ bit_or tia.now.collisions (number_from 0 (stretch_pairs tia.now from (to - from))) }
         ensures range { result < 2 ^ 15 }
-        ensures fit { MasksFit t.now self.new }
+        ensures fit { MasksFit tia.now self.new }
     {
-        self.renew(t);
+        self.renew(tia);
         if self.any_two_meet(from, to) {
-            return with_pairs(t.collisions, self.pairs(t, from, to));
+            return with_pairs(tia.collisions, self.pairs(tia, from, to));
         }
         // Then none meet on the whole line.
         if from == 0 && to == 160 {
             self.bound = 0;
         }
-        t.collisions
+        tia.collisions
     }
 
     /// Finds the bound if none is known: the pairs of the objects that may be visible.
     #[inline(always)]
-    fn find_bound(&mut self, t: &TiaFields)
-        requires { MasksFit t.now self.old }
-        ensures { MasksFit t.now self.new }
+    fn find_bound(&mut self, tia: &TiaFields)
+        requires { MasksFit tia.now self.old }
+        ensures { MasksFit tia.now self.new }
     {
         if self.bound == 0x7FFF {
-            self.bound = most_pairs(t);
+            self.bound = most_pairs(tia);
         }
     }
 
@@ -157,12 +157,12 @@ impl Masks {
     }
 
     /// The collision bits of the pairs that meet in pixels `from..to`.
-    fn pairs(&self, t: &TiaFields, from: u8, to: u8) -> u16
-        requires fit { MasksFit t.now self.now }
+    fn pairs(&self, tia: &TiaFields, from: u8, to: u8) -> u16
+        requires fit { MasksFit tia.now self.now }
         requires fresh { self.now.stale ≡ no_objects }
         requires order { from ≤ to }
         requires range { to ≤ 160 }
-        ensures value { result ≡ number_from 0 (stretch_pairs t.now from (to - from)) }
+        ensures value { result ≡ number_from 0 (stretch_pairs tia.now from (to - from)) }
         ensures range { result < 2 ^ 15 }
     {
         let within = Mask::between(from, to);
@@ -203,36 +203,36 @@ impl Masks {
     }
 
     /// Puts pixels `from..to` of a line.
-    pub fn paint<S: Paint>(&mut self, t: &TiaFields, line: u16, from: u8, to: u8, sink: &mut S)
-        requires lawful { IsLawfulTia t.now }
-        requires fit { MasksFit t.now self.old }
+    pub fn paint<S: Paint>(&mut self, tia: &TiaFields, line: u16, from: u8, to: u8, sink: &mut S)
+        requires lawful { IsLawfulTia tia.now }
+        requires fit { MasksFit tia.now self.old }
         requires order { from ≤ to }
         requires range { to ≤ 160 }
-        ensures fit { MasksFit t.now self.new }
-        ensures sink { sink.new ≡ sink_after_pixels S.drawn sink.old (stretch_pixels t.now line from (to - from)) }
+        ensures fit { MasksFit tia.now self.new }
+        ensures sink { sink.new ≡ sink_after_pixels S.drawn sink.old (stretch_pixels tia.now line from (to - from)) }
     {
         if sink.keeps() {
-            if is_dark(t) {
+            if is_dark(tia) {
                 sink.put_run(line, from, to, 0);
             } else {
-                self.renew(t);
-                self.paint_fresh(t, line, from, to, sink);
+                self.renew(tia);
+                self.paint_fresh(tia, line, from, to, sink);
             }
         }
     }
 
     /// Puts pixels `from..to` of a line, once no mask is to be made anew.
-    fn paint_fresh<S: Paint>(&self, t: &TiaFields, line: u16, from: u8, to: u8, sink: &mut S)
-        requires fit { MasksFit t.now self.now }
+    fn paint_fresh<S: Paint>(&self, tia: &TiaFields, line: u16, from: u8, to: u8, sink: &mut S)
+        requires fit { MasksFit tia.now self.now }
         requires fresh { self.now.stale ≡ no_objects }
         requires order { from ≤ to }
         requires range { to ≤ 160 }
-        ensures { sink.new ≡ sink_after_pixels S.drawn sink.old (stretch_pixels t.now line from (to - from)) }
+        ensures { sink.new ≡ sink_after_pixels S.drawn sink.old (stretch_pixels tia.now line from (to - from)) }
     {
         let mut x = from;
         while x < to {
             let end = self.run_end(x, to);
-            sink.put_run(line, x, end, colour_at(t, self.objects(x), x));
+            sink.put_run(line, x, end, colour_at(tia, self.objects(x), x));
             x = end;
         }
     }
@@ -279,13 +279,13 @@ fn edge_after(x: u8) -> u8
 
 /// The mask of an object: 0 to 5 are player 0, player 1, missile 0, missile 1, the ball and the
 /// playfield.
-pub fn mask_of(t: &TiaFields, object: u8) -> Mask
-    requires lawful { IsLawfulTia t.now }
+pub fn mask_of(tia: &TiaFields, object: u8) -> Mask
+    requires lawful { IsLawfulTia tia.now }
     requires range { object < 6 }
-    ensures { (x : ℕ) → x < 160 → covers result x ≡ has_object object (objects_at t.now x) }
+    ensures { (x : ℕ) → x < 160 → covers result x ≡ has_object object (objects_at tia.now x) }
 {
-    let mut masks = Masks::stale(t);
-    masks.renew(t);
+    let mut masks = Masks::stale(tia);
+    masks.renew(tia);
     match object {
         0 => masks.player0,
         1 => masks.player1,
@@ -298,79 +298,89 @@ pub fn mask_of(t: &TiaFields, object: u8) -> Mask
 
 /// The collision bits of all pairs of the objects that may be visible.
 #[inline(never)]
-fn most_pairs(t: &TiaFields) -> u16
-    ensures { IsBound t.now result }
+fn most_pairs(tia: &TiaFields) -> u16
+    ensures { IsBound tia.now result }
 {
-    Objects::visible(t).pairs()
+    Objects::visible(tia).pairs()
 }
 
 /// Makes the mask of player 0 anew if it is to be.
 #[inline]
 #[tactic(auto, unfolding(crate::specs::Objects::objects_at))]
-fn renew_player0(mask: &mut Mask, stale: bool, t: &TiaFields)
-    requires lawful { IsLawfulTia t.now }
-    requires fit { stale ≡ false → IsMaskOf t.now p0 mask.old }
-    ensures { IsMaskOf t.now p0 mask.new }
+fn renew_player0(mask: &mut Mask, stale: bool, tia: &TiaFields)
+    requires lawful { IsLawfulTia tia.now }
+    requires fit { stale ≡ false → IsMaskOf tia.now p0 mask.old }
+    ensures { IsMaskOf tia.now p0 mask.new }
 {
     if stale {
-        let graphic = value_by_delay(t.vdelp0, t.grp0_old, t.grp0_new);
-        *mask = player_mask(t.nusiz0 % 8, has_bit(t.refp0, 3), graphic, t.position_p0);
+        let graphic = value_by_delay(tia.vdelp0, tia.grp0_old, tia.grp0_new);
+        *mask = player_mask(
+            tia.nusiz0 % 8,
+            has_bit(tia.refp0, 3),
+            graphic,
+            tia.position_p0,
+        );
     }
 }
 
 /// Makes the mask of player 1 anew if it is to be.
 #[inline]
 #[tactic(auto, unfolding(crate::specs::Objects::objects_at))]
-fn renew_player1(mask: &mut Mask, stale: bool, t: &TiaFields)
-    requires lawful { IsLawfulTia t.now }
-    requires fit { stale ≡ false → IsMaskOf t.now p1 mask.old }
-    ensures { IsMaskOf t.now p1 mask.new }
+fn renew_player1(mask: &mut Mask, stale: bool, tia: &TiaFields)
+    requires lawful { IsLawfulTia tia.now }
+    requires fit { stale ≡ false → IsMaskOf tia.now p1 mask.old }
+    ensures { IsMaskOf tia.now p1 mask.new }
 {
     if stale {
-        let graphic = value_by_delay(t.vdelp1, t.grp1_old, t.grp1_new);
-        *mask = player_mask(t.nusiz1 % 8, has_bit(t.refp1, 3), graphic, t.position_p1);
+        let graphic = value_by_delay(tia.vdelp1, tia.grp1_old, tia.grp1_new);
+        *mask = player_mask(
+            tia.nusiz1 % 8,
+            has_bit(tia.refp1, 3),
+            graphic,
+            tia.position_p1,
+        );
     }
 }
 
 /// Makes the mask of missile 0 anew if it is to be.
 #[inline]
 #[tactic(auto, unfolding(crate::specs::Objects::objects_at))]
-fn renew_missile0(mask: &mut Mask, stale: bool, t: &TiaFields)
-    requires lawful { IsLawfulTia t.now }
-    requires fit { stale ≡ false → IsMaskOf t.now m0 mask.old }
-    ensures { IsMaskOf t.now m0 mask.new }
+fn renew_missile0(mask: &mut Mask, stale: bool, tia: &TiaFields)
+    requires lawful { IsLawfulTia tia.now }
+    requires fit { stale ≡ false → IsMaskOf tia.now m0 mask.old }
+    ensures { IsMaskOf tia.now m0 mask.new }
 {
     if stale {
-        *mask = missile(t.enam0, t.resmp0, t.nusiz0, t.position_m0);
+        *mask = missile(tia.enam0, tia.resmp0, tia.nusiz0, tia.position_m0);
     }
 }
 
 /// Makes the mask of missile 1 anew if it is to be.
 #[inline]
 #[tactic(auto, unfolding(crate::specs::Objects::objects_at))]
-fn renew_missile1(mask: &mut Mask, stale: bool, t: &TiaFields)
-    requires lawful { IsLawfulTia t.now }
-    requires fit { stale ≡ false → IsMaskOf t.now m1 mask.old }
-    ensures { IsMaskOf t.now m1 mask.new }
+fn renew_missile1(mask: &mut Mask, stale: bool, tia: &TiaFields)
+    requires lawful { IsLawfulTia tia.now }
+    requires fit { stale ≡ false → IsMaskOf tia.now m1 mask.old }
+    ensures { IsMaskOf tia.now m1 mask.new }
 {
     if stale {
-        *mask = missile(t.enam1, t.resmp1, t.nusiz1, t.position_m1);
+        *mask = missile(tia.enam1, tia.resmp1, tia.nusiz1, tia.position_m1);
     }
 }
 
 /// Makes the mask of the ball anew if it is to be.
 #[inline]
 #[tactic(auto, unfolding(crate::specs::Objects::objects_at))]
-fn renew_ball(mask: &mut Mask, stale: bool, t: &TiaFields)
-    requires lawful { IsLawfulTia t.now }
-    requires fit { stale ≡ false → IsMaskOf t.now bl mask.old }
-    ensures { IsMaskOf t.now bl mask.new }
+fn renew_ball(mask: &mut Mask, stale: bool, tia: &TiaFields)
+    requires lawful { IsLawfulTia tia.now }
+    requires fit { stale ≡ false → IsMaskOf tia.now bl mask.old }
+    ensures { IsMaskOf tia.now bl mask.new }
 {
     if stale {
         *mask = ball(
-            value_by_delay(t.vdelbl, t.enabl_old, t.enabl_new),
-            t.ctrlpf,
-            t.position_bl,
+            value_by_delay(tia.vdelbl, tia.enabl_old, tia.enabl_new),
+            tia.ctrlpf,
+            tia.position_bl,
         );
     }
 }
@@ -378,12 +388,12 @@ fn renew_ball(mask: &mut Mask, stale: bool, t: &TiaFields)
 /// Makes the mask of the playfield anew if it is to be.
 #[inline]
 #[tactic(auto, unfolding(crate::specs::Objects::objects_at))]
-fn renew_playfield(mask: &mut Mask, stale: bool, t: &TiaFields)
-    requires { stale ≡ false → IsMaskOf t.now pf mask.old }
-    ensures { IsMaskOf t.now pf mask.new }
+fn renew_playfield(mask: &mut Mask, stale: bool, tia: &TiaFields)
+    requires { stale ≡ false → IsMaskOf tia.now pf mask.old }
+    ensures { IsMaskOf tia.now pf mask.new }
 {
     if stale {
-        *mask = playfield_mask(t.pf0, t.pf1, t.pf2, has_bit(t.ctrlpf, 0));
+        *mask = playfield_mask(tia.pf0, tia.pf1, tia.pf2, has_bit(tia.ctrlpf, 0));
     }
 }
 

@@ -3,7 +3,7 @@ ghost use Rattle.std.specs.Prelude.{◌≡◌, ◌<◌, ◌≤◌, ◌^◌, ◌&
 ghost use Rattle.tia_core.specs.Bits.{has_bit};
 ghost use Rattle.tia_core.specs.Collision.{pairs_of};
 ghost use Rattle.tia_core.specs.Objects.{objects_at, value_by_delay, size_of};
-ghost use Rattle.tia_core.specs.Private.Stretches.{is_any, union_of, set_number};
+ghost use Rattle.tia_core.specs.Private.Stretches.{has_any, union_of, set_number};
 
 use crate::bits::has_bit;
 use crate::fields::TiaFields;
@@ -33,16 +33,16 @@ impl Objects {
     /// The objects that may be visible: a player or a playfield with a bit set, a missile or a ball
     /// that is enabled.
     #[inline]
-    pub fn visible(t: &TiaFields) -> Self
-        ensures { (x : ℕ) → union_of result (objects_at t.now x) ≡ result }
+    pub fn visible(tia: &TiaFields) -> Self
+        ensures { (x : ℕ) → union_of result (objects_at tia.now x) ≡ result }
     {
         Objects {
-            player0: value_by_delay(t.vdelp0, t.grp0_old, t.grp0_new) != 0,
-            player1: value_by_delay(t.vdelp1, t.grp1_old, t.grp1_new) != 0,
-            missile0: is_shown(t.enam0, t.resmp0),
-            missile1: is_shown(t.enam1, t.resmp1),
-            ball: has_bit(value_by_delay(t.vdelbl, t.enabl_old, t.enabl_new), 1),
-            playfield: t.pf0 | t.pf1 | t.pf2 != 0,
+            player0: value_by_delay(tia.vdelp0, tia.grp0_old, tia.grp0_new) != 0,
+            player1: value_by_delay(tia.vdelp1, tia.grp1_old, tia.grp1_new) != 0,
+            missile0: is_shown(tia.enam0, tia.resmp0),
+            missile1: is_shown(tia.enam1, tia.resmp1),
+            ball: has_bit(value_by_delay(tia.vdelbl, tia.enabl_old, tia.enabl_new), 1),
+            playfield: tia.pf0 | tia.pf1 | tia.pf2 != 0,
         }
     }
 
@@ -63,8 +63,8 @@ impl Objects {
 
     /// Whether an object is in the set.
     #[inline]
-    pub fn is_any(self) -> bool
-        ensures { result ≡ is_any self }
+    pub fn has_any(self) -> bool
+        ensures { result ≡ has_any self }
     {
         self.player0 | self.player1 | self.missile0 | self.missile1 | self.ball | self.playfield
     }

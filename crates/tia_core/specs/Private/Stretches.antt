@@ -64,8 +64,8 @@ union_of a b = record {
 }
 
 -- whether an object is in a set
-abbrev pub is_any : Objects → Bool
-is_any o = o.player0 || o.player1 || o.missile0 || o.missile1 || o.ball || o.playfield
+abbrev pub has_any : Objects → Bool
+has_any o = o.player0 || o.player1 || o.missile0 || o.missile1 || o.ball || o.playfield
 
 -- the objects of `new` if they are of this set, else those of `old`
 abbrev pub with_objects : Objects → Objects → Objects → Objects
@@ -80,7 +80,7 @@ with_objects o new old = record {
 
 -- the masks once these objects have changed
 abbrev pub with_stale : Masks → Objects → Masks
-with_stale m o = record m { stale = union_of m.stale o; bound = if is_any o then 32767 else m.bound }
+with_stale m o = record m { stale = union_of m.stale o; bound = if has_any o then 32767 else m.bound }
 
 -- whether two objects meet within k pixels from x
 abbrev pub meet_within : TiaFields → (Objects → Bool) → (Objects → Bool) → ℕ → ℕ → Bool
@@ -117,4 +117,5 @@ has_two a b c d e f = (a && b) || ((a || b) && c) || ((a || b || c) && d) || ((a
 -- the number of a set of objects
 abbrev pub set_number : Bool → Bool → Bool → Bool → Bool → Bool → ℕ
 set_number a b c d e f =
-    (if a then 1 else 0) + 2 * (if b then 1 else 0) + 4 * (if c then 1 else 0) + 8 * (if d then 1 else 0) + 16 * (if e then 1 else 0) + 32 * (if f then 1 else 0)
+    (if a then 1 else 0) + 2 * (if b then 1 else 0) + 4 * (if c then 1 else 0) + 8 * (if d then 1
+    else 0) + 16 * (if e then 1 else 0) + 32 * (if f then 1 else 0)

@@ -1,5 +1,5 @@
 use Rattle.std.proofs.Common.{rules}
-use Rattle.mos_cpu.proofs.WayLemmas.{step_of-change_a}
+use Rattle.mos_cpu.proofs.OpcodeRunLemmas.{step_of-change_a}
 use Rattle.mos_cpu.proofs.changes.change_a.Goals as goal
 
 pub returns : goal.returns

@@ -1,8 +1,10 @@
 use Rattle.std.proofs.Common.{rules}
-use Rattle.mos_cpu.proofs.WayLemmas.{step_of-implied}
+use Rattle.mos_cpu.proofs.OpcodeRunLemmas.{step_of-implied}
 use Rattle.mos_cpu.proofs.implied.implied.Goals as goal
 
 pub returns : goal.returns
 returns g c =
-    let step = step_of-implied g.B.Bus.meaning c.args.cpu.now (g.B.Bus.state c.args.bus.now) g.O.ImpliedOperation.operation g.met.O.ImpliedOperation.implied c.requires in
+    let step = step_of-implied g.B.Bus.meaning c.args.cpu.now
+    (g.B.Bus.state c.args.bus.now) g.O.ImpliedOperation.operation
+    g.met.O.ImpliedOperation.implied c.requires in
     rw step (search rules)

@@ -1,6 +1,6 @@
 use Rattle.mos_cpu.specs.Opcodes.{entries}
 use Rattle.mos_cpu.proofs.OpcodeLemmas.{row_in-absent}
-use Rattle.mos_cpu.proofs.WayLemmas.{decoded-unknown}
+use Rattle.mos_cpu.proofs.OpcodeRunLemmas.{decoded-unknown}
 use Rattle.std.proofs.Common.{rules, refl}
 use Rattle.mos_cpu.proofs.processor.run_bytes.Goals as goal
 

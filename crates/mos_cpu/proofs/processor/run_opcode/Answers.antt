@@ -1,4 +1,4 @@
-use Rattle.mos_cpu.proofs.WayLemmas.{decoded-short}
+use Rattle.mos_cpu.proofs.OpcodeRunLemmas.{decoded-short}
 use Rattle.mos_cpu.specs.Registers.{Registers}
 use Rattle.std.proofs.Common.{rules, ◌≡◌, ◌+◌, ◌%◌, None, subst}
 use Rattle.mos_cpu.proofs.processor.run_opcode.Goals as goal

@@ -3,7 +3,7 @@ use Rattle.mos_cpu.specs.Opcodes.{row_with}
 use Rattle.mos_cpu.specs.declared.operation.Operation.TheVariants.{Rti}
 use Rattle.mos_cpu.specs.declared.mode.Mode.TheVariants.{Implied}
 use Rattle.mos_cpu.specs.Operands.{Register}
-use Rattle.mos_cpu.proofs.WayLemmas.{step_of-known}
+use Rattle.mos_cpu.proofs.OpcodeRunLemmas.{step_of-known}
 use Rattle.mos_cpu.proofs.stack.rti.Goals as goal
 
 pub returns : goal.returns

@@ -5,8 +5,18 @@ use Rattle.tia_core.proofs.mask.ones.Goals as goal
 
 pub overflow_sub-result : goal.overflow_sub-result
 overflow_sub-result c =
-    let high : IsLeftOf c.args.to c.args.first c.left_of.result = record { less = c.left_of.ensures.less; within = c.left_of.ensures.within; more = c.left_of.ensures.more } in
-    let low : IsLeftOf c.args.from c.args.first c.left_of-2.result = record { less = c.left_of-2.ensures.less; within = c.left_of-2.ensures.within; more = c.left_of-2.ensures.more } in
+    let high : IsLeftOf c.args.to c.args.first
+    c.left_of.result = record {
+      less = c.left_of.ensures.less;
+      within = c.left_of.ensures.within;
+      more = c.left_of.ensures.more;
+    } in
+    let low : IsLeftOf c.args.from c.args.first
+    c.left_of-2.result = record {
+      less = c.left_of-2.ensures.less;
+      within = c.left_of-2.ensures.within;
+      more = c.left_of-2.ensures.more;
+    } in
     let order = left-order c.args.from c.args.to c.args.first c.left_of-2.result c.left_of.result low high c.requires in
     let most = left-least c.args.to c.args.first c.left_of.result high in
     let p = powers-order c.left_of-2.result c.left_of.result order in

@@ -23,4 +23,6 @@ pub returns-in_default : goal.returns-in_default
 returns-in_default c = λ d.
     let width : width_of c.args.mode ≡ 8 = grind (arith, nat_tests) in
     rw width (row_shows 8 c.args.reflected c.args.graphic c.player_dots-dots.result c.from-in_default.result d c.player_dots-dots.ensures
-    (λ lt. omega arith) (λ lt. ap (λ (n : ℕ). has_bit n d) c.from-in_default.ensures ∙ ap (has_bit c.player_dots-dots.result) (omega arith)) (λ le. bit-above c.from-in_default.result 8 d (omega arith) le))
+    (λ lt. omega arith) (λ lt. ap (λ (n : ℕ). has_bit n d) c.from-in_default.ensures
+    ∙ ap (has_bit c.player_dots-dots.result) (omega arith))
+    (λ le. bit-above c.from-in_default.result 8 d (omega arith) le))

@@ -22,4 +22,7 @@ loop-copy-preserved c = λ x h.
 pub returns : goal.returns
 returns c = λ x h.
     let test : ℕ → Bool = λ k. has_bit c.args.row (distance_of x c.args.position k) in
-    c.loop-copy.invariant x h ∙ ap (list_any test) (take_all c.loop-copy.copy-index c.copies-copy-items.result.now c.loop-copy-test.false ∙ c.copies-copy-items.ensures)
+    c.loop-copy.invariant x h
+    ∙ ap (list_any test)
+    (take_all c.loop-copy.copy-index c.copies-copy-items.result.now c.loop-copy-test.false
+    ∙ c.copies-copy-items.ensures)

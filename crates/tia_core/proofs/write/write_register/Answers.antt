@@ -4,10 +4,10 @@ use Rattle.tia_core.proofs.write.write_register.Goals as goal
 pub returns-in-Hmove-clause-changed : goal.returns-in-Hmove-clause-changed
 returns-in-Hmove-clause-changed c = λ x.
     rw (
-      c.moved_position-t.ensures.value,
-      c.moved_position-t-in-Hmove.ensures.value,
-      c.moved_position-t-in-Hmove-2.ensures.value,
-      c.moved_position-t-in-Hmove-3.ensures.value,
-      c.moved_position-t-in-Hmove-4.ensures.value,
-      c.comb-t.ensures.value,
-    ) (moved-objects c.args.t.now c.args.fire0 c.args.fire1 c.args.value x c.requires)
+      c.moved_position-tia.ensures.value,
+      c.moved_position-tia-in-Hmove.ensures.value,
+      c.moved_position-tia-in-Hmove-2.ensures.value,
+      c.moved_position-tia-in-Hmove-3.ensures.value,
+      c.moved_position-tia-in-Hmove-4.ensures.value,
+      c.comb-tia.ensures.value,
+    ) (moved-objects c.args.tia.now c.args.fire0 c.args.fire1 c.args.value x c.requires)

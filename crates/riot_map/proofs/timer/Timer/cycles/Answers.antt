@@ -10,12 +10,16 @@ returns-then-self c =
     let t = c.self.inside in
     let small : c.self.inside.value < 256 = search rules in
     let few : c.args.n < 256 = search rules in
-    cycles-past c.args.n t.value t.part (interval_cycles t.interval) t.past_zero t.flag c.if-self.true small few ∙ ap (iterate after_cycle c.args.n) c.self.view_is
+    cycles-past c.args.n t.value t.part
+    (interval_cycles t.interval) t.past_zero t.flag c.if-self.true small few
+    ∙ ap (iterate after_cycle c.args.n) c.self.view_is
 
 pub returns-then-n-self : goal.returns-then-n-self
 returns-then-n-self c =
     let t = c.self.inside in
-    cycles-within c.args.n t.value t.part (interval_cycles t.interval) t.past_zero t.flag c.if-self.false c.if-n-self.true ∙ ap (iterate after_cycle c.args.n) c.self.view_is
+    cycles-within c.args.n t.value t.part
+    (interval_cycles t.interval) t.past_zero t.flag c.if-self.false c.if-n-self.true
+    ∙ ap (iterate after_cycle c.args.n) c.self.view_is
 
 pub returns-then-n-count : goal.returns-then-n-count
 returns-then-n-count c =
@@ -30,4 +34,6 @@ returns-else-n-count c =
     let few : c.args.n < 256 = search rules in
     let h : t.value * interval_cycles t.interval + t.part ≤ c.args.n = rw c.cycles-interval.ensures at c.if-n-count.false in
     rw c.cycles-interval.ensures
-    (cycles-over c.args.n t.value t.part (interval_cycles t.interval) t.past_zero t.flag c.if-self.false c.self.invariant.some few h ∙ ap (iterate after_cycle c.args.n) c.self.view_is)
+    (cycles-over c.args.n t.value t.part
+    (interval_cycles t.interval) t.past_zero t.flag c.if-self.false c.self.invariant.some few h
+    ∙ ap (iterate after_cycle c.args.n) c.self.view_is)

@@ -15,8 +15,10 @@ loop-i-preserved c = λ x le lt next. elim (earlier_or_here x c.loop-i.i next) [
   | inr here ↦
       (let h : x < 160 = omega arith in
       let at : 32 * c.loop-i.i + x % 32 ≡ x = omega arith in
-      let there : has_bit c.ones.result (x % 32) ≡ true = c.ones.ensures (x % 32) (omega arith) ∙ stretch-in c.args.from c.args.to (32 * c.loop-i.i + x % 32) (omega arith) (omega arith) in
+      let there : has_bit c.ones.result (x % 32) ≡ true = c.ones.ensures (x % 32) (omega arith)
+      ∙ stretch-in c.args.from c.args.to (32 * c.loop-i.i + x % 32) (omega arith) (omega arith) in
       rw (← c.a.view_is, ← c.b.view_is, ← c.c.view_is, ← c.d.view_is, ← c.e.view_is, ← c.f.view_is)
-      (none-twice c.a.inside.words c.b.inside.words c.c.inside.words c.d.inside.words c.e.inside.words c.f.inside.words c.ones.result c.set_twice-twice.result c.loop-i.i x
+      (none-twice c.a.inside.words c.b.inside.words c.c.inside.words c.d.inside.words
+      c.e.inside.words c.f.inside.words c.ones.result c.set_twice-twice.result c.loop-i.i x
       c.set_twice-twice.ensures (c.overlap.ensures c.if-overlap.false) here h there))
 ]

@@ -9,4 +9,5 @@ pub returns : goal.returns
 returns c = λ x h.
     covers-is _ x h
     ∙ word_bit-placed c.self.inside.words c.args.row c.args.at x c.self.told c.ranges.row.fits c.requires h
-    ∙ ap (λ (b : Bool). b || has_bit c.args.row (distance_of x c.args.at 0)) (sym (covers-is c.self.inside.words x h) ∙ ap (λ (m : List Bool). covers m x) c.self.view_is)
+    ∙ ap (λ (b : Bool). b || has_bit c.args.row (distance_of x c.args.at 0))
+    (sym (covers-is c.self.inside.words x h) ∙ ap (λ (m : List Bool). covers m x) c.self.view_is)

@@ -6,7 +6,7 @@ use Rattle.tia_core.proofs.masks.Masks.latched_anew.Goals as goal
 
 pub returns-clause-value : goal.returns-clause-value
 returns-clause-value c =
-    stretch-none c.args.t.now c.args.t.now.collisions c.args.from (c.args.to - c.args.from) (λ y le lt.
+    stretch-none c.args.tia.now c.args.tia.now.collisions c.args.from (c.args.to - c.args.from) (λ y le lt.
     let h : y < 160 = omega arith in
-    ap pairs_of (sym (objects_in-fit c.args.t.now c.renew.new.self y c.renew.ensures.fit c.renew.ensures.fresh h))
+    ap pairs_of (sym (objects_in-fit c.args.tia.now c.renew.new.self y c.renew.ensures.fit c.renew.ensures.fresh h))
     ∙ c.any_two_meet.ensures c.if-any_two_meet.false y le (omega arith))

@@ -7,9 +7,13 @@ use Rattle.tia_core.proofs.masks.Masks.paint.Goals as goal
 
 pub returns-else-keeps-clause-sink : goal.returns-else-keeps-clause-sink
 returns-else-keeps-clause-sink g c =
-    sym (painted-nothing g.S.Paint.drawn c.args.sink.now (stretch_pixels c.args.t.now c.args.line c.args.from (c.args.to - c.args.from)) (c.keeps.ensures c.if-keeps.false))
+    sym (painted-nothing g.S.Paint.drawn c.args.sink.now
+    (stretch_pixels c.args.tia.now c.args.line c.args.from (c.args.to - c.args.from))
+    (c.keeps.ensures c.if-keeps.false))
 
 pub returns-then-is_dark-clause-sink : goal.returns-then-is_dark-clause-sink
 returns-then-is_dark-clause-sink g c =
-    let t = c.args.t.now in
-    c.put_run.ensures ∙ stretch-one g.S.Paint.drawn c.args.sink.now t c.args.line c.args.from (c.args.to - c.args.from) 0 (λ y. colour-dark t (objects_at t y) y (sym c.is_dark.ensures ∙ c.if-is_dark.true))
+    let t = c.args.tia.now in
+    c.put_run.ensures ∙ stretch-one g.S.Paint.drawn c.args.sink.now t c.args.line c.args.from
+    (c.args.to - c.args.from) 0
+    (λ y. colour-dark t (objects_at t y) y (sym c.is_dark.ensures ∙ c.if-is_dark.true))

@@ -7,14 +7,18 @@ use Rattle.tia_core.proofs.masks.Masks.paint_fresh.Goals as goal
 
 pub loop-x-preserved : goal.loop-x-preserved
 loop-x-preserved g c =
-    let t = c.args.t.now in
+    let t = c.args.tia.now in
     let x = c.loop-x.x in
     let end = c.run_end-end.result in
     let run = c.run_end-end.ensures in
     record {
       order = run.range;
-      sink = rw c.put_run.ensures (stretch-run-to g.S.Paint.drawn c.loop-x.sink t c.args.line x end c.args.to c.colour_at.result (omega (arith, run.after)) run.range (λ y le lt.
-          ap (λ (o : Objects). colour_at t o y) (sym (objects_in-fit t c.args.self.now y c.requires.fit c.requires.fresh (omega (arith, run.range, c.requires.range))) ∙ run.same y le lt ∙ sym c.objects.ensures)
+      sink = rw c.put_run.ensures
+          (stretch-run-to g.S.Paint.drawn c.loop-x.sink t c.args.line x end c.args.to
+          c.colour_at.result (omega (arith, run.after)) run.range (λ y le lt.
+          ap (λ (o : Objects). colour_at t o y)
+          (sym (objects_in-fit t c.args.self.now y c.requires.fit c.requires.fresh
+          (omega (arith, run.range, c.requires.range))) ∙ run.same y le lt ∙ sym c.objects.ensures)
           ∙ colour-same t c.objects.result x y (same_side x y 8 end le lt run.comb) (same_side x y 80 end le lt run.half)
           ∙ sym c.colour_at.ensures) ∙ c.loop-x.invariant.sink);
     }

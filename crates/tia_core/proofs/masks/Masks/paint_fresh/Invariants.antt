@@ -6,7 +6,8 @@ use Rattle.tia_core.proofs.masks.Masks.paint_fresh.Given as goal
 abbrev pub invariant-loop-x : goal.invariant-loop-x
 invariant-loop-x g l = record {
   order : l.x ≤ l.to;
-  sink : sink_after_pixels g.S.Paint.drawn l.sink (stretch_pixels l.t l.line l.x (l.to - l.x)) ≡ sink_after_pixels g.S.Paint.drawn l.fn.sink (stretch_pixels l.t l.line l.from (l.to - l.from));
+  sink : sink_after_pixels g.S.Paint.drawn l.sink (stretch_pixels l.tia l.line l.x (l.to - l.x))
+      ≡ sink_after_pixels g.S.Paint.drawn l.fn.sink (stretch_pixels l.tia l.line l.from (l.to - l.from));
 }
 
 abbrev pub decreases-loop-x : goal.decreases-loop-x

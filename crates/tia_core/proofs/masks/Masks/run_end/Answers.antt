@@ -23,6 +23,7 @@ returns-clause-same c = λ y le lt. elim (first_or_later c.args.x y le) [
       let i = or-clear _ _ (y - x) h.0 in
       let j = or-clear _ _ (y - x) i.0 in
       ap (objects_in c.args.self.now) (sym e)
-      ∙ objects-alike c.args.self.now x (x + (y - x)) (c.changes.ensures (y - x) inside j.0) (c.changes-2.ensures (y - x) inside j.1) (c.changes-3.ensures (y - x) inside i.1)
+      ∙ objects-alike c.args.self.now x (x + (y - x)) (c.changes.ensures (y - x) inside j.0)
+      (c.changes-2.ensures (y - x) inside j.1) (c.changes-3.ensures (y - x) inside i.1)
       (c.changes-4.ensures (y - x) inside h.1) (c.changes-5.ensures (y - x) inside g.1) (c.changes-6.ensures (y - x) inside f.1))
 ]

@@ -9,5 +9,5 @@ returns c = record {
   missile1 = λ e. cc;
   ball = λ e. cc;
   playfield = λ e. cc;
-  bound = all-bound c.args.t.now;
+  bound = all-bound c.args.tia.now;
 }

@@ -38,4 +38,11 @@ visible-joined t x = rw (
 
 pub returns : goal.returns
 returns c = λ x.
-    rw (c.value_by_delay.ensures, c.value_by_delay-2.ensures, c.is_shown.ensures, c.is_shown-2.ensures, c.has_bit.ensures, c.value_by_delay-3.ensures) (visible-joined c.args.t.now x)
+    rw (
+      c.value_by_delay.ensures,
+      c.value_by_delay-2.ensures,
+      c.is_shown.ensures,
+      c.is_shown-2.ensures,
+      c.has_bit.ensures,
+      c.value_by_delay-3.ensures,
+    ) (visible-joined c.args.tia.now x)

@@ -18,14 +18,29 @@ returns-then-to-clause-value g c =
     let fits = subst (λ (x : TiaState). x.fields.clock + c.args.count ≤ 228) (sym c.self.view_is) c.requires.to in
     let hi = c.self.invariant.0.clock in
     let latches = c.collisions_after-self-inside.ensures.value in
-    stretch-wraps (record { fields = c.self.inside.fields; line = c.self.inside.line; fire0 = c.self.inside.fire0; fire1 = c.self.inside.fire1 }) c.args.count _ lo hi fits latches c.if-to.true ∙ ap (iterate after_clock c.args.count) c.self.view_is
+    stretch-wraps (record {
+      fields = c.self.inside.fields;
+      line = c.self.inside.line;
+      fire0 = c.self.inside.fire0;
+      fire1 = c.self.inside.fire1;
+    }) c.args.count _ lo hi fits latches c.if-to.true
+    ∙ ap (iterate after_clock c.args.count) c.self.view_is
 
 pub returns-then-to-clause-sink : goal.returns-then-to-clause-sink
 returns-then-to-clause-sink g c =
     let lo = subst (λ (x : TiaState). 68 ≤ x.fields.clock) (sym c.self.view_is) c.requires.from in
     let fits = subst (λ (x : TiaState). x.fields.clock + c.args.count ≤ 228) (sym c.self.view_is) c.requires.to in
     let hi = c.self.invariant.0.clock in
-    c.paint.ensures.sink ∙ stretch-sink g.S.Paint.drawn c.args.sink.now (record { fields = c.self.inside.fields; line = c.self.inside.line; fire0 = c.self.inside.fire0; fire1 = c.self.inside.fire1 }) c.args.count lo hi fits ∙ ap (λ (x : TiaState). sink_after_pixels g.S.Paint.drawn c.args.sink.now (pixels c.args.count x)) c.self.view_is
+    c.paint.ensures.sink
+    ∙ stretch-sink g.S.Paint.drawn c.args.sink.now
+    (record {
+      fields = c.self.inside.fields;
+      line = c.self.inside.line;
+      fire0 = c.self.inside.fire0;
+      fire1 = c.self.inside.fire1;
+    }) c.args.count lo hi fits
+    ∙ ap (λ (x : TiaState). sink_after_pixels g.S.Paint.drawn c.args.sink.now
+    (pixels c.args.count x)) c.self.view_is
 
 pub returns-else-to-clause-value : goal.returns-else-to-clause-value
 returns-else-to-clause-value g c =
@@ -33,11 +48,26 @@ returns-else-to-clause-value g c =
     let fits = subst (λ (x : TiaState). x.fields.clock + c.args.count ≤ 228) (sym c.self.view_is) c.requires.to in
     let hi = c.self.invariant.0.clock in
     let latches = c.collisions_after-self-inside.ensures.value in
-    stretch-stays (record { fields = c.self.inside.fields; line = c.self.inside.line; fire0 = c.self.inside.fire0; fire1 = c.self.inside.fire1 }) c.args.count _ lo hi fits latches c.if-to.false ∙ ap (iterate after_clock c.args.count) c.self.view_is
+    stretch-stays (record {
+      fields = c.self.inside.fields;
+      line = c.self.inside.line;
+      fire0 = c.self.inside.fire0;
+      fire1 = c.self.inside.fire1;
+    }) c.args.count _ lo hi fits latches c.if-to.false
+    ∙ ap (iterate after_clock c.args.count) c.self.view_is
 
 pub returns-else-to-clause-sink : goal.returns-else-to-clause-sink
 returns-else-to-clause-sink g c =
     let lo = subst (λ (x : TiaState). 68 ≤ x.fields.clock) (sym c.self.view_is) c.requires.from in
     let fits = subst (λ (x : TiaState). x.fields.clock + c.args.count ≤ 228) (sym c.self.view_is) c.requires.to in
     let hi = c.self.invariant.0.clock in
-    c.paint.ensures.sink ∙ stretch-sink g.S.Paint.drawn c.args.sink.now (record { fields = c.self.inside.fields; line = c.self.inside.line; fire0 = c.self.inside.fire0; fire1 = c.self.inside.fire1 }) c.args.count lo hi fits ∙ ap (λ (x : TiaState). sink_after_pixels g.S.Paint.drawn c.args.sink.now (pixels c.args.count x)) c.self.view_is
+    c.paint.ensures.sink
+    ∙ stretch-sink g.S.Paint.drawn c.args.sink.now
+    (record {
+      fields = c.self.inside.fields;
+      line = c.self.inside.line;
+      fire0 = c.self.inside.fire0;
+      fire1 = c.self.inside.fire1;
+    }) c.args.count lo hi fits
+    ∙ ap (λ (x : TiaState). sink_after_pixels g.S.Paint.drawn c.args.sink.now
+    (pixels c.args.count x)) c.self.view_is

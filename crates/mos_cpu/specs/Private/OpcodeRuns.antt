@@ -1,4 +1,4 @@
--- What the ways of opcodes stand on: an opcode's row and operand, each known by itself, and how an
+-- What the runs of opcodes stand on: an opcode's row and operand, each known by itself, and how an
 -- operation uses its operand. These are helpers of proofs: no public contract names them.
 use Rattle.std.specs.Prelude.{ℕ, ◌≡◌, ◌+◌, ◌%◌, Bool, false, not, ◌==◌, ◌||◌, if◌then◌else◌, List}
 use Rattle.std.specs.Prelude.{[], Option, Some, None, Result, Ok, Err, IsErr, slice_index}
@@ -70,10 +70,10 @@ pub record IsUndone {S : Type 0} (m : Meaning S) (r : Registers) (s : S) (after 
   pub bus_state : bus ≡ s
   pub fault : IsErr (instruction_at m s r)
 
--- A way answers and leaves what a step does, or has no answer if it is a fault.
-abbrev pub IsWay : {S : Type 0} → Meaning S → Registers → S → Option ℕ → Registers → S → Type 0
-IsWay m r s (Some cycles) after bus = IsStepOf m r s cycles after bus
-IsWay m r s None after bus = IsUndone m r s after bus
+-- The run of an opcode answers and leaves what a step does, or has no answer if it is a fault.
+abbrev pub IsOpcodeRun : {S : Type 0} → Meaning S → Registers → S → Option ℕ → Registers → S → Type 0
+IsOpcodeRun m r s (Some cycles) after bus = IsStepOf m r s cycles after bus
+IsOpcodeRun m r s None after bus = IsUndone m r s after bus
 
 -- An operation that reads its operand, and does with a byte of memory what it does with one of the
 -- instruction.

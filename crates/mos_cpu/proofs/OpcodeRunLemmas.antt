@@ -14,8 +14,8 @@ use Rattle.mos_cpu.specs.Operands.{Operand, Register, Value, Place, Instruction,
 use Rattle.mos_cpu.specs.Operands.{instruction_byte, branch_target, row_or_fault, operand_by_mode}
 use Rattle.mos_cpu.specs.Operands.{operand_of, takes_vector, instruction_at}
 use Rattle.mos_cpu.specs.Registers.{Registers}
-use Rattle.mos_cpu.specs.Private.Ways.{has_low, row_here, IsRow, IsLow, IsTarget, IsStepOf}
-use Rattle.mos_cpu.specs.Private.Ways.{IsReader, IsStorer, IsChanger, IsBranch, IsImplied}
+use Rattle.mos_cpu.specs.Private.OpcodeRuns.{has_low, row_here, IsRow, IsLow, IsTarget, IsStepOf}
+use Rattle.mos_cpu.specs.Private.OpcodeRuns.{IsReader, IsStorer, IsChanger, IsBranch, IsImplied}
 use Rattle.mos_cpu.specs.declared.addressing.Target.{Target}
 use Rattle.mos_cpu.specs.declared.fault.CpuFault.{CpuFault}
 use Rattle.mos_cpu.specs.declared.opcode_row.Row.{Row}
@@ -124,7 +124,9 @@ module _ {S : Type 0} (m : Meaning S) (r : Registers) (s : S) where
       → ◌≡◌ {A = Result Operand CpuFault} (operand_by_mode m s r Relative) (Ok (branch_target ((r.pc + 2) % 65536) low))
   branch_named low e = rw e refl
 
-  pub step_of-taken : (o : Operation) (low : ℕ) (t : Target) (cycles : ℕ) → cycles ≡ 3 + (if t.crossed then 1 else 0) → IsBranch o → IsRow m s r o Relative 2 false → IsLow m s r low
+  pub step_of-taken : (o : Operation) (low : ℕ) (t : Target) (cycles : ℕ)
+      → cycles ≡ 3 + (if t.crossed then 1 else 0) → IsBranch o → IsRow m s r o Relative 2 false
+      → IsLow m s r low
       → Place t.address t.crossed ≡ branch_target ((r.pc + 2) % 65536) low → is_taken o r.p ≡ true
       → IsStepOf m r s cycles (with_pc r t.address) (m.passed s cycles)
   step_of-taken o low t cycles sum goes here e place taken =
