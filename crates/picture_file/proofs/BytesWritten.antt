@@ -50,7 +50,13 @@ prefix_longer a b p q h =
 
 pub prefix_after : (a b c : Option (List ℕ)) (p q : List ℕ) → Appends a b p → AppendsPrefix b c q → AppendsPrefix a c (p ++ q)
 prefix_after a b c p q h k =
-    record { prefix = p ++ k.prefix; rest = k.rest; whole = ap (λ (w : List ℕ). p ++ w) k.whole ∙ sym (append_assoc p k.prefix k.rest); written = appends_then a b c p k.prefix h k.written }
+    record {
+      prefix = p ++ k.prefix;
+      rest = k.rest;
+      whole = ap (λ (w : List ℕ). p ++ w) k.whole
+          ∙ sym (append_assoc p k.prefix k.rest);
+      written = appends_then a b c p k.prefix h k.written;
+    }
 
 -- the pieces of a list, up to one and from the next
 pieces_at : {X : Type 0} (f : X → List ℕ) (xs : List X) (i : ℕ) (d : X) → i < length xs

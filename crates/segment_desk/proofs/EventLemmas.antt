@@ -115,7 +115,9 @@ module _ (n w : ℕ) where
       draws_more lt = let v' : Part = with_drawn c v in
           let D : (k : ℕ) → sum_by (drawn_of k) (set ps j v') + times k v.drawn ≡ sum_by (drawn_of k) ps + times k (v.drawn ++ c ∷ []) =
           λ k. sum_by-set-at (drawn_of k) ps j v v' at in
-          let R : (k : ℕ) → sum_by (reported_of k) (set ps j v') ≡ sum_by (reported_of k) ps = λ k. omega (arith, sum_by-set-at (reported_of k) ps j v v' at) in record {
+          let R : (k : ℕ) → sum_by (reported_of k) (set ps j v')
+          ≡ sum_by (reported_of k) ps = λ k. omega
+          (arith, sum_by-set-at (reported_of k) ps j v v' at) in record {
             small = o.small;
             once = λ k h h'. times-snoc k c v.drawn
                 (λ is one. omega (arith, D k, o.not_yet k (omega (arith, is))))
@@ -195,7 +197,14 @@ module _ (n w : ℕ) where
           λ f e z. omega (arith, sum_by-set-at f ps j v b at, sum_by-set-at f ps' i u spent_part at') in
           same_numbers c (set ps' i spent_part) (omega arith) (λ k h h'. h)
           (λ k. same (drawn_of k) (times-append k v.drawn u.drawn) refl) (λ k. same (reported_of k) (times-append k v.reported u.reported) refl)
-          (same share_of refl refl) (omega (arith, sum_by-set-at ended_share ps j v b at, sum_by-set-at ended_share ps' i u spent_part at', both_ended v u, o.few))
+          (same share_of refl refl)
+          (omega (
+            arith,
+            sum_by-set-at ended_share ps j v b at,
+            sum_by-set-at ended_share ps' i u spent_part at',
+            both_ended v u,
+            o.few,
+          ))
           (all_set c l c l ps' i spent_part
           (all_set c l c l ps j b o.each (omega arith) (omega arith) (sound_handed n w c l v u s (o.each i u there) pos))
           (omega arith) (omega arith) (sound_spent n w c l))

@@ -44,7 +44,9 @@ module _ {A : Type 0} (g : A → ℕ) where
         omega (arith, h zero x refl (omega arith), none_left xs (λ j. h (suc j)) (omega arith), sum_by-cons f x xs)
 
     -- one that has all of the weight g has all of the weight f
-    pub alone : (l : List A) (j : ℕ) (v : A) → get_elem? l j ≡ some v → ((i : ℕ) (a : A) → get_elem? l i ≡ some a → g a ≡ 0 → f a ≡ 0) → sum_by g l ≡ g v → sum_by f l ≡ f v
+    pub alone : (l : List A) (j : ℕ) (v : A) → get_elem? l j ≡ some v
+        → ((i : ℕ) (a : A) → get_elem? l i ≡ some a → g a ≡ 0 → f a ≡ 0) → sum_by g l ≡ g v
+        → sum_by f l ≡ f v
     alone [] j v e h is = absurd (some-ne-none v (sym e))
     alone (x ∷ xs) zero v e h is = let same = some-injective x v e in let left = sum_by-cons g x xs in
         let r : sum_by f xs ≡ 0 = none_left xs (λ i. h (suc i)) (omega (arith, ap g same)) in omega (arith, ap f same, sum_by-cons f x xs)

@@ -48,7 +48,14 @@ module _ (n w : ℕ) where
         own_passes = λ j v k at. (each j v at).passes k;
         smaller_reported = λ j v k at some_passed. let v-sound = each j v at in
             let above : s.least < k = lt_of_not-le (λ (h : k ≤ s.least). absurd (omega (arith, v-sound.behind k h))) in
-            let below : k < n = lt_of_not-le (λ (h : n ≤ k). absurd (omega (arith, v-sound.passes k, term_le (drawn_of k) s.parts j v (some-of_slice_get s.parts j v at), o.within k h))) in
+            let below : k < n = lt_of_not-le
+            (λ (h : n ≤ k). absurd
+            (omega (
+              arith,
+              v-sound.passes k,
+              term_le (drawn_of k) s.parts j v (some-of_slice_get s.parts j v at),
+              o.within k h,
+            ))) in
             (s.least, above, o.is_reported (omega arith));
         shares = o.shares;
         whole = λ j v is ended all. let at = some-of_slice_get s.parts j v is.0 in

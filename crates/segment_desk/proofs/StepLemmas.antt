@@ -78,7 +78,16 @@ module _ (n w : ℕ) where
           at_words (x + 1) y (get_or (set ws 0 z) 0 0) (get_or (set ws 0 z) 1 0) (set s.views id v)
               (get_or-set_same ws 0 z 0 (omega arith) ∙ is) (get_or-set_other ws 0 1 z 0 (λ e. omega arith)) r',
         ),
-        ((empty, refl, seats (x + 1) y s.views id m.0 v at (let same = draw_at-share x m.0 in omega arith) r'), drawn_below n w x y s.views o id m.0 at pos, stands x y s.views id m.0 (λ t. t.count ≡ x) r.1 at pos refl),
+        (
+          (
+            empty,
+            refl,
+            seats (x + 1) y s.views id m.0 v at
+                (let same = draw_at-share x m.0 in omega arith) r',
+          ),
+          drawn_below n w x y s.views o id m.0 at pos,
+          stands x y s.views id m.0 (λ t. t.count ≡ x) r.1 at pos refl,
+        ),
       )
 
   -- A load leaves the words.
@@ -198,7 +207,8 @@ look_keeps x k v last le = ap (λ (m : Option ℕ). with_passed x m v.passed_ove
 -- A look at one below it passes it over.
 pub look_passes : (x k : ℕ) (v : Part) → v.last ≡ Some k → x < k → 0 < times k (look_at x v).passed_over
 look_passes x k v last lt = subst (λ (m : Option ℕ). 0 < times k (with_passed x m v.passed_over)) (sym last)
-    (tested (λ (ys : List ℕ). 0 < times k ys) x k (with_number k v.passed_over) v.passed_over (λ _. with_number-here k v.passed_over) (λ le. absurd (omega arith)))
+    (tested (λ (ys : List ℕ). 0 < times k ys) x k (with_number k v.passed_over) v.passed_over
+    (λ _. with_number-here k v.passed_over) (λ le. absurd (omega arith)))
 
 -- A number that is drawn is not passed over in that step.
 pub drawn_fresh : (v u : Part) (k : ℕ) → u ≡ draw_at k v → IsKnown v → ((j : ℕ) → 0 < times j v.drawn → j < k) → times k u.passed_over ≡ 0

@@ -76,10 +76,24 @@ module _ (job : Job) (pieces : List PieceData) (v : Part) (k : ℕ) (exact : IsE
       let before : old.reported ≡ v.reported = ap (λ (u : Part). u.reported) is in
       let told = reports (passed p.outcome) k old new (ap (times k) before ∙ unreported) replayed in record {
         names = All-push (λ (q : PieceData). q.job ≡ job) pieces p exact.names of;
-        pieces_of = λ j. omega
-            (arith, exact.pieces_of j, times-numbers j pieces (p ∷ []), ap (λ (n : ℕ). times j (n ∷ [])) number, ap (times j) over, ap (times j) drawn, times-append j v.drawn (k ∷ []));
-        reports_of = λ j. omega
-            (arith, exact.reports_of j, times-bad j pieces (p ∷ []), times-append j (if_bad p.number p.outcome) [], ap (λ (n : ℕ). times j (if_bad n p.outcome)) number, told j, ap (times j) before);
+        pieces_of = λ j. omega (
+          arith,
+          exact.pieces_of j,
+          times-numbers j pieces (p ∷ []),
+          ap (λ (n : ℕ). times j (n ∷ [])) number,
+          ap (times j) over,
+          ap (times j) drawn,
+          times-append j v.drawn (k ∷ []),
+        );
+        reports_of = λ j. omega (
+          arith,
+          exact.reports_of j,
+          times-bad j pieces (p ∷ []),
+          times-append j (if_bad p.number p.outcome) [],
+          ap (λ (n : ℕ). times j (if_bad n p.outcome)) number,
+          told j,
+          ap (times j) before,
+        );
         memory = All-push WantsMemoryForPictures pieces p exact.memory
             (λ none. subst (λ (j : Job). HasKept j p.number) (sym of) (subst (HasKept job) (sym number) (wants none)));
       }

@@ -47,8 +47,13 @@ passed-less k (q ∷ ps) zero p at is good = let same : q ≡ p = cc in
     ap (λ (x : PieceData). times k (if_bad x.number x.outcome)) same ∙ passed_one k p.number p.outcome good in
     omega (arith, bad-le k ps, here, none, times-numbers-cons k q ps, times-append k (if_bad q.number q.outcome) (bad_numbers ps))
 passed-less k (q ∷ ps) (suc i) p at is good =
-    omega
-    (arith, passed-less k ps i p at is good, bad_one k q.number q.outcome, times-numbers-cons k q ps, times-append k (if_bad q.number q.outcome) (bad_numbers ps))
+    omega (
+      arith,
+      passed-less k ps i p at is good,
+      bad_one k q.number q.outcome,
+      times-numbers-cons k q ps,
+      times-append k (if_bad q.number q.outcome) (bad_numbers ps),
+    )
 
 -- No piece is missing whose segment would have to be known.
 pub none_missing : (desk : DeskView) (job : Job) (hand : Hand) (k : ℕ) → IsWorked desk job desk.workers hand

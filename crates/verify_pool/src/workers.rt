@@ -130,7 +130,9 @@ fn crew_within<'s, E, G: Gate + Sync, R: Threads + Wait + Sync>(
     mut hands: Vec<Hand>,
 ) -> Result<Hand, NoThread>
     requires ready { AreReady shared.now.desk.now hands.items }
-    ensures worked { IfOk result (λ hand. IsWorked shared.now.desk.now (job_of shared.now.movie.now shared.now.cuts.now shared.now.keep) (shares hands.items) hand) }
+    ensures worked { IfOk result
+        (λ hand. IsWorked shared.now.desk.now
+        (job_of shared.now.movie.now shared.now.cuts.now shared.now.keep) (shares hands.items) hand) }
     ensures few { IfOk result (λ hand. vec_len hand.pieces ≤ shared.now.desk.now.segments * length hands.items) }
     ensures room { IfOk result (λ hand. first_room hands.items ≤ vec_capacity hand.pieces) }
     ensures refused { OnErr result (2 ≤ length hands.items) }

@@ -24,7 +24,8 @@ returns-in_err-write_number-clause-err g c =
     let b = g.W.Write.contents c.write_bytes.new.writer in
     let d = g.W.Write.contents c.write_number.new.writer in
     rw p.1
-    (prefix_after a b d first (decimal c.args.rows ++ last) c.in_ok-write_bytes.ensures.ok (prefix_longer b d (decimal c.args.rows) last c.in_err-write_number.ensures.err))
+    (prefix_after a b d first (decimal c.args.rows ++ last) c.in_ok-write_bytes.ensures.ok
+    (prefix_longer b d (decimal c.args.rows) last c.in_err-write_number.ensures.err))
 
 pub returns-in_err-write_bytes-2-clause-err : goal.returns-in_err-write_bytes-2-clause-err
 returns-in_err-write_bytes-2-clause-err g c =
@@ -34,4 +35,6 @@ returns-in_err-write_bytes-2-clause-err g c =
     let d = g.W.Write.contents c.write_number.new.writer in
     let e = g.W.Write.contents c.write_bytes-2.new.writer in
     rw p.1
-    (prefix_after a b e first (decimal c.args.rows ++ last) c.in_ok-write_bytes.ensures.ok (prefix_after b d e (decimal c.args.rows) last c.in_ok-write_number.ensures.ok c.in_err-write_bytes-2.ensures.err))
+    (prefix_after a b e first (decimal c.args.rows ++ last) c.in_ok-write_bytes.ensures.ok
+    (prefix_after b d e (decimal c.args.rows) last c.in_ok-write_number.ensures.ok
+    c.in_err-write_bytes-2.ensures.err))

@@ -13,10 +13,14 @@ loop-ticket-preserved c =
     let before = c.loop-ticket.invariant in let desk = c.args.desk.now in let ft : TicketView = first_ticket desk in let t : TicketView = c.in-Some.ticket in
     let pop = c.in-Some.ensures in let n : ℕ = vec_len c.loop-ticket.tickets in let m : ℕ = vec_len c.pop.new.self in let less : m + 1 ≡ n = pop.cases in
     let left : c.pop.new.self.items ≡ replicate m ft =
-    pop.rest ∙ (ap (take (n - 1)) before.left ∙ (take-replicate (n - 1) n ft (omega arith) ∙ (let e : n - 1 ≡ m = omega arith in ap (λ (k : ℕ). replicate k ft) e))) in
+    pop.rest ∙ (ap (take (n - 1)) before.left
+    ∙ (take-replicate (n - 1) n ft (omega arith)
+    ∙ (let e : n - 1 ≡ m = omega arith in ap (λ (k : ℕ). replicate k ft) e))) in
     let found = pop.value ft (omega arith) in
     let is : t ≡ ft =
-    (let e : t ≡ get_or c.loop-ticket.tickets.items (n - 1) ft = cc in e ∙ (ap (λ (ts : List TicketView). get_or ts (n - 1) ft) before.left ∙ get_or-replicate n (n - 1) ft ft (omega arith))) in
+    (let e : t ≡ get_or c.loop-ticket.tickets.items (n - 1) ft = cc in e
+    ∙ (ap (λ (ts : List TicketView). get_or ts (n - 1) ft) before.left
+    ∙ get_or-replicate n (n - 1) ft ft (omega arith))) in
     let hands : List Hand = c.loop-ticket.hands.items in let made = c.in_ok-pieces.ensures in
     let hand : Hand = record { ticket = t; pieces = c.in_ok-pieces.pieces } in
     let items : c.push_reserved.new.self.items ≡ hands ++ hand ∷ [] = c.push_reserved.ensures.items in
@@ -35,6 +39,8 @@ loop-ticket-preserved c =
       sum = let share : t.part.share ≡ 1 = ap (λ (u : TicketView). u.part.share) is in omega (arith, ap shares items, shares-append hands hand, before.sum);
       first = λ z. absurd (omega arith);
       later = λ some_hand. subst (λ (hs : List Hand). desk.segments * desk.workers ≤ first_room hs) (sym items)
-          (first_room-more (desk.segments * desk.workers) hands hand (λ z. let r = before.first (omega arith) in omega arith) (λ more. before.later (omega arith)));
+          (first_room-more (desk.segments * desk.workers) hands hand
+          (λ z. let r = before.first (omega arith) in omega arith)
+          (λ more. before.later (omega arith)));
       enough = omega arith;
     }

@@ -17,10 +17,12 @@ fetch_add-found-requires c = let own = c.ticket.invariant in let two = c.self.in
 )
 
 pub returns-then-found-self-clause-after_last : goal.returns-then-found-self-clause-after_last
-returns-then-found-self-clause-after_last c = λ j e. c.fetch_add-found.ensures.2.1 j (c.ticket.invariant.3.last_drawn j (ap (λ t. t.part.last) c.ticket.view_is ∙ e))
+returns-then-found-self-clause-after_last c = λ j e. c.fetch_add-found.ensures.2.1 j
+    (c.ticket.invariant.3.last_drawn j (ap (λ t. t.part.last) c.ticket.view_is ∙ e))
 
 pub returns-then-found-self-clause-not_passed : goal.returns-then-found-self-clause-not_passed
 returns-then-found-self-clause-not_passed c = let told = c.fetch_add-found.ensures.2 in drawn_fresh _ _ _ told.0.1 c.ticket.invariant.3 told.1
 
 pub returns-then-found-self-clause-rising : goal.returns-then-found-self-clause-rising
-returns-then-found-self-clause-rising c = λ j some. c.fetch_add-found.ensures.2.1 j (subst (λ (t : TicketView). 0 < times j t.part.drawn) (sym c.ticket.view_is) some)
+returns-then-found-self-clause-rising c = λ j some. c.fetch_add-found.ensures.2.1 j
+    (subst (λ (t : TicketView). 0 < times j t.part.drawn) (sym c.ticket.view_is) some)

@@ -17,7 +17,9 @@ load-requires c = let two = c.self.invariant.0 in let me = c.join_seat.ensures.2
   c.join_seat.ensures.0 ∙ (ap (λ t. t.desk) c.into.view_is ∙ (c.requires.into.0 ∙ sym (ap (λ d. d.id) c.self.view_is))),
   omega arith,
   allows_settle _ _ _ _ _ (ap (λ m. m.1) me ∙ c.into.invariant.0)
-      (let pos = c.into.invariant.2 in let share : c.join_seat.new.seat.me.0.share ≡ c.into.inside.seat.me.0.share + c.from.inside.seat.me.0.share = ap (λ m. m.0.share) me in omega arith),
+      (let pos = c.into.invariant.2 in let share : c.join_seat.new.seat.me.0.share
+      ≡ c.into.inside.seat.me.0.share + c.from.inside.seat.me.0.share = ap (λ m. m.0.share) me
+      in omega arith),
 )
 
 pub returns-clause-apart : goal.returns-clause-apart

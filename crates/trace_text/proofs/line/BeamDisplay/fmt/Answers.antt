@@ -7,6 +7,8 @@ use Rattle.trace_text.proofs.line.BeamDisplay.fmt.Goals as goal
 
 pub returns-clause-writes : goal.returns-clause-writes
 returns-clause-writes g c = λ plain ok. has_written_of_eq _ _ _ _ _
-    (ap (λ (line : List ℕ). line ++ (codes " " ++ padded_integral (format_spec 32 3 0 2 (2 ^ 64 - 1)) false [] (decimal c.args.self.now.cycle))) (right-padded 3 (decimal c.args.self.now.line))
+    (ap (λ (line : List ℕ). line
+    ++ (codes " " ++ padded_integral (format_spec 32 3 0 2 (2 ^ 64 - 1)) false []
+    (decimal c.args.self.now.cycle))) (right-padded 3 (decimal c.args.self.now.line))
     ∙ ap (λ (cycle : List ℕ). right 3 (decimal c.args.self.now.line) ++ (codes " " ++ cycle)) (right-padded 2 (decimal c.args.self.now.cycle)))
     (search rules)
