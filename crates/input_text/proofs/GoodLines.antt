@@ -2,8 +2,8 @@
 use Rattle.std.proofs.Common.{◌≡◌, ◌⊎◌, ℕ, ◌+◌, ◌-◌, ◌<◌, ◌≤◌, suc, Bool, true, false, List, []}
 use Rattle.std.proofs.Common.{◌∷◌, ◌++◌, length, get_or, take, drop, replicate, Option, Some, None}
 use Rattle.std.proofs.Common.{Ok, Err, sym, refl, ap, ◌∙◌, inl, inr, arith, add-one, append_assoc}
-use Rattle.std.proofs.Common.{length-append}
-use Rattle.std.specs.Prelude.{not, find, sum_by, nat_le}
+use Rattle.std.proofs.Common.{length-append, Bor, subst}
+use Rattle.std.specs.Prelude.{not, find, sum_by, nat_le, ◌&&◌, MatchOption, IfSome}
 use Rattle.std.specs.List.{list_all, flat_map, range_with_len}
 use Rattle.std.proofs.lemmas.Bool.{and_parts, and_from, and_left, and_right, leb-true, le-leb}
 use Rattle.std.proofs.lemmas.Bool.{lt-leb}
@@ -14,6 +14,7 @@ use Rattle.std.proofs.lemmas.List.Folds.{list_all-append}
 use Rattle.std.proofs.lemmas.List.FromFn.{get_or-range_with_len, length-range_with_len}
 use Rattle.std.proofs.lemmas.List.Recursion.{found_at, found_nowhere}
 use Rattle.std.proofs.lemmas.List.Sums.{sum_by-append}
+use Rattle.std.proofs.Math.Bool.{and-true}
 use Rattle.vcs_machine.specs.Inputs.{InputData}
 use Rattle.input_text.specs.Words.{lines_of, words_of}
 use Rattle.input_text.specs.Texts.{most_frames, is_readable, frames_of, input_of, inputs_of}
@@ -28,9 +29,6 @@ frames_on line = frames_of (words_of line)
 abbrev pub frames_in : List (List ℕ) → ℕ
 frames_in lines = sum_by frames_on lines
 
-pub few_frames : (lines : List (List ℕ)) → are_good lines ≡ true → frames_in lines ≤ 262143
-few_frames lines good = leb-true _ _ (and_parts (list_all can_be_read lines) (nat_le (frames_in lines) most_frames) good).1
-
 -- as many inputs as frames
 pub length-inputs : (lines : List (List ℕ)) → length (flat_map inputs_of lines) ≡ frames_in lines
 length-inputs [] = refl
@@ -43,21 +41,15 @@ length-inputs (line ∷ lines) =
       sum_by-append frames_on (line ∷ []) lines,
     )
 
-pub good_more : (done : List (List ℕ)) (line : List ℕ) → are_good done ≡ true → is_readable (words_of line) ≡ true
-    → frames_in done + frames_of (words_of line) ≤ 262143 → are_good (done ++ line ∷ []) ≡ true
-good_more done line good reads few =
+-- one more line is good if it can be read and says no more frames than are left
+pub good_push : (done : List (List ℕ)) (line : List ℕ) → are_good done ≡ true
+    → are_good (done ++ line ∷ []) ≡ (can_be_read line && nat_le (frames_in done + frames_on line) most_frames)
+good_push done line good =
     let parts = and_parts (list_all can_be_read done) (nat_le (frames_in done) most_frames) good in
-    and_from _ _ (list_all-append can_be_read done (line ∷ []) ∙ and_from _ _ parts.0 (and_from _ _ reads refl))
-    (le-leb (frames_in (done ++ line ∷ [])) 262143 (omega (arith, sum_by-append frames_on done (line ∷ []))))
-
-pub bad_unreadable : (done : List (List ℕ)) (line : List ℕ) → is_readable (words_of line) ≡ false → are_good (done ++ line ∷ []) ≡ false
-bad_unreadable done line bad =
-    and_left _ _ (list_all-append can_be_read done (line ∷ []) ∙ and_right _ _ (and_left _ _ bad))
-
-pub bad_many : (done : List (List ℕ)) (line : List ℕ) → 262143 < frames_in done + frames_of (words_of line) → are_good (done ++ line ∷ []) ≡ false
-bad_many done line many =
-    and_right (list_all can_be_read (done ++ line ∷ [])) (nat_le (frames_in (done ++ line ∷ [])) most_frames)
-    (lt-leb (frames_in (done ++ line ∷ [])) 262143 (omega (arith, sum_by-append frames_on done (line ∷ []))))
+    let reads : list_all can_be_read (done ++ line ∷ []) ≡ can_be_read line =
+    list_all-append can_be_read done (line ∷ []) ∙ rw parts.0 (and-true (can_be_read line)) in
+    let total : frames_in (done ++ line ∷ []) ≡ frames_in done + frames_on line = omega (arith, sum_by-append frames_on done (line ∷ [])) in
+    rw (reads, total) refl
 
 -- what comes before good lines is good
 pub good_before : (prefix back : List (List ℕ)) → are_good (prefix ++ back) ≡ true → are_good prefix ≡ true
@@ -100,99 +92,98 @@ first_bad-at done line more good bad =
     (ap (is_bad_up_to all) at ∙ ap (λ (ls : List (List ℕ)). not (are_good ls)) (take_to done line more) ∙ ap not bad)
     ∙ ap (λ (n : ℕ). Some n) (at ∙ sym (add-one (length done)))
 
--- So many lines of a text are read, these are their inputs, and this is left of the text.
-pub record ReadSoFar (text : List ℕ) (number : ℕ) (inputs : List InputData) (rest : List ℕ) : Type 0 where
+-- So many lines of a text are read, these are their inputs, and these lines are left.
+pub record ReadSoFar (text : List ℕ) (number : ℕ) (inputs : List InputData) (left : List (List ℕ)) : Type 0 where
   pub done : List (List ℕ)
   pub count : number ≡ length done
   pub good : are_good done ≡ true
   pub inputs_are : inputs ≡ flat_map inputs_of done
+  pub frames : length inputs ≡ frames_in done
   pub few : length inputs ≤ 262143
-  pub lines : (lines_of text ≡ done ++ lines_of rest) ⊎ ((lines_of text ≡ done) × (rest ≡ []))
-  pub left : number + length rest ≤ length text
+  pub lines : lines_of text ≡ done ++ left
 
-pub read_none : (text : List ℕ) → ReadSoFar text 0 [] text
-read_none text = record { done = []; count = refl; good = refl; inputs_are = refl; few = omega arith; lines = inl refl; left = omega arith }
+-- the lines of what is left of a text, and how many bytes are
+abbrev pub lines_left : Option (Bor (List ℕ)) → List (List ℕ)
+lines_left None = []
+lines_left (Some rest) = lines_of rest.now
 
--- the lines from one on that isn't read yet
-lines_left : (text : List ℕ) (rest : List ℕ) (done : List (List ℕ)) → 0 < length rest
-    → (lines_of text ≡ done ++ lines_of rest) ⊎ ((lines_of text ≡ done) × (rest ≡ [])) → lines_of text ≡ done ++ lines_of rest
-lines_left text rest done some (inl e) = e
-lines_left text rest done some (inr e) = absurd (omega (arith, ap length e.1))
+abbrev pub bytes_left : Option (Bor (List ℕ)) → ℕ
+bytes_left None = 0
+bytes_left (Some rest) = length rest.now + 1
 
-lines_more : (text : List ℕ) (done : List (List ℕ)) (line rest after : List ℕ) → lines_of text ≡ done ++ lines_of rest
-    → (lines_of rest ≡ line ∷ lines_of after) ⊎ ((lines_of rest ≡ line ∷ []) × (after ≡ []))
-    → (lines_of text ≡ (done ++ line ∷ []) ++ lines_of after) ⊎ ((lines_of text ≡ done ++ line ∷ []) × (after ≡ []))
-lines_more text done line rest after e (inl f) = inl (e ∙ ap (λ (ls : List (List ℕ)). done ++ ls) f ∙ sym (append_assoc done (line ∷ []) (lines_of after)))
-lines_more text done line rest after e (inr f) = inr (e ∙ ap (λ (ls : List (List ℕ)). done ++ ls) f.0, f.1)
+next_line : (rest line : List ℕ) (after : Option (Bor (List ℕ)))
+    → MatchOption after (lines_of rest ≡ line ∷ []) (λ after. lines_of rest ≡ line ∷ lines_of after.now)
+    → lines_of rest ≡ line ∷ lines_left after
+next_line rest line None e = e
+next_line rest line (Some after) e = e
 
-pub read_more : (text : List ℕ) (number : ℕ) (inputs : List InputData) (rest line after : List ℕ) (count : ℕ) (input : InputData) → 0 < length rest
-    → (lines_of rest ≡ line ∷ lines_of after) ⊎ ((lines_of rest ≡ line ∷ []) × (after ≡ [])) → length after < length rest
-    → is_readable (words_of line) ≡ true → count ≡ frames_of (words_of line) → input ≡ input_of (words_of line) → length inputs + count ≤ 262143
-    → ReadSoFar text number inputs rest → ReadSoFar text (number + 1) (inputs ++ replicate count input) after
-read_more text number inputs rest line after count input some split shorter reads frames is few so =
-    let total : length inputs ≡ frames_in so.done = ap length so.inputs_are ∙ length-inputs so.done in
+pub with_next : (text : List ℕ) (number : ℕ) (inputs : List InputData) (left : Option (Bor (List ℕ))) (rest : Bor (List ℕ)) (line : List ℕ)
+    (after : Option (Bor (List ℕ))) → left ≡ Some rest
+    → MatchOption after (lines_of rest.now ≡ line ∷ []) (λ after. lines_of rest.now ≡ line ∷ lines_of after.now)
+    → ReadSoFar text number inputs (lines_left left) → ReadSoFar text number inputs (line ∷ lines_left after)
+with_next text number inputs left rest line after e split so =
+    subst (ReadSoFar text number inputs) (ap lines_left e ∙ next_line rest.now line after split) so
+
+pub fewer_bytes : (rest : List ℕ) (after : Option (Bor (List ℕ))) → IfSome after (λ after. length after.now < length rest)
+    → bytes_left after ≤ length rest
+fewer_bytes rest None h = omega arith
+fewer_bytes rest (Some after) h = omega arith
+
+pub read_none : (text : List ℕ) → ReadSoFar text 0 [] (lines_of text)
+read_none text = record { done = []; count = refl; good = refl; inputs_are = refl; frames = refl; few = omega arith; lines = refl }
+
+pub read_more : (text : List ℕ) (number : ℕ) (inputs : List InputData) (line : List ℕ) (left : List (List ℕ)) (count : ℕ) (input : InputData)
+    → can_be_read line ≡ true → count ≡ frames_of (words_of line) → input ≡ input_of (words_of line) → length inputs + count ≤ 262143
+    → ReadSoFar text number inputs (line ∷ left) → ReadSoFar text (number + 1) (inputs ++ replicate count input) left
+read_more text number inputs line left count input reads frames is few so =
+    let grown : length (inputs ++ replicate count input) ≡ length inputs + count =
+    omega (arith, length-append inputs (replicate count input), length-replicate count input) in
     record {
       done = so.done ++ line ∷ [];
+      frames = omega (arith, so.frames, sum_by-append frames_on so.done (line ∷ []));
       count = omega (arith, so.count, length-append so.done (line ∷ []));
-      good = good_more so.done line so.good reads (omega arith);
+      good = good_push so.done line so.good ∙ and_from _ _ reads (le-leb (frames_in so.done + frames_on line) 262143 (omega arith));
       inputs_are =
           ap (λ (is : List InputData). is ++ replicate count input) so.inputs_are
           ∙ ap (λ (is : List InputData). flat_map inputs_of so.done ++ is) (rw (frames, is) (sym (append-nil (inputs_of line))))
           ∙ sym (flat_map-append inputs_of so.done (line ∷ []));
-      few = omega (arith, length-append inputs (replicate count input), length-replicate count input);
-      lines = lines_more text so.done line rest after (lines_left text rest so.done some so.lines) split;
-      left = omega (arith, so.left);
+      few = omega arith;
+      lines = so.lines ∙ sym (append_assoc so.done (line ∷ []) left);
     }
 
 -- memory is refused only for a line that says frames
-pub frames_said : (text : List ℕ) (number : ℕ) (inputs : List InputData) (rest line after : List ℕ) → 0 < length rest
-    → (lines_of rest ≡ line ∷ lines_of after) ⊎ ((lines_of rest ≡ line ∷ []) × (after ≡ []))
-    → is_readable (words_of line) ≡ true → 0 < frames_of (words_of line) → length inputs + frames_of (words_of line) ≤ 262143
-    → ReadSoFar text number inputs rest → SaysFrames text
-frames_said text number inputs rest line after some split reads frames few so =
-    let total : length inputs ≡ frames_in so.done = ap length so.inputs_are ∙ length-inputs so.done in
-    let first : (more : List (List ℕ)) → lines_of rest ≡ line ∷ more → take (suc (length so.done)) (lines_of text) ≡ so.done ++ line ∷ [] = λ more e.
-    ap (take (suc (length so.done))) (lines_left text rest so.done some so.lines ∙ ap (λ (ls : List (List ℕ)). so.done ++ ls) e)
-    ∙ take_to so.done line more in
+pub frames_said : (text : List ℕ) (number : ℕ) (inputs : List InputData) (line : List ℕ) (left : List (List ℕ))
+    → can_be_read line ≡ true → 0 < frames_of (words_of line) → length inputs + frames_of (words_of line) ≤ 262143
+    → ReadSoFar text number inputs (line ∷ left) → SaysFrames text
+frames_said text number inputs line left reads frames few so =
     let lines : take (suc (length so.done)) (lines_of text) ≡ so.done ++ line ∷ [] =
-    elim split [ inl e ↦ first (lines_of after) e | inr e ↦ first [] e.0 ] in (
+    ap (take (suc (length so.done))) so.lines ∙ take_to so.done line left in (
       suc (length so.done),
-      ap are_good lines ∙ good_more so.done line so.good reads (omega arith),
+      ap are_good lines ∙ good_push so.done line so.good ∙ and_from _ _ reads (le-leb (frames_in so.done + frames_on line) 262143 (omega arith)),
       omega (arith, ap frames_in lines, sum_by-append frames_on so.done (line ∷ [])),
     )
 
 -- a line is bad, and those before it are good
-pub read_bad : (text : List ℕ) (number : ℕ) (inputs : List InputData) (rest line after : List ℕ) → 0 < length rest
-    → (lines_of rest ≡ line ∷ lines_of after) ⊎ ((lines_of rest ≡ line ∷ []) × (after ≡ []))
-    → (is_readable (words_of line) ≡ false) ⊎ (262143 < length inputs + frames_of (words_of line))
-    → ReadSoFar text number inputs rest → inputs_in text ≡ Err (number + 1)
-read_bad text number inputs rest line after some split bad so =
-    let total : length inputs ≡ frames_in so.done = ap length so.inputs_are ∙ length-inputs so.done in
-    let first : (more : List (List ℕ)) → lines_of rest ≡ line ∷ more → first_bad (lines_of text) ≡ Some (number + 1) = λ more e.
-    ap first_bad (lines_left text rest so.done some so.lines ∙ ap (λ (ls : List (List ℕ)). so.done ++ ls) e)
-    ∙ first_bad-at so.done line more so.good
-    (elim bad [ inl u ↦ bad_unreadable so.done line u | inr m ↦ bad_many so.done line (omega arith) ])
-    ∙ ap (λ (n : ℕ). Some (n + 1)) (sym so.count) in
-    ap (λ (o : Option ℕ). unless_bad o (flat_map inputs_of (lines_of text))) (elim split [ inl e ↦ first (lines_of after) e | inr e ↦ first [] e.0 ])
+pub read_bad : (text : List ℕ) (number : ℕ) (inputs : List InputData) (line : List ℕ) (left : List (List ℕ))
+    → (can_be_read line ≡ false) ⊎ (262143 < length inputs + frames_of (words_of line))
+    → ReadSoFar text number inputs (line ∷ left) → inputs_in text ≡ Err (number + 1)
+read_bad text number inputs line left bad so =
+    let one_bad : are_good (so.done ++ line ∷ []) ≡ false = good_push so.done line so.good ∙ elim bad [
+      | inl unread ↦ and_left _ _ unread
+      | inr many ↦ and_right (can_be_read line) _ (lt-leb (frames_in so.done + frames_on line) 262143 (omega arith))
+    ] in
+    ap (λ (o : Option ℕ). unless_bad o (flat_map inputs_of (lines_of text)))
+    (ap first_bad so.lines ∙ first_bad-at so.done line left so.good one_bad ∙ ap (λ (n : ℕ). Some (n + 1)) (sym so.count))
 
-pub said : (text : List ℕ) (lines : List (List ℕ)) → lines_of text ≡ lines → are_good lines ≡ true → inputs_in text ≡ Ok (flat_map inputs_of lines)
-said text lines e good = rw e (ap (λ (o : Option ℕ). unless_bad o (flat_map inputs_of lines)) (first_bad-none lines good))
+pub said : (text : List ℕ) → are_good (lines_of text) ≡ true → inputs_in text ≡ Ok (flat_map inputs_of (lines_of text))
+said text good = ap (λ (o : Option ℕ). unless_bad o (flat_map inputs_of (lines_of text))) (first_bad-none (lines_of text) good)
 
-empty_from_length : (bytes : List ℕ) → length bytes ≡ 0 → bytes ≡ []
-empty_from_length [] e = refl
-empty_from_length (b ∷ bytes) e = absurd (omega arith)
-
--- nothing is left: an empty line at the end says nothing
-pub read_all : (text : List ℕ) (number : ℕ) (inputs : List InputData) (rest : List ℕ) → length rest ≡ 0 → ReadSoFar text number inputs rest
-    → inputs_in text ≡ Ok inputs
-read_all text number inputs rest end so =
-    elim so.lines [
-      | inl e ↦
-          said text (so.done ++ [] ∷ []) (e ∙ ap (λ (bytes : List ℕ). so.done ++ lines_of bytes) (empty_from_length rest end))
-          (good_more so.done [] so.good refl (omega (arith, few_frames so.done so.good)))
-          ∙ ap (λ (is : List InputData). Ok is) (flat_map-append inputs_of so.done ([] ∷ []) ∙ append-nil (flat_map inputs_of so.done) ∙ sym so.inputs_are)
-      | inr e ↦ said text so.done e.0 so.good ∙ ap (λ (is : List InputData). Ok is) (sym so.inputs_are)
-    ]
+pub read_all : (text : List ℕ) (number : ℕ) (inputs : List InputData) (left : List (List ℕ)) → left ≡ []
+    → ReadSoFar text number inputs left → inputs_in text ≡ Ok inputs
+read_all text number inputs left e so =
+    let lines : lines_of text ≡ so.done = so.lines ∙ ap (λ (ls : List (List ℕ)). so.done ++ ls) e ∙ append-nil so.done in
+    said text (ap are_good lines ∙ so.good)
+    ∙ ap (λ (is : List InputData). Ok is) (ap (flat_map inputs_of) lines ∙ sym so.inputs_are)
 
 -- a list after a `resize`
 pub resized : (xs : List InputData) (len n count : ℕ) (x : InputData) → len ≡ length xs → n ≡ len + count

@@ -1,82 +1,175 @@
--- The input in which the names are held that are held in an input.
-use Rattle.std.proofs.Common.{◌≡◌, ℕ, ◌^◌, ◌<◌, Bool, true, false, cond, List, [], ◌∷◌, bit_and}
-use Rattle.std.proofs.Common.{bit_or, refl, ap, ◌∙◌, arith}
-use Rattle.std.specs.Prelude.{not, ◌&&◌, ◌||◌, nat_eq, nat_lt, filter, fold, bit_xor}
+-- The names that are held in an input, and the input of names.
+use Rattle.std.proofs.Common.{◌≡◌, ℕ, ◌+◌, ◌%◌, ◌^◌, ◌<◌, Bool, true, false, cond, List, []}
+use Rattle.std.proofs.Common.{◌∷◌, bit_and, lit<, sym, refl, ap, ◌∙◌, subst, arith, Some}
+use Rattle.std.specs.Prelude.{not, ◌&&◌, ◌||◌, nat_eq, nat_lt, fold, bit_xor, sum_by}
 use Rattle.std.specs.Int.{bit_at}
-use Rattle.std.specs.Int.Bits.{or_zero_r}
-use Rattle.std.proofs.lemmas.Bool.{and_parts, eqb-true, eq-eqb, lt-ltb, ltb-true}
+use Rattle.std.specs.List.{list_all, list_any, position_or_len}
+use Rattle.std.specs.Str.{bytes_eq}
+use Rattle.std.specs.Cmp.Lexicographic.{bytes_decides}
+use Rattle.std.proofs.lemmas.Bool.{agree_below_at, and_from, and_parts, cond_both, eqb-true}
+use Rattle.std.proofs.lemmas.Bool.{eq-eqb, lt-ltb, ltb-true, not-true}
+use Rattle.std.proofs.lemmas.Bool.Decides.{nat_tests}
+use Rattle.std.proofs.lemmas.List.Sums.{AllPass-from_list_all}
+use Rattle.std.proofs.lemmas.Map.Views.{any-filter_same}
+use Rattle.std.proofs.lemmas.Nat.{and_xor_apart, xor_lt}
+use Rattle.std.proofs.lemmas.Nat.Bits.{bit_at_xor, bit_at-lt}
+use Rattle.std.proofs.Math.Bool.{and-true, or-false, or_assoc}
 use Rattle.vcs_machine.specs.Inputs.{InputData}
 use Rattle.input_text.specs.declared.name.Name.{Name}
+use Rattle.input_text.specs.declared.name.Name.TheVariants.{Up0}
 use Rattle.input_text.specs.declared.name.Port.{Port}
 use Rattle.input_text.specs.declared.name.Port.TheVariants.{Swcha, Swchb, Buttons}
-use Rattle.input_text.specs.Names.{bit_of_name, names, idle, port_byte, is_same_port, bit_in}
-use Rattle.input_text.specs.Names.{bits_in, is_held, names_in, input_with, IsInputOfBytes}
-use Rattle.input_text.proofs.BitLemmas.{every_byte, follows_if}
+use Rattle.input_text.specs.Names.{bit_of_name, names, idle, port_byte, with_byte, is_held, hold}
+use Rattle.input_text.specs.Names.{names_in, input_with, IsInputOfBytes}
+use Rattle.input_text.specs.Texts.{name_of}
 
--- the bits of a byte that differ from an idle one, name by name
-abbrev bit_if : Port → ℕ → ℕ → Name → ℕ
-bit_if port byte bits name =
+abbrev pub word_of : Name → List ℕ
+word_of name = (bit_of_name name).word
+
+abbrev is_its_word : Name → Name → Bool
+is_its_word name other = bytes_eq (word_of other) (word_of name)
+
+abbrev place_of : Name → ℕ
+place_of name = position_or_len (is_its_word name) names
+
+-- what is true of each name, by a test of all of them
+pub every_name : (test : Name → Bool) → list_all test names ≡ true → (name : Name) → test name ≡ true
+every_name test all Up0 = AllPass-from_list_all test names all 0 Up0 (lit< tt)
+every_name test all name = AllPass-from_list_all test names all (place_of name) Up0 (lit< tt)
+
+pub word_is_named : (name : Name) → name_of (word_of name) ≡ Some name
+word_is_named Up0 = refl
+word_is_named _ = refl
+
+same_name : (name other : Name) → is_its_word name other ≡ true → other ≡ name
+same_name name other e =
+    let words : word_of other ≡ word_of name = (bytes_decides (word_of other) (word_of name)).0 e in
+    let named : Some other ≡ Some name = sym (word_is_named other) ∙ ap name_of words ∙ word_is_named name in
+    cc
+
+abbrev is_same_port : Port → Port → Bool
+is_same_port Swcha Swcha = true
+is_same_port Swchb Swchb = true
+is_same_port Buttons Buttons = true
+is_same_port _ _ = false
+
+turned_bit : (p q : Port) (c : InputData) (mask n : ℕ) → bit_at (port_byte p (with_byte q (bit_xor (port_byte q c) mask) c)) n
+    ≡ (bit_at (port_byte p c) n + cond (is_same_port p q) (bit_at mask n) 0) % 2
+turned_bit Swcha Swcha c mask n = bit_at_xor c.swcha mask n
+turned_bit Swchb Swchb c mask n = bit_at_xor c.swchb mask n
+turned_bit Buttons Buttons c mask n = bit_at_xor c.buttons mask n
+turned_bit p q c mask n = omega (arith, bit_at-lt (port_byte p c) n)
+
+-- the bit of another name in the place of a name's
+abbrev bit_there : Name → Name → ℕ
+bit_there name other =
+    cond (is_same_port (bit_of_name name).port (bit_of_name other).port) (bit_at (2 ^ (bit_of_name other).bit) (bit_of_name name).bit) 0
+
+one_bit : (name other : Name) → bit_there name other ≡ cond (is_its_word name other) 1 0
+one_bit name other =
+    eqb-true _ _ (every_name (λ n. nat_eq (bit_there name n) (cond (is_its_word name n) 1 0))
+    (every_name (λ m. list_all (λ n. nat_eq (bit_there m n) (cond (is_its_word m n) 1 0)) names) refl name) other)
+
+or_known : (a b : Bool) → (b ≡ true → a ≡ true) → a ≡ (a || b)
+or_known true b f = refl
+or_known false true f = f refl
+or_known false false f = refl
+
+turned_over : (x i own : ℕ) (s : Bool) → x < 2 → i < 2 → own ≡ cond s 1 0 → (s ≡ true → not (nat_eq x i) ≡ false)
+    → not (nat_eq ((x + own) % 2) i) ≡ (not (nat_eq x i) || s)
+turned_over x i own s h k e f = grind (arith, nat_tests)
+
+hold_more : (c : InputData) (other name : Name) → is_held (hold c other) name ≡ (is_held c name || is_its_word name other)
+hold_more c other name =
+    let port : Port = (bit_of_name name).port in
     let bit : ℕ = (bit_of_name name).bit in
-    cond (is_same_port port (bit_of_name name).port && not (nat_eq (bit_at byte bit) (bit_at (port_byte port idle) bit))) (bit_or bits (2 ^ bit)) bits
+    cond_both (is_held c other) c _ (λ (d : InputData). is_held d name ≡ (is_held c name || is_its_word name other))
+    (λ held. or_known _ _ (λ s. subst (λ (n : Name). is_held c n ≡ true) (same_name name other s) held))
+    (λ free. ap (λ (x : ℕ). not (nat_eq x (bit_at (port_byte port idle) bit)))
+    (turned_bit port (bit_of_name other).port c (2 ^ (bit_of_name other).bit) bit)
+    ∙ turned_over (bit_at (port_byte port c) bit) (bit_at (port_byte port idle) bit) (bit_there name other) (is_its_word name other)
+    (bit_at-lt (port_byte port c) bit) (bit_at-lt (port_byte port idle) bit) (one_bit name other)
+    (λ s. subst (λ (n : Name). is_held c n ≡ false) (same_name name other s) free))
 
-abbrev bits_of_byte : Port → ℕ → ℕ
-bits_of_byte port byte = fold (bit_if port byte) 0 names
+held_from : (c : InputData) (held : List Name) (name : Name)
+    → is_held (fold hold c held) name ≡ (is_held c name || list_any (is_its_word name) held)
+held_from c [] name = sym (or-false (is_held c name))
+held_from c (other ∷ held) name =
+    held_from (hold c other) held name ∙ ap (λ (b : Bool). b || list_any (is_its_word name) held) (hold_more c other name)
+    ∙ or_assoc (is_held c name) (is_its_word name other) (list_any (is_its_word name) held)
 
-fold-filter : (port : Port) (test : Name → Bool) (ns : List Name) (bits : ℕ)
-    → fold (λ bits name. bit_or bits (bit_in port name)) bits (filter test ns)
-    ≡ fold (λ bits name. cond (test name) (bit_or bits (bit_in port name)) bits) bits ns
-fold-filter port test [] bits = refl
-fold-filter port test (name ∷ ns) bits =
-    elim (test name) as (λ v. fold (λ bits name. bit_or bits (bit_in port name)) bits (cond v (name ∷ filter test ns) (filter test ns))
-    ≡ fold (λ bits name. cond (test name) (bit_or bits (bit_in port name)) bits) (cond v (bit_or bits (bit_in port name)) bits) ns) [
-      | true ↦ fold-filter port test ns (bit_or bits (bit_in port name))
-      | false ↦ fold-filter port test ns bits
-    ]
+pub held_found : (held : List Name) (name : Name) → is_held (input_with held) name ≡ list_any (is_its_word name) held
+held_found held name =
+    held_from idle held name
+    ∙ ap (λ (b : Bool). b || list_any (is_its_word name) held) (not-true _ (every_name (λ n. not (is_held idle n)) refl name))
 
-fold-same : (f g : ℕ → Name → ℕ) → ((bits : ℕ) (name : Name) → f bits name ≡ g bits name) → (ns : List Name) (bits : ℕ) → fold f bits ns ≡ fold g bits ns
-fold-same f g e [] bits = refl
-fold-same f g e (name ∷ ns) bits = ap (λ (k : ℕ). fold f k ns) (e bits name) ∙ fold-same f g e ns (g bits name)
+-- the names that are held in the input of those that are held in an input
+names_held : (c : InputData) (name : Name) → is_held (input_with (names_in c)) name ≡ is_held c name
+names_held c name =
+    held_found (names_in c) name
+    ∙ any-filter_same (is_its_word name) (is_held c) (is_held c name) (λ other e. ap (is_held c) (same_name name other e)) names
+    ∙ rw (every_name (λ n. list_any (is_its_word n) names) refl name) (and-true (is_held c name))
 
-neither : (b : Bool) (bits : ℕ) → cond b (bit_or bits 0) bits ≡ bits
-neither true bits = or_zero_r bits
-neither false bits = refl
+-- a byte in which these names are held
+abbrev byte_with : Port → (Name → Bool) → ℕ
+byte_with port held =
+    bit_xor (port_byte port idle)
+    (sum_by (λ name. cond (is_same_port port (bit_of_name name).port && held name) (2 ^ (bit_of_name name).bit) 0) names)
 
--- whose bit stands in another byte leaves this one
-own_byte : (port own : Port) (c : InputData) (bit bits : ℕ)
-    → cond (not (nat_eq (bit_at (port_byte own c) bit) (bit_at (port_byte own idle) bit))) (bit_or bits (cond (is_same_port port own) (2 ^ bit) 0)) bits
-    ≡ cond (is_same_port port own && not (nat_eq (bit_at (port_byte port c) bit) (bit_at (port_byte port idle) bit))) (bit_or bits (2 ^ bit)) bits
-own_byte Swcha Swcha c bit bits = refl
-own_byte Swcha Swchb c bit bits = neither _ bits
-own_byte Swcha Buttons c bit bits = neither _ bits
-own_byte Swchb Swcha c bit bits = neither _ bits
-own_byte Swchb Swchb c bit bits = refl
-own_byte Swchb Buttons c bit bits = neither _ bits
-own_byte Buttons Swcha c bit bits = neither _ bits
-own_byte Buttons Swchb c bit bits = neither _ bits
-own_byte Buttons Buttons c bit bits = refl
+abbrev input_by : (Name → Bool) → InputData
+input_by held = record { swcha = byte_with Swcha held; swchb = byte_with Swchb held; buttons = byte_with Buttons held }
 
-bits_in-held : (port : Port) (c : InputData) → bits_in port (names_in c) ≡ bits_of_byte port (port_byte port c)
-bits_in-held port c =
-    fold-filter port (is_held c) names 0
-    ∙ fold-same _ (bit_if port (port_byte port c)) (λ bits name. own_byte port (bit_of_name name).port c (bit_of_name name).bit bits) names 0
+abbrev at_port : Port → ℕ → Name → Bool
+at_port port n = is_held (with_byte port n idle)
 
-swcha_bits : (n : ℕ) → n < 256 → bit_xor 255 (bits_of_byte Swcha n) ≡ n
-swcha_bits n h = eqb-true _ _ (every_byte (λ n. nat_eq (bit_xor 255 (bits_of_byte Swcha n)) n) refl n h)
-
-swchb_bits : (n : ℕ) → n < 256 → bit_and n 52 ≡ 52 → bit_xor 63 (bits_of_byte Swchb n) ≡ n
-swchb_bits n h e =
-    eqb-true _ _ (follows_if _ _ (every_byte (λ n. not (nat_eq (bit_and n 52) 52) || nat_eq (bit_xor 63 (bits_of_byte Swchb n)) n) refl n h) (eq-eqb _ _ e))
-
-button_bits : (n : ℕ) → n < 4 → bit_xor 0 (bits_of_byte Buttons n) ≡ n
-button_bits n h =
-    eqb-true _ _ (follows_if _ _ (every_byte (λ n. not (nat_lt n 4) || nat_eq (bit_xor 0 (bits_of_byte Buttons n)) n) refl n (omega arith)) (lt-ltb _ _ h))
-
-pub holding-held : (c : InputData) → IsInputOfBytes c → input_with (names_in c) ≡ c
-holding-held c lawful =
+-- an input is that of the names that are held in it: a test of each byte
+input_known : (c : InputData) → IsInputOfBytes c → input_by (is_held c) ≡ c
+input_known c lawful =
     let parts = and_parts (nat_eq (bit_and c.swchb 52) 52) (nat_lt c.buttons 4) lawful.input in
-    let a : bit_xor idle.swcha (bits_in Swcha (names_in c)) ≡ c.swcha = ap (bit_xor 255) (bits_in-held Swcha c) ∙ swcha_bits c.swcha lawful.swcha in
-    let b : bit_xor idle.swchb (bits_in Swchb (names_in c)) ≡ c.swchb = ap (bit_xor 63) (bits_in-held Swchb c)
-    ∙ swchb_bits c.swchb lawful.swchb (eqb-true _ _ parts.0) in
-    let d : bit_xor idle.buttons (bits_in Buttons (names_in c)) ≡ c.buttons = ap (bit_xor 0) (bits_in-held Buttons c)
-    ∙ button_bits c.buttons (ltb-true _ _ parts.1) in
-    rw (a, b, d) refl
+    let a : byte_with Swcha (is_held c) ≡ c.swcha = eqb-true _ _
+    (agree_below_at (λ n. nat_eq (byte_with Swcha (at_port Swcha n)) n) (λ n. true) 256 c.swcha refl lawful.swcha) in
+    let b : nat_eq (bit_and c.swchb 52) 52 ≡ (nat_eq (bit_and c.swchb 52) 52 && nat_eq (byte_with Swchb (is_held c)) c.swchb) =
+    agree_below_at (λ n. nat_eq (bit_and n 52) 52) (λ n. nat_eq (bit_and n 52) 52 && nat_eq (byte_with Swchb (at_port Swchb n)) n)
+    256 c.swchb refl lawful.swchb in
+    let swchb : byte_with Swchb (is_held c) ≡ c.swchb = eqb-true _ _ (and_parts _ _ (sym b ∙ parts.0)).1 in
+    let d : byte_with Buttons (is_held c) ≡ c.buttons = eqb-true _ _
+    (agree_below_at (λ n. nat_eq (byte_with Buttons (at_port Buttons n)) n) (λ n. true) 4 c.buttons refl (ltb-true _ _ parts.1)) in
+    rw (a, swchb, d) refl
+
+-- masks that turn over no bit that is the same in each input
+abbrev may_turn : Port → ℕ → Bool
+may_turn Swcha mask = nat_lt mask 256
+may_turn Swchb mask = nat_lt mask 256 && nat_eq (bit_and mask 52) 0
+may_turn Buttons mask = nat_lt mask 4
+
+turned_lawful : (port : Port) (mask : ℕ) (c : InputData) → may_turn port mask ≡ true → IsInputOfBytes c
+    → IsInputOfBytes (with_byte port (bit_xor (port_byte port c) mask) c)
+turned_lawful Swcha mask c e so = record { swcha = xor_lt 8 c.swcha mask so.swcha (ltb-true _ _ e); swchb = so.swchb; input = so.input }
+turned_lawful Swchb mask c e so =
+    let may = and_parts (nat_lt mask 256) (nat_eq (bit_and mask 52) 0) e in
+    let parts = and_parts (nat_eq (bit_and c.swchb 52) 52) (nat_lt c.buttons 4) so.input in
+    record {
+      swcha = so.swcha;
+      swchb = xor_lt 8 c.swchb mask so.swchb (ltb-true _ _ may.0);
+      input = and_from _ _ (eq-eqb _ _ (and_xor_apart 52 c.swchb mask (eqb-true _ _ may.1) ∙ eqb-true _ _ parts.0)) parts.1;
+    }
+turned_lawful Buttons mask c e so =
+    let parts = and_parts (nat_eq (bit_and c.swchb 52) 52) (nat_lt c.buttons 4) so.input in
+    record {
+      swcha = so.swcha;
+      swchb = so.swchb;
+      input = and_from _ _ parts.0 (lt-ltb _ _ (xor_lt 2 c.buttons mask (ltb-true _ _ parts.1) (ltb-true _ _ e)));
+    }
+
+held_lawful : (c : InputData) (held : List Name) → IsInputOfBytes c → IsInputOfBytes (fold hold c held)
+held_lawful c [] so = so
+held_lawful c (name ∷ held) so =
+    held_lawful (hold c name) held (cond_both (is_held c name) c _ IsInputOfBytes (λ _. so)
+    (λ _. turned_lawful (bit_of_name name).port (2 ^ (bit_of_name name).bit) c
+    (every_name (λ n. may_turn (bit_of_name n).port (2 ^ (bit_of_name n).bit)) refl name) so))
+
+pub holding_held : (c : InputData) → IsInputOfBytes c → input_with (names_in c) ≡ c
+holding_held c lawful =
+    let same : is_held (input_with (names_in c)) ≡ is_held c = λ i. λ name. names_held c name i in
+    let idle_lawful : IsInputOfBytes idle = record { swcha = lit< tt; swchb = lit< tt; input = refl } in
+    sym (input_known (input_with (names_in c)) (held_lawful idle (names_in c) idle_lawful)) ∙ ap input_by same ∙ input_known c lawful

@@ -1,12 +1,6 @@
-pub mod BitLemmas
-pub mod CountLemmas
 pub mod GoodLines
-pub mod HeldLemmas
 pub mod HeldNames
 pub mod LineLemmas
-pub mod NameSets
-pub mod OneText
-pub mod PrintedLines
-pub mod PrintedNames
+pub mod Printed
 pub mod PrintedWords
 pub mod ReadPrinted

@@ -2,4 +2,3 @@ pub mod Names
 pub mod Words
 pub mod Texts
 pub mod Stretches
-pub mod Private

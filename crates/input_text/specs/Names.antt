@@ -1,8 +1,8 @@
 -- What can be held in a frame: fifteen names, each of one bit of an input. The bits are those of
 -- the Stella Programmer's Guide, the names this project's own.
-use Rattle.std.specs.Prelude.{ℕ, ◌^◌, ◌<◌, Bool, true, false, not, ◌==◌, ◌&&◌, List, [], ◌∷◌}
+use Rattle.std.specs.Prelude.{ℕ, ◌^◌, ◌<◌, Bool, not, ◌==◌, ◌&&◌, List, [], ◌∷◌}
 use Rattle.std.specs.Prelude.{codes}
-use Rattle.std.specs.Prelude.{bit_or, bit_xor, filter, fold, IsTrue, if◌then◌else◌}
+use Rattle.std.specs.Prelude.{bit_xor, filter, fold, IsTrue, if◌then◌else◌}
 use Rattle.std.specs.Int.{bit_at}
 use Rattle.vcs_machine.specs.Inputs.{InputData, is_input}
 use Rattle.input_text.specs.declared.name.Port.{Port}
@@ -45,12 +45,6 @@ names =
     Up0 ∷ Down0 ∷ Left0 ∷ Right0 ∷ Fire0 ∷ Up1 ∷ Down1 ∷ Left1 ∷ Right1 ∷ Fire1
     ∷ Reset ∷ Select ∷ Monochrome ∷ Pro0 ∷ Pro1 ∷ []
 
-abbrev pub is_same_port : Port → Port → Bool
-is_same_port Swcha Swcha = true
-is_same_port Swchb Swchb = true
-is_same_port Buttons Buttons = true
-is_same_port _ _ = false
-
 -- an input in which nothing is held
 abbrev pub idle : InputData
 idle = record { swcha = 0xFF; swchb = 0x3F; buttons = 0 }
@@ -58,22 +52,6 @@ idle = record { swcha = 0xFF; swchb = 0x3F; buttons = 0 }
 -- whether nothing is held in an input
 abbrev pub is_idle : InputData → Bool
 is_idle c = (c.swcha == idle.swcha) && (c.swchb == idle.swchb) && (c.buttons == idle.buttons)
-
--- the bit of a name in the byte of a port: none if another port has it
-abbrev pub bit_in : Port → Name → ℕ
-bit_in port name = if is_same_port port (bit_of_name name).port then 2 ^ (bit_of_name name).bit else 0
-
--- the bits of names in the byte of a port, each bit once, however often its name is there
-abbrev pub bits_in : Port → List Name → ℕ
-bits_in port held = fold (λ bits name. bit_or bits (bit_in port name)) 0 held
-
--- the input in which these names are held: an idle one whose bits of the names are turned over
-abbrev pub input_with : List Name → InputData
-input_with held = record {
-  swcha = bit_xor idle.swcha (bits_in Swcha held);
-  swchb = bit_xor idle.swchb (bits_in Swchb held);
-  buttons = bit_xor idle.buttons (bits_in Buttons held);
-}
 
 -- the byte of a port
 abbrev pub port_byte : Port → InputData → ℕ
@@ -86,6 +64,22 @@ abbrev pub is_held : InputData → Name → Bool
 is_held c name =
     let port = (bit_of_name name).port in let bit = (bit_of_name name).bit in
     not (bit_at (port_byte port c) bit == bit_at (port_byte port idle) bit)
+
+-- an input whose byte of a port is another
+abbrev pub with_byte : Port → ℕ → InputData → InputData
+with_byte Swcha byte c = record { swcha = byte; swchb = c.swchb; buttons = c.buttons }
+with_byte Swchb byte c = record { swcha = c.swcha; swchb = byte; buttons = c.buttons }
+with_byte Buttons byte c = record { swcha = c.swcha; swchb = c.swchb; buttons = byte }
+
+-- an input in which a name is held as well: its bit is turned over, unless it is held there
+abbrev pub hold : InputData → Name → InputData
+hold c name =
+    let port = (bit_of_name name).port in
+    if is_held c name then c else with_byte port (bit_xor (port_byte port c) (2 ^ (bit_of_name name).bit)) c
+
+-- the input in which these names are held
+abbrev pub input_with : List Name → InputData
+input_with held = fold hold idle held
 
 -- the names that are held in an input, in their order
 abbrev pub names_in : InputData → List Name

@@ -1,21 +1,23 @@
 -- Inputs as they are printed: a line for each stretch of equal ones. This project's own.
-use Rattle.std.specs.Prelude.{◌≡◌, ◌≢◌, ℕ, ◌≤◌, List, [], ◌∷◌, ◌++◌, replicate}
+use Rattle.std.specs.Prelude.{◌≡◌, ◌≢◌, ℕ, ◌≤◌, List, [], ◌∷◌, ◌++◌, take, drop, replicate, Some}
+use Rattle.std.specs.Prelude.{slice_get}
 use Rattle.std.specs.Fmt.{decimal}
-use Rattle.std.specs.List.{AllByRecursion, flat_map}
+use Rattle.std.specs.List.{flat_map}
 use Rattle.vcs_machine.specs.Inputs.{InputData}
 use Rattle.input_text.specs.declared.name.Name.{Name}
 use Rattle.input_text.specs.declared.stretch.Stretch.{Stretch}
 use Rattle.input_text.specs.Names.{bit_of_name, names_in}
 
--- the inputs of a stretch of frames
-abbrev pub inputs_along : Stretch → List InputData
-inputs_along s = replicate s.count s.input
+-- inputs begin with a stretch: so many are its input, and the next, if there is one, is another
+pub record BeginWith (s : Stretch) (inputs : List InputData) : Type 0 where
+  pub some : 1 ≤ s.count
+  pub equal : take s.count inputs ≡ replicate s.count s.input
+  pub longest : slice_get inputs s.count ≢ Some s.input
 
--- each is another input than the one before it
-abbrev pub AreApart : List Stretch → Type 0
-AreApart [] = Unit {0}
-AreApart (s ∷ []) = Unit {0}
-AreApart (s ∷ t ∷ more) = (s.input ≢ t.input) × AreApart (t ∷ more)
+-- the stretches that inputs are, one after the other, each as long as it can be
+abbrev pub AreStretches : List InputData → List Stretch → Type 0
+AreStretches inputs [] = inputs ≡ []
+AreStretches inputs (s ∷ more) = BeginWith s inputs × AreStretches (drop s.count inputs) more
 
 -- a space and a name
 abbrev pub name_after_space : Name → List ℕ
@@ -25,11 +27,8 @@ name_after_space name = 32 ∷ (bit_of_name name).word
 abbrev pub line_of : Stretch → List ℕ
 line_of s = decimal s.count ++ flat_map name_after_space (names_in s.input) ++ 10 ∷ []
 
--- The text is the lines of stretches that make up the inputs, none of them empty, and each as long
--- as it can be.
+-- the text is the lines of the stretches that the inputs are
 pub record IsPrinted (inputs : List InputData) (text : List ℕ) : Type 0 where
   pub stretches : List Stretch
-  pub inputs_are : inputs ≡ flat_map inputs_along stretches
-  pub counts : AllByRecursion (λ s. 1 ≤ s.count) stretches
-  pub apart : AreApart stretches
+  pub inputs_are : AreStretches inputs stretches
   pub text_is : text ≡ flat_map line_of stretches

@@ -11,6 +11,7 @@ ghost use Rattle.input_text.specs.declared.name.Name.{Name};
 
 /// A law: in the input of some names those are held and no others, and an input is that of the
 /// names that are held in it.
+#[tactic(auto, using(crate::proofs::HeldNames::held_found, crate::proofs::HeldNames::holding_held))]
 pub const fn law_of_held_names()
     ensures held { (held : List Name) (name : Name) → is_held (input_with held) name
         ≡ list_any (λ other. bytes_eq (bit_of_name other).word (bit_of_name name).word) held }

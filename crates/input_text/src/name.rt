@@ -53,61 +53,39 @@ pub(crate) const NAMES: [Name; 15] = [
     Name::Pro1,
 ];
 
+/// How a name is written, and its bit.
+#[derive(Clone, Copy)]
+pub(crate) struct NamedBit {
+    pub(crate) word: &'static str,
+    pub(crate) port: Port,
+    /// The bit alone, in the byte of that port.
+    pub(crate) mask: u8,
+}
+
 impl Name {
-    /// The name as it is written.
-    pub(crate) fn word(self) -> &'static str
-        ensures { result.now ≡ (bit_of_name self).word }
+    /// How it is written, and its bit.
+    pub(crate) fn named_bit(self) -> NamedBit
+        ensures word { result.word.now ≡ (bit_of_name self).word }
+        ensures port { result.port ≡ (bit_of_name self).port }
+        ensures mask { result.mask ≡ 2 ^ (bit_of_name self).bit }
     {
-        match self {
-            Name::Up0 => "up0",
-            Name::Down0 => "down0",
-            Name::Left0 => "left0",
-            Name::Right0 => "right0",
-            Name::Fire0 => "fire0",
-            Name::Up1 => "up1",
-            Name::Down1 => "down1",
-            Name::Left1 => "left1",
-            Name::Right1 => "right1",
-            Name::Fire1 => "fire1",
-            Name::Reset => "reset",
-            Name::Select => "select",
-            Name::Monochrome => "monochrome",
-            Name::Pro0 => "pro0",
-            Name::Pro1 => "pro1",
-        }
-    }
-
-    /// The port that has its bit.
-    pub(crate) fn port(self) -> Port
-        ensures { result ≡ (bit_of_name self).port }
-    {
-        match self {
-            Name::Up0
-            | Name::Down0
-            | Name::Left0
-            | Name::Right0
-            | Name::Up1
-            | Name::Down1
-            | Name::Left1
-            | Name::Right1 => Port::Swcha,
-            Name::Reset | Name::Select | Name::Monochrome | Name::Pro0 | Name::Pro1 => Port::Swchb,
-            Name::Fire0 | Name::Fire1 => Port::Buttons,
-        }
-    }
-
-    /// Its bit, as a mask of that port's byte.
-    pub(crate) fn mask(self) -> u8
-        ensures { result ≡ 2 ^ (bit_of_name self).bit }
-    {
-        match self {
-            Name::Up1 | Name::Fire0 | Name::Reset => 0x01,
-            Name::Down1 | Name::Fire1 | Name::Select => 0x02,
-            Name::Left1 => 0x04,
-            Name::Right1 | Name::Monochrome => 0x08,
-            Name::Up0 => 0x10,
-            Name::Down0 => 0x20,
-            Name::Left0 | Name::Pro0 => 0x40,
-            Name::Right0 | Name::Pro1 => 0x80,
-        }
+        let (word, port, mask) = match self {
+            Name::Up0 => ("up0", Port::Swcha, 0x10),
+            Name::Down0 => ("down0", Port::Swcha, 0x20),
+            Name::Left0 => ("left0", Port::Swcha, 0x40),
+            Name::Right0 => ("right0", Port::Swcha, 0x80),
+            Name::Fire0 => ("fire0", Port::Buttons, 0x01),
+            Name::Up1 => ("up1", Port::Swcha, 0x01),
+            Name::Down1 => ("down1", Port::Swcha, 0x02),
+            Name::Left1 => ("left1", Port::Swcha, 0x04),
+            Name::Right1 => ("right1", Port::Swcha, 0x08),
+            Name::Fire1 => ("fire1", Port::Buttons, 0x02),
+            Name::Reset => ("reset", Port::Swchb, 0x01),
+            Name::Select => ("select", Port::Swchb, 0x02),
+            Name::Monochrome => ("monochrome", Port::Swchb, 0x08),
+            Name::Pro0 => ("pro0", Port::Swchb, 0x40),
+            Name::Pro1 => ("pro1", Port::Swchb, 0x80),
+        };
+        NamedBit { word, port, mask }
     }
 }

@@ -7,7 +7,7 @@ ghost use Rattle.input_text.specs.Texts.{input_of, inputs_in, SaysFrames};
 ghost use Rattle.input_text.specs.Words.{words_in, words_of};
 
 use crate::error::TextError;
-use crate::held::Held;
+use crate::held::{hold, idle};
 use crate::name::{NAMES, Name};
 use crate::stretch::Stretch;
 use crate::words::{first_line, first_word, without_comment};
@@ -37,27 +37,26 @@ fn count_in(word: &[u8]) -> Option<u64>
 fn name_in(word: &[u8]) -> Option<Name>
     ensures { result ≡ name_of word.now }
 {
-    for name in NAMES {
-        if name.word().as_bytes() == word {
-            return Some(name);
-        }
-    }
-    None
+    NAMES
+        .iter()
+        .find(|name| name.named_bit().word.as_bytes() == word)
+        .copied()
 }
 
 /// The input in which is held what words name, if all of them are names.
 fn input_in(bytes: &[u8]) -> Option<Input>
-    ensures readable { is_some result ≡ list_all (λ word. is_some (name_of word)) (words_in bytes.now) }
+    ensures readable { is_some result
+        ≡ list_all (λ word. is_some (name_of word)) (words_in bytes.now) }
     ensures value { IfSome result (λ input.
         input ≡ input_with (filter_map name_of (words_in bytes.now))) }
 {
-    let mut held = Held::NOTHING;
+    let mut input = idle();
     let mut rest = bytes;
     while let Some((word, after)) = first_word(rest) {
-        held.add(name_in(word)?);
+        input = hold(input, name_in(word)?);
         rest = after;
     }
-    Some(held.input())
+    Some(input)
 }
 
 /// The frames of a line: none if it has no words. Each number above the most counts as `TOO_MANY`.
@@ -70,7 +69,7 @@ fn stretch_in(line: &[u8]) -> Option<Stretch>
     match first_word(without_comment(line)) {
         None => Some(Stretch {
             count: 0,
-            input: Held::NOTHING.input(),
+            input: idle(),
         }),
         Some((word, rest)) => Some(Stretch {
             count: count_in(word)?,
@@ -89,14 +88,14 @@ pub fn read_text(alloc: Global, text: &[u8]) -> Result<Vec<Input>, TextError>
     ensures memory { result ≡ Err TextError.NoMemory → SaysFrames text.now }
 {
     let mut inputs = Vec::new(alloc);
-    let mut rest = text;
+    let mut rest = Some(text);
     let mut number: u64 = 0;
-    while !rest.is_empty() {
-        let (line, after) = first_line(rest);
+    while let Some(left) = rest {
+        let (line, after) = first_line(left);
         number += 1;
-        let left = MOST_FRAMES as u64 - inputs.len() as u64;
+        let free = MOST_FRAMES as u64 - inputs.len() as u64;
         match stretch_in(line) {
-            Some(stretch) if stretch.count <= left => {
+            Some(stretch) if stretch.count <= free => {
                 inputs.resize(inputs.len() + stretch.count as usize, stretch.input)?;
             }
             _ => return Err(TextError::BadLine(number)),

@@ -1,6 +1,6 @@
 //! The lines of a text and the words of a line.
-ghost use Rattle.std.specs.Prelude.{◌≡◌, ◌<◌, ◌⊎◌, ◌==◌, not, [], ◌∷◌, length, position, IfSome};
-ghost use Rattle.std.specs.Prelude.{MatchOption};
+ghost use Rattle.std.specs.Prelude.{◌≡◌, ◌<◌, ◌==◌, [], ◌∷◌, length, drop, position};
+ghost use Rattle.std.specs.Prelude.{IfSome, MatchOption};
 ghost use Rattle.input_text.specs.Words.{lines_of, without_comment, is_blank, words_in};
 
 /// The place of the first byte of a value.
@@ -10,16 +10,31 @@ fn index_of(value: u8, bytes: &[u8]) -> Option<usize>
     bytes.iter().position(|byte| *byte == value)
 }
 
-/// The first line, without its line feed, and what follows it.
-pub(crate) fn first_line(text: &[u8]) -> (&[u8], &[u8])
-    // After the last line nothing follows.
-    ensures lines { (lines_of text.now ≡ result.0.now ∷ lines_of result.1.now)
-        ⊎ ((lines_of text.now ≡ result.0.now ∷ []) × (result.1.now ≡ [])) }
-    ensures shorter { 0 < length text.now → length result.1.now < length text.now }
+/// Whether a byte stands between words.
+fn is_blank(byte: u8) -> bool
+    ensures { result ≡ is_blank byte }
 {
-    match index_of(b'\n', text) {
-        Some(end) => (&text[..end], &text[end + 1..]),
-        None => (text, &[]),
+    matches!(byte, b' ' | b'\t' | b'\r')
+}
+
+/// The place of the first blank.
+fn index_of_blank(bytes: &[u8]) -> Option<usize>
+    ensures { result ≡ position is_blank bytes.now }
+{
+    bytes.iter().position(|byte| is_blank(*byte))
+}
+
+/// The first line, without its line feed, and what follows that, or `None` after the last line.
+#[tactic(auto, using(crate::proofs::LineLemmas::cut_parts))]
+pub(crate) fn first_line(text: &[u8]) -> (&[u8], Option<&[u8]>)
+    ensures lines { MatchOption result.1 (lines_of text.now ≡ result.0.now ∷ [])
+        (λ after. lines_of text.now ≡ result.0.now ∷ lines_of after.now) }
+    ensures shorter { IfSome result.1 (λ after. length after.now < length text.now) }
+{
+    let (line, rest) = text.split_at(index_of(b'\n', text).unwrap_or(text.len()));
+    match rest {
+        [] => (line, None),
+        [_, after @ ..] => (line, Some(after)),
     }
 }
 
@@ -33,35 +48,31 @@ pub(crate) fn without_comment(line: &[u8]) -> &[u8]
     }
 }
 
-/// Whether a byte stands between words.
-fn is_blank(byte: u8) -> bool
-    ensures { result ≡ is_blank byte }
+/// All bytes but the first, if there is one.
+fn without_first(bytes: &[u8]) -> &[u8]
+    ensures { result.now ≡ drop 1 bytes.now }
 {
-    matches!(byte, b' ' | b'\t' | b'\r')
+    match bytes {
+        [] => bytes,
+        [_, others @ ..] => others,
+    }
 }
 
-/// How many blanks stand before the first word, if there is one.
-fn blanks_before_word(bytes: &[u8]) -> Option<usize>
-    ensures { result ≡ position (λ byte. not (is_blank byte)) bytes.now }
-{
-    bytes.iter().position(|byte| !is_blank(*byte))
-}
-
-/// How many bytes stand before the first blank, if there is one.
-fn bytes_before_blank(bytes: &[u8]) -> Option<usize>
-    ensures { result ≡ position is_blank bytes.now }
-{
-    bytes.iter().position(|byte| is_blank(*byte))
-}
-
-/// The first word, and what follows it, or `None` if there is no word.
+/// The first word, and what follows the blank after it, or `None` if there is no word.
+#[tactic(auto, using(crate::proofs::LineLemmas::words_at))]
 pub(crate) fn first_word(bytes: &[u8]) -> Option<(&[u8], &[u8])>
     ensures words { MatchOption result (words_in bytes.now ≡ [])
         (λ p. words_in bytes.now ≡ p.0.now ∷ words_in p.1.now) }
     ensures shorter { IfSome result (λ p. length p.1.now < length bytes.now) }
 {
-    let start = blanks_before_word(bytes)?;
-    let (_, rest) = bytes.split_at(start);
-    let end = bytes_before_blank(rest).unwrap_or(rest.len());
-    Some(rest.split_at(end))
+    let mut rest = bytes;
+    while !rest.is_empty() {
+        let (word, left) = rest.split_at(index_of_blank(rest).unwrap_or(rest.len()));
+        let after = without_first(left);
+        if !word.is_empty() {
+            return Some((word, after));
+        }
+        rest = after;
+    }
+    None
 }

@@ -4,7 +4,7 @@ ghost use Rattle.std.specs.Prelude.{slice_get, IfOk, OnOk};
 ghost use Rattle.std.specs.String.{string_bytes};
 ghost use Rattle.input_text.specs.Stretches.{IsPrinted, line_of};
 
-use crate::held::Held;
+use crate::held::is_held;
 use crate::name::NAMES;
 use crate::stretch::Stretch;
 use std::alloc::{AllocError, Global};
@@ -31,11 +31,10 @@ fn put_line(text: &mut String, stretch: Stretch) -> Result<(), AllocError>
     ensures { OnOk result (string_bytes text.new ≡ string_bytes text.old ++ line_of stretch) }
 {
     write!(text, "{}", stretch.count)?;
-    let held = Held::of(&stretch.input);
     for name in NAMES {
-        if held.has(name) {
+        if is_held(&stretch.input, name) {
             text.push(' ')?;
-            text.push_str(name.word())?;
+            text.push_str(name.named_bit().word)?;
         }
     }
     text.push('\n')?;
@@ -43,6 +42,7 @@ fn put_line(text: &mut String, stretch: Stretch) -> Result<(), AllocError>
 }
 
 /// Inputs as text: a line for each stretch of equal ones, as long as it can be.
+#[tactic(auto, using(crate::proofs::Printed::printed_all))]
 pub fn write_text(alloc: Global, inputs: &[Input]) -> Result<String, AllocError>
     ensures { IfOk result (λ text. IsPrinted inputs.now (string_bytes text)) }
 {

@@ -1,34 +1,25 @@
-use Rattle.std.proofs.Common.{sym, ◌∙◌, arith}
-use Rattle.input_text.proofs.CountLemmas.{counted_none, counted_more, counted_bad, counted_zero}
-use Rattle.input_text.proofs.CountLemmas.{counted_value, counted_some}
+use Rattle.std.proofs.Common.{ℕ, ◌+◌, ◌-◌, ◌*◌, get_or, take, sym, refl, ap, ◌∙◌, arith}
+use Rattle.std.specs.Char.{is_ascii_digit}
+use Rattle.std.specs.Str.{all_ascii_digits}
+use Rattle.std.proofs.lemmas.Bool.{and_from, and_left}
+use Rattle.std.proofs.lemmas.List.{take_more}
+use Rattle.std.proofs.lemmas.List.Recursion.{and_push, and_fails_at}
+use Rattle.std.proofs.lemmas.List.Sums.{fold_more}
 use Rattle.input_text.proofs.reading.count_in.Goals as goal
-
-pub loop-byte-init : goal.loop-byte-init
-loop-byte-init c = counted_none c.args.word.now
 
 pub returns-then-not-is_ascii_digit-clause-readable : goal.returns-then-not-is_ascii_digit-clause-readable
 returns-then-not-is_ascii_digit-clause-readable c =
-    sym (counted_bad c.args.word.now c.loop-byte.byte-index c.loop-byte-test.true (sym c.is_ascii_digit.ensures.value ∙ c.if-not-is_ascii_digit.true))
-
-pub overflow_mul-count : goal.overflow_mul-count
-overflow_mul-count c = omega (arith, c.loop-byte.invariant.value)
-
-pub overflow_add-count : goal.overflow_add-count
-overflow_add-count c = omega (arith, c.loop-byte.invariant.value, c.type_inv.word c.loop-byte.byte-index)
+    sym (and_left _ _ (and_fails_at all_ascii_digits is_ascii_digit refl (λ _ _. refl) c.args.word.now c.loop-byte.byte-index 0
+    c.loop-byte-test.true (sym c.is_ascii_digit.ensures.value ∙ c.if-not-is_ascii_digit.true)))
 
 pub loop-byte-preserved : goal.loop-byte-preserved
 loop-byte-preserved c =
-    rw c.min-count.ensures (counted_more c.args.word.now c.loop-byte.byte-index c.loop-byte.count c.loop-byte-test.true
-    (sym c.is_ascii_digit.ensures.value ∙ c.if-not-is_ascii_digit.false) c.loop-byte.invariant)
-
-pub returns-then-count-eq0-clause-readable : goal.returns-then-count-eq0-clause-readable
-returns-then-count-eq0-clause-readable c =
-    sym (counted_zero c.args.word.now c.loop-byte.byte-index c.loop-byte.count (omega arith) c.if-count-eq0.true c.loop-byte.invariant)
-
-pub returns-else-count-eq0-clause-readable : goal.returns-else-count-eq0-clause-readable
-returns-else-count-eq0-clause-readable c =
-    sym (counted_some c.args.word.now c.loop-byte.byte-index c.loop-byte.count (omega arith) (omega arith) c.loop-byte.invariant)
-
-pub returns-else-count-eq0-clause-value : goal.returns-else-count-eq0-clause-value
-returns-else-count-eq0-clause-value c =
-    counted_value c.args.word.now c.loop-byte.byte-index c.loop-byte.count (omega arith) c.loop-byte.invariant
+    let word = c.args.word.now in
+    let place : ℕ = c.loop-byte.byte-index in
+    let number = fold_more (λ number digit. 10 * number + (digit - 48)) 0 word place 0 c.loop-byte-test.true in
+    record {
+      digits = ap all_ascii_digits (take_more word place 0 c.loop-byte-test.true)
+          ∙ and_push all_ascii_digits is_ascii_digit refl (λ _ _. refl) (take place word) (get_or word place 0)
+          ∙ and_from _ _ c.loop-byte.invariant.digits (sym c.is_ascii_digit.ensures.value ∙ c.if-not-is_ascii_digit.false);
+      value = omega (arith, number, c.min-count.ensures, c.loop-byte.invariant.value);
+    }
