@@ -33,5 +33,8 @@ pub use laws::{
 pub use making::{claim, do_counts_fit, make_movie, version_made};
 pub use movie::Movie;
 pub use reading::{read_inputs, read_movie};
-pub use record::{read_state, write_state};
+pub use record::{
+    BANK_NUMBERS, PROCESSOR_NUMBERS, RIOT_NUMBERS, RecordNumber, TIA_NUMBERS, read_state,
+    write_state,
+};
 pub use writing::write_movie;

@@ -11,11 +11,21 @@ mod tia;
 
 use crate::format::STATE_LENGTH;
 use crate::reading::Sizes;
+pub use cpu::PROCESSOR_NUMBERS;
 use cpu::{cpu_bytes, cpu_in};
+pub use riot::RIOT_NUMBERS;
 use riot::{riot_bytes, riot_in};
 use riot_map::Cart;
+pub use tia::TIA_NUMBERS;
 use tia::{tia_bytes, tia_in};
 use vcs_machine::{State, StateFields};
+
+/// A number of a record: its name in a report, its bytes, one or two, and of the first of them the
+/// bits that may be set and the most that it may be.
+pub type RecordNumber = (&'static str, usize, u8, u8);
+
+/// The numbers of a state that are none of its parts'.
+pub const BANK_NUMBERS: [RecordNumber; 1] = [("bank", 1, 0xFF, 1)];
 
 /// The state whose record the bytes are.
 #[tactic(auto, unfolding(crate::specs::Record::recorded_state))]

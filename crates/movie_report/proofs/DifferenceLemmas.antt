@@ -14,8 +14,8 @@ use Rattle.movie_report.specs.Numbers.{other_names, processor_names}
 use Rattle.movie_report.specs.Private.Places.{state_number_at, no_place}
 use Rattle.movie_report.specs.declared.differences.Comparison.{Comparison}
 use Rattle.movie_report.specs.declared.differences.Comparison.TheVariants.{Start, Claim}
-use Rattle.movie_report.specs.declared.notation.Notation.{Notation}
-use Rattle.movie_report.specs.declared.notation.Notation.TheVariants.{Json}
+use Rattle.replay_plan.specs.declared.notation.Notation.{Notation}
+use Rattle.replay_plan.specs.declared.notation.Notation.TheVariants.{Json}
 use Rattle.movie_report.specs.Private.Elements.{AreElements}
 use Rattle.movie_report.proofs.NumberLemmas.{length-numbers}
 
@@ -77,9 +77,15 @@ module _ (notation : Notation) (comparison : Comparison) (a b : List ℕ) (place
   -- The number at the place, in both records.
   pair : Pair
   pair =
-      record { name = (state_number_at place).name; first = take (state_number_at place).length (drop at a); second = take (state_number_at place).length (drop at b) }
+      record {
+        name = (state_number_at place).name;
+        first = take (state_number_at place).length (drop at a);
+        second = take (state_number_at place).length (drop at b);
+      }
 
-  rest-next : rest_text notation comparison a b place at ≡ text_if_different notation comparison pair ++ rest_text notation comparison a b (place + 1) (at + (state_number_at place).length)
+  rest-next : rest_text notation comparison a b place at
+      ≡ text_if_different notation comparison pair
+      ++ rest_text notation comparison a b (place + 1) (at + (state_number_at place).length)
   unfolding pair
   rest-next = rw (drop-numbers, drop-drop (state_number_at place).length at a, drop-drop (state_number_at place).length at b) refl
 

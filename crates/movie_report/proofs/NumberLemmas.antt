@@ -7,8 +7,11 @@ use Rattle.std.specs.Prelude.{◌++◌, slice_index_or}
 use Rattle.std.proofs.lemmas.List.{get_or_append_left, get_or-append_right}
 use Rattle.std.proofs.lemmas.List.FromFn.{length-map-range_with_len, get_or-map-range_with_len}
 use Rattle.std.proofs.Math.ListN.{length-append}
-use Rattle.movie_report.specs.Numbers.{NumberData, state_names, memory_name, memory_names}
+use Rattle.movie_report.specs.Numbers.{NumberData, names_of, state_names, memory_name, memory_names}
 use Rattle.movie_report.specs.Numbers.{other_names, processor_names}
+use Rattle.riot_map.specs.RiotFields.{riot_numbers}
+use Rattle.tia_core.specs.Numbers.{tia_numbers}
+use Rattle.vcs_machine.specs.States.{bank_numbers}
 use Rattle.movie_report.specs.Private.Places.{state_number_at, no_place}
 
 length-memory_names : length memory_names ≡ 128
@@ -46,7 +49,7 @@ pub ruleset number_places = (number_at-processor, number_at-memory, number_at-ot
 
 -- A row of a table in the code.
 abbrev pub Row : Type 0
-Row = Bor (List ℕ) × ℕ
+Row = Bor (List ℕ) × ℕ × ℕ × ℕ
 
 abbrev pub number_of : Row → NumberData
 number_of row = record { name = row.0.now; length = row.1 }
@@ -57,3 +60,11 @@ name-get_or rows i d = ap (λ (n : NumberData). n.name) (sym (get_or-map number_
 
 pub length-get_or : (rows : List Row) (i : ℕ) (d : Row) → (get_or rows i d).1 ≡ (get_or (map number_of rows) i (number_of d)).length
 length-get_or rows i d = ap (λ (n : NumberData). n.length) (sym (get_or-map number_of rows i d))
+
+-- The TIA's numbers follow the nine of the RIOT.
+pub other-tia : (place : ℕ) → 9 ≤ place → place < 50
+    → slice_index_or other_names place no_place ≡ slice_index_or (names_of tia_numbers) (place - 9) no_place
+other-tia place high low =
+    let within : place - 9 < 41 = omega arith in
+    get_or-append_right (names_of riot_numbers) (names_of tia_numbers ++ names_of bank_numbers) 9 place no_place refl high
+    ∙ get_or_append_left (names_of tia_numbers) (names_of bank_numbers) no_place (place - 9) within

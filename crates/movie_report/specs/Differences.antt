@@ -6,8 +6,8 @@ use Rattle.hex.specs.Hex.{encode_upper}
 use Rattle.movie_report.specs.Numbers.{NumberData, state_names}
 use Rattle.movie_report.specs.declared.differences.Comparison.{Comparison}
 use Rattle.movie_report.specs.declared.differences.Comparison.TheVariants.{Start, Claim}
-use Rattle.movie_report.specs.declared.notation.Notation.{Notation}
-use Rattle.movie_report.specs.declared.notation.Notation.TheVariants.{Lines, Json}
+use Rattle.replay_plan.specs.declared.notation.Notation.{Notation}
+use Rattle.replay_plan.specs.declared.notation.Notation.TheVariants.{Lines, Json}
 
 -- A number of two records: its name, and its bytes in each.
 pub record Pair : Type 0 where
@@ -28,9 +28,11 @@ difference_text Lines Start pair =
 difference_text Lines Claim pair =
     pair.name ++ (codes ": claimed " ++ (encode_upper pair.first ++ (codes ", found " ++ (encode_upper pair.second ++ 10 ∷ []))))
 difference_text Json Start pair =
-    codes ",{\"number\":\"" ++ (pair.name ++ (codes "\",\"start\":\"" ++ (encode_upper pair.first ++ (codes "\",\"power_on\":\"" ++ (encode_upper pair.second ++ codes "\"}")))))
+    codes ",{\"number\":\"" ++ (pair.name ++ (codes "\",\"start\":\"" ++ (encode_upper pair.first
+    ++ (codes "\",\"power_on\":\"" ++ (encode_upper pair.second ++ codes "\"}")))))
 difference_text Json Claim pair =
-    codes ",{\"number\":\"" ++ (pair.name ++ (codes "\",\"claimed\":\"" ++ (encode_upper pair.first ++ (codes "\",\"found\":\"" ++ (encode_upper pair.second ++ codes "\"}")))))
+    codes ",{\"number\":\"" ++ (pair.name ++ (codes "\",\"claimed\":\"" ++ (encode_upper pair.first
+    ++ (codes "\",\"found\":\"" ++ (encode_upper pair.second ++ codes "\"}")))))
 
 -- If its bytes are the same, nothing.
 abbrev pub text_if_different : Notation → Comparison → Pair → List ℕ

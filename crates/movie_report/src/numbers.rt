@@ -1,80 +1,35 @@
 //! The numbers of a state record.
 ghost use Rattle.std.specs.Prelude.{◌≡◌, ◌<◌, slice_index_or};
 ghost use Rattle.movie_report.specs.Private.Places.{state_number_at, no_place};
-ghost use Rattle.movie_report.specs.Numbers.{processor_names, other_names};
+ghost use Rattle.movie_report.specs.Numbers.{names_of, processor_names, other_names};
+ghost use Rattle.tia_core.specs.Numbers.{tia_numbers};
 
+use movie_file::{BANK_NUMBERS, PROCESSOR_NUMBERS, RIOT_NUMBERS, RecordNumber, TIA_NUMBERS};
 use std::fmt;
 use vcs_machine::HexByte;
-
-/// The processor's numbers, with their lengths in bytes.
-const PROCESSOR: [(&str, usize); 6] = [("A", 1), ("X", 1), ("Y", 1), ("S", 1), ("P", 1), ("PC", 2)];
 
 /// The bytes of memory, whose first has address 80 (hexadecimal).
 const MEMORY: usize = 128;
 
-/// The numbers after the memory, with their lengths in bytes.
-const OTHERS: [(&str, usize); 51] = [
-    ("output latch of port A", 1),
-    ("direction of port A", 1),
-    ("output latch of port B", 1),
-    ("direction of port B", 1),
-    ("timer value", 1),
-    ("timer part", 2),
-    ("timer interval", 1),
-    ("timer past zero", 1),
-    ("timer flag", 1),
-    ("VSYNC", 1),
-    ("VBLANK", 1),
-    ("NUSIZ0", 1),
-    ("NUSIZ1", 1),
-    ("COLUP0", 1),
-    ("COLUP1", 1),
-    ("COLUPF", 1),
-    ("COLUBK", 1),
-    ("CTRLPF", 1),
-    ("REFP0", 1),
-    ("REFP1", 1),
-    ("PF0", 1),
-    ("PF1", 1),
-    ("PF2", 1),
-    ("GRP0 new", 1),
-    ("GRP0 old", 1),
-    ("GRP1 new", 1),
-    ("GRP1 old", 1),
-    ("ENAM0", 1),
-    ("ENAM1", 1),
-    ("ENABL new", 1),
-    ("ENABL old", 1),
-    ("HMP0", 1),
-    ("HMP1", 1),
-    ("HMM0", 1),
-    ("HMM1", 1),
-    ("HMBL", 1),
-    ("VDELP0", 1),
-    ("VDELP1", 1),
-    ("VDELBL", 1),
-    ("RESMP0", 1),
-    ("RESMP1", 1),
-    ("position of player 0", 1),
-    ("position of player 1", 1),
-    ("position of missile 0", 1),
-    ("position of missile 1", 1),
-    ("position of the ball", 1),
-    ("collisions", 2),
-    ("button latches", 1),
-    ("line cycle", 1),
-    ("comb", 1),
-    ("bank", 1),
-];
-
 /// The place of the first byte of memory.
-const MEMORY_AT: usize = PROCESSOR.len();
+const MEMORY_AT: usize = PROCESSOR_NUMBERS.len();
 
 /// The place of the first number after the memory.
 const OTHERS_AT: usize = MEMORY_AT + MEMORY;
 
+/// How many numbers are after the memory: those of the RIOT, of the TIA, and the bank.
+const OTHERS: usize = RIOT_NUMBERS.len() + TIA_NUMBERS.len() + BANK_NUMBERS.len();
+
 /// How many numbers a record has.
-pub(crate) const COUNT: usize = OTHERS_AT + OTHERS.len();
+pub(crate) const COUNT: usize = OTHERS_AT + OTHERS;
+
+/// The name and the length of a number.
+fn shown(number: RecordNumber) -> (&'static str, usize)
+    ensures { result ≡ (number.entry.0, number.entry.1) }
+{
+    let (name, length, _, _) = number;
+    (name, length)
+}
 
 /// The name and the length of a number of the processor.
 fn processor_number(place: usize) -> (&'static str, usize)
@@ -82,7 +37,16 @@ fn processor_number(place: usize) -> (&'static str, usize)
     ensures name { result.0.now ≡ (slice_index_or processor_names place no_place).name }
     ensures length { result.1 ≡ (slice_index_or processor_names place no_place).length }
 {
-    PROCESSOR[place]
+    shown(PROCESSOR_NUMBERS[place])
+}
+
+/// The name and the length of a number of the TIA.
+fn tia_number(place: usize) -> (&'static str, usize)
+    requires { place < 41 }
+    ensures name { result.0.now ≡ (slice_index_or (names_of tia_numbers) place no_place).name }
+    ensures length { result.1 ≡ (slice_index_or (names_of tia_numbers) place no_place).length }
+{
+    shown(TIA_NUMBERS[place])
 }
 
 /// The name and the length of a number after the memory, counted from the first of them.
@@ -91,7 +55,14 @@ fn other_number(place: usize) -> (&'static str, usize)
     ensures name { result.0.now ≡ (slice_index_or other_names place no_place).name }
     ensures length { result.1 ≡ (slice_index_or other_names place no_place).length }
 {
-    OTHERS[place]
+    let riot = RIOT_NUMBERS.len();
+    if place < riot {
+        shown(RIOT_NUMBERS[place])
+    } else if place < riot + TIA_NUMBERS.len() {
+        tia_number(place - riot)
+    } else {
+        shown(BANK_NUMBERS[0])
+    }
 }
 
 /// A number of a state record, by its place among them, from 0. It is shown by its name.

@@ -4,7 +4,18 @@ ghost use Rattle.record_table.specs.Numbers.{bytes_of};
 ghost use Rattle.mos_cpu.specs.Registers.{is_status, processor_numbers};
 ghost use Rattle.movie_file.specs.Private.RecordNumbers.{cpu_at};
 
+use super::RecordNumber;
 use mos_cpu::Cpu;
+
+/// The numbers of a processor.
+pub const PROCESSOR_NUMBERS: [RecordNumber; 6] = [
+    ("A", 1, 0xFF, 0xFF),
+    ("X", 1, 0xFF, 0xFF),
+    ("Y", 1, 0xFF, 0xFF),
+    ("S", 1, 0xFF, 0xFF),
+    ("P", 1, 0xCF, 0xFF),
+    ("PC", 2, 0xFF, 0xFF),
+];
 
 /// The processor that seven bytes spell; none if the one of P isn't a status.
 pub fn cpu_in(bytes: &[u8]) -> Option<Cpu>

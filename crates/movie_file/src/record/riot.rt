@@ -5,7 +5,21 @@ ghost use Rattle.riot_map.specs.RiotFields.{riot_numbers};
 ghost use Rattle.movie_file.specs.Record.{riot_bytes};
 ghost use Rattle.movie_file.specs.Private.RecordNumbers.{riot_at, riot_with};
 
+use super::RecordNumber;
 use riot_map::RiotFields;
+
+/// The numbers of a RIOT, which follow its memory.
+pub const RIOT_NUMBERS: [RecordNumber; 9] = [
+    ("output latch of port A", 1, 0xFF, 0xFF),
+    ("direction of port A", 1, 0xFF, 0xFF),
+    ("output latch of port B", 1, 0xFF, 0xFF),
+    ("direction of port B", 1, 0xFF, 0xFF),
+    ("timer value", 1, 0xFF, 0xFF),
+    ("timer part", 2, 0xFF, 0xFF),
+    ("timer interval", 1, 0xFF, 3),
+    ("timer past zero", 1, 0xFF, 1),
+    ("timer flag", 1, 0xFF, 1),
+];
 
 /// The RIOT with this memory whose ports and timer ten bytes spell.
 fn riot_with(ram: [u8; 128], bytes: &[u8]) -> RiotFields

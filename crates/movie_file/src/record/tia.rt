@@ -4,8 +4,54 @@ ghost use Rattle.record_table.specs.Numbers.{bytes_of};
 ghost use Rattle.tia_core.specs.Numbers.{tia_numbers};
 ghost use Rattle.movie_file.specs.Private.RecordNumbers.{tia_at};
 
+use super::RecordNumber;
 use tia_core::TiaFields;
 use vcs_machine::LINE_CYCLES;
+
+/// The numbers of a TIA.
+pub const TIA_NUMBERS: [RecordNumber; 41] = [
+    ("VSYNC", 1, 0x02, 0xFF),
+    ("VBLANK", 1, 0xC2, 0xFF),
+    ("NUSIZ0", 1, 0x37, 0xFF),
+    ("NUSIZ1", 1, 0x37, 0xFF),
+    ("COLUP0", 1, 0xFE, 0xFF),
+    ("COLUP1", 1, 0xFE, 0xFF),
+    ("COLUPF", 1, 0xFE, 0xFF),
+    ("COLUBK", 1, 0xFE, 0xFF),
+    ("CTRLPF", 1, 0x37, 0xFF),
+    ("REFP0", 1, 0x08, 0xFF),
+    ("REFP1", 1, 0x08, 0xFF),
+    ("PF0", 1, 0xF0, 0xFF),
+    ("PF1", 1, 0xFF, 0xFF),
+    ("PF2", 1, 0xFF, 0xFF),
+    ("GRP0 new", 1, 0xFF, 0xFF),
+    ("GRP0 old", 1, 0xFF, 0xFF),
+    ("GRP1 new", 1, 0xFF, 0xFF),
+    ("GRP1 old", 1, 0xFF, 0xFF),
+    ("ENAM0", 1, 0x02, 0xFF),
+    ("ENAM1", 1, 0x02, 0xFF),
+    ("ENABL new", 1, 0x02, 0xFF),
+    ("ENABL old", 1, 0x02, 0xFF),
+    ("HMP0", 1, 0xF0, 0xFF),
+    ("HMP1", 1, 0xF0, 0xFF),
+    ("HMM0", 1, 0xF0, 0xFF),
+    ("HMM1", 1, 0xF0, 0xFF),
+    ("HMBL", 1, 0xF0, 0xFF),
+    ("VDELP0", 1, 0x01, 0xFF),
+    ("VDELP1", 1, 0x01, 0xFF),
+    ("VDELBL", 1, 0x01, 0xFF),
+    ("RESMP0", 1, 0x02, 0xFF),
+    ("RESMP1", 1, 0x02, 0xFF),
+    ("position of player 0", 1, 0xFF, 159),
+    ("position of player 1", 1, 0xFF, 159),
+    ("position of missile 0", 1, 0xFF, 159),
+    ("position of missile 1", 1, 0xFF, 159),
+    ("position of the ball", 1, 0xFF, 159),
+    ("collisions", 2, 0x7F, 0xFF),
+    ("button latches", 1, 0x03, 0xFF),
+    ("line cycle", 1, 0xFF, 75),
+    ("comb", 1, 0xFF, 1),
+];
 
 /// The TIA that 42 bytes spell; none if the beam is beyond its scanline.
 pub fn tia_in(bytes: &[u8]) -> Option<TiaFields>

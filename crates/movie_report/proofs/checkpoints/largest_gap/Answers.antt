@@ -14,4 +14,5 @@ pub loop-index-preserved : goal.loop-index-preserved
 loop-index-preserved c =
     let same : c.loop-index.index + 1 - 1 ≡ c.loop-index.index = omega arith in
     rw c.max-gap.ensures
-    (IsLargestUpTo-next c.args.movie.now c.loop-index.index c.loop-index.last c.loop-index.gap c.loop-index.invariant c.checkpoint.result.now (rw same at c.checkpoint.ensures))
+    (IsLargestUpTo-next c.args.movie.now c.loop-index.index c.loop-index.last c.loop-index.gap
+    c.loop-index.invariant c.checkpoint.result.now (rw same at c.checkpoint.ensures))

@@ -7,4 +7,5 @@ loop-number-preserved c =
     let has : HasSign c.args.movie.now c.cuts.inside.numbers.items c.loop-number.number c.in_ok-segment_sign.field-0 =
     rw (← c.cuts.view_is) at c.in_ok-segment_sign.ensures in
     rw c.in_ok-push.ensures.items
-    (AreSignsBefore-next c.args.movie.now c.cuts.inside.numbers.items c.loop-number.number c.loop-number.signs.items c.in_ok-segment_sign.field-0 c.loop-number.invariant has)
+    (AreSignsBefore-next c.args.movie.now c.cuts.inside.numbers.items c.loop-number.number
+    c.loop-number.signs.items c.in_ok-segment_sign.field-0 c.loop-number.invariant has)
