@@ -131,7 +131,8 @@ checkpoints_again h (c ∷ cs) j last rest takes small each =
     let dropped : drop w (bytes_of c ++ after) ≡ after = drop_at (bytes_of c) after w (length-checkpoint h.version h.cart c each.2) in
     ap (checkpoints_at h (suc (length cs)) j last) regrouped
     ∙ ap
-    (λ (r : Result Checkpoint MovieError). r >>= λ first. checkpoints_at h (length cs) (suc j) first.frame (drop w (bytes_of c ++ after)) >>= λ others. Ok (first ∷ others.0, others.1))
+    (λ (r : Result Checkpoint MovieError). r >>= λ first. checkpoints_at h (length cs)
+    (suc j) first.frame (drop w (bytes_of c ++ after)) >>= λ others. Ok (first ∷ others.0, others.1))
     (checkpoint_again h j last c after takes each.0 each.1 small each.2)
     ∙ ap (λ (b : List ℕ). checkpoints_at h (length cs) (suc j) c.frame b >>= λ others. Ok (c ∷ others.0, others.1)) dropped
     ∙ ap (λ (r : Result (List Checkpoint × List ℕ) MovieError). r >>= λ others. Ok (c ∷ others.0, others.1))

@@ -147,10 +147,14 @@ counts_again : (version n m : ℕ) (rest : List ℕ) → 1 ≤ n → n ≤ most_
 unfolding counts_at
 counts_again version n m rest some few fewer =
     ap
-    (λ (r : Result (ℕ × List ℕ) MovieError). r >>= λ x. number_at w16 x.1 >>= λ y. cond (leb 1 x.0 && leb x.0 (most_frames version) && leb y.0 most_checkpoints) (Ok (x.0, y.0, y.1)) (Err BadCounts))
+    (λ (r : Result (ℕ × List ℕ) MovieError). r >>= λ x. number_at w16 x.1 >>= λ y. cond
+    (leb 1 x.0 && leb x.0 (most_frames version) && leb y.0 most_checkpoints)
+    (Ok (x.0, y.0, y.1)) (Err BadCounts))
     (number_again w32 (2 ^ 32) wide32 n (to_be_bytes w16 m ++ rest) (omega (arith, most_frames-most version)))
     ∙ ap
-    (λ (r : Result (ℕ × List ℕ) MovieError). r >>= λ y. cond (leb 1 n && leb n (most_frames version) && leb y.0 most_checkpoints) (Ok (n, y.0, y.1)) (Err BadCounts))
+    (λ (r : Result (ℕ × List ℕ) MovieError). r >>= λ y. cond
+    (leb 1 n && leb n (most_frames version) && leb y.0 most_checkpoints) (Ok (n, y.0, y.1))
+    (Err BadCounts))
     (number_again w16 (2 ^ 16) wide16 m rest (omega arith))
     ∙ rw (le-leb 1 n some, le-leb n (most_frames version) few, le-leb m most_checkpoints fewer) refl
 

@@ -59,7 +59,8 @@ inputs_again (i ∷ xs) k rest each =
     ap (λ (x : List ℕ). x ++ rest) (flat_map-cons input_bytes i xs) in
     ap (inputs_at (suc (length xs)) k) regrouped
     ∙ ap
-    (λ (b : Bool). cond b (done i) (Err (BadInput k)) >>= λ first. inputs_at (length xs) (suc k) (flat_map input_bytes xs ++ rest) >>= λ others. Ok (first ∷ others.0, others.1))
+    (λ (b : Bool). cond b (done i) (Err (BadInput k)) >>= λ first. inputs_at (length xs) (suc k)
+    (flat_map input_bytes xs ++ rest) >>= λ others. Ok (first ∷ others.0, others.1))
     each.0
     ∙ ap (λ (r : Result (List InputData × List ℕ) MovieError). r >>= λ others. Ok (i ∷ others.0, others.1)) (inputs_again xs (suc k) rest each.1)
 

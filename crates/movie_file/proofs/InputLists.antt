@@ -1,19 +1,16 @@
 -- Inputs by themselves: what is read is spelled so, and what is spelled so is read.
-use Rattle.std.proofs.Common.{◌≡◌, ℕ, ◌*◌, ◌/◌, ◌%◌, eqb, List, [], ◌++◌, length, Result, Ok, Err}
+use Rattle.std.proofs.Common.{◌≡◌, ℕ, ◌*◌, ◌/◌, ◌%◌, eqb, List, [], ◌++◌, length, Result, Ok}
 use Rattle.std.proofs.Common.{refl, sym, ap, ◌∙◌, arith}
-use Rattle.std.specs.Prelude.{IfOk, IfErr, ◌≢◌}
 use Rattle.std.specs.List.{flat_map}
 use Rattle.std.proofs.lemmas.Bool.{eqb-true}
 use Rattle.std.proofs.lemmas.List.{append-nil, nil_from_length}
 use Rattle.vcs_machine.specs.Inputs.{InputData, input_bytes}
 use Rattle.movie_file.specs.Format.{input_length}
 use Rattle.movie_file.specs.InputLists.{SpellsInputs, all_inputs_at}
-use Rattle.movie_file.specs.MovieError.{Gives}
 use Rattle.movie_file.specs.Reading.{◌>>=◌, inputs_at}
 use Rattle.movie_file.specs.declared.error.MovieError.{MovieError}
-use Rattle.movie_file.specs.declared.error.MovieError.TheVariants.{Short, NoMemory}
+use Rattle.movie_file.specs.declared.error.MovieError.TheVariants.{Short}
 use Rattle.movie_file.proofs.ByteLemmas.{IsBytes}
-use Rattle.movie_file.proofs.ItemLemmas.{fails_is}
 use Rattle.movie_file.proofs.ReadLemmas.{bind_ok, guard_then}
 use Rattle.movie_file.proofs.InputLemmas.{inputs_take, inputs_again, length-inputs}
 
@@ -45,19 +42,3 @@ spelled_inputs_are_read bytes inputs h =
     let read : inputs_at (length inputs) 1 bytes ≡ Ok (inputs, []) =
     ap (inputs_at (length inputs) 1) (h.spelled ∙ sym (append-nil text)) ∙ inputs_again inputs 1 [] h.lawful in
     rw (even, n, read) refl
-
--- ---- what is said of an answer
-
-module _ {X : Type 0} (view : X → List InputData) (bytes : List ℕ) where
-  pub found_spelled : (r : Result X MovieError) → IsBytes bytes → Gives view r (all_inputs_at bytes) → IfOk r (λ x. SpellsInputs bytes (view x))
-  found_spelled (Ok x) fits h = inputs_are_spelled bytes (view x) fits h
-  found_spelled (Err e) fits h = tt
-
-  pub spelled_only : (r : Result X MovieError) (inputs : List InputData) → Gives view r (all_inputs_at bytes) → SpellsInputs bytes inputs
-      → Gives view r (Ok inputs)
-  spelled_only (Ok x) inputs h spelled = sym (spelled_inputs_are_read bytes inputs spelled) ∙ h
-  spelled_only (Err e) inputs h spelled = fails_is e (all_inputs_at bytes) (Ok inputs) (spelled_inputs_are_read bytes inputs spelled) h
-
-  pub refused_exact : (r : Result X MovieError) → Gives view r (all_inputs_at bytes) → IfErr r (λ e. e ≢ NoMemory → all_inputs_at bytes ≡ Err e)
-  refused_exact (Ok x) h = tt
-  refused_exact (Err e) h = h

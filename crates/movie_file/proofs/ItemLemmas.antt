@@ -30,7 +30,9 @@ fails_on e x f h = λ n. ap (λ (r : Result _ MovieError). r >>= f) (h n)
 -- ---- inputs
 
 pub inputs_step : (count i : ℕ) (bytes : List ℕ) → i < count
-    → inputs_at (count - i) (i + 1) bytes ≡ (input_at (i + 1) bytes >>= λ first. inputs_at (count - (i + 1)) (i + 1 + 1) (drop input_length bytes) >>= λ others. Ok (first ∷ others.0, others.1))
+    → inputs_at (count - i) (i + 1) bytes
+    ≡ (input_at (i + 1) bytes >>= λ first. inputs_at (count - (i + 1)) (i + 1 + 1)
+    (drop input_length bytes) >>= λ others. Ok (first ∷ others.0, others.1))
 unfolding inputs_at
 inputs_step count i bytes lt =
     let k : count - i ≡ suc (count - (i + 1)) = omega arith in
@@ -47,7 +49,10 @@ pub inputs_go_on : (prefix : List InputData) (count i : ℕ) (bytes : List ℕ) 
 inputs_go_on prefix count i bytes n total lt h so_far =
     let rest = inputs_at (count - (i + 1)) (i + 1 + 1) (drop input_length bytes) in
     sym
-    (ap (with_prefix prefix) (inputs_step count i bytes lt ∙ ap (λ (r : Result InputData MovieError). r >>= λ first. rest >>= λ others. Ok (first ∷ others.0, others.1)) h) ∙ regroup prefix n rest)
+    (ap (with_prefix prefix)
+    (inputs_step count i bytes lt
+    ∙ ap (λ (r : Result InputData MovieError). r >>= λ first. rest >>= λ others. Ok
+    (first ∷ others.0, others.1)) h) ∙ regroup prefix n rest)
     ∙ so_far
 
 pub inputs_end : (e : MovieError) (prefix : List InputData) (count i : ℕ) (bytes : List ℕ) (total : Result (List InputData × List ℕ) MovieError)
@@ -69,17 +74,23 @@ inputs_done prefix count i bytes total le so_far =
 -- ---- checkpoints
 
 checkpoints_step : (h : Sizes) (count i last : ℕ) (bytes : List ℕ) → i < count
-    → checkpoints_at h (count - i) (i + 1) last bytes ≡ (claimed_checkpoint h (i + 1) last bytes >>= λ first. checkpoints_at h (count - (i + 1)) (i + 1 + 1) first.frame (drop (checkpoint_length h.version) bytes) >>= λ others. Ok (first ∷ others.0, others.1))
+    → checkpoints_at h (count - i) (i + 1) last bytes
+    ≡ (claimed_checkpoint h (i + 1) last bytes >>= λ first. checkpoints_at h (count - (i + 1))
+    (i + 1 + 1) first.frame (drop (checkpoint_length h.version) bytes) >>= λ others. Ok
+    (first ∷ others.0, others.1))
 unfolding checkpoints_at
 checkpoints_step h count i last bytes lt =
     let k : count - i ≡ suc (count - (i + 1)) = omega arith in
     let j : suc (i + 1) ≡ i + 1 + 1 = omega arith in
     ap (λ (m : ℕ). checkpoints_at h m (i + 1) last bytes) k
     ∙ ap
-    (λ (m : ℕ). claimed_checkpoint h (i + 1) last bytes >>= λ first. checkpoints_at h (count - (i + 1)) m first.frame (drop (checkpoint_length h.version) bytes) >>= λ others. Ok (first ∷ others.0, others.1))
+    (λ (m : ℕ). claimed_checkpoint h (i + 1) last bytes >>= λ first. checkpoints_at h
+    (count - (i + 1)) m first.frame (drop (checkpoint_length h.version) bytes) >>= λ others. Ok
+    (first ∷ others.0, others.1))
     j
 
-pub checkpoints_go_on : (h : Sizes) (prefix : List Checkpoint) (count i last : ℕ) (bytes : List ℕ) (c : Checkpoint) (total : Result (List Checkpoint × List ℕ) MovieError)
+pub checkpoints_go_on : (h : Sizes) (prefix : List Checkpoint) (count i last : ℕ) (bytes : List ℕ)
+    (c : Checkpoint) (total : Result (List Checkpoint × List ℕ) MovieError)
     → i < count → claimed_checkpoint h (i + 1) last bytes ≡ Ok c
     → with_prefix prefix (checkpoints_at h (count - i) (i + 1) last bytes) ≡ total
     → with_prefix (prefix ++ c ∷ []) (checkpoints_at h (count - (i + 1)) (i + 1 + 1) c.frame (drop (checkpoint_length h.version) bytes)) ≡ total
@@ -88,10 +99,15 @@ checkpoints_go_on h prefix count i last bytes c total lt is so_far =
     λ (first : Checkpoint). checkpoints_at h (count - (i + 1)) (i + 1 + 1) first.frame (drop (checkpoint_length h.version) bytes) >>= λ others. Ok
     (first ∷ others.0, others.1) in
     sym
-    (ap (with_prefix prefix) (checkpoints_step h count i last bytes lt ∙ ap (λ (r : Result Checkpoint MovieError). r >>= rest) is) ∙ regroup prefix c (checkpoints_at h (count - (i + 1)) (i + 1 + 1) c.frame (drop (checkpoint_length h.version) bytes)))
+    (ap (with_prefix prefix)
+    (checkpoints_step h count i last bytes lt
+    ∙ ap (λ (r : Result Checkpoint MovieError). r >>= rest) is)
+    ∙ regroup prefix c (checkpoints_at h (count - (i + 1)) (i + 1 + 1) c.frame
+    (drop (checkpoint_length h.version) bytes)))
     ∙ so_far
 
-pub checkpoints_end : (h : Sizes) (e : MovieError) (prefix : List Checkpoint) (count i last : ℕ) (bytes : List ℕ) (total : Result (List Checkpoint × List ℕ) MovieError)
+pub checkpoints_end : (h : Sizes) (e : MovieError) (prefix : List Checkpoint) (count i last : ℕ)
+    (bytes : List ℕ) (total : Result (List Checkpoint × List ℕ) MovieError)
     → i < count → Fails e (claimed_checkpoint h (i + 1) last bytes)
     → with_prefix prefix (checkpoints_at h (count - i) (i + 1) last bytes) ≡ total → Fails e total
 checkpoints_end h e prefix count i last bytes total lt fails so_far =
@@ -99,7 +115,8 @@ checkpoints_end h e prefix count i last bytes total lt fails so_far =
     λ (first : Checkpoint). checkpoints_at h (count - (i + 1)) (i + 1 + 1) first.frame (drop (checkpoint_length h.version) bytes) >>= λ others. Ok
     (first ∷ others.0, others.1) in
     fails_is e _ total so_far (fails_is e _ _ (ap (with_prefix prefix) (sym (checkpoints_step h count i last bytes lt)))
-    (fails_on e (claimed_checkpoint h (i + 1) last bytes >>= rest) (λ x. Ok (prefix ++ x.0, x.1)) (fails_on e (claimed_checkpoint h (i + 1) last bytes) rest fails)))
+    (fails_on e (claimed_checkpoint h (i + 1) last bytes >>= rest) (λ x. Ok (prefix ++ x.0, x.1))
+    (fails_on e (claimed_checkpoint h (i + 1) last bytes) rest fails)))
 
 pub checkpoints_done : (h : Sizes) (prefix : List Checkpoint) (count i last : ℕ) (bytes : List ℕ) (total : Result (List Checkpoint × List ℕ) MovieError)
     → count ≤ i → with_prefix prefix (checkpoints_at h (count - i) (i + 1) last bytes) ≡ total → total ≡ Ok (prefix, bytes)

@@ -3,13 +3,14 @@ use Rattle.std.proofs.Common.{◌≡◌, ◌≢◌, ℕ, zero, suc, ◌+◌, ◌
 use Rattle.std.proofs.Common.{false, eqb, ltb, cond, List, [], ◌∷◌, ◌++◌, length, Option, Some}
 use Rattle.std.proofs.Common.{None, refl, sym, ap, subst, ◌∙◌, arith, below_more, rules}
 use Rattle.std.specs.Prelude.{slice_get, option_and_then, IsTrue, ◌||◌}
+use Rattle.std.specs.List.{AllByRecursion}
 use Rattle.std.specs.Option.{option_map}
 use Rattle.std.proofs.lemmas.Bool.{eqb-true, eqb-false, ltb-false}
 use Rattle.std.proofs.lemmas.Bool.Decides.{nat_tests}
 use Rattle.std.proofs.lemmas.List.{append-nil, length-append}
 use Rattle.std.proofs.lemmas.Nat.{le-div, div_below}
 use Rattle.std.proofs.Math.Nat.{div-mul-le_self, add-mul, mul_comm}
-use Rattle.vcs_machine.specs.Inputs.{InputData}
+use Rattle.vcs_machine.specs.Inputs.{InputData, is_input}
 use Rattle.riot_map.specs.Cart.{is_cart_length, has_banks}
 use Rattle.vcs_machine.specs.Outcomes.{FrameOutcome, Played, Failed, left_by, frame_of}
 use Rattle.vcs_machine.proofs.BankLaws.{frame_of-bank}
@@ -22,8 +23,8 @@ use Rattle.movie_file.specs.declared.error.MakeError.TheVariants.{Fault, BadCoun
 use Rattle.movie_file.specs.Format.{is_version, takes_cart, most_frames, most_checkpoints}
 use Rattle.movie_file.specs.Judgement.{IsSound, AllSound, IsGenuine}
 use Rattle.movie_file.specs.Making.{bare, counts_fit, version_made, Explains, IsMadeOf}
-use Rattle.movie_file.specs.Private.MakingSteps.{checkpoint_if, Records, RunFails}
-use Rattle.movie_file.specs.Movie.{MovieData, IsState, IsStateWith, AreCheckpoints}
+use Rattle.movie_file.specs.Private.MakingSteps.{checkpoint_if, Claims, RunFails}
+use Rattle.movie_file.specs.Movie.{MovieData, IsMovie, IsState, IsStateWith, AreCheckpoints}
 use Rattle.movie_file.specs.Record.{fits_bank}
 use Rattle.movie_file.specs.Run.{run, frame_after, state_after}
 use Rattle.movie_file.proofs.RunLemmas.{run-next}
@@ -86,42 +87,38 @@ module _ (cart : List ℕ) (inputs : List InputData) (k : ℕ) (state : StateFie
       → run (bare cart inputs) (state_at_power_on cart) 0 (k + 1) ≡ Some new
   run_next = run-next (bare cart inputs) (state_at_power_on cart) 0 k k state input is (omega arith) at
 
-  sound_next : (new : StateFields) (rows : Rows) → frame_of cart state input ≡ Played new rows
+  pub sound_next : (new : StateFields) (rows : Rows) → frame_of cart state input ≡ Played new rows
       → AllSound (bare cart inputs) (state_at_power_on cart) 0 k → AllSound (bare cart inputs) (state_at_power_on cart) 0 (k + 1)
   sound_next new rows ends sound =
       below_more (λ (i : ℕ). IsSound (bare cart inputs) (state_at_power_on cart) 0 i) k sound (new, run_next new rows ends, λ j c e here. not_found c e)
 
-  pub Records-next : (every : ℕ) (cs ds : List Checkpoint) (new : StateFields) (rows : Rows) → 1 ≤ every → Records cart inputs every k cs
-      → frame_of cart state input ≡ Played new rows
-      → ds ≡ cs ++ checkpoint_if every (k + 1) new → IsState new → Records cart inputs every (k + 1) ds
-  Records-next every cs ds new rows some far ends ds-is lawful = rw ds-is (by (eqb ((k + 1) % every) 0) refl)
-    where
-      by : (b : Bool) → eqb ((k + 1) % every) 0 ≡ b
-          → Records cart inputs every (k + 1) (cs ++ cond {A = List Checkpoint} b (record { frame = k + 1; state = new } ∷ []) [])
-      by true e =
-          let m = next_multiple every k some (eqb-true _ _ e) in
-          let d : Checkpoint = record { frame = k + 1; state = new } in
-          let place : k + 1 ≡ every * (length cs + 1) = m.1 ∙ ap (λ (n : ℕ). every * (n + 1)) (sym far.count) in
-          record {
-            sound = sound_next new rows ends far.sound;
-            count = omega (arith, length-append cs (d ∷ []), far.count, m.0);
-            places = each_more (λ (j : ℕ) (c : Checkpoint). c.frame ≡ every * (j + 1)) cs d far.places place;
-            states =
-                each_more (λ (j : ℕ) (c : Checkpoint). run (bare cart inputs) (state_at_power_on cart) 0 c.frame ≡ Some c.state) cs d far.states
-                (run_next new rows ends);
-            lawful = each_more (λ (j : ℕ) (c : Checkpoint). IsState c.state) cs d far.lawful lawful;
-          }
-      by false e = rw (append-nil cs) (record {
-        sound = sound_next new rows ends far.sound;
-        count = far.count ∙ sym (no_multiple every k some (eqb-false _ _ e));
-        places = far.places;
-        states = far.states;
-        lawful = far.lawful;
-      })
+pub Claims-next : (m : MovieData) (from every k : ℕ) (cs ds : List Checkpoint) (new : StateFields) → 1 ≤ every → Claims m from every k cs
+    → run m m.start 0 (from + (k + 1)) ≡ Some new
+    → ds ≡ cs ++ checkpoint_if every (k + 1) new → ((k + 1) % every ≡ 0 → IsState new) → Claims m from every (k + 1) ds
+Claims-next m from every k cs ds new some far ran ds-is lawful = rw ds-is (by (eqb ((k + 1) % every) 0) refl)
+  where
+    by : (b : Bool) → eqb ((k + 1) % every) 0 ≡ b
+        → Claims m from every (k + 1) (cs ++ cond {A = List Checkpoint} b (record { frame = k + 1; state = new } ∷ []) [])
+    by true e =
+        let multiple : (k + 1) % every ≡ 0 = eqb-true _ _ e in
+        let m' = next_multiple every k some multiple in
+        let d : Checkpoint = record { frame = k + 1; state = new } in
+        let place : k + 1 ≡ every * (length cs + 1) = m'.1 ∙ ap (λ (n : ℕ). every * (n + 1)) (sym far.count) in
+        record {
+          count = omega (arith, length-append cs (d ∷ []), far.count, m'.0);
+          places = each_more (λ (j : ℕ) (c : Checkpoint). c.frame ≡ every * (j + 1)) cs d far.places place;
+          states = each_more (λ (j : ℕ) (c : Checkpoint). run m m.start 0 (from + c.frame) ≡ Some c.state) cs d far.states ran;
+          lawful = each_more (λ (j : ℕ) (c : Checkpoint). IsState c.state) cs d far.lawful (lawful multiple);
+        }
+    by false e = rw (append-nil cs) (record {
+      count = far.count ∙ sym (no_multiple every k some (eqb-false _ _ e));
+      places = far.places;
+      states = far.states;
+      lawful = far.lawful;
+    })
 
-pub Records-none : (cart : List ℕ) (inputs : List InputData) (every : ℕ) → Records cart inputs every 0 []
-Records-none cart inputs every = record {
-  sound = λ i less. absurd (omega arith);
+pub Claims-none : (m : MovieData) (from every : ℕ) → Claims m from every 0 []
+Claims-none m from every = record {
   count = omega arith;
   places = λ j c e. not_found c e;
   states = λ j c e. not_found c e;
@@ -130,9 +127,11 @@ Records-none cart inputs every = record {
 
 -- ---- the movie
 
+abbrev pub parts : ℕ → List ℕ → StateFields → List InputData → List Checkpoint → MovieData
+parts version cart start inputs checkpoints = record { version = version; cart = cart; start = start; inputs = inputs; checkpoints = checkpoints }
+
 abbrev pub with_checkpoints : List ℕ → List InputData → List Checkpoint → MovieData
-with_checkpoints cart inputs cs =
-    record { version = version_made (length cart) (length inputs); cart = cart; start = state_at_power_on cart; inputs = inputs; checkpoints = cs }
+with_checkpoints cart inputs cs = parts (version_made (length cart) (length inputs)) cart (state_at_power_on cart) inputs cs
 
 -- a run knows nothing of checkpoints
 pub run_same : (cart : List ℕ) (inputs : List InputData) (cs : List Checkpoint) (k : ℕ)
@@ -207,57 +206,6 @@ rising cart every n b (d ∷ cs) some places lawful fits =
     in
     (omega arith, omega arith, lawful 0 d refl, subst (λ (f : ℕ). AreCheckpoints cart f n cs) next later)
 
-module _ (cart : List ℕ) (inputs : List InputData) (every : ℕ) (cs : List Checkpoint) (some : 1 ≤ every)
-    (far : Records cart inputs every (length inputs) cs) where
-  pub IsMadeOf-run : IsMadeOf cart inputs every (with_checkpoints cart inputs cs)
-  IsMadeOf-run = record {
-    version = refl;
-    cart_is = refl;
-    start = refl;
-    inputs_are = refl;
-    count = far.count;
-    places = far.places;
-    states = λ j c e. sym (run_same cart inputs cs c.frame) ∙ far.states j c e;
-  }
-
-  pub IsGenuine-run : IsGenuine (with_checkpoints cart inputs cs)
-  IsGenuine-run i less =
-      let sound = far.sound i less in (
-        sound.0,
-        sym (run_same cart inputs cs (i + 1)) ∙ sound.1,
-        λ j c e here.
-            let at : c.frame ≡ i + 1 = omega arith in
-            let claimed = far.states j c e in
-            let ran = sound.1 in
-            let claimed-here = subst (λ (f : ℕ). run (bare cart inputs) (state_at_power_on cart) 0 f ≡ Some c.state) at claimed in cc,
-      )
-
-  pub AreCheckpoints-run : AreCheckpoints (length cart) 0 (length inputs) cs
-  AreCheckpoints-run =
-      let none : every * 0 ≡ 0 = omega arith in
-      let most : every * (0 + length cs) ≡ every * (length inputs / every) = ap (λ (i : ℕ). every * i) (omega (arith, far.count)) in
-      let fits : every * (0 + length cs) ≤ length inputs = omega arith in
-      subst (λ (f : ℕ). AreCheckpoints (length cart) f (length inputs) cs) none (rising (length cart) every (length inputs) 0 cs some
-      (λ j c e. let at : j + 1 ≡ 0 + j + 1 = omega arith in far.places j c e ∙ ap (λ (i : ℕ). every * i) at)
-      (λ j c e. record { state = far.lawful j c e; bank = bank_fits (bare cart inputs) c.frame c.state (bank_at_start cart) (far.states j c e) }) fits)
-
-abbrev from_start : List ℕ → List InputData → List Checkpoint → ℕ → StateFields → MovieData
-from_start cart inputs cs version start = record { version = version; cart = cart; start = start; inputs = inputs; checkpoints = cs }
-
--- the movie of these parts is the made one
-pub made_of_parts : (cart : List ℕ) (inputs seen : List InputData) (every : ℕ) (cs : List Checkpoint) (version : ℕ) (start : StateFields) (m : MovieData)
-    → IsTrue (counts_fit (length inputs) every) → seen ≡ inputs → Records cart seen every (length seen) cs
-    → version ≡ version_made (length cart) (length inputs) → start ≡ state_at_power_on cart
-    → m ≡ from_start cart inputs cs version start
-    → IsMadeOf cart inputs every m × IsGenuine m
-made_of_parts cart inputs seen every cs version start m fit seen-is made version-is start-is m-is =
-    let some = (counts_are (length inputs) every fit).2 in
-    let far = subst (λ (is : List InputData). Records cart is every (length is) cs) seen-is made in
-    let is =
-    sym
-    (m-is ∙ ap (λ (v : ℕ). from_start cart inputs cs v start) version-is ∙ ap (from_start cart inputs cs (version_made (length cart) (length inputs))) start-is) in
-    (subst (IsMadeOf cart inputs every) is (IsMadeOf-run cart inputs every cs some far), subst IsGenuine is (IsGenuine-run cart inputs every cs some far))
-
 -- a version that is made has room for the cartridge and the inputs
 pub version_takes : (cart frames : ℕ) → IsTrue (is_cart_length cart) → frames ≤ most_frames 2
     → IsTrue (is_version (version_made cart frames)) × IsTrue (takes_cart (version_made cart frames) cart) × (frames ≤ most_frames (version_made cart frames))
@@ -268,6 +216,81 @@ version_takes cart frames lawful few = by (has_banks cart) (ltb 65535 frames) re
     by true many e f = (refl, grind (arith, nat_tests), few)
     by false true e f = (refl, grind (arith, nat_tests), few)
     by false false e f = (refl, grind (arith, nat_tests), ltb-false 65535 frames f)
+
+module _ (m : MovieData) (from every version : ℕ) (cart : List ℕ) (start : StateFields) (inputs : List InputData) (cs : List Checkpoint)
+    (cart_is : cart ≡ m.cart) (version_is : version ≡ version_made (length cart) (length inputs)) (ran : run m m.start 0 from ≡ Some start)
+    (first : IsTrue (fits_bank (length m.cart) m.start)) (fits : IsTrue (counts_fit (length inputs) every)) (far : Claims m from every (length inputs) cs) where
+  claims_rise : AreCheckpoints (length m.cart) 0 (length inputs) cs
+  claims_rise =
+      let some = (counts_are (length inputs) every fits).2 in
+      let none : every * 0 ≡ 0 = omega arith in
+      let most : every * (0 + length cs) ≡ every * (length inputs / every) = ap (λ (i : ℕ). every * i) (omega (arith, far.count)) in
+      let room : every * (0 + length cs) ≤ length inputs = omega arith in
+      subst (λ (f : ℕ). AreCheckpoints (length m.cart) f (length inputs) cs) none (rising (length m.cart) every (length inputs) 0 cs some
+      (λ j c e. let at : j + 1 ≡ 0 + j + 1 = omega arith in far.places j c e ∙ ap (λ (i : ℕ). every * i) at)
+      (λ j c e. record { state = far.lawful j c e; bank = bank_fits m (from + c.frame) c.state first (far.states j c e) }) room)
+
+  -- the parts make a movie
+  pub IsMovie-parts : IsTrue (is_cart_length (length cart)) → IsState start → AllByRecursion (λ i. IsTrue (is_input i)) inputs
+      → IsMovie (parts version cart start inputs cs)
+  IsMovie-parts lawful state all =
+      let fit = counts_are (length inputs) every fits in
+      let takes = version_takes (length cart) (length inputs) lawful fit.1 in
+      record {
+        version = rw version_is takes.0;
+        cart = rw version_is takes.1;
+        start = record { state = state; bank = rw cart_is (bank_fits m from start first ran) };
+        some_frames = fit.0;
+        few_frames = rw version_is takes.2;
+        few_checkpoints = omega (arith, far.count, fit.3);
+        inputs = all;
+        checkpoints = rw cart_is claims_rise;
+      }
+
+module _ (cart : List ℕ) (inputs : List InputData) (every : ℕ) (cs : List Checkpoint)
+    (sound : AllSound (bare cart inputs) (state_at_power_on cart) 0 (length inputs))
+    (far : Claims (bare cart inputs) 0 every (length inputs) cs) where
+  claimed_at : (j : ℕ) (c : Checkpoint) (frame : ℕ) → slice_get cs j ≡ Some c → c.frame ≡ frame
+      → run (with_checkpoints cart inputs cs) (state_at_power_on cart) 0 frame ≡ Some c.state
+  claimed_at j c frame e is =
+      let at : 0 + c.frame ≡ frame = omega arith in
+      sym (run_same cart inputs cs frame)
+      ∙ subst (λ (f : ℕ). run (bare cart inputs) (state_at_power_on cart) 0 f ≡ Some c.state) at (far.states j c e)
+
+  pub IsMadeOf-run : IsMadeOf cart inputs every (with_checkpoints cart inputs cs)
+  IsMadeOf-run = record {
+    version = refl;
+    cart_is = refl;
+    start = refl;
+    inputs_are = refl;
+    count = far.count;
+    places = far.places;
+    states = λ j c e. claimed_at j c c.frame e refl;
+  }
+
+  pub IsGenuine-run : IsGenuine (with_checkpoints cart inputs cs)
+  IsGenuine-run i less =
+      let here = sound i less in
+      let ran = sym (run_same cart inputs cs (i + 1)) ∙ here.1 in (
+        here.0,
+        ran,
+        λ j c e place. let claimed = claimed_at j c (i + 1) e (omega arith) in cc,
+      )
+
+-- the movie of these parts is the made one
+pub made_of_parts : (cart : List ℕ) (inputs seen : List InputData) (every : ℕ) (cs : List Checkpoint) (version : ℕ) (start : StateFields) (m : MovieData)
+    → seen ≡ inputs → AllSound (bare cart seen) (state_at_power_on cart) 0 (length seen)
+    → Claims (bare cart seen) 0 every (length seen) cs → version ≡ version_made (length cart) (length inputs) → start ≡ state_at_power_on cart
+    → m ≡ parts version cart start inputs cs
+    → IsMadeOf cart inputs every m × IsGenuine m
+made_of_parts cart inputs seen every cs version start m seen-is sound made version-is start-is m-is =
+    let whole = subst (λ (is : List InputData). AllSound (bare cart is) (state_at_power_on cart) 0 (length is)) seen-is sound in
+    let far = subst (λ (is : List InputData). Claims (bare cart is) 0 every (length is) cs) seen-is made in
+    let is =
+    sym
+    (m-is ∙ ap (λ (v : ℕ). parts v cart start inputs cs) version-is
+    ∙ ap (λ (s : StateFields). parts (version_made (length cart) (length inputs)) cart s inputs cs) start-is) in
+    (subst (IsMadeOf cart inputs every) is (IsMadeOf-run cart inputs every cs whole far), subst IsGenuine is (IsGenuine-run cart inputs every cs whole far))
 
 -- why a run stopped is why no movie is made
 pub explains : (cart : List ℕ) (inputs seen : List InputData) (every : ℕ) (e : MakeError) → seen ≡ inputs → IsTrue (counts_fit (length inputs) every)

@@ -87,7 +87,9 @@ abbrev sizes_of : MovieData → Sizes
 sizes_of m = sizes_are m.version (length m.cart) (length m.inputs) (length m.checkpoints)
 
 body_again : (m : MovieData) → IsMovie m
-    → body_at (sizes_of m) (m.cart ++ (movie_record m.version m.start ++ (flat_map input_bytes m.inputs ++ flat_map (checkpoint_bytes m.version) m.checkpoints))) ≡ Ok m
+    → body_at (sizes_of m)
+    (m.cart ++ (movie_record m.version m.start
+    ++ (flat_map input_bytes m.inputs ++ flat_map (checkpoint_bytes m.version) m.checkpoints))) ≡ Ok m
 unfolding body_at
 body_again m l =
     let h = sizes_of m in
@@ -152,7 +154,9 @@ movie_takes bytes m fits e =
         is.takes.parts ∙ ap (λ (b : List ℕ). header_of m ++ b) read.parts ∙ simp append_assoc
 
 spelling_parts : (m : MovieData)
-    → spelling m ≡ header_of m ++ (m.cart ++ (movie_record m.version m.start ++ (flat_map input_bytes m.inputs ++ flat_map (checkpoint_bytes m.version) m.checkpoints)))
+    → spelling m ≡ header_of m
+    ++ (m.cart ++ (movie_record m.version m.start
+    ++ (flat_map input_bytes m.inputs ++ flat_map (checkpoint_bytes m.version) m.checkpoints)))
 spelling_parts m = simp append_assoc
 
 movie_again : (m : MovieData) → IsMovie m → movie_at (spelling m) ≡ Ok m
@@ -164,8 +168,15 @@ movie_again m h =
     let b1 = movie_record m.version m.start ++ b2 in
     let body = m.cart ++ b1 in
     let long : body_length sizes ≤ length body =
-    omega
-    (arith, length-append m.cart b1, length-append (movie_record m.version m.start) b2, length-append (flat_map input_bytes m.inputs) checkpoints, length-movie_record m.version m.start h.start.state, length-inputs m.inputs, length-checkpoints m.version (length m.cart) m.checkpoints 0 (length m.inputs) h.checkpoints) in
+    omega (
+      arith,
+      length-append m.cart b1,
+      length-append (movie_record m.version m.start) b2,
+      length-append (flat_map input_bytes m.inputs) checkpoints,
+      length-movie_record m.version m.start h.start.state,
+      length-inputs m.inputs,
+      length-checkpoints m.version (length m.cart) m.checkpoints 0 (length m.inputs) h.checkpoints,
+    ) in
     ap movie_at (spelling_parts m)
     ∙ ap (λ (r : Result (Sizes × List ℕ) MovieError). r >>= λ x. body_at x.0 x.1)
     (sizes_again sizes body h.version h.cart h.some_frames h.few_frames h.few_checkpoints long)

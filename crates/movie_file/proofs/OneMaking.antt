@@ -13,7 +13,7 @@ use Rattle.movie_file.specs.Judgement.{FaultsAt, IsGenuine}
 use Rattle.movie_file.specs.Making.{bare, version_made, IsFirstFault, IsMadeOf}
 use Rattle.movie_file.specs.Movie.{MovieData}
 use Rattle.movie_file.specs.Run.{run, frame_after}
-use Rattle.movie_file.proofs.MakingRuns.{with_checkpoints, run_same}
+use Rattle.movie_file.proofs.MakingRuns.{parts, with_checkpoints, run_same}
 use Rattle.movie_file.proofs.RunLemmas.{run-fault, sound_no_fault, same_kind}
 
 -- lists of one length whose elements are the same at each place
@@ -26,13 +26,13 @@ same_lists (c ∷ cs) (d ∷ ds) e same =
     let first = same 0 c d refl refl in
     let others = same_lists cs ds (omega arith) (λ j x y at here. same (suc j) x y at here) in cc
 
-abbrev found : StateFields → Option StateFields
+abbrev pub found : StateFields → Option StateFields
 found s = Some s
 
 abbrev claim : ℕ → StateFields → Checkpoint
 claim frame state = record { frame = frame; state = state }
 
-same_claim : (c d : Checkpoint) → c.frame ≡ d.frame → found c.state ≡ found d.state → c ≡ d
+pub same_claim : (c d : Checkpoint) → c.frame ≡ d.frame → found c.state ≡ found d.state → c ≡ d
 same_claim c d frames states =
     let same : c.state ≡ d.state = cc in
     ap (λ (f : ℕ). claim f c.state) frames ∙ ap (claim d.frame) same
@@ -49,17 +49,14 @@ fault_within cart inputs k kind (state, left, ran, faults) = by (cases_lt k (len
         let gone : frame_after (bare cart inputs) (0 + k) state ≡ None = rw none refl in
         absurd cc
 
-abbrev movie_of : ℕ → List ℕ → StateFields → List InputData → List Checkpoint → MovieData
-movie_of version cart start inputs checkpoints = record { version = version; cart = cart; start = start; inputs = inputs; checkpoints = checkpoints }
-
 module _ (cart : List ℕ) (inputs : List InputData) (every : ℕ) (m : MovieData) (made : IsMadeOf cart inputs every m) where
   made_parts : m ≡ with_checkpoints cart inputs m.checkpoints
   made_parts =
       let version = version_made (length cart) (length inputs) in
-      ap (λ (v : ℕ). movie_of v m.cart m.start m.inputs m.checkpoints) made.version
-      ∙ ap (λ (c : List ℕ). movie_of version c m.start m.inputs m.checkpoints) made.cart_is
-      ∙ ap (λ (s : StateFields). movie_of version cart s m.inputs m.checkpoints) made.start
-      ∙ ap (λ (i : List InputData). movie_of version cart (state_at_power_on cart) i m.checkpoints) made.inputs_are
+      ap (λ (v : ℕ). parts v m.cart m.start m.inputs m.checkpoints) made.version
+      ∙ ap (λ (c : List ℕ). parts version c m.start m.inputs m.checkpoints) made.cart_is
+      ∙ ap (λ (s : StateFields). parts version cart s m.inputs m.checkpoints) made.start
+      ∙ ap (λ (i : List InputData). parts version cart (state_at_power_on cart) i m.checkpoints) made.inputs_are
 
   -- its run is that of the movie that claims nothing
   made_run : (k : ℕ) → run m m.start 0 k ≡ run (bare cart inputs) (state_at_power_on cart) 0 k
@@ -102,4 +99,5 @@ one_first_fault cart inputs frame other kind other_kind (k, is, before, fault) (
     by (inr le) (inl low) = absurd (sound_no_fault (bare cart inputs) (state_at_power_on cart) 0 k' other_kind (before k' low) fault')
     by (inr le) (inr ge) =
         let same : k' ≡ k = omega arith in
-        (omega arith, same_kind (bare cart inputs) (state_at_power_on cart) 0 k kind other_kind fault (subst (λ (x : ℕ). FaultsAt (bare cart inputs) (state_at_power_on cart) 0 x other_kind) same fault'))
+        let here = subst (λ (x : ℕ). FaultsAt (bare cart inputs) (state_at_power_on cart) 0 x other_kind) same fault' in
+        (omega arith, same_kind (bare cart inputs) (state_at_power_on cart) 0 k kind other_kind fault here)

@@ -1,14 +1,17 @@
 //! Making movies.
 ghost use Rattle.std.specs.Prelude.{◌≡◌, ◌↔◌, ◌%◌, ◌/◌, ◌≤◌, ◌<◌, ◌++◌, ◌==◌, List, [], ◌∷◌};
 ghost use Rattle.std.specs.Prelude.{length, vec_len, vec_capacity, if◌then◌else◌, IfOk, IfErr};
-ghost use Rattle.std.specs.Prelude.{IsTrue};
+ghost use Rattle.std.specs.Prelude.{IsTrue, OnOk};
+ghost use Rattle.std.specs.List.{All};
 ghost use Rattle.riot_map.specs.Cart.{is_cart_length};
-ghost use Rattle.movie_file.specs.Judgement.{IsGenuine};
-ghost use Rattle.movie_file.specs.Making.{Explains, IsMadeOf, counts_fit, version_made};
-ghost use Rattle.movie_file.specs.Private.MakingSteps.{Records, RunFails, checkpoint_if};
+ghost use Rattle.vcs_machine.specs.Inputs.{is_input};
+ghost use Rattle.vcs_machine.specs.States.{state_at_power_on};
+ghost use Rattle.movie_file.specs.Judgement.{AllSound, IsGenuine};
+ghost use Rattle.movie_file.specs.Making.{Explains, IsMadeOf, bare, counts_fit, version_made};
+ghost use Rattle.movie_file.specs.Private.MakingSteps.{Claims, RunFails, checkpoint_if};
 ghost use Rattle.movie_file.specs.Movie.{IsState};
 
-use crate::assembling::{look_at, movie_of};
+use crate::assembling::movie_of;
 use crate::checkpoint::Checkpoint;
 use crate::error::MakeError;
 use crate::format::{MOST_CHECKPOINTS, MOST_FRAMES, MOST_FRAMES_OF_VERSION_1};
@@ -46,10 +49,9 @@ pub fn claim(checkpoints: &mut Vec<Checkpoint>, every: u32, frame: u32, state: &
         → vec_len checkpoints.old < vec_capacity checkpoints.old }
     ensures items { checkpoints.new.items
         ≡ checkpoints.old.items ++ checkpoint_if every frame state.now }
-    ensures lawful { IsState state.now }
+    ensures lawful { frame % every ≡ 0 → IsState state.now }
     ensures capacity { vec_capacity checkpoints.new ≡ vec_capacity checkpoints.old }
 {
-    look_at(state);
     if frame % every == 0 {
         let state = state.copy();
         checkpoints.push_reserved(Checkpoint { frame, state });
@@ -60,17 +62,23 @@ pub fn claim(checkpoints: &mut Vec<Checkpoint>, every: u32, frame: u32, state: &
 fn checkpoints_of_run(
     mut checkpoints: Vec<Checkpoint>,
     cart: &Cart,
+    start: &State,
     inputs: &[Input],
     every: u32,
 ) -> Result<Vec<Checkpoint>, MakeError>
     requires empty { checkpoints.items ≡ [] }
+    requires start { start.now ≡ state_at_power_on cart.now }
     requires counts { IsTrue (counts_fit (length inputs.now) every) }
     requires room { length inputs.now / every ≤ vec_capacity checkpoints }
     ensures ok { IfOk result (λ made.
-        Records cart.now inputs.now every (length inputs.now) made.items) }
+        Claims (bare cart.now inputs.now) 0 every (length inputs.now) made.items) }
+    ensures sound { OnOk result (AllSound (bare cart.now inputs.now)
+        (state_at_power_on cart.now) 0 (length inputs.now)) }
+    ensures start { IsState start.now }
+    ensures inputs { OnOk result (All (λ i. IsTrue (is_input i)) inputs.now) }
     ensures err { IfErr result (RunFails cart.now inputs.now) }
 {
-    let mut state = State::power_on(cart);
+    let mut state = start.copy();
     for i in 0..inputs.len() {
         let frame = i as u32 + 1;
         match halt(cart, &mut state, inputs[i]) {
@@ -109,11 +117,11 @@ pub fn make_movie(
     let Ok(checkpoints) = Vec::with_capacity(alloc, inputs.len() / every as usize) else {
         return Err(MakeError::NoMemory);
     };
-    let checkpoints = match checkpoints_of_run(checkpoints, &cart, &inputs, every) {
+    let start = State::power_on(&cart);
+    let checkpoints = match checkpoints_of_run(checkpoints, &cart, &start, &inputs, every) {
         Ok(checkpoints) => checkpoints,
         Err(e) => return Err(e),
     };
     let version = version_made(&cart, inputs.len());
-    let start = State::power_on(&cart);
     Ok(movie_of(version, cart, start, inputs, checkpoints))
 }

@@ -27,35 +27,35 @@ pub(crate) use sizes::Sizes;
 use std::alloc::{AllocError, Global};
 use vcs_machine::Input;
 
-/// All the memory that a movie takes, from before its first state is judged.
+/// Memory taken for a movie: all that it needs, before its first state is judged.
 #[derive(Drop)]
-struct Room {
+struct Reserved {
     cart: Vec<u8>,
     inputs: Vec<Input>,
     checkpoints: Vec<Checkpoint>,
 }
 
-impl Room {
+impl Reserved {
     /// The bytes of a cartridge, and room for the inputs and checkpoints of a movie of these sizes,
     /// and for no more.
-    fn new(alloc: Global, cart: &[u8], sizes: Sizes) -> Result<Room, AllocError>
-        ensures cart { IfOk result (λ room. room.cart.items ≡ cart.now) }
-        ensures inputs { IfOk result (λ room. (room.inputs.items ≡ [])
-            × (vec_capacity room.inputs ≡ sizes.frames)) }
-        ensures checkpoints { IfOk result (λ room. (room.checkpoints.items ≡ [])
-            × (vec_capacity room.checkpoints ≡ sizes.checkpoints)) }
+    fn new(alloc: Global, cart: &[u8], sizes: Sizes) -> Result<Reserved, AllocError>
+        ensures cart { IfOk result (λ reserved. reserved.cart.items ≡ cart.now) }
+        ensures inputs { IfOk result (λ reserved. (reserved.inputs.items ≡ [])
+            × (vec_capacity reserved.inputs ≡ sizes.frames)) }
+        ensures checkpoints { IfOk result (λ reserved. (reserved.checkpoints.items ≡ [])
+            × (vec_capacity reserved.checkpoints ≡ sizes.checkpoints)) }
     {
         let cart = Vec::from_slice(alloc, cart)?;
         let inputs = Vec::with_capacity(alloc, sizes.frames as usize)?;
         let checkpoints = Vec::with_capacity(alloc, sizes.checkpoints as usize)?;
-        Ok(Room {
+        Ok(Reserved {
             cart,
             inputs,
             checkpoints,
         })
     }
 
-    /// What follows a header: the cartridge, whose bytes are in this room, and the rest.
+    /// What follows a header: the cartridge, whose bytes are here already, and the rest.
     #[tactic(auto, unfolding(crate::specs::Reading::body_at))]
     fn fill(self, sizes: Sizes, bytes: &[u8]) -> Result<MovieParts, MovieError>
         requires takes { IsTrue (takes_cart sizes.version sizes.cart) }
@@ -93,20 +93,10 @@ impl Room {
     }
 }
 
-/// The parts of the movie that the bytes spell.
-#[tactic(auto, unfolding(crate::specs::Reading::movie_at))]
-fn parts_in(alloc: Global, bytes: &[u8]) -> Result<MovieParts, MovieError>
-    ensures gives { Gives data_of result (movie_at bytes.now) }
-    ensures memory { result ≡ Err MovieError.NoMemory → IsOk (sizes_at bytes.now) }
-{
-    let (sizes, rest) = sizes_in(bytes)?;
-    let room = Room::new(alloc, &rest[..sizes.cart as usize], sizes)?;
-    room.fill(sizes, rest)
-}
-
 /// The movie that the bytes spell, all of the bytes; else the first refusal in the order of the
 /// format. `NoMemory` comes only if the header is good and enough bytes follow it, and then
 /// before any other refusal.
+#[tactic(auto, unfolding(crate::specs::Reading::movie_at))]
 pub fn read_movie(alloc: Global, bytes: &[u8]) -> Result<Movie, MovieError>
     ensures found { IfOk result (λ m. Spells bytes.now m) }
     // What the bytes spell is read, unless memory was refused.
@@ -115,8 +105,8 @@ pub fn read_movie(alloc: Global, bytes: &[u8]) -> Result<Movie, MovieError>
     ensures refused { IfErr result (λ e. e ≢ MovieError.NoMemory → movie_at bytes.now ≡ Err e) }
     ensures memory { result ≡ Err MovieError.NoMemory → IsOk (sizes_at bytes.now) }
 {
-    match parts_in(alloc, bytes) {
-        Ok(parts) => Ok(Movie::from_parts(parts)),
-        Err(e) => Err(e),
-    }
+    let (sizes, rest) = sizes_in(bytes)?;
+    let reserved = Reserved::new(alloc, &rest[..sizes.cart as usize], sizes)?;
+    let parts = reserved.fill(sizes, rest)?;
+    Ok(Movie::from_parts(parts))
 }

@@ -97,6 +97,7 @@ fn put_checkpoints(
 fn put_movie(out: &mut Vec<u8>, movie: &Movie) -> Result<(), AllocError>
     ensures ok { OnOk result (out.new.items ≡ out.old.items ++ spelling movie.now) }
     ensures prefix { StartsWith out.new.items out.old.items }
+    ensures lawful { IsMovie movie.now }
 {
     let version = movie.version();
     out.extend_from_slice(&header(movie))?;
@@ -114,7 +115,6 @@ pub fn write_movie(movie: &Movie, out: &mut Vec<u8>) -> Result<(), AllocError>
     ensures err { OnErr result (out.new.items ≡ out.old.items) }
     ensures lawful { IsMovie movie.now }
 {
-    let _version = movie.version();
     let length = out.len();
     match put_movie(out, movie) {
         Ok(()) => Ok(()),

@@ -53,7 +53,10 @@ module _ {S : Type 0} (drawn : S → ℕ → ℕ → ℕ → S) (cart : List ℕ
   after_wait-holds : (c : Console S) → Holds c → Holds (after_wait drawn c)
   after_wait-holds c h = by_sync c.awaits_line
     where
-      by_sync : (awaits_line : Bool) → Holds (if awaits_line then record (passed drawn c (cycles_to_line_start c.tia.fields.clock)) { awaits_line = false } else c)
+      by_sync : (awaits_line : Bool)
+          → Holds (if awaits_line
+          then record (passed drawn c
+          (cycles_to_line_start c.tia.fields.clock)) { awaits_line = false } else c)
       by_sync true = record { holds_cart = h.holds_cart; holds_bank = h.holds_bank }
       by_sync false = h
 

@@ -93,7 +93,8 @@ module _ {S : Type 0} (drawn : S → ℕ → ℕ → ℕ → S) where
   line_begins : (t : ℕ) → t < 228 → t % 3 ≡ 0 → (t + 3 * ((76 - t / 3) % 76)) % 228 ≡ 0
   line_begins t lt aligned = omega arith
 
-  pub after_wait-line : (c : Console S) → c.awaits_line ≡ true → c.tia.fields.clock < 228 → c.tia.fields.clock % 3 ≡ 0 → (after_wait drawn c).tia.fields.clock ≡ 0
+  pub after_wait-line : (c : Console S) → c.awaits_line ≡ true → c.tia.fields.clock < 228
+      → c.tia.fields.clock % 3 ≡ 0 → (after_wait drawn c).tia.fields.clock ≡ 0
   after_wait-line c awaits_line inside aligned =
       rw awaits_line (iterate-clocked-clock (3 * cycles_to_line_start (clock_of c)) c.tia inside ∙ line_begins (clock_of c) inside aligned)
 
@@ -129,8 +130,9 @@ module _ {S : Type 0} (drawn : S → ℕ → ℕ → ℕ → S) where
         waited = inl most;
       }
       by_sync true =
-          let after : (iterate after_clock (3 * cycles_to_line_start (clock_of c)) c.tia).fields.clock ≡ (clock_of c + 3 * cycles_to_line_start (clock_of c)) % 228 =
-          iterate-clocked-clock (3 * cycles_to_line_start (clock_of c)) c.tia inside in
+          let clocks : ℕ = 3 * cycles_to_line_start (clock_of c) in
+          let after : (iterate after_clock clocks c.tia).fields.clock ≡ (clock_of c + clocks) % 228 =
+          iterate-clocked-clock clocks c.tia inside in
           record {
             taken = n + cycles_to_line_start (clock_of c);
             cycles = omega arith;
@@ -147,7 +149,8 @@ module _ {S : Type 0} (drawn : S → ℕ → ℕ → ℕ → S) where
           still_aligned : (t u : ℕ) → u ≡ (t + 3 * n) % 228 → t % 3 ≡ 0 → u % 3 ≡ 0
           still_aligned t u e aligned = omega arith
 
-  turn_by-beam : (r : Registers) (c : Console S) (answer : Result ℕ CpuFault) (m next : Machine (Console S)) → IfOk answer (λ n. 2 ≤ n) → IfOk answer (λ n. n ≤ 7)
+  turn_by-beam : (r : Registers) (c : Console S) (answer : Result ℕ CpuFault)
+      (m next : Machine (Console S)) → IfOk answer (λ n. 2 ≤ n) → IfOk answer (λ n. n ≤ 7)
       → clock_of m.bus < 228 → clock_of c < 228 → IfOk answer (λ n. clock_of c % 228 ≡ (clock_of m.bus % 228 + 3 * n) % 228)
       → turn_by (console_rules drawn) m.cycles r c answer ≡ Went next → MovesBeam m next
   unfolding console_rules

@@ -42,7 +42,8 @@ pub length-picture_of : (rows : ℕ) (pixels : List Pixel) → length (picture_o
 unfolding picture_of
 length-picture_of rows pixels = length-map-range_with_len (λ line. map (λ x. colour_after 0 pixels line x) (range_with_len 0 160)) 0 rows
 
-outcome-halted : (line_cycle : ℕ) (kind : FaultKind) (m : Machine (Console (List Pixel))) → outcome_of line_cycle (stop_with kind m) ≡ Failed kind (state_left m)
+outcome-halted : (line_cycle : ℕ) (kind : FaultKind) (m : Machine (Console (List Pixel)))
+    → outcome_of line_cycle (stop_with kind m) ≡ Failed kind (state_left m)
 outcome-halted line_cycle (BadOpcode opcode at) m = refl
 outcome-halted line_cycle (FetchOutside at) m = refl
 outcome-halted line_cycle Overlong m = refl
@@ -107,7 +108,8 @@ module _ {S : Type 0} (drawn : S → ℕ → ℕ → ℕ → S) (cart : List ℕ
 
   pub stop-aligned : (ran : Result ℕ Halt) (registers : Registers) (bus : Console S)
       → IfOk ran (λ total. stop_of (console_rules drawn) (machine_of cart s i sink) ≡ Ended (record { registers = registers; bus = bus; cycles = total }))
-      → IfErr ran (λ halt. stop_of (console_rules drawn) (machine_of cart s i sink) ≡ stop_with halt.kind (record { registers = registers; bus = bus; cycles = halt.cycles }))
+      → IfErr ran (λ halt. stop_of (console_rules drawn) (machine_of cart s i sink)
+      ≡ stop_with halt.kind (record { registers = registers; bus = bus; cycles = halt.cycles }))
       → bus.tia.fields.clock % 3 ≡ 0
   stop-aligned (Ok total) registers bus ok err = begins_cycle _ (ap machine_at ok)
   stop-aligned (Err halt) registers bus ok err = begins_cycle _ (ap machine_at err ∙ machine_at-halted halt.kind _)

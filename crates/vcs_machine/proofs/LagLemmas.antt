@@ -31,7 +31,9 @@ pub tia-later : (lag n : ℕ) (t : TiaState) → iterate after_clock (3 * (lag +
 tia-later lag n t = rw (three lag n) (iterate-add after_clock (3 * lag) (3 * n) t)
 
 pub sink-later : {S : Type 0} (drawn : S → ℕ → ℕ → ℕ → S) (lag n : ℕ) (t : TiaState) (s : S)
-    → sink_after_pixels drawn s (pixels (3 * (lag + n)) t) ≡ sink_after_pixels drawn (sink_after_pixels drawn s (pixels (3 * lag) t)) (pixels (3 * n) (iterate after_clock (3 * lag) t))
+    → sink_after_pixels drawn s (pixels (3 * (lag + n)) t)
+    ≡ sink_after_pixels drawn (sink_after_pixels drawn s (pixels (3 * lag) t))
+    (pixels (3 * n) (iterate after_clock (3 * lag) t))
 sink-later drawn lag n t s = rw (three lag n) (painted-add drawn s (3 * lag) (3 * n) t)
 
 -- Fewer cycles of lag are left, and the lag is as much more.
@@ -60,7 +62,11 @@ clocked-numbers s = by_end (s.fields.clock == 227)
     seen = record s.fields { collisions = collisions_after s.fields }
 
     by_end : (last : Bool)
-        → (if last then record s { fields = record seen { clock = 0; comb = 0 }; line = (s.line + 1) % 65536 } else record s { fields = record seen { clock = s.fields.clock + 1 } }).fields
+        → (if last then record s {
+          fields = record seen { clock = 0; comb = 0 };
+          line = (s.line + 1) % 65536;
+        }
+        else record s { fields = record seen { clock = s.fields.clock + 1 } }).fields
         ≡ (if last then record seen { clock = 0; comb = 0 } else record seen { clock = s.fields.clock + 1 })
     by_end true = refl
     by_end false = refl
@@ -107,7 +113,8 @@ byte_at-pairs t u fire0 fire1 other0 other1 (suc (suc (suc (suc (suc (suc zero))
 byte_at-pairs t u fire0 fire1 other0 other1 (suc (suc (suc (suc (suc (suc (suc zero))))))) h e = rw e refl
 byte_at-pairs t u fire0 fire1 other0 other1 (suc (suc (suc (suc (suc (suc (suc (suc k)))))))) h e = absurd (omega (arith, h))
 
-pub read-pairs : (n : ℕ) (s t : TiaState) (r : ℕ) → s.fields ≡ t.fields → r % 16 < 8 → tia_read (iterate after_clock n s) r ≡ tia_read (iterate after_clock n t) r
+pub read-pairs : (n : ℕ) (s t : TiaState) (r : ℕ) → s.fields ≡ t.fields → r % 16 < 8
+    → tia_read (iterate after_clock n s) r ≡ tia_read (iterate after_clock n t) r
 read-pairs n s t r e h =
     byte_at-pairs (iterate after_clock n s).fields (iterate after_clock n t).fields (iterate after_clock n s).fire0 (iterate after_clock n s).fire1
     (iterate after_clock n t).fire0 (iterate after_clock n t).fire1 (r % 16) h

@@ -120,8 +120,11 @@ module _ {B : Type 0} (rules : Rules B) where
     | inl lt ↦ (let not = f.reaches.least m lt p.some a p.reaches.reached in let over = p.over in absurd (cc))
     | inr rest ↦ elim rest [
       | inl gt ↦ none-after start a b fault f m p.reaches.reached gt
-      | inr e ↦ (let some : 0 < f.count = rw e at p.some in let not = f.going some in let same : turns rules f.count start ≡ Went a = rw (← e) p.reaches.reached in
-          let other : Went a ≡ Went b = sym same ∙ f.reaches.reached in let over = p.over in let at : a ≡ b = cc in absurd (let yes : is_over rules b ≡ true = rw (← at) over in cc))
+      | inr e ↦ (let some : 0 < f.count = rw e at p.some in let not = f.going some
+          in let same : turns rules f.count start ≡ Went a = rw (← e) p.reaches.reached in
+          let other : Went a ≡ Went b = sym same
+          ∙ f.reaches.reached in let over = p.over in let at : a ≡ b = cc
+          in absurd (let yes : is_over rules b ≡ true = rw (← at) over in cc))
     ]
   ]
 

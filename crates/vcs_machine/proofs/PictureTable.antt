@@ -62,7 +62,9 @@ module _ (n : ℕ) (rows : Rows) (colour : ℕ → ℕ → ℕ) (table : IsTable
   colours-here h hx x lx =
       rw (row-here h)
       (elim (same_or_other p.x x) [
-        | inl e ↦ (let width = table.widths p.line h in rw (← e) (get_or-set_same (get_or rows p.line []) p.x p.colour 0 (omega arith) ∙ sym (put-here p colour)))
+        | inl e ↦ (let width = table.widths p.line h
+            in rw (← e) (get_or-set_same (get_or rows p.line []) p.x p.colour 0 (omega arith)
+            ∙ sym (put-here p colour)))
         | inr other ↦ (let swapped : x ≢ p.x = λ e. other (sym e) in
             get_or-set_other (get_or rows p.line []) p.x x p.colour 0 swapped ∙ table.colours p.line x h lx ∙ sym (put-x p colour p.line x other))
       ])
@@ -124,5 +126,7 @@ table-rows n rows colour table =
 pub take-painted : (n most : ℕ) (ps : List Pixel) → n ≤ most → take n (sink_after_pixels with_pixel (blank most) ps) ≡ picture_of n ps
 unfolding picture_of
 take-painted n most ps h =
-    ap (take n) (table-rows most (sink_after_pixels with_pixel (blank most) ps) (λ line x. colour_after 0 ps line x) (painted-table most (blank most) (λ line x. 0) ps (blank-table most)))
+    ap (take n) (table-rows most (sink_after_pixels with_pixel (blank most) ps)
+    (λ line x. colour_after 0 ps line x)
+    (painted-table most (blank most) (λ line x. 0) ps (blank-table most)))
     ∙ take-map-range_with_len (λ line. map (λ x. colour_after 0 ps line x) (range_with_len 0 160)) 0 most n h

@@ -13,7 +13,7 @@ use Rattle.mos_cpu.specs.Execution.{Step, step_of}
 use Rattle.mos_cpu.specs.Numbers.{modulo, signed}
 use Rattle.mos_cpu.specs.Opcodes.{row_of, row_with}
 use Rattle.mos_cpu.specs.Operands.{Place as Places, branch_target}
-use Rattle.mos_cpu.specs.Private.Ways.{IsBranch, IsReader, IsTarget, row_here}
+use Rattle.mos_cpu.specs.Private.OpcodeRuns.{IsBranch, IsReader, IsTarget, row_here}
 use Rattle.mos_cpu.specs.Registers.{Registers}
 use Rattle.mos_cpu.specs.Status.{has_flag, put_flag, with_nz}
 use Rattle.mos_cpu.specs.declared.addressing.Target.{Target}
@@ -22,7 +22,7 @@ use Rattle.mos_cpu.specs.declared.fault.CpuFault.{CpuFault}
 use Rattle.mos_cpu.specs.declared.mode.Mode.TheVariants.{Absolute, Relative}
 use Rattle.mos_cpu.specs.declared.operation.Operation.TheVariants.{Lda}
 use Rattle.mos_cpu.specs.declared.status.Flag.TheVariants.{Zero, Negative}
-use Rattle.mos_cpu.proofs.WayLemmas.{step_of-read, step_of-taken}
+use Rattle.mos_cpu.proofs.OpcodeRunLemmas.{step_of-read, step_of-taken}
 use Rattle.riot_map.specs.Bits.{has_bit}
 use Rattle.riot_map.specs.Cart.{cart_byte}
 use Rattle.riot_map.specs.Place.{place_of}
@@ -159,13 +159,16 @@ module _ {S : Type 0} (drawn : S → ℕ → ℕ → ℕ → S) (poll : Poll) (p
       let next : (pc + 2) % 65536 ≡ pc + 2 = omega (arith, word, last) in
       let after : (pc + 1) % 65536 ≡ pc + 1 = omega (arith, word, last) in
       let there : (pc + 1) / 4096 % 2 ≡ 1 = omega (arith, high, last) in
-      let back : modulo (pos (pc + 2) +ℤ signed 0xFB) 65536 ≡ pc - 3 = back_by_five (pc + 2) (omega (arith, first)) (omega (arith, word, last)) ∙ (omega arith) in
+      let back : modulo (pos (pc + 2) +ℤ signed 0xFB) 65536
+      ≡ pc - 3 = back_by_five (pc + 2) (omega (arith, first)) (omega (arith, word, last))
+      ∙ (omega arith) in
       let low : (meaning_of drawn).peeked c ((r.pc + 1) % 65536) ≡ Some 0xFB = rw (at, after, peeks (pc + 1) there, k.offset) refl in
       let here : row_here (meaning_of drawn) c r ≡ Ok (row_with (operation_of poll.branch) Relative 2 false) =
       rw (at, peeks pc high, k.branch, opcode_row poll.branch) refl in
       let target : Target = record { address = pc - 3; crossed = not ((pc + 2) / 256 == (pc - 3) / 256); next = 0 } in
       let place : Places (pc - 3) (not ((pc + 2) / 256 == (pc - 3) / 256)) ≡ branch_target ((r.pc + 2) % 65536) 0xFB = rw (at, next, back) refl in
-      step_of-taken (meaning_of drawn) r c (operation_of poll.branch) 0xFB target (poll.cycles - 4) (omega (arith, sum)) (branches poll.branch) here low place taken
+      step_of-taken (meaning_of drawn) r c (operation_of poll.branch) 0xFB target (poll.cycles - 4)
+      (omega (arith, sum)) (branches poll.branch) here low place taken
 
   load_step : (r : Registers) → r.pc ≡ pc - 3
       → (let bus = passed drawn c 4 in
@@ -230,7 +233,11 @@ module _ {S : Type 0} (drawn : S → ℕ → ℕ → ℕ → S) where
 
   taken_turn : (poll : Poll) (m : Machine (Console S)) → IsAtBranch poll m
       → turn (console_rules drawn) m
-      ≡ Went (record { registers = with_pc m.registers (m.registers.pc - 3); bus = passed drawn m.bus (poll.cycles - 4); cycles = m.cycles + (poll.cycles - 4) })
+      ≡ Went (record {
+        registers = with_pc m.registers (m.registers.pc - 3);
+        bus = passed drawn m.bus (poll.cycles - 4);
+        cycles = m.cycles + (poll.cycles - 4);
+      })
   taken_turn poll m at = quiet_turn m (poll.cycles - 4) _ _ (branch_step drawn poll m.registers.pc m.bus at.loop m.registers refl at.taken) at.no_wait
 
   load_turn : (poll : Poll) (pc : ℕ) (m : Machine (Console S)) → IsPoll m.bus.cart m.bus.bank pc poll → m.registers.pc ≡ pc - 3 → m.bus.awaits_line ≡ false
@@ -254,7 +261,11 @@ module _ {S : Type 0} (drawn : S → ℕ → ℕ → ℕ → S) where
       let sum = at.loop.cycles in
       let total : poll.cycles - 4 + 4 ≡ poll.cycles = omega (arith, sum) in
       let cycles : m.cycles + (poll.cycles - 4) + 4 ≡ m.cycles + poll.cycles = omega (arith, sum) in
-      let mid : Machine (Console S) = record { registers = with_pc m.registers (m.registers.pc - 3); bus = passed drawn m.bus (poll.cycles - 4); cycles = m.cycles + (poll.cycles - 4) } in
+      let mid : Machine (Console S) = record {
+        registers = with_pc m.registers (m.registers.pc - 3);
+        bus = passed drawn m.bus (poll.cycles - 4);
+        cycles = m.cycles + (poll.cycles - 4);
+      } in
       let begun = search-goes_on (console_rules drawn) m mid stop s (omega (arith, sum, room)) (taken_turn poll m at) at.no_end (omega (arith, sum)) in
       let loaded = load_turn poll m.registers.pc mid at.loop refl at.no_wait in
       let next = search-goes_on (console_rules drawn) mid _ stop begun (omega (arith, sum, room)) loaded at.no_end (omega arith) in
@@ -287,7 +298,9 @@ module _ {S : Type 0} (drawn : S → ℕ → ℕ → ℕ → S) where
       let sum : n + poll.cycles ≡ poll.cycles * (suc count + 1) = omega arith in
       let before = rounds poll m stop at count (λ k some few. on k some (omega arith)) (omega (arith, room)) s in
       let byte = riot_read (after_cycles n m.bus.riot) poll.register in
-      let again : is_taken (operation_of poll.branch) (with_nz byte m.registers.p) ≡ true = taken-told poll.branch byte m.registers.p at.byte ∙ on (count + 1) (omega arith) (omega arith) in
+      let again : is_taken (operation_of poll.branch) (with_nz byte m.registers.p)
+      ≡ true = taken-told poll.branch byte m.registers.p at.byte
+      ∙ on (count + 1) (omega arith) (omega arith) in
       let here : IsAtBranch poll (after_load drawn poll.register n m) =
       record { loop = at.loop; no_wait = at.no_wait; no_end = at.no_end; byte = signed-byte byte m.registers.p at.byte; taken = again } in
       let next = round poll (after_load drawn poll.register n m) stop here (omega (arith, room, sum)) before in
@@ -296,7 +309,8 @@ module _ {S : Type 0} (drawn : S → ℕ → ℕ → ℕ → S) where
 
   -- The machine after rounds that were passed at once.
   pub passed-rounds : (poll : Poll) (r : Registers) (c bus : Console S) (cycles count : ℕ) (loaded : Alu) (stop : Stop (Console S))
-      → IsAtBranch poll (record { registers = r; bus = c; cycles = cycles }) → 0 < count → GoOn poll c.riot count → cycles + poll.cycles * count ≤ overlong_cycles
+      → IsAtBranch poll (record { registers = r; bus = c; cycles = cycles }) → 0 < count
+      → GoOn poll c.riot count → cycles + poll.cycles * count ≤ overlong_cycles
       → bus ≡ read_at (passed drawn c (poll.cycles * count)) (Io poll.register)
       → loaded ≡ load_of (riot_read (passed drawn c (poll.cycles * count)).riot poll.register) r.p
       → Searches (console_rules drawn) (record { registers = r; bus = c; cycles = cycles }) stop
@@ -308,7 +322,8 @@ module _ {S : Type 0} (drawn : S → ℕ → ℕ → ℕ → S) where
       rw (left, given) (rw one at last)
 
 -- ---- how many rounds surely go on
-goes_on-between : (branch : Branch) (byte later : ℕ) → byte < 256 → goes_on branch byte ≡ true → least_of branch ≤ later → later ≤ byte → goes_on branch later ≡ true
+goes_on-between : (branch : Branch) (byte later : ℕ) → byte < 256 → goes_on branch byte ≡ true
+    → least_of branch ≤ later → later ≤ byte → goes_on branch later ≡ true
 goes_on-between IfNotZero byte later small e least most = grind (arith, nat_tests)
 goes_on-between IfZero byte later small e least most = grind (arith, nat_tests)
 goes_on-between IfPlus byte later small e least most = grind (arith, nat_tests)

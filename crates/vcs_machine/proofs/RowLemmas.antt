@@ -10,7 +10,8 @@ use Rattle.vcs_machine.specs.Private.Rows.{with_pixels}
 one_less : (n i : ℕ) → i < n → n - i ≡ suc (n - (i + 1))
 one_less n i h = omega arith
 
-pub filled-step : (row : List ℕ) (x to colour : ℕ) → x < to → with_pixels row x (to - x) colour ≡ with_pixels (slice_set row x colour) (x + 1) (to - (x + 1)) colour
+pub filled-step : (row : List ℕ) (x to colour : ℕ) → x < to
+    → with_pixels row x (to - x) colour ≡ with_pixels (slice_set row x colour) (x + 1) (to - (x + 1)) colour
 filled-step row x to colour h = rw (one_less to x h) refl
 
 pixel-inside : (rows : Rows) (line x colour : ℕ) → line < length rows → x < 160

@@ -52,7 +52,8 @@ module _ {S : Type 0} (drawn : S → ℕ → ℕ → ℕ → S) (sink : S) where
   read_at-along c (Ram index) = refl
   read_at-along c (Io register) = refl
 
-  written_at-along : (c : Console (List Pixel)) (place : Place) (v : ℕ) → written_at (drawn_on drawn sink c) place v ≡ drawn_on drawn sink (written_at c place v)
+  written_at-along : (c : Console (List Pixel)) (place : Place) (v : ℕ)
+      → written_at (drawn_on drawn sink c) place v ≡ drawn_on drawn sink (written_at c place v)
   written_at-along c (Cart address) v = refl
   written_at-along c (Tia register) v = refl
   written_at-along c (Ram index) v = refl
@@ -73,8 +74,11 @@ module _ {S : Type 0} (drawn : S → ℕ → ℕ → ℕ → S) (sink : S) where
   after_wait-along c = by_sync c.awaits_line
     where
       by_sync : (awaits_line : Bool)
-          → (if awaits_line then record (passed drawn (drawn_on drawn sink c) (cycles_to_line_start c.tia.fields.clock)) { awaits_line = false } else drawn_on drawn sink c)
-          ≡ drawn_on drawn sink (if awaits_line then record (passed with_pixel_logged c (cycles_to_line_start c.tia.fields.clock)) { awaits_line = false } else c)
+          → (if awaits_line then record (passed drawn (drawn_on drawn sink c)
+          (cycles_to_line_start c.tia.fields.clock)) { awaits_line = false } else drawn_on drawn sink c)
+          ≡ drawn_on drawn sink
+          (if awaits_line then record (passed with_pixel_logged c
+          (cycles_to_line_start c.tia.fields.clock)) { awaits_line = false } else c)
       by_sync true = ap (λ (k : Console S). record k { awaits_line = false }) (passed-along c (cycles_to_line_start c.tia.fields.clock))
       by_sync false = refl
 
@@ -111,7 +115,9 @@ halted-from h stop (FetchOutside at) there e = faulted-from h stop (CpuFetchOuts
 halted-from h stop TooLong there e = overlong-from h stop there e
 
 module _ {S : Type 0} (drawn : S → ℕ → ℕ → ℕ → S) (cart : List ℕ) (s : StateFields) (i : InputData) (sink : S) where
-  along : stop_of (console_rules drawn) (machine_of cart s i sink) ≡ stop_along (drawn_on drawn sink) (stop_of (console_rules with_pixel_logged) (machine_of cart s i []))
+  along : stop_of (console_rules drawn) (machine_of cart s i sink)
+      ≡ stop_along (drawn_on drawn sink)
+      (stop_of (console_rules with_pixel_logged) (machine_of cart s i []))
   along = stop_of-along (console_rules with_pixel_logged) (console_rules drawn) (drawn_on drawn sink) (follows drawn sink) (machine_of cart s i [])
 
   -- A frame that ends on a console with a sink.

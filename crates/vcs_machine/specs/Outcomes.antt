@@ -68,7 +68,9 @@ FailsAs outcome NoMemory s = Unit {0}
 -- A frame stops for this cause, leaves this state, and has taken so many cycles.
 abbrev pub Halts : List ℕ → StateFields → InputData → FaultKind → StateFields → ℕ → Type 0
 Halts cart s i kind after cycles =
-    (here : Machine (Console (List Pixel))) × (stop_of (console_rules with_pixel_logged) (machine_of cart s i []) ≡ stop_with kind here) × (state_left here ≡ after)
+    (here : Machine (Console (List Pixel)))
+    × (stop_of (console_rules with_pixel_logged) (machine_of cart s i []) ≡ stop_with kind here)
+    × (state_left here ≡ after)
     × (here.cycles ≡ cycles)
 
 -- A frame that ends leaves this state after so many cycles, and its pixels have been put on a sink.

@@ -8,7 +8,7 @@ ghost use Rattle.tia_core.specs.TiaState.{tia_of as tia_state_of, with_fire, at_
 ghost use Rattle.vcs_machine.specs.Consoles.{meaning_of, after_wait, wait_cycles};
 ghost use Rattle.vcs_machine.specs.Consoles.{cycles_to_line_start, passed, read_at};
 ghost use Rattle.vcs_machine.specs.Private.Polls.{GoOn, IsPoll};
-ghost use Rattle.vcs_machine.specs.Inputs.{is_pressed};
+ghost use Rattle.vcs_machine.specs.Inputs.{is_input, is_pressed};
 
 use crate::devices::{Devices, LINE_CYCLES, MOST_LAG};
 use crate::input::Input;
@@ -71,8 +71,8 @@ impl<'a, S: Paint> Bus for Console<'a, S> {
 
     #[tactic(auto, unfolding(crate::specs::Consoles::meaning_of, riot_map::specs::Riot::after_cycles))]
     #[inline(always)]
-    fn read(&mut self, addr: u16) -> u8 {
-        match place(addr) {
+    fn read(&mut self, address: u16) -> u8 {
+        match place(address) {
             Place::Cart(address) => {
                 let byte = self.mapped.at(address);
                 self.mapped.select(address);
@@ -83,18 +83,18 @@ impl<'a, S: Paint> Bus for Console<'a, S> {
                 self.devices.tia.read(register)
             }
             Place::Ram(index) => self.devices.riot.ram(index),
-            Place::Io(io) => {
+            Place::Io(number) => {
                 self.has_event = true;
                 self.devices.catch_up_riot();
-                self.devices.riot.read(io)
+                self.devices.riot.read(number)
             }
         }
     }
 
     #[tactic(auto, unfolding(crate::specs::Consoles::meaning_of, riot_map::specs::Riot::after_cycles))]
     #[inline(always)]
-    fn write(&mut self, addr: u16, value: u8) {
-        match place(addr) {
+    fn write(&mut self, address: u16, value: u8) {
+        match place(address) {
             Place::Cart(address) => self.mapped.select(address),
             Place::Tia(register) => self.write_tia(register, value),
             Place::Ram(index) => self.devices.riot.set_ram(index, value),
@@ -107,8 +107,8 @@ impl<'a, S: Paint> Bus for Console<'a, S> {
 
     #[tactic(auto, unfolding(crate::specs::Consoles::meaning_of, riot_map::specs::Riot::after_cycles))]
     #[inline(always)]
-    fn peek(&self, addr: u16) -> Option<u8> {
-        match place(addr) {
+    fn peek(&self, address: u16) -> Option<u8> {
+        match place(address) {
             Place::Cart(address) => Some(self.mapped.at(address)),
             Place::Ram(index) => Some(self.devices.riot.ram(index)),
             Place::Tia(_) | Place::Io(_) => None,
@@ -117,8 +117,8 @@ impl<'a, S: Paint> Bus for Console<'a, S> {
 
     #[tactic(auto, unfolding(crate::specs::Consoles::meaning_of))]
     #[inline(always)]
-    fn peek_after(&self, addr: u16) -> Option<u8> {
-        match place(addr) {
+    fn peek_after(&self, address: u16) -> Option<u8> {
+        match place(address) {
             Place::Cart(address) => self.mapped.after(address),
             _ => None,
         }
@@ -126,10 +126,10 @@ impl<'a, S: Paint> Bus for Console<'a, S> {
 
     #[tactic(auto, unfolding(crate::specs::Consoles::meaning_of, riot_map::specs::Riot::after_cycles))]
     #[inline(always)]
-    fn peek_zero(&self, addr: u8) -> u8 {
-        match place(addr as u16) {
+    fn peek_zero(&self, address: u8) -> u8 {
+        match place(address as u16) {
             Place::Tia(register) => self.devices.peek_tia(register),
-            _ => self.devices.riot.ram(addr % 128),
+            _ => self.devices.riot.ram(address % 128),
         }
     }
 }
@@ -142,7 +142,8 @@ impl<'a, S: Paint> Console<'a, S> {
     /// The console of a state as a frame begins: the pins and the buttons are those of the input.
     #[tactic(auto, unfolding(riot_map::specs::Riot::after_cycles))]
     pub fn begin(cart: &'a Cart, state: &State, input: Input, sink: S) -> Self
-        ensures { result ≡ console_of cart.now state.now input sink }
+        ensures value { result ≡ console_of cart.now state.now input sink }
+        ensures lawful { IsTrue (is_input input) }
     {
         let mut riot = state.riot();
         riot.set_pins(input.swcha(), input.swchb());

@@ -1,9 +1,10 @@
 //! One frame.
 ghost use Rattle.std.specs.Prelude.{◌≡◌, ◌≤◌, ◌+◌, true, false, if◌then◌else◌, Some, None, IfOk};
-ghost use Rattle.std.specs.Prelude.{IfErr, IfSome, IfNone};
+ghost use Rattle.std.specs.Prelude.{IfErr, IfSome, IfNone, IsTrue};
 ghost use Rattle.tia_core.specs.Clock.{Pixel, sink_after_pixels};
 ghost use Rattle.vcs_machine.specs.Consoles.{console_rules, with_pixel_logged, Console};
 ghost use Rattle.vcs_machine.specs.Faults.{stop_with};
+ghost use Rattle.vcs_machine.specs.Inputs.{is_input};
 ghost use Rattle.vcs_machine.specs.Frame.{stop_of, Machine, Ended, most_frame_cycles};
 ghost use Rattle.vcs_machine.specs.Outcomes.{frame_of, machine_of, state_left, Played, Failed, FailsAs};
 ghost use Rattle.vcs_machine.specs.Outcomes.{PlaysOn, Halts};
@@ -30,6 +31,7 @@ pub(crate) fn frame_onto<S: Paint + Drop>(
     ensures ok { IfOk result (λ played. PlaysOn S.drawn cart.now state.old input sink state.new played.0 played.1) }
     ensures err { IfErr result (λ halt. Halts cart.now state.old input halt.kind state.new halt.cycles) }
     ensures most { IfOk result (λ played. played.1 ≤ most_frame_cycles) }
+    ensures lawful { IsTrue (is_input input) }
 {
     let mut cpu = state.cpu();
     let mut console = Console::begin(cart, state, input, sink);
@@ -77,6 +79,7 @@ pub fn halt(cart: &Cart, state: &mut State, input: Input) -> Option<Halt>
     ensures failed { IfSome result (λ halt. frame_of cart.now state.old input ≡ Failed halt.kind state.new) }
     ensures halted { IfSome result (λ halt. Halts cart.now state.old input halt.kind state.new halt.cycles) }
     ensures ended { IfNone result ((rows : Rows) × (frame_of cart.now state.old input ≡ Played state.new rows)) }
+    ensures lawful { IsTrue (is_input input) }
 {
     match frame_onto(cart, state, input, NoPaint) {
         Ok(_) => None,

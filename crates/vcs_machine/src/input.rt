@@ -50,7 +50,8 @@ impl Input {
 
     /// The pins of port A.
     pub(crate) fn swcha(&self) -> u8
-        ensures { result ≡ self.now.swcha }
+        ensures value { result ≡ self.now.swcha }
+        ensures lawful { IsTrue (is_input self.now) }
     {
         self.swcha
     }

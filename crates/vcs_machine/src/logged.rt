@@ -44,33 +44,33 @@ impl<'a> Bus for Logged<'a> {
     }
 
     #[tactic(auto, unfolding(crate::specs::Private::Logged::logging))]
-    fn read(&mut self, addr: u16) -> u8 {
-        let byte = self.console.read(addr);
+    fn read(&mut self, address: u16) -> u8 {
+        let byte = self.console.read(address);
         let _ = self.accesses.try_push(DataAccess {
             is_write: false,
-            address: addr,
+            address,
             byte,
         });
         byte
     }
 
     #[tactic(auto, unfolding(crate::specs::Private::Logged::logging))]
-    fn write(&mut self, addr: u16, value: u8) {
-        self.console.write(addr, value);
+    fn write(&mut self, address: u16, value: u8) {
+        self.console.write(address, value);
         let _ = self.accesses.try_push(DataAccess {
             is_write: true,
-            address: addr,
+            address,
             byte: value,
         });
     }
 
     #[tactic(auto, unfolding(crate::specs::Private::Logged::logging))]
-    fn peek(&self, addr: u16) -> Option<u8> {
-        self.console.peek(addr)
+    fn peek(&self, address: u16) -> Option<u8> {
+        self.console.peek(address)
     }
 
     #[tactic(auto, unfolding(crate::specs::Private::Logged::logging))]
-    fn peek_zero(&self, addr: u8) -> u8 {
-        self.console.peek_zero(addr)
+    fn peek_zero(&self, address: u8) -> u8 {
+        self.console.peek_zero(address)
     }
 }

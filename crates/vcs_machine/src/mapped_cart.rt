@@ -57,20 +57,20 @@ impl<'a> MappedCart<'a> {
     /// The byte at an address.
     #[tactic(auto, using(std::proofs::lemmas::Nat::and_le_r))]
     #[inline(always)]
-    pub fn at(&self, addr: u16) -> u8
-        ensures { result ≡ cart_byte self.now.cart.now self.now.bank addr }
+    pub fn at(&self, address: u16) -> u8
+        ensures { result ≡ cart_byte self.now.cart.now self.now.bank address }
     {
-        self.bytes[addr as usize & self.mask]
+        self.bytes[address as usize & self.mask]
     }
 
     /// The byte after the one at an address, if it is not at the other end of what is mapped.
     #[tactic(auto, using(std::proofs::lemmas::Nat::and_le_r))]
     #[inline(always)]
-    pub fn after(&self, addr: u16) -> Option<u8>
-        ensures byte { IfSome result (λ byte. byte ≡ cart_byte self.now.cart.now self.now.bank (addr + 1)) }
-        ensures inside { IfSome result (λ byte. addr % 4096 < 4095) }
+    pub fn after(&self, address: u16) -> Option<u8>
+        ensures byte { IfSome result (λ byte. byte ≡ cart_byte self.now.cart.now self.now.bank (address + 1)) }
+        ensures inside { IfSome result (λ byte. address % 4096 < 4095) }
     {
-        let index = addr as usize & self.mask;
+        let index = address as usize & self.mask;
         if index == self.mask {
             None
         } else {
@@ -108,11 +108,11 @@ impl<'a> MappedCart<'a> {
 
     /// Selects the bank that an access to an address selects.
     #[inline(always)]
-    pub fn select(&mut self, addr: u16)
+    pub fn select(&mut self, address: u16)
         ensures cart { self.new.cart.now ≡ self.old.cart.now }
-        ensures bank { self.new.bank ≡ bank_after self.old.cart.now self.old.bank addr }
+        ensures bank { self.new.bank ≡ bank_after self.old.cart.now self.old.bank address }
     {
-        let bank = self.cart.select(self.bank, addr);
+        let bank = self.cart.select(self.bank, address);
         if bank != self.bank {
             *self = MappedCart::new(self.cart, bank);
         }

@@ -100,9 +100,12 @@ impl State {
 
     /// A state with the same numbers.
     pub fn copy(&self) -> State
-        ensures { result ≡ self.now }
+        ensures value { result ≡ self.now }
+        ensures lawful { IsTrue (is_state result) }
     {
-        *self
+        State {
+            fields: self.fields,
+        }
     }
 
     /// The bank of the cartridge that is selected.

@@ -11,14 +11,12 @@ use Rattle.movie_file.specs.Making.{version_made}
 use Rattle.movie_file.specs.Movie.{MovieData, IsMovie}
 use Rattle.movie_file.specs.Run.{run, state_after}
 use Rattle.movie_file.specs.declared.checkpoint.Checkpoint.{Checkpoint}
-use Rattle.movie_file.proofs.OneMaking.{same_lists}
+use Rattle.movie_file.proofs.MakingRuns.{parts}
+use Rattle.movie_file.proofs.OneMaking.{found, same_claim, same_lists}
 use Rattle.movie_file.proofs.CheckpointLemmas.{checkpoint_in_range}
 use Rattle.view_engine.specs.Cuts.{ClaimsEvery, IsCutOf}
 use Rattle.view_engine.specs.Stretches.{frames_asked}
 use Rattle.view_engine.proofs.RunSteps.{Ends-below, input_asked}
-
-abbrev found : StateFields → Option StateFields
-found s = Some s
 
 abbrev played : List ℕ → Option InputData → StateFields → Option StateFields
 played cart input s = state_after (option_map (λ i. frame_of cart s i) input)
@@ -37,7 +35,8 @@ module _ (m c : MovieData) (first count every : ℕ) (cut : IsCutOf m first coun
   cut_run (suc k) le =
       let more : first - 1 + suc k ≡ suc (first - 1 + k) = omega arith in
       let input = input_is k (omega arith) in
-      let step : option_and_then (played c.cart (slice_get c.inputs (0 + k))) (run c c.start 0 k) ≡ option_and_then (played m.cart (slice_get m.inputs (0 + (first - 1 + k)))) (run m m.start 0 (first - 1 + k)) =
+      let step : option_and_then (played c.cart (slice_get c.inputs (0 + k))) (run c c.start 0 k)
+      ≡ option_and_then (played m.cart (slice_get m.inputs (0 + (first - 1 + k)))) (run m m.start 0 (first - 1 + k)) =
       ap (λ (cart : List ℕ). option_and_then (played cart (slice_get c.inputs (0 + k))) (run c c.start 0 k)) cut.cart_is
       ∙ ap (λ (i : Option InputData). option_and_then (played m.cart i) (run c c.start 0 k)) input
       ∙ ap (option_and_then (played m.cart (slice_get m.inputs (0 + (first - 1 + k))))) (cut_run k (omega arith)) in
@@ -57,17 +56,6 @@ module _ (m c : MovieData) (first count every : ℕ) (cut : IsCutOf m first coun
 
 -- ---- one cut
 
-abbrev claim : ℕ → StateFields → Checkpoint
-claim frame state = record { frame = frame; state = state }
-
-same_claim : (c d : Checkpoint) → c.frame ≡ d.frame → found c.state ≡ found d.state → c ≡ d
-same_claim c d frames states =
-    let same : c.state ≡ d.state = cc in
-    ap (λ (f : ℕ). claim f c.state) frames ∙ ap (claim d.frame) same
-
-abbrev movie_of : ℕ → List ℕ → StateFields → List InputData → List Checkpoint → MovieData
-movie_of version cart start inputs checkpoints = record { version = version; cart = cart; start = start; inputs = inputs; checkpoints = checkpoints }
-
 pub one_cut : (m c d : MovieData) (first count every : ℕ) → IsCutOf m first count every c → IsCutOf m first count every d → c ≡ d
 one_cut m c d first count every cut again =
     let carts : c.cart ≡ d.cart = cut.cart_is ∙ sym again.cart_is in
@@ -82,11 +70,11 @@ one_cut m c d first count every cut again =
     same_claim k l place (sym (cut.states j k at) ∙ ap (λ (n : ℕ). run m m.start 0 (first - 1 + n)) place ∙ again.states j l here)
     in
     let checkpoints = same_lists c.checkpoints d.checkpoints lengths each in
-    ap (λ (v : ℕ). movie_of v c.cart c.start c.inputs c.checkpoints) version
-    ∙ ap (λ (cart : List ℕ). movie_of d.version cart c.start c.inputs c.checkpoints) carts
-    ∙ ap (λ (s : StateFields). movie_of d.version d.cart s c.inputs c.checkpoints) start
-    ∙ ap (λ (is : List InputData). movie_of d.version d.cart d.start is c.checkpoints) inputs
-    ∙ ap (λ (cs : List Checkpoint). movie_of d.version d.cart d.start d.inputs cs) checkpoints
+    ap (λ (v : ℕ). parts v c.cart c.start c.inputs c.checkpoints) version
+    ∙ ap (λ (cart : List ℕ). parts d.version cart c.start c.inputs c.checkpoints) carts
+    ∙ ap (λ (s : StateFields). parts d.version d.cart s c.inputs c.checkpoints) start
+    ∙ ap (λ (is : List InputData). parts d.version d.cart d.start is c.checkpoints) inputs
+    ∙ ap (λ (cs : List Checkpoint). parts d.version d.cart d.start d.inputs cs) checkpoints
 
 -- ---- the old claims
 

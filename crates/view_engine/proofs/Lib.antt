@@ -1,4 +1,3 @@
-pub mod ClaimSteps
 pub mod CutMovies
 pub mod CutParts
 pub mod RunLines

@@ -103,7 +103,9 @@ pub some_answer : (m : MovieData) (first count : ℕ) → 0 < frames_asked m fir
     → (answer : AnswerData) × DrawsOf m first count answer × (answer.pictures ≡ pictures_after m (first - 1) (frames_asked m first count))
 some_answer m first count some = by (ends_or_faults m (first - 1 + frames_asked m first count) (omega (arith, frames_asked-min m first count)))
   where
-    by : Ends m (first - 1 + frames_asked m first count) ⊎ ((frame : ℕ) × (kind : FaultKind) × FaultsWithin m (first - 1 + frames_asked m first count) frame kind)
+    by : Ends m (first - 1 + frames_asked m first count)
+        ⊎ ((frame : ℕ) × (kind : FaultKind)
+        × FaultsWithin m (first - 1 + frames_asked m first count) frame kind)
         → (answer : AnswerData) × DrawsOf m first count answer × (answer.pictures ≡ pictures_after m (first - 1) (frames_asked m first count))
     by (inl ends) = (drawn m first count (lines.Pictures (frames_asked m first count)), drawn_all m first count some ends, refl)
     by (inr (frame, kind, faults)) = (drawn m first count (lines.Fault frame kind), drawn_fault m first count frame kind some faults, refl)
@@ -140,7 +142,9 @@ pub told_fault : (m : MovieData) (first count frames frame : ℕ) (kind : FaultK
     → Writes m first count a b (lines.Fault frame kind)
 told_fault m first count frames frame kind a b is some faults written =
     subst
-    (λ (n : ℕ). 0 < n → FaultsWithin m (first - 1 + n) frame kind → Appends a b (pictures_bytes (pictures_after m (first - 1) n)) → Writes m first count a b (lines.Fault frame kind))
+    (λ (n : ℕ). 0 < n → FaultsWithin m (first - 1 + n) frame kind
+    → Appends a b (pictures_bytes (pictures_after m (first - 1) n))
+    → Writes m first count a b (lines.Fault frame kind))
     (sym is)
     (λ some faults written. (drawn m first count (lines.Fault frame kind), drawn_fault m first count frame kind some faults, refl, refl, written))
     some faults written

@@ -86,7 +86,8 @@ pub fn run_cut<R: Read, W: Write, L: Write>(
     ensures ok { IfOk result (λ status. (input : List ℕ) × (answer : AnswerData) × ReadsAll (R.remaining movie.old) (R.remaining movie.new) input
         × Cuts (movie_at input) (non_zero_u32_get first) count every answer × (status ≡ answer.status)
         × Appends (W.contents new.old) (W.contents new.new) answer.movie × Appends (L.contents line.old) (L.contents line.new) answer.line) }
-    ensures write_fault { result ≡ Err RunError.WriteFault → (input : List ℕ) × (answer : AnswerData) × ReadsAll (R.remaining movie.old) (R.remaining movie.new) input
+    ensures write_fault { result ≡ Err RunError.WriteFault → (input : List ℕ) × (answer : AnswerData)
+        × ReadsAll (R.remaining movie.old) (R.remaining movie.new) input
         × Cuts (movie_at input) (non_zero_u32_get first) count every answer
         × WritesPart (W.contents new.old) (W.contents new.new) answer.movie (L.contents line.old) (L.contents line.new) answer.line }
 

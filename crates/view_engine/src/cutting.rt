@@ -1,24 +1,21 @@
 //! Movies of some frames of a movie.
-ghost use Rattle.std.specs.Prelude.{◌≡◌, ◌≤◌, ◌<◌, ◌+◌, ◌-◌, ◌%◌, ◌/◌, ◌++◌, [], length, Some, IfOk};
-ghost use Rattle.std.specs.Prelude.{IfErr, OnOk, IsTrue, vec_len, vec_capacity};
-ghost use Rattle.std.specs.List.{AllByRecursion};
+ghost use Rattle.std.specs.Prelude.{◌≡◌, ◌≤◌, ◌<◌, ◌+◌, ◌/◌, ◌^◌, [], length, Some, IfOk, IfErr, OnOk};
+ghost use Rattle.std.specs.Prelude.{IsTrue, vec_capacity};
 ghost use Rattle.std.specs.NonZero.{non_zero_u32_get};
-ghost use Rattle.vcs_machine.specs.Inputs.{is_input};
-ghost use Rattle.riot_map.specs.Cart.{is_cart_length};
-ghost use Rattle.movie_file.specs.Making.{counts_fit, version_made};
+ghost use Rattle.movie_file.specs.Making.{counts_fit};
 ghost use Rattle.movie_file.specs.Movie.{IsMovie, IsState};
-ghost use Rattle.movie_file.specs.Private.MakingSteps.{checkpoint_if};
+ghost use Rattle.movie_file.specs.Private.MakingSteps.{Claims};
 ghost use Rattle.movie_file.specs.Run.{run};
 ghost use Rattle.view_engine.specs.Cuts.{IsCutOf};
-ghost use Rattle.view_engine.specs.Private.Claims.{Claims, Explains};
+ghost use Rattle.view_engine.specs.Private.CutErrors.{Explains};
 ghost use Rattle.view_engine.specs.Stretches.{Ends, FaultsWithin, frames_asked};
 
 use crate::stretch::{RunFault, frames_asked, play, state_after};
 use movie_file::{Checkpoint, Movie, claim, do_counts_fit, movie_of, version_made};
 use riot_map::Cart;
-use std::alloc::{AllocError, AllocFailed, Global};
+use std::alloc::{AllocError, Global};
 use std::num::NonZeroU32;
-use vcs_machine::{FaultKind, Input, State};
+use vcs_machine::{FaultKind, State};
 
 /// Why a movie is not cut.
 #[derive(Clone, Copy)]
@@ -76,15 +73,16 @@ fn checkpoints_after(
 ) -> Result<Vec<Checkpoint>, RunFault>
     requires empty { checkpoints.items ≡ [] }
     requires within { from + frames ≤ length movie.now.inputs }
+    requires fits { from + frames < 2 ^ 32 }
     requires ran { run movie.now movie.now.start 0 from ≡ Some start.now }
     requires every { 1 ≤ every }
     requires room { frames / every ≤ vec_capacity checkpoints }
     ensures ok { IfOk result (λ made. Claims movie.now from every frames made.items) }
+    ensures start { IsState start.now }
     ensures ends { OnOk result (Ends movie.now (from + frames)) }
-    ensures err { IfErr result (λ fault. FaultsWithin movie.now (from + frames) fault.frame fault.kind) }
+    ensures err { IfErr result (λ fault.
+        FaultsWithin movie.now (from + frames) fault.frame fault.kind) }
 {
-    let most = movie.frames();
-    prove!(most < 262_144);
     let mut state = start.copy();
     for k in 0..frames {
         match play(movie, from + k, &mut state) {
@@ -111,12 +109,12 @@ pub(crate) fn cut(
     every: u32,
 ) -> Result<Movie, CutError>
     ensures lawful { IfOk result (λ cut. IsMovie cut) }
-    ensures cut { IfOk result (λ cut. IsCutOf movie.now (non_zero_u32_get first) count every cut) }
-    ensures counts { OnOk result (IsTrue (counts_fit (frames_asked movie.now (non_zero_u32_get first) count) every)) }
+    ensures cut { IfOk result (λ cut.
+        IsCutOf movie.now (non_zero_u32_get first) count every cut) }
+    ensures counts { OnOk result (IsTrue
+        (counts_fit (frames_asked movie.now (non_zero_u32_get first) count) every)) }
     ensures refused { IfErr result (Explains movie.now (non_zero_u32_get first) count every) }
 {
-    let most = movie.frames();
-    prove!(most < 262_144);
     let from = first.get() - 1;
     let frames = frames_asked(movie, first, count);
     if !do_counts_fit(frames as usize, every) {

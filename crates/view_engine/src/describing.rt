@@ -1,5 +1,5 @@
 //! From the bytes of a movie to a line for each of some of its frames.
-ghost use Rattle.std.specs.Prelude.{◌≡◌, ◌≢◌, ◌≤◌, ◌+◌, ◌⊎◌, List, ℕ, length, Ok, Some, IfOk};
+ghost use Rattle.std.specs.Prelude.{◌≡◌, ◌≢◌, ◌≤◌, ◌<◌, ◌+◌, ◌^◌, ◌⊎◌, List, ℕ, length, Ok, Some, IfOk};
 ghost use Rattle.std.specs.Prelude.{IfErr, OnOk, OnErr};
 ghost use Rattle.std.specs.Io.KnownBytes.{Appends, Keeps};
 ghost use Rattle.std.specs.NonZero.{non_zero_u32_get};
@@ -37,13 +37,12 @@ fn write_frames<L: Write>(
     lines: &mut L,
 ) -> Result<(), Stop>
     requires within { from + frames ≤ length movie.now.inputs }
+    requires fits { from + frames < 2 ^ 32 }
     requires ran { run movie.now movie.now.start 0 from ≡ Some start }
     ensures ends { OnOk result (Ends movie.now (from + frames)) }
     ensures ok { OnOk result (Appends (L.contents lines.old) (L.contents lines.new) (lines_after movie.now details.now from frames)) }
     ensures err { IfErr result (StopsTelling movie.now details.now from frames (L.contents lines.old) (L.contents lines.new)) }
 {
-    let most = movie.frames();
-    prove!(most < 262_144);
     let mut state = start;
     let mut next = 0;
     for k in 0..frames {
@@ -67,6 +66,7 @@ fn write_asked<L: Write>(
     lines: &mut L,
 ) -> Result<(), Stop>
     requires within { from + frames ≤ length movie.now.inputs }
+    requires fits { from + frames < 2 ^ 32 }
     ensures ends { OnOk result (Ends movie.now (from + frames)) }
     ensures ok { OnOk result (Appends (L.contents lines.old) (L.contents lines.new) (lines_after movie.now details.now from frames)) }
     ensures err { IfErr result (StopsTelling movie.now details.now from frames (L.contents lines.old) (L.contents lines.new)) }
@@ -91,7 +91,8 @@ fn describe<L: Write>(
 ) -> Result<Status, DrawError>
     ensures ok { IfOk result (λ status. (text : List ℕ) × DescribesOf movie.now details.now (non_zero_u32_get first) count status text
         × Appends (L.contents lines.old) (L.contents lines.new) text) }
-    ensures memory { result ≡ Err DrawError.NoMemory → AppendsLines (Ok movie.now) details.now (non_zero_u32_get first) count (L.contents lines.old) (L.contents lines.new) }
+    ensures memory { result ≡ Err DrawError.NoMemory →
+        AppendsLines (Ok movie.now) details.now (non_zero_u32_get first) count (L.contents lines.old) (L.contents lines.new) }
     ensures fault { result ≡ Err DrawError.WriteFault → (status : Status) × (text : List ℕ)
         × DescribesOf movie.now details.now (non_zero_u32_get first) count status text
         × AppendsPrefix (L.contents lines.old) (L.contents lines.new) text }

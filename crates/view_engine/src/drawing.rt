@@ -1,5 +1,5 @@
 //! From the bytes of a movie to the pictures of some of its frames.
-ghost use Rattle.std.specs.Prelude.{◌≡◌, ◌≢◌, ◌≤◌, ◌<◌, ◌+◌, ◌-◌, ◌⊎◌, List, ℕ, [], ◌∷◌, length, Ok, Some, IfOk, IfErr};
+ghost use Rattle.std.specs.Prelude.{◌≡◌, ◌≢◌, ◌≤◌, ◌<◌, ◌+◌, ◌^◌, ◌-◌, ◌⊎◌, List, ℕ, [], ◌∷◌, length, Ok, Some, IfOk, IfErr};
 ghost use Rattle.std.specs.Prelude.{OnOk, OnErr};
 ghost use Rattle.std.specs.Io.KnownBytes.{Appends, Keeps};
 ghost use Rattle.std.specs.NonZero.{non_zero_u32_get};
@@ -86,13 +86,12 @@ fn picture_of(
     state: &mut State,
 ) -> Result<Picture, FrameError>
     requires frame { before < length movie.now.inputs }
+    requires number { before + 1 < 2 ^ 32 }
     requires ran { run movie.now movie.now.start 0 before ≡ Some state.old }
     ensures ran { OnOk result (run movie.now movie.now.start 0 (before + 1) ≡ Some state.new) }
     ensures picture { IfOk result (λ rows. picture_after movie.now before (run movie.now movie.now.start 0 before) ≡ rows ∷ []) }
     ensures err { IfErr result (PicturesFail movie.now before) }
 {
-    let most = movie.frames();
-    prove!(most < 262_144);
     match frame(alloc, movie.cart(), state, movie.input(before + 1), true) {
         Ok(Some(picture)) => Ok(picture),
         Ok(None) => unreachable!(),
@@ -111,13 +110,12 @@ fn write_frames<P: Write>(
     pictures: &mut P,
 ) -> Result<(), Stop>
     requires within { from + frames ≤ length movie.now.inputs }
+    requires fits { from + frames < 2 ^ 32 }
     requires ran { run movie.now movie.now.start 0 from ≡ Some start }
     ensures ends { OnOk result (Ends movie.now (from + frames)) }
     ensures ok { OnOk result (Appends (P.contents pictures.old) (P.contents pictures.new) (pictures_bytes (pictures_after movie.now from frames))) }
     ensures err { IfErr result (StopsDrawing movie.now from frames (P.contents pictures.old) (P.contents pictures.new)) }
 {
-    let most = movie.frames();
-    prove!(most < 262_144);
     let mut state = start;
     for k in 0..frames {
         let frame = from + k + 1;
@@ -138,6 +136,7 @@ fn write_asked<P: Write>(
     pictures: &mut P,
 ) -> Result<(), Stop>
     requires within { from + frames ≤ length movie.now.inputs }
+    requires fits { from + frames < 2 ^ 32 }
     ensures ends { OnOk result (Ends movie.now (from + frames)) }
     ensures ok { OnOk result (Appends (P.contents pictures.old) (P.contents pictures.new) (pictures_bytes (pictures_after movie.now from frames))) }
     ensures err { IfErr result (StopsDrawing movie.now from frames (P.contents pictures.old) (P.contents pictures.new)) }
@@ -161,7 +160,8 @@ fn draw<P: Write>(
 ) -> Result<Line, DrawError>
     ensures ok { IfOk result (λ told. (answer : AnswerData) × DrawsOf movie.now (non_zero_u32_get first) count answer × (status_of told ≡ answer.status)
         × (line_bytes told ≡ answer.line) × Appends (P.contents pictures.old) (P.contents pictures.new) (pictures_bytes answer.pictures)) }
-    ensures memory { result ≡ Err DrawError.NoMemory → AppendsSome (Ok movie.now) (non_zero_u32_get first) count (P.contents pictures.old) (P.contents pictures.new) }
+    ensures memory { result ≡ Err DrawError.NoMemory →
+        AppendsSome (Ok movie.now) (non_zero_u32_get first) count (P.contents pictures.old) (P.contents pictures.new) }
     ensures fault { result ≡ Err DrawError.WriteFault → (answer : AnswerData) × DrawsOf movie.now (non_zero_u32_get first) count answer
         × AppendsPrefix (P.contents pictures.old) (P.contents pictures.new) (pictures_bytes answer.pictures) }
 {
@@ -185,7 +185,8 @@ fn draw_bytes<P: Write>(
     count: u32,
     pictures: &mut P,
 ) -> Result<Line, DrawError>
-    ensures ok { IfOk result (λ told. (answer : AnswerData) × Draws (movie_at bytes.now) (non_zero_u32_get first) count answer × (status_of told ≡ answer.status)
+    ensures ok { IfOk result (λ told. (answer : AnswerData) × Draws (movie_at bytes.now) (non_zero_u32_get first) count answer
+        × (status_of told ≡ answer.status)
         × (line_bytes told ≡ answer.line) × Appends (P.contents pictures.old) (P.contents pictures.new) (pictures_bytes answer.pictures)) }
     ensures memory { result ≡ Err DrawError.NoMemory → Keeps (P.contents pictures.old) (P.contents pictures.new)
         ⊎ AppendsSome (movie_at bytes.now) (non_zero_u32_get first) count (P.contents pictures.old) (P.contents pictures.new) }
@@ -229,13 +230,16 @@ pub fn run_pictures<R: Read, P: Write, L: Write>(
     line: &mut L,
 ) -> Result<Status, RunError>
     // The output is that of the bytes read, and nothing else.
-    ensures ok { IfOk result (λ status. (input : List ℕ) × (answer : AnswerData) × ReadsAll (R.remaining movie.old) (R.remaining movie.new) input
+    ensures ok { IfOk result (λ status. (input : List ℕ) × (answer : AnswerData)
+        × ReadsAll (R.remaining movie.old) (R.remaining movie.new) input
         × Draws (movie_at input) (non_zero_u32_get first) count answer × (status ≡ answer.status)
         × Appends (P.contents pictures.old) (P.contents pictures.new) (pictures_bytes answer.pictures)
         × Appends (L.contents line.old) (L.contents line.new) answer.line) }
-    ensures write_fault { result ≡ Err RunError.WriteFault → (input : List ℕ) × (answer : AnswerData) × ReadsAll (R.remaining movie.old) (R.remaining movie.new) input
+    ensures write_fault { result ≡ Err RunError.WriteFault → (input : List ℕ) × (answer : AnswerData)
+        × ReadsAll (R.remaining movie.old) (R.remaining movie.new) input
         × Draws (movie_at input) (non_zero_u32_get first) count answer
-        × WritesPart (P.contents pictures.old) (P.contents pictures.new) (pictures_bytes answer.pictures) (L.contents line.old) (L.contents line.new) answer.line }
+        × WritesPart (P.contents pictures.old) (P.contents pictures.new) (pictures_bytes answer.pictures)
+        (L.contents line.old) (L.contents line.new) answer.line }
 
     // What was written after the other errors.
     ensures quiet { OnErr result (result ≢ Err RunError.WriteFault → Keeps (L.contents line.old) (L.contents line.new)) }

@@ -1,5 +1,5 @@
 //! The line of a frame of a run.
-ghost use Rattle.std.specs.Prelude.{◌≡◌, ◌<◌, ◌+◌, length, Some, None, IfOk, IfErr, OnOk};
+ghost use Rattle.std.specs.Prelude.{◌≡◌, ◌<◌, ◌+◌, ◌^◌, length, Some, None, IfOk, IfErr, OnOk};
 ghost use Rattle.std.specs.Prelude.{if◌then◌else◌, string_bytes};
 ghost use Rattle.std.specs.List.{flat_map};
 ghost use Rattle.vcs_machine.specs.Pictures.{Rows};
@@ -140,14 +140,13 @@ pub(crate) fn played_line(
     state: &mut State,
 ) -> Result<String, FrameError>
     requires frame { before < length movie.now.inputs }
+    requires number { before + 1 < 2 ^ 32 }
     requires ran { run movie.now movie.now.start 0 before ≡ Some state.old }
     requires next { IsNext movie.now next (before + 1) }
     ensures ran { OnOk result (run movie.now movie.now.start 0 (before + 1) ≡ Some state.new) }
     ensures line { IfOk result (λ text. string_bytes text ≡ frame_line movie.now details.now before) }
     ensures err { IfErr result (PicturesFail movie.now before) }
 {
-    let most = movie.frames();
-    prove!(most < 262_144);
     let frame = before + 1;
     let timed = timed_frame(
         alloc,

@@ -1,7 +1,8 @@
 //! The frames of a movie that a command asks for, and the run up to them.
-ghost use Rattle.std.specs.Prelude.{◌≡◌, ◌≤◌, ◌<◌, ◌+◌, ◌-◌, length, Some, IfOk, IfErr, OnOk};
+ghost use Rattle.std.specs.Prelude.{◌≡◌, ◌≤◌, ◌<◌, ◌+◌, ◌-◌, ◌^◌, length, Some, IfOk, IfErr, OnOk};
 ghost use Rattle.std.specs.NonZero.{non_zero_u32_get};
 ghost use Rattle.movie_file.specs.Judgement.{FaultsAt};
+ghost use Rattle.movie_file.specs.Movie.{IsMovie};
 ghost use Rattle.movie_file.specs.Run.{run};
 ghost use Rattle.view_engine.specs.Stretches.{frames_asked, FaultsWithin};
 
@@ -21,6 +22,8 @@ pub(crate) struct RunFault {
 pub(crate) fn frames_asked(movie: &Movie, first: NonZeroU32, count: u32) -> u32
     ensures value { result ≡ frames_asked movie.now (non_zero_u32_get first) count }
     ensures within { 0 < result → non_zero_u32_get first - 1 + result ≤ length movie.now.inputs }
+    ensures fits { non_zero_u32_get first - 1 + result < 2 ^ 32 }
+    ensures lawful { IsMovie movie.now }
 {
     count.min(movie.frames().saturating_sub(first.get() - 1))
 }
@@ -28,12 +31,11 @@ pub(crate) fn frames_asked(movie: &Movie, first: NonZeroU32, count: u32) -> u32
 /// Plays frame `before` + 1 of the run, whose picture is not kept.
 pub(crate) fn play(movie: &Movie, before: u32, state: &mut State) -> Result<(), FaultKind>
     requires frame { before < length movie.now.inputs }
+    requires number { before + 1 < 2 ^ 32 }
     requires ran { run movie.now movie.now.start 0 before ≡ Some state.old }
     ensures ok { OnOk result (run movie.now movie.now.start 0 (before + 1) ≡ Some state.new) }
     ensures err { IfErr result (λ kind. FaultsAt movie.now movie.now.start 0 before kind) }
 {
-    let most = movie.frames();
-    prove!(most < 262_144);
     match halt(movie.cart(), state, movie.input(before + 1)) {
         None => Ok(()),
         Some(halt) => Err(halt.kind),
@@ -46,8 +48,6 @@ pub(crate) fn state_after(movie: &Movie, frames: u32) -> Result<State, RunFault>
     ensures ok { IfOk result (λ state. run movie.now movie.now.start 0 frames ≡ Some state) }
     ensures err { IfErr result (λ fault. FaultsWithin movie.now frames fault.frame fault.kind) }
 {
-    let most = movie.frames();
-    prove!(most < 262_144);
     let mut state = movie.start().copy();
     for before in 0..frames {
         let frame = before + 1;

@@ -11,24 +11,9 @@ use crate::format::INPUT_LENGTH;
 use std::alloc::Global;
 use vcs_machine::Input;
 
-/// The inputs that the bytes are.
-#[tactic(auto, unfolding(crate::specs::InputLists::all_inputs_at))]
-fn all_inputs_in(alloc: Global, bytes: &[u8]) -> Result<Vec<Input>, MovieError>
-    ensures gives { Gives (λ inputs. inputs.items) result (all_inputs_at bytes.now) }
-    ensures memory { result ≡ Err MovieError.NoMemory
-        → (length bytes.now % input_length ≡ 0) × (0 < length bytes.now) }
-{
-    if bytes.len() % INPUT_LENGTH != 0 {
-        return Err(MovieError::Short);
-    }
-    let count = bytes.len() / INPUT_LENGTH;
-    let inputs = Vec::with_capacity(alloc, count)?;
-    let (inputs, _) = inputs_in(inputs, count, bytes)?;
-    Ok(inputs)
-}
-
 /// The inputs that the bytes spell, three bytes each. `Short` comes if the length is no
 /// multiple of three, then `NoMemory` if their allocation is refused, then the first `BadInput`.
+#[tactic(auto, unfolding(crate::specs::InputLists::all_inputs_at))]
 pub fn read_inputs(alloc: Global, bytes: &[u8]) -> Result<Vec<Input>, MovieError>
     ensures found { IfOk result (λ inputs. SpellsInputs bytes.now inputs.items) }
     // What the bytes spell is read, unless memory was refused.
@@ -40,5 +25,11 @@ pub fn read_inputs(alloc: Global, bytes: &[u8]) -> Result<Vec<Input>, MovieError
     ensures memory { result ≡ Err MovieError.NoMemory
         → (length bytes.now % input_length ≡ 0) × (0 < length bytes.now) }
 {
-    all_inputs_in(alloc, bytes)
+    if bytes.len() % INPUT_LENGTH != 0 {
+        return Err(MovieError::Short);
+    }
+    let count = bytes.len() / INPUT_LENGTH;
+    let inputs = Vec::with_capacity(alloc, count)?;
+    let (inputs, _) = inputs_in(inputs, count, bytes)?;
+    Ok(inputs)
 }

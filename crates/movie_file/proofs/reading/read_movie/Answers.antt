@@ -1,29 +1,39 @@
-use Rattle.std.proofs.Common.{Result, Ok, ap, sym, subst, ◌∙◌, arith}
+use Rattle.std.proofs.Common.{◌≡◌, Result, Ok, sym, subst, ◌∙◌, arith, rules}
 use Rattle.movie_file.specs.declared.error.MovieError.{MovieError}
 use Rattle.movie_file.specs.Movie.{MovieData}
+use Rattle.movie_file.specs.MovieError.{Gives}
 use Rattle.movie_file.specs.Private.MovieParts.{data_of}
-use Rattle.movie_file.specs.Spelling.{Spells}
 use Rattle.movie_file.specs.Reading.{movie_at}
-use Rattle.movie_file.proofs.ItemLemmas.{fails_is}
 use Rattle.movie_file.proofs.MovieLaws.{read_is_spelled, spelled_is_read}
 use Rattle.movie_file.proofs.reading.read_movie.Goals as goal
 
-abbrev read : MovieData → Result MovieData MovieError
-read m = Ok m
+pub returns-in_err-sizes-clause-only : goal.returns-in_err-sizes-clause-only
+unfolding movie_at
+returns-in_err-sizes-clause-only c = λ m h.
+    let exact : Gives (λ m. m) c.from_residual.result (movie_at c.args.bytes.now) = search rules in
+    subst (λ (r : Result MovieData MovieError). Gives (λ m. m) c.from_residual.result r) (spelled_is_read c.args.bytes.now m h) exact
+
+pub returns-in_err-parts-clause-only : goal.returns-in_err-parts-clause-only
+unfolding movie_at
+returns-in_err-parts-clause-only c = λ m h.
+    let result = c.from_residual-in_err-parts.result in
+    let exact : Gives (λ m. m) result (movie_at c.args.bytes.now) = search rules in
+    subst (λ (r : Result MovieData MovieError). Gives (λ m. m) result r) (spelled_is_read c.args.bytes.now m h) exact
 
 pub from_parts-requires : goal.from_parts-requires
-from_parts-requires c = (read_is_spelled c.args.bytes.now (data_of c.in-Ok.parts) (λ i. omega (arith, c.type_inv.bytes i)) c.in-Ok.ensures.gives).lawful
+unfolding movie_at
+from_parts-requires c =
+    let exact : movie_at c.args.bytes.now ≡ Ok (data_of c.in_ok-parts.parts) = search rules in
+    (read_is_spelled c.args.bytes.now (data_of c.in_ok-parts.parts) (λ i. omega (arith, c.type_inv.bytes i)) exact).lawful
 
-pub returns-in-Ok-clause-found : goal.returns-in-Ok-clause-found
-returns-in-Ok-clause-found c =
-    subst (Spells c.args.bytes.now) (sym c.from_parts.ensures)
-    (read_is_spelled c.args.bytes.now (data_of c.in-Ok.parts) (λ i. omega (arith, c.type_inv.bytes i)) c.in-Ok.ensures.gives)
+pub returns-clause-found : goal.returns-clause-found
+unfolding movie_at
+returns-clause-found c =
+    let exact : movie_at c.args.bytes.now ≡ Ok c.from_parts.result = search rules in
+    read_is_spelled c.args.bytes.now c.from_parts.result (λ i. omega (arith, c.type_inv.bytes i)) exact
 
-pub returns-in-Ok-clause-only : goal.returns-in-Ok-clause-only
-returns-in-Ok-clause-only c = λ m h. sym (spelled_is_read c.args.bytes.now m h) ∙ c.in-Ok.ensures.gives ∙ ap read (sym c.from_parts.ensures)
-
-pub returns-in-Err-clause-only : goal.returns-in-Err-clause-only
-returns-in-Err-clause-only c = λ m h. fails_is c.in-Err.e (movie_at c.args.bytes.now) (read m) (spelled_is_read c.args.bytes.now m h) c.in-Err.ensures.gives
-
-pub returns-in-Err-clause-refused : goal.returns-in-Err-clause-refused
-returns-in-Err-clause-refused c = c.in-Err.ensures.gives
+pub returns-clause-only : goal.returns-clause-only
+unfolding movie_at
+returns-clause-only c = λ m h.
+    let exact : movie_at c.args.bytes.now ≡ Ok c.from_parts.result = search rules in
+    sym (spelled_is_read c.args.bytes.now m h) ∙ exact

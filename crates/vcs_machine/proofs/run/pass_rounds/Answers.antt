@@ -29,16 +29,20 @@ returns-clause-searches g c = λ stop s.
     let at : IsAtBranch g.S.Paint.drawn poll m =
     record { loop = c.in-Some.ensures; no_wait = c.requires.no_wait; no_end = c.requires.no_end; byte = byte; taken = taken } in
     let few : IsWithin count c.rounds_ahead-ahead.result ((24320 - c.args.cycles) / poll.cycles) = elim c.if-ahead-room.branch [
-      | then-ahead-room w ↦ (let is = w.count-is in let less = w.if-ahead-room.true in record { going = omega (arith, is, less); short = omega (arith, is, less) })
-      | else-ahead-room w ↦ (let is = w.count-is in let less = w.if-ahead-room.false in record { going = omega (arith, is, less); short = omega (arith, is, less) })
+      | then-ahead-room w ↦ (let is = w.count-is in let less = w.if-ahead-room.true
+          in record { going = omega (arith, is, less); short = omega (arith, is, less) })
+      | else-ahead-room w ↦ (let is = w.count-is in let less = w.if-ahead-room.false
+          in record { going = omega (arith, is, less); short = omega (arith, is, less) })
     ] in
     let cycles = c.in-Some.ensures.cycles in
     let some : 0 < poll.cycles = omega (arith, cycles) in
     let product : count * poll.cycles ≤ 24320 - c.args.cycles = (le-div_iff_mul-le some).0 few.short in
     let short : c.args.cycles < 24320 = c.if-cycles-ge-TOO_MANY_CYCLES.false in
     let room : c.args.cycles + poll.cycles * count ≤ overlong_cycles = omega (arith, product, short) in
-    let on : GoOn poll c.args.console.now.riot count = λ k pos less. let near = few.going in c.rounds_ahead-ahead.ensures.going k pos (omega (arith, less, near)) in
-    let begun = subst (λ (x : Registers). Searches (console_rules g.S.Paint.drawn) (record { registers = x; bus = c.args.console.now; cycles = c.args.cycles }) stop)
+    let on : GoOn poll c.args.console.now.riot count = λ k pos less. let near = few.going
+    in c.rounds_ahead-ahead.ensures.going k pos (omega (arith, less, near)) in
+    let begun = subst (λ (x : Registers). Searches (console_rules g.S.Paint.drawn)
+    (record { registers = x; bus = c.args.console.now; cycles = c.args.cycles }) stop)
     (sym c.cpu.view_is) s in
     passed-rounds g.S.Paint.drawn poll r c.args.console.now c.load_after.new.self c.args.cycles count c.load-loaded.result stop at
     (some_of count c.if-count-eq0.false) on room

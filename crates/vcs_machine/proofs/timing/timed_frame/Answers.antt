@@ -44,7 +44,9 @@ returns-in-Ok-frame_onto-clause-ok c =
     )
 
 pub returns-in-Ok-frame_onto-clause-cycles : goal.returns-in-Ok-frame_onto-clause-cycles
-returns-in-Ok-frame_onto-clause-cycles c = played-cycles _ c.args.cart.now c.args.state.now _ c.args.input _ _ c.in-Ok-frame_onto.cycles c.in-Ok-frame_onto.ensures.ok
+returns-in-Ok-frame_onto-clause-cycles c = played-cycles _ c.args.cart.now c.args.state.now _
+    c.args.input _ _ c.in-Ok-frame_onto.cycles c.in-Ok-frame_onto.ensures.ok
 
 pub returns-in-Err-frame_onto-clause-err : goal.returns-in-Err-frame_onto-clause-err
-returns-in-Err-frame_onto-clause-err c = failed c.args.cart.now c.args.state.now _ c.args.input c.in-Err-frame_onto.halt.kind c.in-Err-frame_onto.halt.cycles c.in-Err-frame_onto.ensures.err
+returns-in-Err-frame_onto-clause-err c = failed c.args.cart.now c.args.state.now _ c.args.input
+    c.in-Err-frame_onto.halt.kind c.in-Err-frame_onto.halt.cycles c.in-Err-frame_onto.ensures.err

@@ -1,8 +1,7 @@
 use Rattle.std.proofs.Common.{◌≡◌, ℕ, ◌+◌, ◌/◌, Some, subst, arith}
 use Rattle.std.specs.Prelude.{vec_len, vec_capacity}
 use Rattle.movie_file.specs.Run.{run}
-use Rattle.movie_file.proofs.MakingRuns.{has_room}
-use Rattle.view_engine.proofs.ClaimSteps.{Claims-next, Claims-none}
+use Rattle.movie_file.proofs.MakingRuns.{Claims-next, Claims-none, has_room}
 use Rattle.view_engine.proofs.cutting.checkpoints_after.Goals as goal
 
 pub loop-k-init : goal.loop-k-init
@@ -10,7 +9,7 @@ loop-k-init c =
     let none : c.args.from + 0 ≡ c.args.from = omega arith in
     record {
       made = rw c.requires.empty (Claims-none c.args.movie.now c.args.from c.args.every);
-      ran = rw (none, c.copy-state.ensures) c.requires.ran;
+      ran = rw (none, c.copy-state.ensures.value) c.requires.ran;
       room = c.requires.room;
     }
 

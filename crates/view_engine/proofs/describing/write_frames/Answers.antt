@@ -28,7 +28,8 @@ returns-in_err-write_bytes-in-Ok-clause-err g c =
 pub returns-in-Err-clause-err : goal.returns-in-Err-clause-err
 returns-in-Err-clause-err g c =
     rw c.of_frame.ensures
-    (stops_telling c.args.movie.now c.args.details.now c.args.from c.loop-k.k c.args.frames (g.L.Write.contents c.args.lines.now) (g.L.Write.contents c.loop-k.lines) c.in-Err.error
+    (stops_telling c.args.movie.now c.args.details.now c.args.from c.loop-k.k c.args.frames
+    (g.L.Write.contents c.args.lines.now) (g.L.Write.contents c.loop-k.lines) c.in-Err.error
     c.loop-k-test.true c.in-Err.ensures.err c.loop-k.invariant.written)
 
 pub loop-k-preserved : goal.loop-k-preserved

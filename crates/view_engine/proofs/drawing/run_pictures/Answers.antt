@@ -27,5 +27,13 @@ returns-in_err-flush-clause-write_fault g c = λ is.
     let a = g.P.Write.contents c.args.pictures.now in
     let b = g.P.Write.contents c.draw_bytes.new.pictures in
     let d = g.P.Write.contents c.flush.new.writer in
-    let bytes = pictures_bytes told.0.pictures in
-    (input, told.0, c.in_ok-bytes.ensures.all, draws, inl (prefix_all a d bytes (appends_kept a b d bytes told.4 c.flush.ensures), keeps_same (g.L.Write.contents c.args.line.now)))
+    let bytes = pictures_bytes told.0.pictures in (
+      input,
+      told.0,
+      c.in_ok-bytes.ensures.all,
+      draws,
+      inl (
+        prefix_all a d bytes (appends_kept a b d bytes told.4 c.flush.ensures),
+        keeps_same (g.L.Write.contents c.args.line.now),
+      ),
+    )

@@ -16,7 +16,8 @@ returns-in_err-ppm-in-Ok-clause-err g c =
 pub returns-in-Err-clause-err : goal.returns-in-Err-clause-err
 returns-in-Err-clause-err g c =
     rw c.of_frame.ensures
-    (stops_here c.args.movie.now c.args.from c.loop-k.k c.args.frames (g.P.Write.contents c.args.pictures.now) (g.P.Write.contents c.loop-k.pictures) c.in-Err.error
+    (stops_here c.args.movie.now c.args.from c.loop-k.k c.args.frames
+    (g.P.Write.contents c.args.pictures.now) (g.P.Write.contents c.loop-k.pictures) c.in-Err.error
     c.loop-k-test.true c.in-Err.ensures.err c.loop-k.invariant.written)
 
 pub loop-k-preserved : goal.loop-k-preserved

@@ -23,7 +23,8 @@ returns-in-Err-clause-ok g c =
     let here = c.loop-alloc.stepping in
     let fault = c.in-Err.ensures.fault in
     let at : stop_with c.in-Err.kind c.next.new.self ≡ Faulted fault.0 here = rw (fault.1, c.in-Err.ensures.same) (halts_as fault.0 here) in
-    rw at (faulted_here c.args.has_banks c.args.stepping.now here (g.L.Write.contents c.args.lines.now) (g.L.Write.contents c.loop-alloc.lines) c.loop-alloc.invariant
+    rw at (faulted_here c.args.has_banks c.args.stepping.now here
+    (g.L.Write.contents c.args.lines.now) (g.L.Write.contents c.loop-alloc.lines) c.loop-alloc.invariant
     (sym c.is_over.ensures ∙ c.loop-alloc-test.true) fault.0 fault.2)
 
 pub loop-alloc-preserved : goal.loop-alloc-preserved

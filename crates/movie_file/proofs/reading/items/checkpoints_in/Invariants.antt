@@ -6,7 +6,9 @@ use Rattle.movie_file.proofs.reading.items.checkpoints_in.Given as goal
 
 abbrev pub invariant-loop-i : goal.invariant-loop-i
 invariant-loop-i l = record {
-  so_far : with_prefix l.checkpoints.items (checkpoints_at l.sizes (l.sizes.checkpoints - l.i) (l.i + 1) l.last l.rest) ≡ checkpoints_at l.sizes l.sizes.checkpoints 1 0 l.bytes;
+  so_far : with_prefix l.checkpoints.items
+      (checkpoints_at l.sizes (l.sizes.checkpoints - l.i) (l.i + 1) l.last l.rest)
+      ≡ checkpoints_at l.sizes l.sizes.checkpoints 1 0 l.bytes;
   read : vec_len l.checkpoints ≡ l.i;
   room : l.sizes.checkpoints ≤ vec_capacity l.checkpoints;
   long : length l.rest + checkpoint_length l.sizes.version * l.i ≡ length l.bytes;

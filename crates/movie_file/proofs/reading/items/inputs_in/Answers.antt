@@ -10,12 +10,16 @@ pub returns-in_err-input-clause-gives : goal.returns-in_err-input-clause-gives
 returns-in_err-input-clause-gives c =
     let p = err_from_is_err_and c.from_residual.result c.from_residual.ensures.1 in
     rw (p.1, p.2)
-    (inputs_end c.in_err-input.field-0.0 c.loop-i.inputs.items c.args.count c.loop-i.i c.loop-i.rest.now (inputs_at c.args.count 1 c.args.bytes.now) c.loop-i-test.true c.in_err-input.ensures.gives c.loop-i.invariant.so_far)
+    (inputs_end c.in_err-input.field-0.0 c.loop-i.inputs.items c.args.count c.loop-i.i
+    c.loop-i.rest.now (inputs_at c.args.count 1 c.args.bytes.now) c.loop-i-test.true
+    c.in_err-input.ensures.gives c.loop-i.invariant.so_far)
 
 pub loop-i-preserved : goal.loop-i-preserved
 loop-i-preserved c = record {
   so_far = rw (c.push_reserved.ensures.items, c.split_at.ensures.back)
-      (inputs_go_on c.loop-i.inputs.items c.args.count c.loop-i.i c.loop-i.rest.now c.in_ok-input.input (inputs_at c.args.count 1 c.args.bytes.now) c.loop-i-test.true c.in_ok-input.ensures.gives c.loop-i.invariant.so_far);
+      (inputs_go_on c.loop-i.inputs.items c.args.count c.loop-i.i c.loop-i.rest.now
+      c.in_ok-input.input (inputs_at c.args.count 1 c.args.bytes.now) c.loop-i-test.true
+      c.in_ok-input.ensures.gives c.loop-i.invariant.so_far);
   read = omega (arith, c.push_reserved.ensures.len, c.loop-i.invariant.read);
   room = omega (arith, c.push_reserved.ensures.capacity, c.loop-i.invariant.room);
   long = omega (arith, length-drop input_length c.loop-i.rest.now);

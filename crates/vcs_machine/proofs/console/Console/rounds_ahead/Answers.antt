@@ -13,4 +13,5 @@ returns-clause-going g c =
     ap (λ (d : Devices g.row.S.Denot). d.riot) c.catch_up_riot.ensures ∙ ap (λ (k : ConsoleOf g.row.S.Denot). k.riot) c.self.view_is in
     let small : riot_read riot c.args.poll.register < 256 = search rules in
     let on : goes_on c.args.poll.branch (riot_read riot c.args.poll.register) ≡ true = search rules in
-    rw (c.cycles_above.ensures.value, c.least.ensures, ← seen) (going c.args.poll riot c.requires.timer c.requires.cycles c.cycles_above.ensures.interval small on)
+    rw (c.cycles_above.ensures.value, c.least.ensures, ← seen)
+    (going c.args.poll riot c.requires.timer c.requires.cycles c.cycles_above.ensures.interval small on)

@@ -5,7 +5,8 @@ use Rattle.vcs_machine.proofs.console.ConsoleBus.peek_after.Goals as goal
 
 pub returns-in-Cart : goal.returns-in-Cart
 returns-in-Cart g c =
-    let word : c.args.addr < 65536 = search rules in
-    told-after g.S.Paint.drawn c.args.self.now c.args.addr c.in-Cart.address c.self.inside.mapped.cart.now c.self.inside.mapped.bank c.after.result word (search rules)
+    let word : c.args.address < 65536 = search rules in
+    told-after g.S.Paint.drawn c.args.self.now c.args.address c.in-Cart.address
+    c.self.inside.mapped.cart.now c.self.inside.mapped.bank c.after.result word (search rules)
     (ap (λ (k : ConsoleOf g.row.S.Denot). k.cart) c.self.view_is) (ap (λ (k : ConsoleOf g.row.S.Denot). k.bank) c.self.view_is)
     c.after.ensures.byte c.after.ensures.inside

@@ -11,7 +11,9 @@ pub returns-then-line-len : goal.returns-then-line-len
 returns-then-line-len c =
     let rows : Rows = c.self.inside.rows.items in
     let here : c.args.line < length rows = omega (arith, c.len.ensures, c.if-line-len.true) in
-    let row : c.index_mut.result.now ≡ slice_index_or rows c.args.line [] = c.index_mut.ensures.value ∙ get_or_default rows c.args.line c.index_mut.result.now [] here in
+    let row : c.index_mut.result.now
+    ≡ slice_index_or rows c.args.line [] = c.index_mut.ensures.value
+    ∙ get_or_default rows c.args.line c.index_mut.result.now [] here in
     let end : c.args.from + (c.args.to - c.args.from) ≤ 160 = omega (arith, c.requires.order, c.requires.range) in
     ap (slice_set rows c.args.line) (c.fill.ensures ∙ ap (λ (r : List ℕ). with_pixels r c.args.from (c.args.to - c.args.from) c.args.colour) row)
     ∙ sym (run-inside rows c.args.line c.args.from (c.args.to - c.args.from) c.args.colour here end)

@@ -36,7 +36,9 @@ returns-in-Err-clause-fault c =
     let l : Logged Undrawn = record { bus = c.beam-line.new.self; accesses = c.self.inside.bus.accesses.items } in
     let m : Machine Undrawn = record { registers = c.self.inside.cpu; bus = c.beam-line.new.self; cycles = c.self.inside.cycles } in
     let at : m ≡ c.args.self.now = ap (λ (bus : Undrawn). before_with c.self.inside.cpu c.self.inside.cycles bus) c.beam-line.ensures.bus ∙ c.self.view_is in
-    let answer = c.in-Err.ensures.answer ∙ sym (ap (λ (s : Step Undrawn). s.answer) (step_of-along (logging M) M (λ l. l.bus) (logging-respects M) c.self.inside.cpu l)) in
+    let answer = c.in-Err.ensures.answer
+    ∙ sym (ap (λ (s : Step Undrawn). s.answer)
+    (step_of-along (logging M) M (λ l. l.bus) (logging-respects M) c.self.inside.cpu l)) in
     (c.in-Err.fault, c.from.ensures, rw (← at) (failed_turn with_pixel_lost m c.in-Err.fault answer))
 
 pub returns-clause-went : goal.returns-clause-went
@@ -56,14 +58,16 @@ returns-clause-executed c =
     let m : Machine Undrawn = record { registers = c.self.inside.cpu; bus = c.beam-line.new.self; cycles = c.self.inside.cycles } in
     let at : m ≡ c.args.self.now = ap (λ (bus : Undrawn). before_with c.self.inside.cpu c.self.inside.cycles bus) c.beam-line.ensures.bus ∙ c.self.view_is in
     let listed = logged-accesses M c.self.inside.cpu c.beam-line.new.self in
-    let empty : l ≡ record { bus = c.beam-line.new.self; accesses = [] } = ap (λ (xs : List DataAccess). logged_with c.beam-line.new.self xs) c.self.invariant.0 in
+    let empty : l ≡ record { bus = c.beam-line.new.self; accesses = [] } = ap
+    (λ (xs : List DataAccess). logged_with c.beam-line.new.self xs) c.self.invariant.0 in
     let accesses : c.replace-accesses.result.items ≡ data_accesses M c.self.inside.cpu c.beam-line.new.self =
     rw c.replace-accesses.ensures.value
     (ap (λ (x : Logged Undrawn). x.accesses) c.in-Ok.ensures.bus
     ∙ ap (λ (x : Logged Undrawn). (step_of (logging M) c.self.inside.cpu x).bus.accesses) empty ∙ listed) in
     let same = sym c.beam-line.ensures.bus in
     let pc = ap (λ (r : Registers). r.pc) c.cpu.view_is in
-    rw (← at) (executed-parts m c.beam-line.result.0 c.beam-line.result.1 c.bank-bank.result c.byte_at-opcode.result c.byte_at-low.result c.byte_at-high.result c.replace-accesses.result.items
+    rw (← at) (executed-parts m c.beam-line.result.0 c.beam-line.result.1 c.bank-bank.result
+    c.byte_at-opcode.result c.byte_at-low.result c.byte_at-high.result c.replace-accesses.result.items
     (c.beam-line.ensures.line ∙ ap (λ (k : Undrawn). k.tia.line) same)
     (c.beam-line.ensures.cycle ∙ ap (λ (k : Undrawn). k.tia.fields.clock / 3) same)
     (c.bank-bank.ensures ∙ ap (λ (k : Undrawn). k.bank) same)
