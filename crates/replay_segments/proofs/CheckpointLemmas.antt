@@ -8,27 +8,30 @@ use Rattle.movie_file.specs.Movie.{MovieData, IsMovie}
 use Rattle.movie_file.specs.declared.checkpoint.Checkpoint.{Checkpoint}
 use Rattle.movie_file.proofs.CheckpointLemmas.{checkpoint_in_range, checkpoints_rise}
 use Rattle.replay_segments.specs.Private.Steps.{IsNext, IsClaim}
+use Rattle.replay_segments.specs.declared.judge.Claim.TheVariants.{Holds}
 
 -- None stands before the first frame.
 pub IsNext-start : (m : MovieData) → IsMovie m → IsNext m 0 (0 + 1)
 IsNext-start m movie = record {
   within = omega arith;
   before = λ j c here less. absurd (omega arith);
-  after = λ j c here le. let h = checkpoint_in_range (length m.cart) m.checkpoints 0 (length m.inputs) j c movie.checkpoints here in let low = h.0 in omega arith;
+  after = λ j c here le. let h = checkpoint_in_range (length m.cart) m.checkpoints 0
+      (length m.inputs) j c movie.checkpoints here in let low = h.0 in omega arith;
 }
 
 pub ruleset at_start = IsNext-start
 
 -- No checkpoint is left: each frame to come has none.
 pub IsClaim-none : (m : MovieData) (next frame : ℕ) (state : StateFields) → IsNext m next frame → next ≡ length m.checkpoints
-    → IsClaim m next frame state (Some next)
+    → IsClaim m next frame state (Holds next)
 IsClaim-none m next frame state is all = (
   record {
     within = is.within;
     before = λ j c here less. let h = is.before j c here less in omega arith;
     after = λ j c here le. let h = slice_get_within m.checkpoints j c here in absurd (omega arith);
   },
-  λ j c here at. let h = slice_get_within m.checkpoints j c here in let less : j < next = omega arith in let before = is.before j c here less in absurd (omega arith),
+  λ j c here at. let h = slice_get_within m.checkpoints j c here
+      in let less : j < next = omega arith in let before = is.before j c here less in absurd (omega arith),
 )
 
 module _ (m : MovieData) (movie : IsMovie m) (next frame : ℕ) (state : StateFields) (is : IsNext m next frame)
@@ -50,7 +53,7 @@ module _ (m : MovieData) (movie : IsMovie m) (next frame : ℕ) (state : StateFi
             let frames : d.frame ≡ c.frame = ap (λ (x : Checkpoint). x.frame) same in omega arith)
       ]
 
-  pub IsClaim-later : c.frame ≢ frame → IsClaim m next frame state (Some next)
+  pub IsClaim-later : c.frame ≢ frame → IsClaim m next frame state (Holds next)
   IsClaim-later other = (
     record {
       within = is.within;
@@ -64,7 +67,7 @@ module _ (m : MovieData) (movie : IsMovie m) (next frame : ℕ) (state : StateFi
   )
 
   -- The next one stands after this frame, and is true.
-  pub IsClaim-true : c.frame ≡ frame → c.state ≡ state → IsClaim m next frame state (Some (next + 1))
+  pub IsClaim-true : c.frame ≡ frame → c.state ≡ state → IsClaim m next frame state (Holds (next + 1))
   IsClaim-true this true_state =
       let within = slice_get_within m.checkpoints next c here in (
         record {

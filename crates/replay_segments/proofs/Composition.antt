@@ -35,7 +35,8 @@ pictures-shift m keep s a i t is (suc j) =
     let at : a + (i + j) ≡ a + i + j = omega arith in
     let more : i + suc j ≡ suc (i + j) = omega arith in
     rw (more, at, run-shift m s a i t is j, pictures-shift m keep s a i t is j)
-    (append_assoc (pictures m keep s a i) (pictures m keep t (a + i) j) (if is_kept keep (a + i + j + 1) then picture_after m (a + i + j) (run m t (a + i) j) else []))
+    (append_assoc (pictures m keep s a i) (pictures m keep t (a + i) j)
+    (if is_kept keep (a + i + j + 1) then picture_after m (a + i + j) (run m t (a + i) j) else []))
 
 -- The pictures of a genuine beginning stand before those of the rest.
 abbrev prefixed : List Rows → Verdict → Verdict

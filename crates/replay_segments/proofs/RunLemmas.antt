@@ -13,6 +13,7 @@ use Rattle.replay_plan.specs.Keeping.{is_kept}
 use Rattle.replay_segments.specs.KeptPictures.{pictures}
 use Rattle.replay_segments.specs.declared.verdict.Verdict.TheVariants.{FalseCheckpoint}
 use Rattle.replay_segments.specs.Private.Steps.{ClaimsHold, IsClaim, SoFar}
+use Rattle.replay_segments.specs.declared.judge.Claim.TheVariants.{False}
 use Rattle.replay_segments.specs.Verdicts.{IsJudged}
 
 module _ (m : MovieData) (start : StateFields) (from k : ℕ) (state new : StateFields) (rows : Rows)
@@ -38,13 +39,15 @@ SoFar-next m keep start from k state new rows kept out far ends claims is = reco
 }
 
 -- A frame that ends, and after which a checkpoint is false, is the first that is not sound.
-pub IsJudged-false : (m : MovieData) (keep : Keep) (start : StateFields) (from k len : ℕ) (state new : StateFields) (next : ℕ) (rows : Rows) (kept : List Rows)
+pub IsJudged-false : (m : MovieData) (keep : Keep) (start : StateFields) (from k len : ℕ) (state new : StateFields)
+    (next number : ℕ) (rows : Rows) (kept : List Rows)
     → SoFar m keep start from k state kept → frame_after m (from + k) state ≡ Some (Played new rows) → k < len
-    → IsClaim m next (from + k + 1) new None → IsJudged m keep start from len (FalseCheckpoint (next + 1) (from + k + 1))
-IsJudged-false m keep start from k len state new next rows kept far ends less claim = (
+    → IsClaim m next (from + k + 1) new (False number)
+    → IsJudged m keep start from len (FalseCheckpoint number (from + k + 1))
+IsJudged-false m keep start from k len state new next number rows kept far ends less (is, c, here, at, false) = rw is (
   k,
   less,
   refl,
   far.sound,
-  (new, next, claim.0, run-next m start from k state new rows far.state_is ends, refl, claim.1, claim.2, claim.3),
+  (new, next, c, run-next m start from k state new rows far.state_is ends, refl, here, at, false),
 )

@@ -123,11 +123,13 @@ IsNext-cut m n c movie positive at =
     record {
       within = omega arith;
       before = λ j d here less. before j d here less (cases_lt j (n - 1));
-      after = λ j d here le. let h = checkpoints_rise (length m.cart) m.checkpoints 0 (length m.inputs) (n - 1) j c d movie.checkpoints (omega arith) at here in omega (arith, h);
+      after = λ j d here le. let h = checkpoints_rise (length m.cart) m.checkpoints 0
+          (length m.inputs) (n - 1) j c d movie.checkpoints (omega arith) at here in omega (arith, h);
     }
   where
     before : (j : ℕ) (d : Checkpoint) → slice_get m.checkpoints j ≡ Some d → j < n → (j < n - 1) ⊎ (n - 1 ≤ j) → d.frame < c.frame + 1
-    before j d here less (inl low) = let h = checkpoints_rise (length m.cart) m.checkpoints 0 (length m.inputs) j (n - 1) d c movie.checkpoints low here at in omega (arith, h)
+    before j d here less (inl low) = let h = checkpoints_rise (length m.cart) m.checkpoints 0
+        (length m.inputs) j (n - 1) d c movie.checkpoints low here at in omega (arith, h)
     before j d here less (inr high) =
         let equal = same_at m.checkpoints j (n - 1) d c (omega arith) here at in
         let frames : d.frame ≡ c.frame = ap (λ (x : Checkpoint). x.frame) equal in omega arith

@@ -1,5 +1,5 @@
 //! Replays frames from a state, and judges them.
-ghost use Rattle.std.specs.Prelude.{◌≡◌, ℕ, ◌+◌, ◌<◌, ◌≤◌, length, IfOk, OnOk, OnErr, true};
+ghost use Rattle.std.specs.Prelude.{◌≡◌, ℕ, ◌+◌, ◌<◌, ◌≤◌, ◌^◌, length, IfOk, OnOk, OnErr, true};
 ghost use Rattle.std.specs.Prelude.{vec_len, vec_capacity, if◌then◌else◌};
 ghost use Rattle.replay_plan.specs.Keeping.{is_kept, kept_count};
 ghost use Rattle.replay_segments.specs.Private.Steps.{IsFrameStep, IsNext, IsClaim, IsAdvance};
@@ -19,11 +19,10 @@ pub(crate) fn movie_frame(
     state: &mut State,
     keep: bool,
 ) -> Result<Option<Picture>, FrameError>
-    requires { before < length movie.now.inputs }
+    requires frame { before < length movie.now.inputs }
+    requires short { before + 1 < 2 ^ 32 }
     ensures { IsFrameStep movie.now before state.old keep state.new result }
 {
-    let frames = movie.frames();
-    prove!(frames < 262_144);
     frame(alloc, movie.cart(), state, movie.input(before + 1), keep)
 }
 
@@ -37,13 +36,12 @@ fn advance(
     pictures: &mut Vec<Picture>,
 ) -> Result<(), FrameError>
     requires frame { before < length movie.now.inputs }
+    requires short { before + 1 < 2 ^ 32 }
     requires room { is_kept keep (before + 1) ≡ true → vec_len pictures.old < vec_capacity pictures.old }
     ensures advance { IsAdvance movie.now keep before state.old pictures.old.items state.new pictures.new.items result }
     ensures len { OnOk result (vec_len pictures.new ≡ vec_len pictures.old + (if is_kept keep (before + 1) then 1 else 0)) }
     ensures capacity { vec_capacity pictures.new ≡ vec_capacity pictures.old }
 {
-    let frames = movie.frames();
-    prove!(frames < 262_144);
     let kept = keep.has(before + 1);
     if let Some(picture) = movie_frame(alloc, movie, before, state, kept)? {
         pictures.push_reserved(picture);
@@ -51,24 +49,33 @@ fn advance(
     Ok(())
 }
 
+/// What a comparison with the checkpoint after a frame answers.
+#[derive(Clone, Copy)]
+enum Claim {
+    /// It is true, or none stands there. The first after the frame has this index.
+    Holds { next: u16 },
+    /// It is false. It has this number, from 1.
+    False { number: u16 },
+}
+
 /// Compares a state with the checkpoint after a frame, if there is one. `next` is the index of the
-/// first that is not before the frame. The answer is that of the first after it, or None if the
-/// checkpoint is false.
-fn next_checkpoint(movie: &Movie, next: u16, frame: u32, state: &State) -> Option<u16>
+/// first that is not before the frame.
+fn compare(movie: &Movie, next: u16, frame: u32, state: &State) -> Claim
     requires { IsNext movie.now next frame }
     ensures { IsClaim movie.now next frame state.now result }
 {
     if next == movie.checkpoints() {
-        return Some(next);
+        return Claim::Holds { next };
     }
-    let checkpoint = movie.checkpoint(next + 1);
+    let number = next + 1;
+    let checkpoint = movie.checkpoint(number);
     if checkpoint.frame != frame {
-        return Some(next);
+        return Claim::Holds { next };
     }
     if checkpoint.state.equals(state) {
-        Some(next + 1)
+        Claim::Holds { next: number }
     } else {
-        None
+        Claim::False { number }
     }
 }
 
@@ -86,13 +93,12 @@ pub(crate) fn judge_frames(
     first: u16,
 ) -> Result<Verdict, AllocError>
     requires range { from + len ≤ length movie.now.inputs }
+    requires short { from + len < 2 ^ 32 }
     requires next { IsNext movie.now first (from + 1) }
     ensures judged { IfOk result (λ verdict. IsJudged movie.now keep start.now from len verdict) }
     ensures refused { OnErr result (0 < kept_count keep from len) }
 {
     let room = keep.count(from, len);
-    let frames = movie.frames();
-    prove!(frames < 262_144);
     let Ok(mut pictures) = Vec::with_capacity(alloc, room) else {
         return Err(AllocError);
     };
@@ -105,13 +111,10 @@ pub(crate) fn judge_frames(
             Err(FrameError::Fault(kind)) => return Ok(Verdict::Fault { frame, kind }),
             Err(FrameError::NoMemory) => return Err(AllocError),
         }
-        let Some(after) = next_checkpoint(movie, next, frame, &state) else {
-            return Ok(Verdict::FalseCheckpoint {
-                number: next + 1,
-                frame,
-            });
-        };
-        next = after;
+        match compare(movie, next, frame, &state) {
+            Claim::Holds { next: after } => next = after,
+            Claim::False { number } => return Ok(Verdict::FalseCheckpoint { number, frame }),
+        }
     }
     Ok(Verdict::Genuine {
         pictures: Pictures::new(pictures),

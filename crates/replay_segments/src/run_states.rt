@@ -1,5 +1,6 @@
 //! States of a movie's one unbroken run.
-ghost use Rattle.std.specs.Prelude.{◌≡◌, ℕ, ◌+◌, ◌<◌, ◌≤◌, length, slice_get, IsSome, Some};
+ghost use Rattle.std.specs.Prelude.{◌≡◌, ℕ, ◌+◌, ◌<◌, ◌≤◌, ◌^◌, length, slice_get, IsSome, Some};
+ghost use Rattle.movie_file.specs.Movie.{IsMovie};
 ghost use Rattle.movie_file.specs.Run.{run};
 ghost use Rattle.movie_file.specs.declared.checkpoint.Checkpoint.{Checkpoint};
 ghost use Rattle.replay_segments.specs.Private.Resuming.{IsResumable};
@@ -25,11 +26,10 @@ pub struct LeftState {
 /// fails.
 fn state_after(movie: &Movie, start: &State, from: u32, len: u32) -> State
     requires range { from + len ≤ length movie.now.inputs }
+    requires short { from + len < 2 ^ 32 }
     requires ends { IsSome (run movie.now start.now from len) }
     ensures { run movie.now start.now from len ≡ Some result }
 {
-    let frames = movie.frames();
-    prove!(frames < 262_144);
     let mut state = start.copy();
     for k in 0..len {
         match halt(movie.cart(), &mut state, movie.input(from + k + 1)) {
@@ -68,6 +68,7 @@ pub fn found_state(movie: &Movie, number: u16, frame: u32) -> State
 
 /// How many checkpoints stand before a frame.
 fn checkpoints_before(movie: &Movie, frame: u32) -> u16
+    ensures lawful { IsMovie movie.now }
     ensures within { result ≤ length movie.now.checkpoints }
     ensures before { (j : ℕ) (c : Checkpoint) → j < result → slice_get movie.now.checkpoints j ≡ Some c → c.frame < frame }
 {
@@ -88,7 +89,6 @@ pub fn left_state(movie: &Movie, frame: u32, kind: FaultKind) -> LeftState
     requires { HasVerdict movie.now (Fault frame kind) }
     ensures { left_at movie.now frame ≡ Some result }
 {
-    let _ = movie.frames();
     let next = checkpoints_before(movie, frame);
     let mut state = resume(movie, next, frame - 1);
     let begun = state.line_cycle();

@@ -1,5 +1,6 @@
 //! Replays a segment.
 ghost use Rattle.std.specs.Prelude.{◌≡◌, ◌+◌, ◌<◌, ◌≤◌, length, IfOk, OnErr};
+ghost use Rattle.movie_file.specs.Movie.{IsMovie};
 ghost use Rattle.replay_segments.specs.Cuts.{Fits};
 ghost use Rattle.replay_segments.specs.Pieces.{job_of, IsJob, IsOutcome, HasKept};
 ghost use Rattle.replay_segments.specs.Segments.{end_of, IsSegment};
@@ -20,6 +21,7 @@ fn end(movie: &Movie, cuts: &Cuts, i: u32) -> u32
     requires fit { Fits cuts.now movie.now }
     ensures value { result ≡ end_of movie.now cuts.now i }
     ensures within { result ≤ length movie.now.inputs }
+    ensures lawful { IsMovie movie.now }
 {
     let frames = movie.frames();
     match cuts.get(i) {
@@ -41,10 +43,10 @@ fn from_cut(
     requires number { i < length cuts.now }
     requires end { end ≡ end_of movie.now cuts.now (i + 1) }
     requires within { end ≤ length movie.now.inputs }
+    requires lawful { IsMovie movie.now }
     ensures judged { IfOk result (λ verdict. IsSegment movie.now cuts.now keep (i + 1) verdict) }
     ensures refused { OnErr result (HasKept (job_of movie.now cuts.now keep) (i + 1)) }
 {
-    let _ = movie.frames();
     let Some(cut) = cuts.get(i) else {
         unreachable!()
     };
@@ -63,8 +65,6 @@ fn outcome_of(alloc: Global, movie: &Movie, cuts: &Cuts, keep: Keep, number: u32
     ensures memory { result ≡ Outcome.NoMemory
         → HasKept (job_of movie.now cuts.now keep) number }
 {
-    let _ = movie.frames();
-    let _ = cuts.segments();
     let end = end(movie, cuts, number);
     let judged = if number == 0 {
         judge_frames(alloc, movie, keep, movie.start(), 0, end, 0)

@@ -13,6 +13,8 @@ use Rattle.movie_file.specs.declared.checkpoint.Checkpoint.{Checkpoint}
 use Rattle.replay_plan.specs.Keeping.{is_kept}
 use Rattle.replay_segments.specs.KeptPictures.{pictures}
 use Rattle.replay_plan.specs.declared.keep.Keep.{Keep}
+use Rattle.replay_segments.specs.declared.judge.Claim.{Claim}
+use Rattle.replay_segments.specs.declared.judge.Claim.TheVariants.{Holds, False}
 
 -- What replaying frame k + 1 answers, which leaves a state.
 abbrev pub IsFrameStep : MovieData → ℕ → StateFields → Bool → StateFields → Result (Option Rows) FrameError → Type 0
@@ -41,9 +43,10 @@ abbrev pub ClaimsHold : MovieData → ℕ → StateFields → Type 0
 ClaimsHold m frame state = (j : ℕ) (c : Checkpoint) → slice_get m.checkpoints j ≡ Some c → c.frame ≡ frame → c.state ≡ state
 
 -- What a comparison answers: the first checkpoint after the frame, or that the one there is false.
-abbrev pub IsClaim : MovieData → ℕ → ℕ → StateFields → Option ℕ → Type 0
-IsClaim m next frame state (Some after) = IsNext m after (frame + 1) × ClaimsHold m frame state
-IsClaim m next frame state None = (c : Checkpoint) × (slice_get m.checkpoints next ≡ Some c) × (c.frame ≡ frame) × (c.state ≢ state)
+abbrev pub IsClaim : MovieData → ℕ → ℕ → StateFields → Claim → Type 0
+IsClaim m next frame state (Holds after) = IsNext m after (frame + 1) × ClaimsHold m frame state
+IsClaim m next frame state (False number) =
+    (number ≡ next + 1) × (c : Checkpoint) × (slice_get m.checkpoints next ≡ Some c) × (c.frame ≡ frame) × (c.state ≢ state)
 
 -- k frames from a state were sound, and left this state and these pictures.
 pub record SoFar (m : MovieData) (keep : Keep) (start : StateFields) (from k : ℕ) (state : StateFields) (kept : List Rows) : Type 0 where

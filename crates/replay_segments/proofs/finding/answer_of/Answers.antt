@@ -8,8 +8,15 @@ use Rattle.replay_segments.proofs.finding.answer_of.Goals.{then-number+in_defaul
 
 pub returns-in-Some : goal.returns-in-Some
 returns-in-Some c =
-    let at = slice_get_read c.args.pieces.now _ c.loop-i.i c.index-pieces-i.result refl c.loop-i-test.true c.index-pieces-i.is in
-    (c.loop-i.i, c.index-pieces-i.result, at, sym c.number.ensures.value ∙ c.if-number.true, c.in-Some.ensures.bad.0, c.in-Some.ensures.bad.1, c.number.ensures.lawful)
+    let at = slice_get_read c.args.pieces.now _ c.loop-i.i c.index-pieces-i.result refl c.loop-i-test.true c.index-pieces-i.is in (
+      c.loop-i.i,
+      c.index-pieces-i.result,
+      at,
+      sym c.number.ensures.value ∙ c.if-number.true,
+      c.in-Some.ensures.bad.0,
+      c.in-Some.ensures.bad.1,
+      c.number.ensures.lawful,
+    )
 
 pub loop-i-preserved : goal.loop-i-preserved
 loop-i-preserved c =

@@ -9,19 +9,27 @@ answer_of-requires c = c.in-Some.ensures.some.none
 
 pub returns-in-Some-clause-verdict : goal.returns-in-Some-clause-verdict
 returns-in-Some-clause-verdict c =
-    rw c.as_slice-arrived.ensures.value at (verdict-answer c.as_slice-arrived.result.now c.args.n c.in-Some.number c.in-Some.ensures.some c.answer_of.result c.answer_of.ensures)
+    rw c.as_slice-arrived.ensures.value at
+    (verdict-answer c.as_slice-arrived.result.now c.args.n c.in-Some.number
+    c.in-Some.ensures.some c.answer_of.result c.answer_of.ensures)
 
 pub returns-in-Some-clause-missing : goal.returns-in-Some-clause-missing
 returns-in-Some-clause-missing c =
-    rw c.as_slice-arrived.ensures.value at (missing-answer c.as_slice-arrived.result.now c.args.n c.in-Some.number c.in-Some.ensures.some c.answer_of.result c.answer_of.ensures)
+    rw c.as_slice-arrived.ensures.value at
+    (missing-answer c.as_slice-arrived.result.now c.args.n c.in-Some.number
+    c.in-Some.ensures.some c.answer_of.result c.answer_of.ensures)
 
 pub returns-in-Some-clause-refused : goal.returns-in-Some-clause-refused
 returns-in-Some-clause-refused c =
-    rw c.as_slice-arrived.ensures.value at (refused-answer c.as_slice-arrived.result.now c.args.n c.in-Some.number c.in-Some.ensures.some c.answer_of.result c.answer_of.ensures)
+    rw c.as_slice-arrived.ensures.value at
+    (refused-answer c.as_slice-arrived.result.now c.args.n c.in-Some.number
+    c.in-Some.ensures.some c.answer_of.result c.answer_of.ensures)
 
 pub returns-in-Some-clause-memory : goal.returns-in-Some-clause-memory
 returns-in-Some-clause-memory c =
-    rw c.as_slice-arrived.ensures.value at (memory-answer c.as_slice-arrived.result.now c.args.n c.in-Some.number c.in-Some.ensures.some c.answer_of.result c.answer_of.ensures)
+    rw c.as_slice-arrived.ensures.value at
+    (memory-answer c.as_slice-arrived.result.now c.args.n c.in-Some.number
+    c.in-Some.ensures.some c.answer_of.result c.answer_of.ensures)
 
 pub all_pictures-requires : goal.all_pictures-requires
 all_pictures-requires c = rw c.as_slice-arrived.ensures.value at (PassedBelow-found c.as_slice-arrived.result.now c.args.n c.in_default.ensures.none)

@@ -9,7 +9,9 @@ unreachable-requires c =
     let place : c.args.from + c.loop-k.k + 1 - 1 ≡ c.args.from + c.loop-k.k = omega arith in
     let ends = IsSome-run-below c.args.movie.now c.args.start.now c.args.from (c.loop-k.k + 1) c.args.len (omega arith) c.requires.ends in
     no_fault c.args.movie.now c.args.start.now c.args.from c.loop-k.k c.in-Some.field-0.kind ends
-    (faults-here c.args.movie.now c.args.start.now c.args.from c.loop-k.k _ c.loop-k.state c.input.result c.loop-k.invariant place c.input.ensures _ c.halt.new.state (rw c.cart.ensures at c.in-Some.ensures.failed))
+    (faults-here c.args.movie.now c.args.start.now c.args.from c.loop-k.k _ c.loop-k.state
+    c.input.result c.loop-k.invariant place c.input.ensures _ c.halt.new.state
+    (rw c.cart.ensures at c.in-Some.ensures.failed))
 
 pub loop-k-preserved : goal.loop-k-preserved
 loop-k-preserved c =

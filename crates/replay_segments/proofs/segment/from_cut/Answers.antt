@@ -8,28 +8,28 @@ use Rattle.replay_segments.proofs.segment.from_cut.Goals as goal
 pub overflow_sub-end : goal.overflow_sub-end
 overflow_sub-end c =
     let is =
-    IsStretch-found c.args.movie.now c.args.cuts.now c.args.i c.in-Some.cut c.checkpoint-checkpoint.result.now c.args.end c.frames.ensures.lawful
+    IsStretch-found c.args.movie.now c.args.cuts.now c.args.i c.in-Some.cut c.checkpoint-checkpoint.result.now c.args.end c.requires.lawful
     c.requires.fit (sym c.in-Some.ensures) c.checkpoint-checkpoint.ensures c.requires.end in
     is.le
 
 pub judge_frames-requires-clause-range : goal.judge_frames-requires-clause-range
 judge_frames-requires-clause-range c =
     let is =
-    IsStretch-found c.args.movie.now c.args.cuts.now c.args.i c.in-Some.cut c.checkpoint-checkpoint.result.now c.args.end c.frames.ensures.lawful
+    IsStretch-found c.args.movie.now c.args.cuts.now c.args.i c.in-Some.cut c.checkpoint-checkpoint.result.now c.args.end c.requires.lawful
     c.requires.fit (sym c.in-Some.ensures) c.checkpoint-checkpoint.ensures c.requires.end in
     omega (arith, is.le, c.requires.within)
 
 pub judge_frames-requires-clause-next : goal.judge_frames-requires-clause-next
 judge_frames-requires-clause-next c =
     let is =
-    IsStretch-found c.args.movie.now c.args.cuts.now c.args.i c.in-Some.cut c.checkpoint-checkpoint.result.now c.args.end c.frames.ensures.lawful
+    IsStretch-found c.args.movie.now c.args.cuts.now c.args.i c.in-Some.cut c.checkpoint-checkpoint.result.now c.args.end c.requires.lawful
     c.requires.fit (sym c.in-Some.ensures) c.checkpoint-checkpoint.ensures c.requires.end in
-    IsNext-cut c.args.movie.now c.in-Some.cut c.checkpoint-checkpoint.result.now c.frames.ensures.lawful is.at.positive is.at.checkpoint
+    IsNext-cut c.args.movie.now c.in-Some.cut c.checkpoint-checkpoint.result.now c.requires.lawful is.at.positive is.at.checkpoint
 
 pub returns-clause-judged : goal.returns-clause-judged
 returns-clause-judged c =
     let is =
-    IsStretch-found c.args.movie.now c.args.cuts.now c.args.i c.in-Some.cut c.checkpoint-checkpoint.result.now c.args.end c.frames.ensures.lawful
+    IsStretch-found c.args.movie.now c.args.cuts.now c.args.i c.in-Some.cut c.checkpoint-checkpoint.result.now c.args.end c.requires.lawful
     c.requires.fit (sym c.in-Some.ensures) c.checkpoint-checkpoint.ensures c.requires.end in
     IfOk-follows _ (λ v. IsSegment c.args.movie.now c.args.cuts.now c.args.keep (c.args.i + 1) v) c.judge_frames.result
     (λ v judged. IsSegment-cut c.args.movie.now c.args.cuts.now c.args.i c.in-Some.cut c.checkpoint-checkpoint.result.now is.at c.args.keep _ v is.ends judged)
@@ -38,7 +38,7 @@ returns-clause-judged c =
 pub returns-clause-refused : goal.returns-clause-refused
 returns-clause-refused c =
     let is =
-    IsStretch-found c.args.movie.now c.args.cuts.now c.args.i c.in-Some.cut c.checkpoint-checkpoint.result.now c.args.end c.frames.ensures.lawful
+    IsStretch-found c.args.movie.now c.args.cuts.now c.args.i c.in-Some.cut c.checkpoint-checkpoint.result.now c.args.end c.requires.lawful
     c.requires.fit (sym c.in-Some.ensures) c.checkpoint-checkpoint.ensures c.requires.end in
     OnErr-follows _ (HasKept (job_of c.args.movie.now c.args.cuts.now c.args.keep) (c.args.i + 1)) c.judge_frames.result
     (λ some. HasKept-cut (job_of c.args.movie.now c.args.cuts.now c.args.keep) c.args.i c.in-Some.cut c.checkpoint-checkpoint.result.now _ is.at is.ends some)

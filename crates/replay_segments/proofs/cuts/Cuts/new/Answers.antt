@@ -45,5 +45,9 @@ invariant_of-result c =
 pub returns-clause-fit : goal.returns-clause-fit
 returns-clause-fit c =
     let len = c.args.numbers.ok.0 in
-    let end = c.len-i-end.ensures in
-    (λ _. AreCutsBelow-whole (length c.args.movie.now.checkpoints) c.args.numbers.items c.loop-i.i c.loop-i.last (omega (arith, len, end)) c.loop-i.invariant, λ _. refl)
+    let end = c.len-i-end.ensures in (
+      λ _. AreCutsBelow-whole
+          (length c.args.movie.now.checkpoints) c.args.numbers.items c.loop-i.i c.loop-i.last
+          (omega (arith, len, end)) c.loop-i.invariant,
+      λ _. refl,
+    )

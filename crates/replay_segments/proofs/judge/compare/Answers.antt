@@ -1,6 +1,6 @@
 use Rattle.std.proofs.Common.{◌≡◌, ◌+◌, ◌-◌, arith}
 use Rattle.replay_segments.proofs.CheckpointLemmas.{IsClaim-later, IsClaim-true}
-use Rattle.replay_segments.proofs.judge.next_checkpoint.Goals as goal
+use Rattle.replay_segments.proofs.judge.compare.Goals as goal
 
 pub returns-then-checkpoint-frame : goal.returns-then-checkpoint-frame
 returns-then-checkpoint-frame c =
