@@ -163,7 +163,11 @@ module _ (id : Text) (least most : ℕ) where
   values_good : (name : Text) (how : Reading) (s : ValueSource) (values : List Text) (rows : List Row)
       → (bytes_eq name id ≡ true → IsFilled values how) → AreGood rows → AreGood (with_values name how s values rows)
   values_good name how s values rows filled good = at_good name (more_values s values) _ rows
-      (λ r is g. (λ own. let now = g own in let new = filled (same_name r name is own) in (longer r.values values new.0, both_in r.values values now.1 new.1, now.2), tt))
+      (λ r is g. (
+        λ own. let now = g own in let new = filled (same_name r name is own)
+            in (longer r.values values new.0, both_in r.values values now.1 new.1, now.2),
+        tt,
+      ))
       (filled, tt) good
 
   count_good : (name : Text) (how : Reading) (s : ValueSource) (n : ℕ) (rows : List Row) → bytes_eq name id ≡ false
@@ -412,7 +416,12 @@ module _ (id : Text) (least most : ℕ) where
           let fault : given_default_fault a (v ∷ vs) ≡ [] = rw some at n in
           let length_some : 0 < length (v ∷ vs) = omega arith in
           values_good a.id (reading_by a) DefaultValue (v ∷ vs) rows
-          (λ mine. (length_some, fault_free a (v ∷ vs) (own mine) (none_then (request_kinds (action_of a)) (values_fault a (v ∷ vs)) fault), reads a (own mine)))
+          (λ mine. (
+            length_some,
+            fault_free a (v ∷ vs) (own mine)
+                (none_then (request_kinds (action_of a)) (values_fault a (v ∷ vs)) fault),
+            reads a (own mine),
+          ))
           good
 
       go : (b : Bool) → (if b || is_empty a.defaults then [] else given_default_fault a a.defaults) ≡ []

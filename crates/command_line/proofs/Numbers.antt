@@ -1,5 +1,5 @@
 -- Where the parse of a command finds no mistake, each of its numbers is there, and in its range.
-use Rattle.std.proofs.Common.{◌≡◌, ◌&&◌, ◌||◌, ◌⊎◌, ◌++◌, ℕ, Bool, true, false, not, List, [], ◌∷◌}
+use Rattle.std.proofs.Common.{◌≡◌, ◌&&◌, ◌||◌, ◌⊎◌, ◌++◌, ℕ, Bool, true, false, not, List, [], ◌∷◌, rules}
 use Rattle.std.proofs.Common.{Option, Some, None, if◌then◌else◌, is_some, codes, sym, subst, refl}
 use Rattle.std.proofs.Common.{ap, inl, inr, unwrap_or, IfSome, true≢false, arith}
 use Rattle.std.specs.Prelude.{find, fold, slice_get, option_and_then, option_map}
@@ -235,13 +235,27 @@ built_has a words have none =
     entered_has a (stop_after a.top.rules (names_of a) words) have
     (none_first _ _ (none_then (walk_fault a.top (names_of a) (walk_from nothing_held) words) _ none))
 
+-- In the order of help: `verify`, `report`, `make`, `info`, `inputs`, `convert`, `frames`, `pictures`,
+-- `cut`, `trace`, and `help`. An argument that is no number has nothing to be shown.
 program_has : HaveNumbers (built program_app).subs
 program_has = (
-  (λ words none. (tt, (number_there (codes "workers") 1 64 _ words (λ h. absurd (true≢false (sym h)), (λ h. record { action = refl; range = refl; parser = refl }, (λ h. absurd (true≢false (sym h)), (λ h. absurd (true≢false (sym h)), (λ h. absurd (true≢false (sym h)), (λ h. absurd (true≢false (sym h)), (λ h. absurd (true≢false (sym h)), tt))))))) (inl (inr (inl (refl, refl)))) none, (number_there (codes "every") 1 65535 _ words (λ h. absurd (true≢false (sym h)), (λ h. absurd (true≢false (sym h)), (λ h. record { action = refl; range = refl; parser = refl }, (λ h. absurd (true≢false (sym h)), (λ h. absurd (true≢false (sym h)), (λ h. absurd (true≢false (sym h)), (λ h. absurd (true≢false (sym h)), tt))))))) (inl (inr (inr (inl (refl, refl))))) none, (number_there (codes "first") 1 4294967295 _ words (λ h. absurd (true≢false (sym h)), (λ h. absurd (true≢false (sym h)), (λ h. absurd (true≢false (sym h)), (λ h. record { action = refl; range = refl; parser = refl }, (λ h. absurd (true≢false (sym h)), (λ h. absurd (true≢false (sym h)), (λ h. absurd (true≢false (sym h)), tt))))))) (inl (inr (inr (inr (inl (refl, refl)))))) none, (number_there (codes "count") 0 600 _ words (λ h. absurd (true≢false (sym h)), (λ h. absurd (true≢false (sym h)), (λ h. absurd (true≢false (sym h)), (λ h. absurd (true≢false (sym h)), (λ h. record { action = refl; range = refl; parser = refl }, (λ h. absurd (true≢false (sym h)), (λ h. absurd (true≢false (sym h)), tt))))))) (inl (inr (inr (inr (inr (inl (refl, refl))))))) none, (tt, tt))))))),
-  (
-    (λ words none. (tt, (number_there (codes "workers") 1 64 _ words (λ h. absurd (true≢false (sym h)), (λ h. record { action = refl; range = refl; parser = refl }, (λ h. absurd (true≢false (sym h)), (λ h. absurd (true≢false (sym h)), tt)))) (inl (inr (inl (refl, refl)))) none, (tt, tt)))),
+  (λ words none. (
+    tt,
     (
-      (λ words none. (tt, (tt, (tt, (number_there (codes "every") 1 4294967295 _ words (λ h. absurd (true≢false (sym h)), (λ h. absurd (true≢false (sym h)), (λ h. absurd (true≢false (sym h)), (λ h. record { action = refl; range = refl; parser = refl }, (λ h. absurd (true≢false (sym h)), (λ h. absurd (true≢false (sym h)), tt)))))) (inr (inr (inr (inr (inl (refl, refl)))))) none, (tt, tt)))))),
+      number_there (codes "workers") 1 64 _ words (search rules) (search rules) none,
+      (
+        number_there (codes "every") 1 65535 _ words (search rules) (search rules) none,
+        (
+          number_there (codes "first") 1 4294967295 _ words (search rules) (search rules) none,
+          (number_there (codes "count") 0 600 _ words (search rules) (search rules) none, (tt, tt)),
+        ),
+      ),
+    ),
+  )),
+  (
+    (λ words none. (tt, (number_there (codes "workers") 1 64 _ words (search rules) (search rules) none, (tt, tt)))),
+    (
+      (λ words none. (tt, (tt, (tt, (number_there (codes "every") 1 4294967295 _ words (search rules) (search rules) none, (tt, tt)))))),
       (
         (λ words none. (tt, (tt, tt))),
         (
@@ -249,17 +263,41 @@ program_has = (
           (
             (λ words none. (tt, (tt, tt))),
             (
-              (λ words none. (tt, (number_there (codes "first") 1 4294967295 _ words (λ h. absurd (true≢false (sym h)), (λ h. record { action = refl; range = refl; parser = refl }, (λ h. absurd (true≢false (sym h)), (λ h. absurd (true≢false (sym h)), (λ h. absurd (true≢false (sym h)), (λ h. absurd (true≢false (sym h)), tt)))))) (inl (inr (inl (refl, refl)))) none, (number_there (codes "count") 0 4294967295 _ words (λ h. absurd (true≢false (sym h)), (λ h. absurd (true≢false (sym h)), (λ h. record { action = refl; range = refl; parser = refl }, (λ h. absurd (true≢false (sym h)), (λ h. absurd (true≢false (sym h)), (λ h. absurd (true≢false (sym h)), tt)))))) (inl (inr (inr (inl (refl, refl))))) none, (tt, (tt, tt)))))),
-              (
-                (λ words none. (tt, (tt, (number_there (codes "first") 1 4294967295 _ words (λ h. absurd (true≢false (sym h)), (λ h. absurd (true≢false (sym h)), (λ h. record { action = refl; range = refl; parser = refl }, (λ h. absurd (true≢false (sym h)), (λ h. absurd (true≢false (sym h)), tt))))) (inl (inr (inr (inl (refl, refl))))) none, (number_there (codes "count") 0 4294967295 _ words (λ h. absurd (true≢false (sym h)), (λ h. absurd (true≢false (sym h)), (λ h. absurd (true≢false (sym h)), (λ h. record { action = refl; range = refl; parser = refl }, (λ h. absurd (true≢false (sym h)), tt))))) (inl (inr (inr (inr (inl (refl, refl)))))) none, tt))))),
+              (λ words none. (
+                tt,
                 (
-                  (λ words none. (tt, (number_there (codes "every") 1 4294967295 _ words (λ h. absurd (true≢false (sym h)), (λ h. record { action = refl; range = refl; parser = refl }, (λ h. absurd (true≢false (sym h)), (λ h. absurd (true≢false (sym h)), (λ h. absurd (true≢false (sym h)), (λ h. absurd (true≢false (sym h)), tt)))))) (inr (inr (inl (refl, refl)))) none, (tt, (number_there (codes "first") 1 4294967295 _ words (λ h. absurd (true≢false (sym h)), (λ h. absurd (true≢false (sym h)), (λ h. absurd (true≢false (sym h)), (λ h. record { action = refl; range = refl; parser = refl }, (λ h. absurd (true≢false (sym h)), (λ h. absurd (true≢false (sym h)), tt)))))) (inl (inr (inr (inr (inl (refl, refl)))))) none, (number_there (codes "count") 0 4294967295 _ words (λ h. absurd (true≢false (sym h)), (λ h. absurd (true≢false (sym h)), (λ h. absurd (true≢false (sym h)), (λ h. absurd (true≢false (sym h)), (λ h. record { action = refl; range = refl; parser = refl }, (λ h. absurd (true≢false (sym h)), tt)))))) (inl (inr (inr (inr (inr (inl (refl, refl))))))) none, tt)))))),
+                  number_there (codes "first") 1 4294967295 _ words (search rules) (search rules) none,
+                  (number_there (codes "count") 0 4294967295 _ words (search rules) (search rules) none, (tt, (tt, tt))),
+                ),
+              )),
+              (
+                (λ words none. (
+                  tt,
                   (
-                    (λ words none. (tt, (number_there (codes "frame") 1 4294967295 _ words (λ h. absurd (true≢false (sym h)), (λ h. record { action = refl; range = refl; parser = refl }, (λ h. absurd (true≢false (sym h)), tt))) (inr (inr (inl (refl, refl)))) none, tt))),
+                    tt,
                     (
-                      (λ words none. tt),
-                      tt,
+                      number_there (codes "first") 1 4294967295 _ words (search rules) (search rules) none,
+                      (number_there (codes "count") 0 4294967295 _ words (search rules) (search rules) none, tt),
                     ),
+                  ),
+                )),
+                (
+                  (λ words none. (
+                    tt,
+                    (
+                      number_there (codes "every") 1 4294967295 _ words (search rules) (search rules) none,
+                      (
+                        tt,
+                        (
+                          number_there (codes "first") 1 4294967295 _ words (search rules) (search rules) none,
+                          (number_there (codes "count") 0 4294967295 _ words (search rules) (search rules) none, tt),
+                        ),
+                      ),
+                    ),
+                  )),
+                  (
+                    (λ words none. (tt, (number_there (codes "frame") 1 4294967295 _ words (search rules) (search rules) none, tt))),
+                    ((λ words none. tt), tt),
                   ),
                 ),
               ),

@@ -97,7 +97,10 @@ one_word s names w word off going none =
     let met = word_met s.rules names w.is_trailing w.waiting w.position word w.held in
     let fault : or_else (word_fault s names w.is_trailing w.waiting word w.held) (step_fault s w.position met.0 met.1) ≡ [] =
     subst
-    (λ (o : Option (Text × List Text)). (if is_some o then [] else or_else (word_fault s names w.is_trailing w.waiting word w.held) (step_fault s w.position met.0 met.1)) ≡ [])
+    (λ (o : Option (Text × List Text)).
+    (if is_some o then []
+    else or_else (word_fault s names w.is_trailing w.waiting word w.held)
+    (step_fault s w.position met.0 met.1)) ≡ [])
     going none in
     let unstopped : NoHelp w.stopped = subst NoHelp (sym going) tt in
     let good = by_name s w word w.is_trailing (subcommand_met names w.waiting word) off unstopped (none_first _ _ fault) in

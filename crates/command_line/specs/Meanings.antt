@@ -7,6 +7,7 @@ use Rattle.clap.specs.Words.{Row, Text, all_of, first_of, one_of}
 use Rattle.hex.specs.Hex.{decode_sized}
 use Rattle.replay_plan.specs.Limits.{most_watches}
 use Rattle.replay_plan.specs.declared.input_form.InputForm.TheVariants as forms
+use Rattle.replay_plan.specs.declared.notation.Notation.TheVariants.{Json}
 use Rattle.replay_plan.specs.declared.plan.Plan.{Plan}
 use Rattle.replay_plan.specs.declared.watches.Address.{Address}
 use Rattle.replay_plan.specs.declared.watches.Details.{Details}
@@ -61,19 +62,19 @@ IsCommandAt name rows (Verify file plan pictures) =
     (name ≡ codes "verify") × (string_bytes file ≡ word_of file_row rows)
     × IsPlan rows (is_some pictures) plan
     × (option_map string_bytes pictures ≡ first_of pictures_row.name rows)
-IsCommandAt name rows (Report file workers json) =
+IsCommandAt name rows (Report file workers notation) =
     (name ≡ codes "report") × (string_bytes file ≡ word_of file_row rows)
     × (number_of workers_row rows ≡ Some workers.number)
-    × ((json ≡ true) ↔ (one_of json_row.name rows ≡ Some (codes "true")))
+    × ((notation ≡ Json) ↔ (one_of json_row.name rows ≡ Some (codes "true")))
 IsCommandAt name rows (Make rom inputs form every out) =
     (name ≡ codes "make") × (string_bytes rom ≡ word_of rom_row rows)
     × (string_bytes inputs ≡ word_of inputs_row rows)
     × ((form ≡ forms.Text) ↔ (one_of text_row.name rows ≡ Some (codes "true")))
     × (number_of checkpoints_row rows ≡ Some (non_zero_u32_get every))
     × (string_bytes out ≡ word_of out_row rows)
-IsCommandAt name rows (Info file json) =
+IsCommandAt name rows (Info file notation) =
     (name ≡ codes "info") × (string_bytes file ≡ word_of file_row rows)
-    × ((json ≡ true) ↔ (one_of json_row.name rows ≡ Some (codes "true")))
+    × ((notation ≡ Json) ↔ (one_of json_row.name rows ≡ Some (codes "true")))
 IsCommandAt name rows (Inputs file) =
     (name ≡ codes "inputs") × (string_bytes file ≡ word_of file_row rows)
 IsCommandAt name rows (Convert older newer) =

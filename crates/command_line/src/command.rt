@@ -2,7 +2,7 @@
 ghost use Rattle.std.specs.Prelude.{◌≡◌};
 ghost use Rattle.command_line.specs.declared.command.LineFault.TheVariants.{Memory};
 
-use replay_plan::{Details, InputForm, Plan, Workers};
+use replay_plan::{Details, InputForm, Notation, Plan, Workers};
 use std::alloc::AllocError;
 use std::num::NonZeroU32;
 
@@ -22,8 +22,7 @@ pub enum Command {
         file: String,
         /// How many threads replay it.
         workers: Workers,
-        /// Whether it is written as an object of JSON, and else as lines.
-        json: bool,
+        notation: Notation,
     },
     /// Make a movie of a cartridge and the inputs of its frames.
     Make {
@@ -38,8 +37,7 @@ pub enum Command {
     /// Say what a movie holds.
     Info {
         file: String,
-        /// Whether it is written as an object of JSON, and else as a line.
-        json: bool,
+        notation: Notation,
     },
     /// Print the inputs of a movie as text.
     Inputs {

@@ -14,15 +14,16 @@ ghost use Rattle.command_line.specs.Table.{commands, program_app, verify_listed,
 ghost use Rattle.command_line.specs.Table.{make_listed};
 ghost use Rattle.command_line.specs.Table.{workers_row, cuts_row, first_row, count_row};
 ghost use Rattle.command_line.specs.Table.{asked_row, checkpoints_row, cut_listed, drawing_listed};
-ghost use Rattle.command_line.specs.Table.{frame_row, pictures_row, text_row, trace_listed};
+ghost use Rattle.command_line.specs.Table.{frame_row, json_row, pictures_row, text_row, trace_listed};
 ghost use Rattle.replay_plan.specs.declared.input_form.InputForm.TheVariants.{Text};
+ghost use Rattle.replay_plan.specs.declared.notation.Notation.TheVariants.{Json};
 
 use crate::command::{Command, LineFault};
 use crate::frames::frames_of;
 use crate::parser::program;
 use clap::ArgMatches;
 use clap::error::ErrorKind;
-use replay_plan::{InputForm, Keep, Plan, Workers};
+use replay_plan::{InputForm, Keep, Notation, Plan, Workers};
 use std::alloc::{AllocError, Global};
 use std::convert::AsStr;
 use std::num::{NonZeroU16, NonZeroU32};
@@ -128,14 +129,14 @@ fn report_of(alloc: Global, matches: &ArgMatches<'_>) -> Result<Command, AllocEr
     ensures ok { IfOk result (IsCommandAt (codes "report") (rows_of (found_of matches.now))) }
 {
     let file = text_of(alloc, matches, "file")?;
-    let json = is_given(matches, "json");
+    let notation = notation_of(matches);
     let Some(workers) = workers_of(matches) else {
         unreachable!()
     };
     Ok(Command::Report {
         file,
         workers,
-        json,
+        notation,
     })
 }
 
@@ -155,6 +156,18 @@ pub(crate) fn is_given(matches: &ArgMatches<'_>, name: &str) -> bool
         ↔ (one_of name.now (rows_of (found_of matches.now)) ≡ Some (codes "true")) }
 {
     matches.get_one::<bool>(name).unwrap_or(false)
+}
+
+/// How facts are written: as JSON if that is asked for, and else as lines.
+fn notation_of(matches: &ArgMatches<'_>) -> Notation
+    ensures { (result ≡ Json)
+        ↔ (one_of json_row.name (rows_of (found_of matches.now)) ≡ Some (codes "true")) }
+{
+    if is_given(matches, "json") {
+        Notation::Json
+    } else {
+        Notation::Lines
+    }
 }
 
 /// The form of the inputs: text if that is asked for, and else bytes.
@@ -288,8 +301,8 @@ fn info_of(alloc: Global, matches: &ArgMatches<'_>) -> Result<Command, AllocErro
     ensures ok { IfOk result (IsCommandAt (codes "info") (rows_of (found_of matches.now))) }
 {
     let file = text_of(alloc, matches, "file")?;
-    let json = is_given(matches, "json");
-    Ok(Command::Info { file, json })
+    let notation = notation_of(matches);
+    Ok(Command::Info { file, notation })
 }
 
 /// What `clap` says of arguments that are no command, or that ask for help.

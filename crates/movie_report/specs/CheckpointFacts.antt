@@ -5,7 +5,7 @@ use Rattle.std.proofs.Common.{max}
 use Rattle.movie_file.specs.Movie.{MovieData}
 use Rattle.movie_file.specs.declared.checkpoint.Checkpoint.{Checkpoint}
 use Rattle.movie_report.specs.Notations.{number_fact}
-use Rattle.movie_report.specs.declared.notation.Notation.{Notation}
+use Rattle.replay_plan.specs.declared.notation.Notation.{Notation}
 
 -- The gaps before checkpoints: how many frames each stands after the one before it, and the first
 -- after frame `last`.

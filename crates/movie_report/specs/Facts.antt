@@ -28,8 +28,8 @@ use Rattle.movie_report.specs.Differences.{differences_text}
 use Rattle.movie_report.specs.Notations.{number_fact, word_fact}
 use Rattle.movie_report.specs.Segments.{HasSegments}
 use Rattle.movie_report.specs.declared.differences.Comparison.TheVariants.{Start, Claim}
-use Rattle.movie_report.specs.declared.notation.Notation.{Notation}
-use Rattle.movie_report.specs.declared.notation.Notation.TheVariants.{Lines, Json}
+use Rattle.replay_plan.specs.declared.notation.Notation.{Notation}
+use Rattle.replay_plan.specs.declared.notation.Notation.TheVariants.{Lines, Json}
 
 -- The bank scheme by which a cartridge is played.
 abbrev pub banks_of : List ℕ → List ℕ

@@ -12,8 +12,8 @@ use Rattle.replay_segments.specs.declared.verdict.Verdict.{Verdict}
 use Rattle.replay_segments.specs.declared.verdict.Verdict.TheVariants.{Genuine, FalseCheckpoint}
 use Rattle.replay_segments.specs.declared.verdict.Verdict.TheVariants.{Fault}
 use Rattle.movie_report.specs.CheckpointFacts.{last_frame, last_of}
-use Rattle.movie_report.specs.declared.notation.Notation.{Notation}
-use Rattle.movie_report.specs.declared.notation.Notation.TheVariants.{Lines, Json}
+use Rattle.replay_plan.specs.declared.notation.Notation.{Notation}
+use Rattle.replay_plan.specs.declared.notation.Notation.TheVariants.{Lines, Json}
 use Rattle.movie_report.specs.declared.segments.Sign.{Sign}
 use Rattle.movie_report.specs.declared.segments.Sign.TheVariants.{Passes, Differs, Faults}
 

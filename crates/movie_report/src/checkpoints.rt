@@ -2,8 +2,9 @@
 ghost use Rattle.std.specs.Prelude.{◌≡◌, IfOk, string_bytes};
 ghost use Rattle.movie_report.specs.CheckpointFacts.{checkpoints_text, gaps_from, largest, rest_text};
 
-use crate::notation::{Notation, NumberFact};
+use crate::notation::NumberFact;
 use movie_file::Movie;
+use replay_plan::Notation;
 use std::alloc::{AllocError, Global};
 
 /// The largest number of frames from the start or a checkpoint to the next checkpoint.

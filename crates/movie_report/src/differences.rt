@@ -5,10 +5,10 @@ ghost use Rattle.movie_report.specs.Differences.{pairs_text, text_if_different};
 ghost use Rattle.movie_report.specs.Private.Elements.{AreElements};
 ghost use Rattle.movie_report.specs.Private.Places.{state_number_at};
 
-use crate::notation::Notation;
 use crate::numbers::{COUNT, Number};
 use hex::encode_upper;
 use movie_file::STATE_LENGTH;
+use replay_plan::Notation;
 use std::alloc::{AllocError, Global};
 
 /// Which states are compared.

@@ -13,13 +13,14 @@ ghost use Rattle.movie_report.specs.Facts.{registers_text, start_text, verdict_t
 
 use crate::checkpoints::checkpoint_facts;
 use crate::differences::{Comparison, differences};
-use crate::notation::{Notation, NumberFact, WordFact};
+use crate::notation::{NumberFact, WordFact};
 use crate::segments::segment_facts;
 use hex::encode;
 use input_text::is_idle;
 use md5::Md5;
 use mos_cpu::Cpu;
 use movie_file::{Movie, write_state};
+use replay_plan::Notation;
 use replay_segments::{LeftState, Verdict, found_state, left_state};
 use riot_map::Cart;
 use sha1::Sha1;

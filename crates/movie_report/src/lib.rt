@@ -9,4 +9,3 @@ mod numbers;
 mod segments;
 
 pub use facts::report;
-pub use notation::Notation;

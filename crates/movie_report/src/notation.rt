@@ -1,13 +1,6 @@
-//! How facts are written.
+//! Facts as they are written.
+use replay_plan::Notation;
 use std::fmt;
-
-/// How a report is written: a line for each fact, or one object of JSON (RFC 8259) with a member
-/// for each.
-#[derive(Clone, Copy, Debug, PartialEq, Eq)]
-pub enum Notation {
-    Lines,
-    Json,
-}
 
 /// A fact that is a number: the notation, the name of its member, what stands before the number in
 /// its line, the number, and what stands after it there.

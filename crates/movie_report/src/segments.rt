@@ -4,9 +4,8 @@ ghost use Rattle.replay_segments.specs.Cuts.{Fits};
 ghost use Rattle.movie_report.specs.Segments.{AreSigns, HasSegments, HasSign, character_of};
 ghost use Rattle.movie_report.specs.Segments.{ends_with_checkpoint, sign_of, signs_text};
 
-use crate::notation::Notation;
 use movie_file::Movie;
-use replay_plan::Keep;
+use replay_plan::{Keep, Notation};
 use replay_segments::{Cuts, Verdict, replay};
 use std::alloc::{AllocError, Global};
 use std::num::NonZeroU16;

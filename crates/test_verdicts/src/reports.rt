@@ -2,8 +2,8 @@
 //! for minutes. Whole reports, with digests, are compared by `ci/cases`.
 
 use crate::movies::{ENDLESS_FRAMES, SEVEN_FRAMES, after_frame, movie, power_on, read, two_frames};
-use movie_report::{Notation, report};
-use replay_plan::Keep;
+use movie_report::report;
+use replay_plan::{Keep, Notation};
 use replay_segments::verify_one;
 use std::alloc::Global;
 use std::test::Fail;

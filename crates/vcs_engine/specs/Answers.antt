@@ -5,8 +5,8 @@ use Rattle.movie_file.specs.Movie.{MovieData}
 use Rattle.movie_file.specs.Spelling.{spelling}
 use Rattle.movie_file.specs.MovieError.{refusal_text}
 use Rattle.movie_file.specs.declared.error.MovieError.{MovieError}
-use Rattle.movie_report.specs.declared.notation.Notation.{Notation}
-use Rattle.movie_report.specs.declared.notation.Notation.TheVariants.{Lines, Json}
+use Rattle.replay_plan.specs.declared.notation.Notation.{Notation}
+use Rattle.replay_plan.specs.declared.notation.Notation.TheVariants.{Lines, Json}
 use Rattle.vcs_engine.specs.Lines.{line_bytes, status_of}
 use Rattle.vcs_engine.specs.declared.line.Line.{Line}
 use Rattle.vcs_engine.specs.declared.line.Line.TheVariants as lines

@@ -3,8 +3,8 @@ use Rattle.std.specs.Prelude.{ℕ, List, [], ◌∷◌, ◌++◌, codes, length,
 use Rattle.std.specs.Fmt.{decimal}
 use Rattle.movie_file.specs.Movie.{MovieData}
 use Rattle.movie_file.specs.declared.error.MovieError.{MovieError}
-use Rattle.movie_report.specs.declared.notation.Notation.{Notation}
-use Rattle.movie_report.specs.declared.notation.Notation.TheVariants.{Lines, Json}
+use Rattle.replay_plan.specs.declared.notation.Notation.{Notation}
+use Rattle.replay_plan.specs.declared.notation.Notation.TheVariants.{Lines, Json}
 use Rattle.vcs_engine.specs.Answers.{AnswerData, line_answer, refusal, refusal_in}
 use Rattle.vcs_engine.specs.declared.line.Line.TheVariants as lines
 use Rattle.vcs_engine.specs.declared.status.Status.TheVariants.{Done}

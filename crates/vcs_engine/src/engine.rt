@@ -63,7 +63,8 @@ pub fn run<T: Threads + Wait + Sync, R: Read, W: Write, P: Write, G: CountedGate
     ensures ok { IfOk result (λ status. (input : List ℕ) × (answer : AnswerData) × ReadsAll (R.remaining movie.old) (R.remaining movie.new) input
         × Tells plan.now.keep input answer × (status ≡ answer.status) × Appends (W.contents verdict.old) (W.contents verdict.new) answer.line
         × Appends (P.contents pictures.old) (P.contents pictures.new) (pictures_bytes answer.pictures)) }
-    ensures write_fault { result ≡ Err RunError.WriteFault → (input : List ℕ) × (answer : AnswerData) × ReadsAll (R.remaining movie.old) (R.remaining movie.new) input
+    ensures write_fault { result ≡ Err RunError.WriteFault → (input : List ℕ)
+        × (answer : AnswerData) × ReadsAll (R.remaining movie.old) (R.remaining movie.new) input
         × Tells plan.now.keep input answer × WritesPart (W.contents verdict.old) (W.contents verdict.new) answer.line
         (P.contents pictures.old) (P.contents pictures.new) (pictures_bytes answer.pictures) }
 

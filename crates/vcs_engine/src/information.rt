@@ -13,7 +13,7 @@ use crate::run_error::RunError;
 use crate::status::Status;
 use crate::streams::read_all;
 use movie_file::{Movie, MovieError, read_movie};
-use movie_report::Notation;
+use replay_plan::Notation;
 use std::alloc::{AllocError, Global};
 use std::io::{Read, Write};
 
@@ -69,7 +69,8 @@ pub fn run_information<R: Read, W: Write>(
 ) -> Result<Status, RunError>
     // The output is that of the bytes read, and nothing else.
     ensures ok { IfOk result (λ status. (input : List ℕ) × ReadsAll (R.remaining movie.old) (R.remaining movie.new) input
-        × (status ≡ (information_in notation (movie_at input)).status) × Appends (W.contents text.old) (W.contents text.new) (information_in notation (movie_at input)).line) }
+        × (status ≡ (information_in notation (movie_at input)).status)
+        × Appends (W.contents text.old) (W.contents text.new) (information_in notation (movie_at input)).line) }
     ensures write_fault { result ≡ Err RunError.WriteFault → (input : List ℕ) × ReadsAll (R.remaining movie.old) (R.remaining movie.new) input
         × AppendsPrefix (W.contents text.old) (W.contents text.new) (information_in notation (movie_at input)).line }
 

@@ -6,7 +6,7 @@ use crate::answer::Answer;
 use crate::line::Line;
 use crate::status::Status;
 use movie_file::MovieError;
-use movie_report::Notation;
+use replay_plan::Notation;
 use std::alloc::{AllocError, Global};
 
 /// That bytes are no movie, as a line or as an object of JSON, with the text's end.
