@@ -1,8 +1,8 @@
 //! How the files of a command are opened.
 ghost use Rattle.std.specs.Prelude.{◌≡◌, ◌⊎◌, IfErr};
-ghost use Rattle.named_files.specs.Faults.{Names, NamesIfOpen, conflict};
+ghost use Rattle.named_files.specs.FileErrors.{Names, NamesIfOpen, conflict};
 
-use crate::faults::{CreateError, FileFault, Reason};
+use crate::file_error::{CreateError, FileError, Reason};
 use crate::identity::Identity;
 use crate::named::Named;
 use crate::output::Output;
@@ -12,12 +12,12 @@ use std::os::unix::fs::FileTypeExt;
 use std::rt::Files;
 
 /// Opens an input. The error is the system's.
-pub fn open<'a, R: Files>(rt: &R, name: &'a str) -> Result<Named<'a, R::File>, FileFault<'a>>
+pub fn open<'a, R: Files>(rt: &R, name: &'a str) -> Result<Named<'a, R::File>, FileError<'a>>
     ensures { IfErr result (Names name.now) }
 {
     match fs::open(rt, name) {
         Ok(file) => Ok(Named::new(name, file)),
-        Err(error) => Err(FileFault::new(name, Reason::System(error))),
+        Err(error) => Err(FileError::new(name, Reason::System(error))),
     }
 }
 
@@ -37,11 +37,11 @@ pub fn open_beside<'a, R: Files>(
     rt: &R,
     name: &'a str,
     output: &'a str,
-) -> Result<Named<'a, R::File>, FileFault<'a>>
-    ensures { IfErr result (λ fault. Names name.now fault ⊎ Names output.now fault) }
+) -> Result<Named<'a, R::File>, FileError<'a>>
+    ensures { IfErr result (λ error. Names name.now error ⊎ Names output.now error) }
 {
     if is_one_pipe(rt, name, output) {
-        return Err(FileFault::new(output, Reason::IsInput));
+        return Err(FileError::new(output, Reason::IsInput));
     }
     open(rt, name)
 }
@@ -107,7 +107,7 @@ pub fn create<'a, 'b, R: Files + AllocGlobal>(
 {
     let output = match open_output(rt, name, inputs) {
         Ok(output) => output,
-        Err(reason) => return Err(CreateError::Open(FileFault::new(name, reason))),
+        Err(reason) => return Err(CreateError::Open(FileError::new(name, reason))),
     };
     match Replacing::new(rt, rt.alloc(), name, output, whole) {
         Ok(replacing) => Ok(Named::new(name, replacing)),

@@ -4,7 +4,7 @@
 //! rules are this project's own.
 #![tactic(auto)]
 
-mod faults;
+mod file_error;
 mod files;
 mod identity;
 mod named;
@@ -12,12 +12,12 @@ mod output;
 mod replacing;
 mod size_limit;
 
-pub use faults::{CreateError, FileFault, Reason};
+pub use file_error::{CreateError, FileError, Reason};
 pub use files::{create, null_if_closed, open, open_beside};
 pub use identity::Identity;
 pub use named::Named;
 pub use replacing::{Replacing, Whole};
-pub use size_limit::{Limited, Room};
+pub use size_limit::{Limited, Quota};
 
 /// The name of standard input in messages.
 pub const STANDARD_INPUT: &str = "standard input";

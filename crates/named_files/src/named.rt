@@ -2,10 +2,10 @@
 ghost use Rattle.std.specs.Prelude.{◌≡◌, ◌≢◌, ◌+◌, IfErr, IfOk, IfSome, IsSomeAnd, OnOk, None, Some};
 ghost use Rattle.std.specs.Io.{ReadsAtMost, WritesAtMost};
 ghost use Rattle.std.specs.Io.KnownBytes.{Keeps, ReadConsumes, WriteAppends};
-ghost use Rattle.named_files.specs.Faults.{IsAbout, reason_at_length};
-ghost use Rattle.named_files.specs.declared.faults.Reason.TheVariants.{System, TookNothing};
+ghost use Rattle.named_files.specs.FileErrors.{IsAbout, reason_at_length};
+ghost use Rattle.named_files.specs.declared.file_error.Reason.TheVariants.{System, TookNothing};
 
-use crate::faults::{FileFault, Reason};
+use crate::file_error::{FileError, Reason};
 use crate::replacing::Replacing;
 use std::io::{self, Read, Write};
 use std::rt::Files;
@@ -49,12 +49,12 @@ impl<'a, S> Named<'a, S> {
     }
 
     /// The name and the reason, if it failed.
-    pub fn fault(&self) -> Option<FileFault<'a>>
+    pub fn file_error(&self) -> Option<FileError<'a>>
         ensures failed { IfSome self.now.reason (λ reason. IsSomeAnd result (IsAbout self.now.name.now reason)) }
         ensures whole { self.now.reason ≡ None → result ≡ None }
     {
         match self.reason {
-            Some(reason) => Some(FileFault::new(self.name, reason)),
+            Some(reason) => Some(FileError::new(self.name, reason)),
             None => None,
         }
     }

@@ -1,7 +1,7 @@
 //! Files that are whole or as they were.
 use crate::identity::Identity;
 use crate::output::Output;
-use crate::size_limit::Room;
+use crate::size_limit::Quota;
 use std::alloc::{AllocError, Global};
 use std::fs::{self, Metadata, OpenFile, OpenOptions};
 use std::io::{self, Write};
@@ -129,7 +129,7 @@ pub struct Replacing<'a, R: Files> {
     paths: Option<Paths>,
     /// What is open as the file beside.
     part: Option<R::File>,
-    room: Room,
+    quota: Quota,
 }
 
 impl<'a, R: Files> Replacing<'a, R> {
@@ -142,9 +142,9 @@ impl<'a, R: Files> Replacing<'a, R> {
         whole: Whole,
     ) -> Result<Replacing<'a, R>, AllocError> {
         let metadata = output.metadata();
-        let room = match &metadata {
-            Ok(metadata) if metadata.is_file() => Room::after(rt, 0),
-            _ => Room::UNLIMITED,
+        let quota = match &metadata {
+            Ok(metadata) if metadata.is_file() => Quota::after(rt, 0),
+            _ => Quota::UNLIMITED,
         };
         let paths = match metadata {
             Ok(metadata) => Paths::of(rt, alloc, name, metadata),
@@ -156,7 +156,7 @@ impl<'a, R: Files> Replacing<'a, R> {
             whole,
             paths: paths?,
             part: None,
-            room,
+            quota,
         })
     }
 
@@ -196,12 +196,12 @@ impl<'a, R: Files> Replacing<'a, R> {
 impl<R: Files> Write for Replacing<'_, R> {
     fn write(&mut self, buf: &[u8]) -> io::Result<usize> {
         self.begin()?;
-        let bytes = self.room.part(buf)?;
+        let bytes = self.quota.part(buf)?;
         let n = match &mut self.part {
             Some(part) => part.write(bytes)?,
             None => self.output.write(bytes)?,
         };
-        self.room.wrote(n);
+        self.quota.wrote(n);
         if self.part.is_some() && self.whole == Whole::Written && n == buf.len() {
             self.replace()?;
         }
@@ -224,7 +224,7 @@ impl<R: Files> Drop for Replacing<'_, R> {
             whole: _,
             paths,
             part,
-            room: _,
+            quota: _,
         } = self;
         if let (Some(paths), Some(_part)) = (paths, part) {
             paths.remove(rt);

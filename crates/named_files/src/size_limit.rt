@@ -3,7 +3,7 @@
 ghost use Rattle.std.specs.Prelude.{◌≡◌, ◌≤◌, ◌<◌, IfOk, IfSome, OnErr, Some, length, take};
 ghost use Rattle.std.specs.Io.{WritesAtMost};
 ghost use Rattle.std.specs.Io.KnownBytes.{WriteAppends};
-ghost use Rattle.named_files.specs.Faults.{left_after, with_room};
+ghost use Rattle.named_files.specs.FileErrors.{left_after, within_quota};
 
 use std::fs;
 use std::io::{self, Read, Write};
@@ -15,14 +15,14 @@ const TOO_LARGE: i32 = 27;
 /// The bytes that a file may have, if there is a limit. A system that has no such file as is read
 /// here says nothing of one.
 fn size_limit<R: Files>(rt: &R) -> Option<u64> {
-    let mut room = [0u8; 2048];
+    let mut buffer = [0u8; 2048];
     let Ok(mut file) = fs::open(rt, "/proc/self/limits") else {
         return None;
     };
-    let Ok(length) = file.read(&mut room) else {
+    let Ok(length) = file.read(&mut buffer) else {
         return None;
     };
-    let Ok(text) = str::from_utf8(&room[..length]) else {
+    let Ok(text) = str::from_utf8(&buffer[..length]) else {
         return None;
     };
     for line in text.lines() {
@@ -35,33 +35,33 @@ fn size_limit<R: Files>(rt: &R) -> Option<u64> {
 
 /// How many bytes may still be written to a file, if there is a limit.
 #[derive(Clone, Copy)]
-pub struct Room {
+pub struct Quota {
     left: Option<u64>,
 }
 
-impl Room {
+impl Quota {
     /// As many as anybody writes.
-    pub const UNLIMITED: Room = Room { left: None };
+    pub const UNLIMITED: Quota = Quota { left: None };
 
     /// Of a regular file in which so many bytes come before.
-    pub fn after<R: Files>(rt: &R, bytes: u64) -> Room {
-        Room {
+    pub fn after<R: Files>(rt: &R, bytes: u64) -> Quota {
+        Quota {
             left: size_limit(rt).map(|limit| limit.saturating_sub(bytes)),
         }
     }
 
     /// Of standard output.
-    pub fn of_standard_output<R: Files>(rt: &R) -> Room {
+    pub fn of_standard_output<R: Files>(rt: &R) -> Quota {
         match fs::metadata(rt, "/dev/stdout") {
-            Ok(metadata) if metadata.is_file() => Room::after(rt, metadata.len()),
-            _ => Room::UNLIMITED,
+            Ok(metadata) if metadata.is_file() => Quota::after(rt, metadata.len()),
+            _ => Quota::UNLIMITED,
         }
     }
 
     /// The first of some bytes, for which there is room: all, if all have room. If there is none it
     /// is the system's error.
     pub fn part<'b>(&self, bytes: &'b [u8]) -> io::Result<&'b [u8]>
-        ensures part { IfOk result (λ part. part.now ≡ take (with_room self.now.left (length bytes.now)) bytes.now) }
+        ensures part { IfOk result (λ part. part.now ≡ take (within_quota self.now.left (length bytes.now)) bytes.now) }
         ensures full { OnErr result ((self.now.left ≡ Some 0) × (0 < length bytes.now)) }
     {
         match self.left {
@@ -86,15 +86,15 @@ impl Room {
 #[derive(Drop)]
 pub struct Limited<W> {
     stream: W,
-    room: Room,
+    quota: Quota,
 }
 
 impl<W> Limited<W> {
-    pub fn new(stream: W, room: Room) -> Limited<W>
+    pub fn new(stream: W, quota: Quota) -> Limited<W>
         ensures stream { result.stream ≡ stream }
-        ensures room { result.room ≡ room }
+        ensures quota { result.quota ≡ quota }
     {
-        Limited { stream, room }
+        Limited { stream, quota }
     }
 }
 
@@ -104,12 +104,12 @@ impl<W: Write> Write for Limited<W> {
     fn write(&mut self, buf: &[u8]) -> io::Result<usize>
         ensures bound { WritesAtMost result buf.now }
         ensures bytes { WriteAppends (W.contents self.old.stream) (W.contents self.new.stream) result buf.now }
-        ensures most { IfOk result (λ n. IfSome self.old.room.left (λ left. n ≤ left)) }
-        ensures room { IfOk result (λ n. self.new.room.left ≡ left_after n self.old.room.left) }
+        ensures most { IfOk result (λ n. IfSome self.old.quota.left (λ left. n ≤ left)) }
+        ensures quota { IfOk result (λ n. self.new.quota.left ≡ left_after n self.old.quota.left) }
     {
-        let part = self.room.part(buf)?;
+        let part = self.quota.part(buf)?;
         let bytes = self.stream.write(part)?;
-        self.room.wrote(bytes);
+        self.quota.wrote(bytes);
         Ok(bytes)
     }
 

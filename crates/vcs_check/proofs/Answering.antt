@@ -1,21 +1,19 @@
 -- From what a question or a movie to be made is answered to what the command does.
-use Rattle.std.proofs.Common.{◌≡◌, ℕ, Bool, List, refl, subst, Result, Ok, Err, Option, Some, None}
+use Rattle.std.proofs.Common.{◌≡◌, ℕ, List, refl, subst, Result, Ok, Err, Option, Some, None}
 use Rattle.std.proofs.Common.{String, Global, string_bytes}
 use Rattle.std.specs.NonZero.{non_zero_u32_get}
 use Rattle.std.specs.declared.num.NonZeroU32.{NonZeroU32}
 use Rattle.std.specs.Io.KnownBytes.{Keeps}
-use Rattle.command_line.specs.Program.{program_name}
 use Rattle.command_line.specs.declared.command.Command.TheVariants.{Report, Make}
-use Rattle.movie_report.specs.declared.notation.Notation.{Notation}
+use Rattle.replay_plan.specs.declared.notation.Notation.{Notation}
 use Rattle.replay_plan.specs.declared.input_form.InputForm.{InputForm}
 use Rattle.replay_plan.specs.declared.plan.Plan.{Plan}
 use Rattle.replay_plan.specs.declared.workers.Workers.{Workers}
-use Rattle.vcs_check.specs.Commands.{IsAnswered, notation_of, IsMade, ReadsFile, Writes}
+use Rattle.vcs_check.specs.Commands.{IsAnswered, IsMade, ReadsFile, Writes}
 use Rattle.vcs_check.specs.Private.Asked.{IsAnswer}
 use Rattle.vcs_check.specs.declared.failure.Failure.{Failure}
 use Rattle.vcs_check.specs.declared.question.Question.{Question}
 use Rattle.vcs_check.specs.declared.question.Question.TheVariants as questions
-use Rattle.vcs_engine.specs.Reports.{Reports}
 use Rattle.vcs_engine.specs.declared.status.Status.{Status}
 
 -- Bytes that nobody touched.
@@ -34,13 +32,13 @@ module _ (before after : Option (List ℕ)) where
   abbrev pub Asked : Option (List ℕ) → Option (List ℕ) → List ℕ → Question → Status → List ℕ → Type 0
   Asked old new name question status text = (bytes : List ℕ) × ReadsFile name old new bytes × IsAnswer question bytes status text
 
-  pub report_answers : (old new : Option (List ℕ)) (name : List ℕ) (file : String Global) (plan : Plan) (notation : Notation) (workers : Workers) (json : Bool)
-      → name ≡ string_bytes file → notation ≡ notation_of json → (result : Result Status Failure)
+  pub report_answers : (old new : Option (List ℕ)) (name : List ℕ) (file : String Global) (plan : Plan) (notation : Notation) (workers : Workers)
+      → name ≡ string_bytes file → (result : Result Status Failure)
       → Writes before after (Asked old new name (questions.Report plan notation)) result
-      → Writes before after (IsAnswered (Report file workers json) old new) result
-  report_answers old new name file plan notation workers json same is =
-      says _ (IsAnswered (Report file workers json) old new)
-      (λ status line h. (h.0, subst (λ n. ReadsFile n old new h.0) same h.1, subst (λ n. Reports n program_name h.0 status line) is h.2))
+      → Writes before after (IsAnswered (Report file workers notation) old new) result
+  report_answers old new name file plan notation workers same =
+      says _ (IsAnswered (Report file workers notation) old new)
+      (λ status line h. (h.0, subst (λ n. ReadsFile n old new h.0) same h.1, h.2))
 
   pub make_answers : (known : Option (List ℕ)) (rom inputs : String Global) (form : InputForm) (every : NonZeroU32) (out : String Global)
       → (result : Result Status Failure)

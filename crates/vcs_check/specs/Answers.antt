@@ -1,7 +1,7 @@
 -- What is written of the bytes of a movie, with its status. This project's own.
 use Rattle.std.specs.Prelude.{ℕ, List}
 use Rattle.movie_file.specs.Reading.{movie_at}
-use Rattle.movie_report.specs.declared.notation.Notation.{Notation}
+use Rattle.replay_plan.specs.declared.notation.Notation.{Notation}
 use Rattle.replay_plan.specs.declared.keep.Keep.{Keep}
 use Rattle.vcs_engine.specs.Answers.{AnswerData, Shows}
 use Rattle.vcs_engine.specs.Conversions.{conversion_of}

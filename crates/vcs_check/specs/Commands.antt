@@ -1,6 +1,6 @@
 -- What a command reads of standard input and writes to standard output, and its status. This
 -- project's own.
-use Rattle.std.specs.Prelude.{◌≡◌, ◌≢◌, ◌≤◌, ℕ, Bool, if◌then◌else◌, List, Option, Result}
+use Rattle.std.specs.Prelude.{◌≡◌, ◌≢◌, ◌≤◌, ℕ, List, Option, Result}
 use Rattle.std.specs.Prelude.{IfOk, IfErr, codes, string_bytes}
 use Rattle.std.specs.NonZero.{non_zero_u32_get}
 use Rattle.std.specs.Io.KnownBytes.{Appends, Keeps}
@@ -10,8 +10,7 @@ use Rattle.command_line.specs.declared.command.Command.TheVariants.{Verify, Repo
 use Rattle.command_line.specs.declared.command.Command.TheVariants.{Info, Inputs, Convert}
 use Rattle.command_line.specs.declared.command.Command.TheVariants.{Frames, Pictures, Cut, Trace}
 use Rattle.movie_file.specs.Reading.{movie_at}
-use Rattle.movie_report.specs.declared.notation.Notation.{Notation}
-use Rattle.movie_report.specs.declared.notation.Notation.TheVariants.{Lines, Json}
+use Rattle.replay_plan.specs.declared.notation.Notation.{Notation}
 use Rattle.replay_plan.specs.declared.input_form.InputForm.{InputForm}
 use Rattle.vcs_check.specs.Answers.{IsConversion, IsCut, IsDrawn, IsInformation, IsVerified}
 use Rattle.vcs_check.specs.Failures.{IsNoMemory, IsWriteFault}
@@ -43,10 +42,6 @@ abbrev pub IsMade : InputForm → ℕ → Status → List ℕ → Type 0
 IsMade form every status line =
     (rom : List ℕ) × (old new : Option (List ℕ)) × (answer : AnswerData) × Makes form rom old new every answer × Shows answer status line
 
--- How a command writes that is asked for JSON, or isn't.
-abbrev pub notation_of : Bool → Notation
-notation_of json = if json then Json else Lines
-
 -- What is read of the file of this name is `input`: of `-` all that standard input has left, and
 -- any other leaves that alone.
 abbrev pub ReadsFile : List ℕ → Option (List ℕ) → Option (List ℕ) → List ℕ → Type 0
@@ -56,11 +51,11 @@ ReadsFile name old new input = (name ≡ codes "-" → ReadsAll old new input) �
 abbrev pub IsAnswered : Command → Option (List ℕ) → Option (List ℕ) → Status → List ℕ → Type 0
 IsAnswered (Verify file plan pictures) old new status line =
     (input : List ℕ) × ReadsFile (string_bytes file) old new input × IsVerified plan.keep input status line
-IsAnswered (Report file workers json) old new status line =
-    (input : List ℕ) × ReadsFile (string_bytes file) old new input × Reports (notation_of json) program_name input status line
+IsAnswered (Report file workers notation) old new status line =
+    (input : List ℕ) × ReadsFile (string_bytes file) old new input × Reports notation program_name input status line
 IsAnswered (Make rom inputs form every out) old new status line = Keeps old new × IsMade form (non_zero_u32_get every) status line
-IsAnswered (Info file json) old new status line =
-    (input : List ℕ) × ReadsFile (string_bytes file) old new input × IsInformation (notation_of json) input status line
+IsAnswered (Info file notation) old new status line =
+    (input : List ℕ) × ReadsFile (string_bytes file) old new input × IsInformation notation input status line
 IsAnswered (Inputs file) old new status line = (input : List ℕ) × ReadsFile (string_bytes file) old new input × Lists (movie_at input) status line
 IsAnswered (Convert older newer) old new status line = Keeps old new × ((input : List ℕ) × IsConversion input status line)
 IsAnswered (Frames file first count details) old new status line =
@@ -75,7 +70,7 @@ IsAnswered (Trace file frame) old new status line =
 -- More than one worker judges: only `verify` and `report` with more than one start threads.
 abbrev pub StartsThreads : Command → Type 0
 StartsThreads (Verify file plan pictures) = 2 ≤ plan.workers.number
-StartsThreads (Report file workers json) = 2 ≤ workers.number
+StartsThreads (Report file workers notation) = 2 ≤ workers.number
 StartsThreads other = ⊥
 
 -- What a command wrote before an error.

@@ -5,15 +5,15 @@ use Rattle.vcs_engine.specs.declared.run_error.RunError.TheVariants.{NoMemory, N
 
 -- A write failed,
 abbrev pub IsWriteFault : Failure → Type 0
-IsWriteFault (Run WriteFault fault) = Unit {0}
+IsWriteFault (Run WriteFault file_error) = Unit {0}
 IsWriteFault other = ⊥
 
 -- memory was refused,
 abbrev pub IsNoMemory : Failure → Type 0
-IsNoMemory (Run NoMemory fault) = Unit {0}
+IsNoMemory (Run NoMemory file_error) = Unit {0}
 IsNoMemory other = ⊥
 
 -- a thread was refused.
 abbrev pub IsNoThread : Failure → Type 0
-IsNoThread (Run NoThread fault) = Unit {0}
+IsNoThread (Run NoThread file_error) = Unit {0}
 IsNoThread other = ⊥

@@ -3,7 +3,7 @@ ghost use Rattle.std.specs.Prelude.{◌≡◌};
 
 use crate::failure::Failure;
 use command_line::LineFault;
-use named_files::{FileFault, Reason, STANDARD_OUTPUT};
+use named_files::{FileError, Reason, STANDARD_OUTPUT};
 use std::io::{self, Eprint, IsTerminal};
 use std::process::ExitCode;
 use terminal_text::Shown;
@@ -36,8 +36,8 @@ pub(crate) enum Ending<'a> {
 
 /// The ending of help that standard output did not take, for this reason.
 fn help_not_written(error: io::Error) -> Ending<'static> {
-    let fault = FileFault::new(STANDARD_OUTPUT, Reason::System(error));
-    Ending::Failed(Failure::Run(RunError::WriteFault, Some(fault)))
+    let file_error = FileError::new(STANDARD_OUTPUT, Reason::System(error));
+    Ending::Failed(Failure::Run(RunError::WriteFault, Some(file_error)))
 }
 
 impl Ending<'_> {
@@ -54,7 +54,7 @@ impl Ending<'_> {
         }
     }
 
-    /// Shows it on a terminal, with a line after it that says more: the fault of a file, or what to
+    /// Shows it on a terminal, with a line after it that says more: a file's error, or what to
     /// write in place of the arguments. No character of an argument or a name controls the terminal.
     fn show<R: Eprint>(&self, rt: &R) {
         if let Ending::Usage { text } = self {
@@ -74,8 +74,8 @@ impl Ending<'_> {
             );
         }
         if let Ending::Failed(failure) = self {
-            if let Some(fault) = failure.fault() {
-                let _printed = eprintln!(rt; "{fault}");
+            if let Some(file_error) = failure.file_error() {
+                let _printed = eprintln!(rt; "{file_error}");
             }
         }
     }

@@ -1,8 +1,8 @@
 //! Why a command did not reach its end.
 ghost use Rattle.std.specs.Prelude.{◌≡◌};
-ghost use Rattle.vcs_check.specs.Private.Faults.{by_input, by_output, fault_of};
+ghost use Rattle.vcs_check.specs.Private.FileErrors.{by_input, by_output, file_error_of};
 
-use named_files::{CreateError, FileFault};
+use named_files::{CreateError, FileError};
 use thiserror::Error;
 use vcs_engine::RunError;
 
@@ -11,64 +11,67 @@ use vcs_engine::RunError;
 pub(crate) enum Failure<'a> {
     /// A file can't be opened or created, or an output is one of the inputs.
     #[error("cannot open")]
-    Open(FileFault<'a>),
-    /// A run did not reach its end. If that is known, it is the fault of a file.
+    Open(FileError<'a>),
+    /// A run did not reach its end; by which file, if that is known.
     #[error("{0}")]
-    Run(RunError, Option<FileFault<'a>>),
+    Run(RunError, Option<FileError<'a>>),
 }
 
 impl<'a> Failure<'a> {
     /// The file that failed, and why, if that is known.
-    pub(crate) fn fault(&self) -> Option<FileFault<'a>>
-        ensures { result ≡ fault_of self.now }
+    pub(crate) fn file_error(&self) -> Option<FileError<'a>>
+        ensures { result ≡ file_error_of self.now }
     {
         match *self {
-            Failure::Open(fault) => Some(fault),
-            Failure::Run(_, fault) => fault,
+            Failure::Open(file_error) => Some(file_error),
+            Failure::Run(_, file_error) => file_error,
         }
     }
 
-    /// The same, by the fault of an input if a read failed and no fault is known.
-    pub(crate) fn by_input(self, fault: Option<FileFault<'a>>) -> Failure<'a>
-        ensures { result ≡ by_input self.entry fault.entry }
+    /// The same, by the error of an input if a read failed and no error of a file is known.
+    pub(crate) fn by_input(self, file_error: Option<FileError<'a>>) -> Failure<'a>
+        ensures { result ≡ by_input self.entry file_error.entry }
     {
         match self {
             Failure::Run(error @ (RunError::ReadFault | RunError::TooLong), None) => {
-                Failure::Run(error, fault)
+                Failure::Run(error, file_error)
             }
             failure => failure,
         }
     }
 
-    /// The same, by the fault of an output if a write failed and no fault is known.
-    pub(crate) fn by_output(self, fault: Option<FileFault<'a>>) -> Failure<'a>
-        ensures { result ≡ by_output self.entry fault.entry }
+    /// The same, by the error of an output if a write failed and no error of a file is known.
+    pub(crate) fn by_output(self, file_error: Option<FileError<'a>>) -> Failure<'a>
+        ensures { result ≡ by_output self.entry file_error.entry }
     {
         match self {
-            Failure::Run(RunError::WriteFault, None) => Failure::Run(RunError::WriteFault, fault),
+            Failure::Run(RunError::WriteFault, None) => Failure::Run(
+                RunError::WriteFault,
+                file_error,
+            ),
             failure => failure,
         }
     }
 }
 
-impl<'a> From<FileFault<'a>> for Failure<'a> {
+impl<'a> From<FileError<'a>> for Failure<'a> {
     ghost use Rattle.vcs_check.specs.declared.failure.Failure.TheVariants.{Open};
 
-    ghost from_gives = { λ fault failure. failure ≡ Open fault };
+    ghost from_gives = { λ file_error failure. failure ≡ Open file_error };
 
-    fn from(fault: FileFault<'a>) -> Failure<'a> {
-        Failure::Open(fault)
+    fn from(file_error: FileError<'a>) -> Failure<'a> {
+        Failure::Open(file_error)
     }
 }
 
 impl<'a> From<CreateError<'a>> for Failure<'a> {
-    ghost use Rattle.vcs_check.specs.Private.Faults.{of_create_error};
+    ghost use Rattle.vcs_check.specs.Private.FileErrors.{of_create_error};
 
     ghost from_gives = { λ error failure. failure ≡ of_create_error error };
 
     fn from(error: CreateError<'a>) -> Failure<'a> {
         match error {
-            CreateError::Open(fault) => Failure::Open(fault),
+            CreateError::Open(file_error) => Failure::Open(file_error),
             CreateError::NoMemory => Failure::Run(RunError::NoMemory, None),
         }
     }

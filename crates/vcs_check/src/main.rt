@@ -9,7 +9,6 @@
 mod ending;
 mod failure;
 mod making;
-mod options;
 mod product;
 mod progress;
 mod question;
@@ -23,8 +22,7 @@ use command_line::{Command, LineFault, parse_line};
 use ending::Ending;
 use failure::Failure;
 use making::make;
-use named_files::{Limited, Named, Room, STANDARD_INPUT, STANDARD_OUTPUT, null_if_closed};
-use options::notation_of;
+use named_files::{Limited, Named, Quota, STANDARD_INPUT, STANDARD_OUTPUT, null_if_closed};
 use product::Product;
 use progress::Progress;
 use question::Question;
@@ -80,10 +78,10 @@ fn answer_command<
         Command::Report {
             file,
             workers,
-            json,
+            notation,
         } => {
             let plan = Plan::without_pictures(*workers);
-            Question::Report(plan, notation_of(*json)).answer_of(rt, input, file, line, gate)
+            Question::Report(plan, *notation).answer_of(rt, input, file, line, gate)
         }
         Command::Make {
             rom,
@@ -92,8 +90,8 @@ fn answer_command<
             every,
             out,
         } => make(rt, rom, inputs, *form, *every, out, line),
-        Command::Info { file, json } => {
-            Question::Info(notation_of(*json)).answer_of(rt, input, file, line, gate)
+        Command::Info { file, notation } => {
+            Question::Info(*notation).answer_of(rt, input, file, line, gate)
         }
         Command::Inputs { file } => Question::Inputs.answer_of(rt, input, file, line, gate),
         Command::Convert { old, new } => {
@@ -146,8 +144,8 @@ fn main(rt: HostRuntime) -> ExitCode {
         Err(ending) => return ending.report(&rt, &rt.stderr()),
     };
     let mut input = Named::new(STANDARD_INPUT, rt.stdin());
-    let room = Room::of_standard_output(&rt);
-    let mut line = Named::new(STANDARD_OUTPUT, Limited::new(io::writer(&rt), room));
+    let quota = Quota::of_standard_output(&rt);
+    let mut line = Named::new(STANDARD_OUTPUT, Limited::new(io::writer(&rt), quota));
     let progress = Progress::new(&rt, rt.stderr().is_terminal());
     match answer_command(&rt, &mut input, &mut line, &command, &progress) {
         Ok(status) => {
@@ -155,7 +153,9 @@ fn main(rt: HostRuntime) -> ExitCode {
             ExitCode::from(status.code())
         }
         Err(failure) => {
-            let failure = failure.by_input(input.fault()).by_output(line.fault());
+            let failure = failure
+                .by_input(input.file_error())
+                .by_output(line.file_error());
             Ending::Failed(failure).report(&rt, &rt.stderr())
         }
     }

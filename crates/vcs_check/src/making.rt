@@ -40,8 +40,12 @@ pub(crate) fn make<'a, R: Files + AllocGlobal, W: Write>(
     ) {
         Ok(status) => Ok(status),
         Err(error) => {
-            let failure = Failure::from(error).by_output(movie.fault());
-            Err(failure.by_input(inputs.fault()).by_input(rom.fault()))
+            let failure = Failure::from(error).by_output(movie.file_error());
+            Err(
+                failure
+                    .by_input(inputs.file_error())
+                    .by_input(rom.file_error()),
+            )
         }
     }
 }

@@ -124,10 +124,10 @@ impl Product {
         let mut output = create(rt, out, &[identity], self.whole())?;
         let status = match self.write(rt, movie, &mut output, line, gate) {
             Ok(status) => status,
-            Err(error) => return Err(Failure::from(error).by_output(output.fault())),
+            Err(error) => return Err(Failure::from(error).by_output(output.file_error())),
         };
         if status == Status::Done && output.finish().is_err() {
-            return Err(Failure::Run(RunError::WriteFault, output.fault()));
+            return Err(Failure::Run(RunError::WriteFault, output.file_error()));
         }
         Ok(status)
     }
@@ -154,7 +154,7 @@ impl Product {
         let identity = Identity::of(&movie)?;
         match self.write_to(rt, &mut movie, identity, out, line, gate) {
             Ok(status) => Ok(status),
-            Err(failure) => Err(failure.by_input(movie.fault())),
+            Err(failure) => Err(failure.by_input(movie.file_error())),
         }
     }
 

@@ -97,7 +97,7 @@ impl Question<'_> {
         let mut movie = open(rt, file)?;
         match self.answer(rt, &mut movie, text, gate) {
             Ok(status) => Ok(status),
-            Err(error) => Err(Failure::from(error).by_input(movie.fault())),
+            Err(error) => Err(Failure::from(error).by_input(movie.file_error())),
         }
     }
 }

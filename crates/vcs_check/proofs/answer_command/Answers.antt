@@ -3,8 +3,8 @@ use Rattle.vcs_check.proofs.answer_command.Goals as goal
 
 pub returns-in-Report-clause-ok : goal.returns-in-Report-clause-ok
 returns-in-Report-clause-ok g c = rw c.in-Report.is
-    (report_answers _ _ _ _ _ c.in-Report.file c.without_pictures-plan.result c.notation_of.result c.in-Report.workers c.in-Report.json
-    c.deref-in-Report.ensures c.notation_of.ensures c.answer_of-in-Report.result c.answer_of-in-Report.ensures.ok)
+    (report_answers _ _ _ _ _ c.in-Report.file c.without_pictures-plan.result c.in-Report.notation c.in-Report.workers
+    c.deref-in-Report.ensures c.answer_of-in-Report.result c.answer_of-in-Report.ensures.ok)
 
 pub returns-in-Make-clause-ok : goal.returns-in-Make-clause-ok
 returns-in-Make-clause-ok g c = rw c.in-Make.is

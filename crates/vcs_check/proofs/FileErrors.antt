@@ -1,17 +1,17 @@
 -- What becomes of a failed write on its way up.
 use Rattle.std.proofs.Common.{◌≡◌, subst, sym, Option, None, Result, Ok, Err}
-use Rattle.named_files.specs.declared.faults.FileFault.{FileFault}
+use Rattle.named_files.specs.declared.file_error.FileError.{FileError}
 use Rattle.vcs_check.specs.Failures.{IsWriteFault}
-use Rattle.vcs_check.specs.Private.Faults.{by_input, by_output}
+use Rattle.vcs_check.specs.Private.FileErrors.{by_input, by_output}
 use Rattle.vcs_check.specs.declared.failure.Failure.TheVariants.{Run}
 use Rattle.vcs_engine.specs.declared.run_error.RunError.{RunError}
 use Rattle.vcs_engine.specs.declared.run_error.RunError.TheVariants.{WriteFault}
 use Rattle.vcs_engine.specs.declared.status.Status.{Status}
 
 -- What an answer becomes is a failed write, if the answer is an error.
-abbrev pub Stays : Option FileFault → Option FileFault → Option FileFault → Result Status RunError → Type 0
+abbrev pub Stays : Option FileError → Option FileError → Option FileError → Result Status RunError → Type 0
 Stays out one other (Ok status) = Unit {0}
 Stays out one other (Err error) = IsWriteFault (by_input (by_input (by_output (Run error None) out) one) other)
 
-pub failed_write_stays : (out one other : Option FileFault) (answer : Result Status RunError) → answer ≡ Err WriteFault → Stays out one other answer
+pub failed_write_stays : (out one other : Option FileError) (answer : Result Status RunError) → answer ≡ Err WriteFault → Stays out one other answer
 failed_write_stays out one other answer same = subst (Stays out one other) (sym same) tt

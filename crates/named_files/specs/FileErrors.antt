@@ -1,24 +1,24 @@
 -- What is known of a file that failed. This project's own.
 use Rattle.std.specs.Prelude.{◌≡◌, ℕ, ◌-◌, min, nat_lt, option_map, if◌then◌else◌, Bool, true, false, List, Option, Some, None}
-use Rattle.named_files.specs.declared.faults.CreateError.{CreateError}
-use Rattle.named_files.specs.declared.faults.CreateError.TheVariants.{Open}
-use Rattle.named_files.specs.declared.faults.FileFault.{FileFault}
-use Rattle.named_files.specs.declared.faults.Reason.{Reason}
-use Rattle.named_files.specs.declared.faults.Reason.TheVariants.{IsInput, IsOutput, TooLong}
+use Rattle.named_files.specs.declared.file_error.CreateError.{CreateError}
+use Rattle.named_files.specs.declared.file_error.CreateError.TheVariants.{Open}
+use Rattle.named_files.specs.declared.file_error.FileError.{FileError}
+use Rattle.named_files.specs.declared.file_error.Reason.{Reason}
+use Rattle.named_files.specs.declared.file_error.Reason.TheVariants.{IsInput, IsOutput, TooLong}
 use Rattle.vcs_engine.specs.Streams.{input_limit}
 
 -- It is the file of this name.
-abbrev pub Names : List ℕ → FileFault → Type 0
-Names name fault = fault.file.now ≡ name
+abbrev pub Names : List ℕ → FileError → Type 0
+Names name error = error.file.now ≡ name
 
 -- The same of an error, if it is about a file.
 abbrev pub NamesIfOpen : List ℕ → CreateError → Type 0
-NamesIfOpen name (Open fault) = Names name fault
+NamesIfOpen name (Open error) = Names name error
 NamesIfOpen name other = Unit {0}
 
 -- It is the file of this name, with this reason.
-abbrev pub IsAbout : List ℕ → Reason → FileFault → Type 0
-IsAbout name reason fault = Names name fault × (fault.reason ≡ reason)
+abbrev pub IsAbout : List ℕ → Reason → FileError → Type 0
+IsAbout name reason error = Names name error × (error.reason ≡ reason)
 
 -- Why a file is no output of a command, by whether it keeps what is written, is a pipe, is an input
 -- of the command, and is a standard stream that is written. What keeps nothing may be all of these,
@@ -37,9 +37,9 @@ abbrev pub reason_at_length : ℕ → Option Reason → Option Reason
 reason_at_length length before = if nat_lt input_limit length then Some TooLong else before
 
 -- How many of so many bytes a file takes that has room for so many, or for all.
-abbrev pub with_room : Option ℕ → ℕ → ℕ
-with_room None bytes = bytes
-with_room (Some left) bytes = min left bytes
+abbrev pub within_quota : Option ℕ → ℕ → ℕ
+within_quota None bytes = bytes
+within_quota (Some left) bytes = min left bytes
 
 -- How many bytes a file still takes after so many more, if there is a limit.
 abbrev pub left_after : ℕ → Option ℕ → Option ℕ

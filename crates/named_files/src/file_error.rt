@@ -1,6 +1,6 @@
 //! Which file a failure is about, and why.
 ghost use Rattle.std.specs.Prelude.{◌≡◌};
-ghost use Rattle.named_files.specs.Faults.{IsAbout};
+ghost use Rattle.named_files.specs.FileErrors.{IsAbout};
 
 use std::{fmt, io};
 use terminal_text::Shown;
@@ -23,7 +23,7 @@ pub enum Reason {
 }
 
 impl From<io::Error> for Reason {
-    ghost use Rattle.named_files.specs.declared.faults.Reason.TheVariants.{System};
+    ghost use Rattle.named_files.specs.declared.file_error.Reason.TheVariants.{System};
 
     ghost from_gives = { λ error reason. reason ≡ System error };
 
@@ -34,20 +34,20 @@ impl From<io::Error> for Reason {
 
 /// A file, by the name that the command line has of it, and why it failed.
 #[derive(Clone, Copy, Debug)]
-pub struct FileFault<'a> {
+pub struct FileError<'a> {
     file: &'a str,
     reason: Reason,
 }
 
-impl<'a> FileFault<'a> {
-    pub fn new(file: &'a str, reason: Reason) -> FileFault<'a>
+impl<'a> FileError<'a> {
+    pub fn new(file: &'a str, reason: Reason) -> FileError<'a>
         ensures { IsAbout file.now reason result }
     {
-        FileFault { file, reason }
+        FileError { file, reason }
     }
 }
 
-impl fmt::Display for FileFault<'_> {
+impl fmt::Display for FileError<'_> {
     fn fmt<W: fmt::Write>(&self, f: &mut fmt::Formatter<W>) -> fmt::Result {
         let file = Shown::name(self.file);
         let reason = self.reason;
@@ -59,17 +59,17 @@ impl fmt::Display for FileFault<'_> {
 #[derive(Clone, Copy, Debug)]
 pub enum CreateError<'a> {
     /// It can't be opened or created, or it is an input or a standard stream.
-    Open(FileFault<'a>),
+    Open(FileError<'a>),
     /// There is no memory for the names of the file and of the one beside it.
     NoMemory,
 }
 
-impl<'a> From<FileFault<'a>> for CreateError<'a> {
-    ghost use Rattle.named_files.specs.declared.faults.CreateError.TheVariants.{Open};
+impl<'a> From<FileError<'a>> for CreateError<'a> {
+    ghost use Rattle.named_files.specs.declared.file_error.CreateError.TheVariants.{Open};
 
-    ghost from_gives = { λ fault error. error ≡ Open fault };
+    ghost from_gives = { λ error created. created ≡ Open error };
 
-    fn from(fault: FileFault<'a>) -> CreateError<'a> {
-        CreateError::Open(fault)
+    fn from(error: FileError<'a>) -> CreateError<'a> {
+        CreateError::Open(error)
     }
 }

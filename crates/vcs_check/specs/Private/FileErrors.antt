@@ -1,0 +1,29 @@
+-- Which file a failure is about. This project's own.
+use Rattle.std.specs.Prelude.{Option, Some, None}
+use Rattle.named_files.specs.declared.file_error.CreateError.{CreateError}
+use Rattle.named_files.specs.declared.file_error.CreateError.TheVariants as created
+use Rattle.named_files.specs.declared.file_error.FileError.{FileError}
+use Rattle.vcs_check.specs.declared.failure.Failure.{Failure}
+use Rattle.vcs_check.specs.declared.failure.Failure.TheVariants.{Open, Run}
+use Rattle.vcs_engine.specs.declared.run_error.RunError.TheVariants.{NoMemory, ReadFault, TooLong, WriteFault}
+
+-- An output is not there.
+abbrev pub of_create_error : CreateError → Failure
+of_create_error (created.Open file_error) = Open file_error
+of_create_error created.NoMemory = Run NoMemory None
+
+-- The file that failed, if it is known,
+abbrev pub file_error_of : Failure → Option FileError
+file_error_of (Open file_error) = Some file_error
+file_error_of (Run error file_error) = file_error
+
+-- the same by the error of an input, if a read failed and no error of a file is known,
+abbrev pub by_input : Failure → Option FileError → Failure
+by_input (Run ReadFault None) file_error = Run ReadFault file_error
+by_input (Run TooLong None) file_error = Run TooLong file_error
+by_input failure file_error = failure
+
+-- and by that of an output, if a write failed.
+abbrev pub by_output : Failure → Option FileError → Failure
+by_output (Run WriteFault None) file_error = Run WriteFault file_error
+by_output failure file_error = failure
