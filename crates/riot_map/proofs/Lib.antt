@@ -2,4 +2,5 @@ pub mod CartLemmas
 pub mod PortLemmas
 pub mod RiotFieldLemmas
 pub mod RiotLemmas
+pub mod RiotNumbers
 pub mod TimerLemmas

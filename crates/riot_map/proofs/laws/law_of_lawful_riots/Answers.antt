@@ -1,4 +1,5 @@
-use Rattle.riot_map.proofs.RiotLemmas.{IsRiot-power_on, IsRiot-riot_of, IsRiot-cycles, IsRiot-read}
+use Rattle.riot_map.proofs.RiotLemmas.{IsRiot-power_on, IsRiot-cycles, IsRiot-read}
+use Rattle.riot_map.proofs.RiotNumbers.{IsRiot-riot_of}
 use Rattle.riot_map.proofs.RiotLemmas.{IsRiot-write, IsRiot-ram, IsRiot-pins}
 use Rattle.riot_map.proofs.laws.law_of_lawful_riots.Goals as goal
 

@@ -1,4 +1,4 @@
-use Rattle.riot_map.proofs.RiotFieldLemmas.{fields_back}
+use Rattle.riot_map.proofs.RiotNumbers.{fields_back}
 use Rattle.riot_map.proofs.laws.law_of_numbers.Goals as goal
 
 pub returns : goal.returns

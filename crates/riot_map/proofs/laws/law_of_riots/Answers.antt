@@ -1,4 +1,4 @@
-use Rattle.riot_map.proofs.RiotLemmas.{is_riot-fields_of, riot_of-fields_of, AreInRange-fields_of}
+use Rattle.riot_map.proofs.RiotNumbers.{is_riot-fields_of, riot_of-fields_of, AreInRange-fields_of}
 use Rattle.riot_map.proofs.laws.law_of_riots.Goals as goal
 
 pub returns-clause-same : goal.returns-clause-same
