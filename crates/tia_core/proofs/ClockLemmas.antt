@@ -1,19 +1,16 @@
 -- Clocks one after another, and what stays over them.
-use Rattle.std.proofs.Common.{◌≡◌, ℕ, zero, suc, ◌+◌, ◌-◌, ◌*◌, ◌/◌, ◌%◌, ◌==◌, ◌<◌, ◌⊎◌, inl, inr}
-use Rattle.std.proofs.Common.{nat_lt, Bool, true, false, if◌then◌else◌, List, [], ◌∷◌, ◌++◌}
+use Rattle.std.proofs.Common.{◌≡◌, ℕ, zero, suc, ◌+◌, ◌-◌, ◌*◌, ◌/◌, ◌%◌, ◌<◌, ◌≤◌}
+use Rattle.std.proofs.Common.{Bool, true, List, [], ◌∷◌, ◌++◌}
 use Rattle.std.proofs.Common.{append_assoc, bit_or, refl, sym, ap, ◌∙◌, arith}
 use Rattle.std.specs.Fn.{iterate}
 use Rattle.std.proofs.lemmas.Bool.Decides.{nat_tests}
 use Rattle.std.proofs.lemmas.Nat.Bits.{bit_at_or, bit_at-lt}
-use Rattle.std.specs.Int.{bit_at}
-use Rattle.tia_core.specs.Collision.{pairs_of}
-use Rattle.tia_core.specs.Objects.{objects_at}
 use Rattle.tia_core.specs.Bits.{has_bit}
 use Rattle.tia_core.specs.declared.fields.TiaFields.{TiaFields}
 use Rattle.tia_core.specs.TiaState.{TiaState}
 use Rattle.tia_core.specs.Clock.{Pixel, sink_after_pixels, pixels, pixels_of, after_clock}
-use Rattle.tia_core.specs.Clock.{collisions_after}
 use Rattle.tia_core.specs.Beam.{beam_of}
+use Rattle.tia_core.specs.Private.Stretches.{pixel_at}
 use Rattle.tia_core.specs.Private.Unchanged.{after_beam}
 use Rattle.tia_core.specs.Registers.{register_of}
 use Rattle.tia_core.specs.Write.{fields_after, effect_after, effect_of, tia_after_write}
@@ -42,43 +39,28 @@ pub painted-add : {S : Type 0} (drawn : S → ℕ → ℕ → ℕ → S) (sink :
     → sink_after_pixels drawn sink (pixels (m + n) s) ≡ sink_after_pixels drawn (sink_after_pixels drawn sink (pixels m s)) (pixels n (iterate after_clock m s))
 painted-add drawn sink m n s = rw (pixels-add m n s) (painted-append drawn sink (pixels m s) (pixels n (iterate after_clock m s)))
 
--- one step of those that are left
-one_less : (n i : ℕ) → i < n → n - i ≡ suc (n - (i + 1))
-one_less n i h = omega arith
+-- some clocks, and then the rest of n
+pub clocks-split : {S : Type 0} (drawn : S → ℕ → ℕ → ℕ → S) (sink : S) (m n : ℕ) (s : TiaState) → m ≤ n → let after = iterate after_clock m s in
+    (iterate after_clock (n - m) after ≡ iterate after_clock n s)
+    × (sink_after_pixels drawn (sink_after_pixels drawn sink (pixels m s)) (pixels (n - m) after) ≡ sink_after_pixels drawn sink (pixels n s))
+clocks-split drawn sink m n s le =
+    let e : m + (n - m) ≡ n = omega arith in
+    (rw e at (sym (iterate-add after_clock m (n - m) s)), rw e at (sym (painted-add drawn sink m (n - m) s)))
 
-pub iterate_left : {A : Type 0} (f : A → A) (n i : ℕ) (a : A) → i < n → iterate f (n - i) a ≡ iterate f (n - (i + 1)) (f a)
-iterate_left f n i a h = rw (one_less n i h)
+-- ---- one clock
+-- it puts nothing in the blank, else one pixel
+pub pixels_of-blank : (s : TiaState) → s.fields.clock < 68 → pixels_of s ≡ []
+pixels_of-blank s h = grind (arith, nat_tests)
 
-pub painted_left : {S : Type 0} (drawn : S → ℕ → ℕ → ℕ → S) (n i : ℕ) (sink : S) (s : TiaState) → i < n
-    → sink_after_pixels drawn sink (pixels (n - i) s)
-    ≡ sink_after_pixels drawn (sink_after_pixels drawn sink (pixels_of s))
-    (pixels (n - (i + 1)) (after_clock s))
-painted_left drawn n i sink s h = rw (one_less n i h) (painted-append drawn sink (pixels_of s) (pixels (n - (i + 1)) (after_clock s)))
-
--- ---- one clock by cases
-pub clocked-inside : (s : TiaState) → s.fields.clock < 227
-    → after_clock s ≡ record s { fields = record s.fields { collisions = collisions_after s.fields; clock = s.fields.clock + 1 } }
-clocked-inside s h = let no : (s.fields.clock == 227) ≡ false = grind (arith, nat_tests) in rw no refl
-
-pub clocked-last : (s : TiaState) → s.fields.clock ≡ 227
-    → after_clock s ≡ record s { fields = record s.fields { collisions = collisions_after s.fields; clock = 0; comb = 0 }; line = (s.line + 1) % 65536 }
-clocked-last s h = let yes : (s.fields.clock == 227) ≡ true = grind (arith, nat_tests) in rw yes refl
-
-pub inside_or_last : (s : TiaState) → s.fields.clock < 228 → (s.fields.clock < 227) ⊎ (s.fields.clock ≡ 227)
-inside_or_last s h = grind arith
+pub pixels_of-visible : (s : TiaState) → 68 ≤ s.fields.clock → pixels_of s ≡ pixel_at s.fields s.line (s.fields.clock - 68) ∷ []
+pixels_of-visible s h = grind (arith, nat_tests)
 
 -- ---- the beam
 pub clocked-clock : (s : TiaState) → s.fields.clock < 228 → (after_clock s).fields.clock ≡ (s.fields.clock + 1) % 228
-clocked-clock s h = elim (inside_or_last s h) [
-  | inl lt ↦ ap (λ (t : TiaState). t.fields.clock) (clocked-inside s lt) ∙ omega arith
-  | inr eq ↦ ap (λ (t : TiaState). t.fields.clock) (clocked-last s eq) ∙ omega arith
-]
+clocked-clock s h = grind (arith, nat_tests)
 
 pub clocked-line : (s : TiaState) → s.fields.clock < 228 → s.line < 65536 → (after_clock s).line ≡ (s.line + (s.fields.clock + 1) / 228) % 65536
-clocked-line s h k = elim (inside_or_last s h) [
-  | inl lt ↦ ap (λ (t : TiaState). t.line) (clocked-inside s lt) ∙ omega arith
-  | inr eq ↦ ap (λ (t : TiaState). t.line) (clocked-last s eq) ∙ omega arith
-]
+clocked-line s h k = grind (arith, nat_tests)
 
 pub iterate-clocked-clock : (n : ℕ) (s : TiaState) → s.fields.clock < 228 → (iterate after_clock n s).fields.clock ≡ (s.fields.clock + n) % 228
 iterate-clocked-clock zero s h = omega arith
@@ -109,10 +91,7 @@ with_beam_of after s = record s {
 }
 
 clocked-others : (s : TiaState) → s.fields.clock < 228 → after_clock s ≡ with_beam_of (after_clock s) s
-clocked-others s h = elim (inside_or_last s h) [
-  | inl lt ↦ rw (clocked-inside s lt) refl
-  | inr eq ↦ rw (clocked-last s eq) refl
-]
+clocked-others s h = grind arith
 
 pub iterate-clocked-others : (n : ℕ) (s : TiaState) → s.fields.clock < 228
     → iterate after_clock n s ≡ with_beam_of (iterate after_clock n s) s
@@ -150,37 +129,10 @@ effect-after-clocks n s number v h quiet =
 
 -- ---- a collision bit that is set stays set
 or-keeps : (a b k : ℕ) → has_bit a k ≡ true → has_bit (bit_or a b) k ≡ true
-or-keeps a b k h =
-    let set : bit_at a k ≡ 1 = grind (arith, nat_tests) in
-    let small = bit_at-lt b k in
-    let both : bit_at (bit_or a b) k ≡ 1 = bit_at_or a b k ∙ omega arith in
-    ap (λ (n : ℕ). n == 1) both
-
-collisions_after-keeps : (t : TiaFields) (k : ℕ) → has_bit t.collisions k ≡ true → has_bit (collisions_after t) k ≡ true
-collisions_after-keeps t k h = either (nat_lt t.clock 68) where
-  either : (b : Bool) → has_bit (if b then t.collisions else bit_or t.collisions (pairs_of (objects_at t (t.clock - 68)))) k ≡ true
-  either true = h
-  either false = or-keeps t.collisions (pairs_of (objects_at t (t.clock - 68))) k h
+or-keeps a b k h = grind (arith, nat_tests, bit_at_or a b k, bit_at-lt b k)
 
 clocked-keeps : (s : TiaState) (k : ℕ) → has_bit s.fields.collisions k ≡ true → has_bit (after_clock s).fields.collisions k ≡ true
-clocked-keeps s k h = either (s.fields.clock == 227) where
-  either : (b : Bool) → has_bit
-      (if b then (record s {
-        fields = record s.fields {
-          collisions = collisions_after s.fields;
-          clock = 0;
-          comb = 0;
-        };
-        line = (s.line + 1) % 65536;
-      })
-      else (record s {
-        fields = record s.fields {
-          collisions = collisions_after s.fields;
-          clock = s.fields.clock + 1;
-        };
-      })).fields.collisions k ≡ true
-  either true = collisions_after-keeps s.fields k h
-  either false = collisions_after-keeps s.fields k h
+clocked-keeps s k h = grind (arith, or-keeps)
 
 pub iterate-clocked-keeps : (n : ℕ) (s : TiaState) (k : ℕ) → has_bit s.fields.collisions k ≡ true → has_bit (iterate after_clock n s).fields.collisions k ≡ true
 iterate-clocked-keeps zero s k h = h

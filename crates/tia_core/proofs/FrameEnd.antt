@@ -1,5 +1,5 @@
 -- A frame ends exactly where VSYNC's bit 1 falls.
-use Rattle.std.proofs.Common.{◌≡◌, ℕ, ◌==◌, ◌&&◌, not, ◌↔◌, Bool, true, false, if◌then◌else◌, refl}
+use Rattle.std.proofs.Common.{◌≡◌, ℕ, ◌==◌, ◌&&◌, not, ◌↔◌, Bool, true, false, if◌then◌else◌}
 use Rattle.std.proofs.Common.{ap, bit_and, arith}
 use Rattle.std.specs.Int.{bit_at}
 use Rattle.std.proofs.lemmas.Nat.Bits.{bit_at_and, bit_at-lt}
@@ -18,10 +18,7 @@ vsync_bit v =
     ap (λ (n : ℕ). n == 1) same
 
 falls : (before after : Bool) → ((if before && not after then FrameEnd else Nothing) ≡ FrameEnd) ↔ ((before ≡ true) × (after ≡ false))
-falls true true = (λ e. cc, λ h. cc)
-falls true false = (λ e. (refl, refl), λ h. refl)
-falls false true = (λ e. cc, λ h. cc)
-falls false false = (λ e. cc, λ h. cc)
+falls before after = grind arith
 
 pub frame_end-vsync : (t : TiaFields) (fire0 fire1 : Bool) (r : Register) (v : ℕ)
     → (effect_after t r v ≡ FrameEnd) ↔ ((has_bit t.vsync 1 ≡ true) × (has_bit (fields_after t fire0 fire1 r v).vsync 1 ≡ false))

@@ -1,10 +1,9 @@
 -- Coverage goes round a line of 160 pixels.
-use Rattle.std.proofs.Common.{◌≡◌, ℕ, ◌+◌, ◌-◌, ◌*◌, ◌%◌, ◌<◌, nat_lt, Bool, List, [], ◌∷◌, refl}
-use Rattle.std.proofs.Common.{sym, ap, ◌∙◌, arith, pos, ◌-ℤ◌}
+use Rattle.std.proofs.Common.{◌≡◌, ℕ, ◌+◌, ◌-◌, ◌*◌, ◌%◌, ◌<◌, Bool, List, [], ◌∷◌, refl}
+use Rattle.std.proofs.Common.{sym, ◌∙◌, arith, pos, ◌-ℤ◌}
 use Rattle.std.specs.List.{list_any}
 use Rattle.std.proofs.lemmas.Int.{ints}
-use Rattle.tia_core.specs.Coverage.{distance_of, copies_of, width_of, is_shown_at, player_covers}
-use Rattle.tia_core.specs.Coverage.{missile_covers, ball_covers}
+use Rattle.tia_core.specs.Coverage.{distance_of}
 use Rattle.tia_core.proofs.Modulo.{modulo_160-is}
 
 -- the distance as a remainder of natural numbers, with so many lines added that nothing is below 0
@@ -22,17 +21,3 @@ distance_of-round x position copy k h p =
 pub list_any-same : (p q : ℕ → Bool) (xs : List ℕ) → ((x : ℕ) → p x ≡ q x) → list_any p xs ≡ list_any q xs
 list_any-same p q [] h = refl
 list_any-same p q (x ∷ xs) h = rw (h x, list_any-same p q xs h) refl
-
-pub player_covers-round : (mode : ℕ) (reflected : Bool) (graphic position x k : ℕ) → x < 160 → position < 160
-    → player_covers mode reflected graphic ((position + k) % 160) ((x + k) % 160) ≡ player_covers mode reflected graphic position x
-player_covers-round mode reflected graphic position x k h p =
-    list_any-same _ _ (copies_of mode) (λ c. ap (is_shown_at (width_of mode) reflected graphic) (distance_of-round x position c k h p))
-
-pub missile_covers-round : (mode size position x k : ℕ) → x < 160 → position < 160
-    → missile_covers mode size ((position + k) % 160) ((x + k) % 160) ≡ missile_covers mode size position x
-missile_covers-round mode size position x k h p =
-    list_any-same _ _ (copies_of mode) (λ c. ap (λ (d : ℕ). nat_lt d size) (distance_of-round x position c k h p))
-
-pub ball_covers-round : (size position x k : ℕ) → x < 160 → position < 160
-    → ball_covers size ((position + k) % 160) ((x + k) % 160) ≡ ball_covers size position x
-ball_covers-round size position x k h p = ap (λ (d : ℕ). nat_lt d size) (distance_of-round x position 0 k h p)

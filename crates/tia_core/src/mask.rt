@@ -1,6 +1,6 @@
 //! The pixels of a line that an object covers.
 ghost use Rattle.std.specs.Prelude.{◌≡◌, ◌<◌, ◌≤◌, ◌||◌, ◌&&◌, ◌-◌, ◌+◌, ◌%◌, ℕ, nat_le, nat_lt};
-ghost use Rattle.std.specs.Prelude.{bit_and, ◌^◌, true, false};
+ghost use Rattle.std.specs.Prelude.{bit_and, ◌^◌, true, false, min};
 ghost use Rattle.tia_core.specs.Bits.{has_bit};
 ghost use Rattle.tia_core.specs.Coverage.{distance_of};
 ghost use Rattle.tia_core.specs.Private.Stretches.{has_two};
@@ -199,9 +199,7 @@ fn all_overlap(a: u32, b: u32, c: u32) -> bool
 /// How many of the 32 pixels from `first` on lie left of pixel `x`.
 #[inline]
 fn left_of(x: u8, first: u8) -> u8
-    ensures less { x ≤ first → result ≡ 0 }
-    ensures within { first < x → x < first + 32 → result ≡ x - first }
-    ensures more { first + 32 ≤ x → result ≡ 32 }
+    ensures { result ≡ min (x - first) 32 }
 {
     if x <= first {
         0

@@ -6,7 +6,7 @@ ghost use Rattle.tia_core.specs.Mask.{covers};
 ghost use Rattle.tia_core.specs.Objects.{ball_at, has_object, missile_at, objects_at};
 ghost use Rattle.tia_core.specs.Private.Stretches.{bl, with_stale, m0, m1, no_objects, objects_in};
 ghost use Rattle.tia_core.specs.Private.Stretches.{p0, p1, pf, stretch_pairs, stretch_pixels};
-ghost use Rattle.tia_core.specs.Private.Stretches.{IsBound, IsMaskOf, MasksFit};
+ghost use Rattle.tia_core.specs.Private.Stretches.{AreShown, IsBound, IsMaskOf, MasksFit};
 ghost use Rattle.tia_core.specs.Private.Lawful.{IsLawfulTia};
 
 use crate::bits::has_bit;
@@ -76,6 +76,7 @@ impl Masks {
         requires fit { MasksFit tia.now self.old }
         ensures fit { MasksFit tia.now self.new }
         ensures fresh { self.new.stale ≡ no_objects }
+        ensures shown { AreShown tia.now self.new }
     {
         renew_player0(&mut self.player0, self.stale.player0, tia);
         renew_player1(&mut self.player1, self.stale.player1, tia);
@@ -158,8 +159,7 @@ impl Masks {
 
     /// The collision bits of the pairs that meet in pixels `from..to`.
     fn pairs(&self, tia: &TiaFields, from: u8, to: u8) -> u16
-        requires fit { MasksFit tia.now self.now }
-        requires fresh { self.now.stale ≡ no_objects }
+        requires shown { AreShown tia.now self.now }
         requires order { from ≤ to }
         requires range { to ≤ 160 }
         ensures value { result ≡ number_from 0 (stretch_pairs tia.now from (to - from)) }
@@ -223,8 +223,7 @@ impl Masks {
 
     /// Puts pixels `from..to` of a line, once no mask is to be made anew.
     fn paint_fresh<S: Paint>(&self, tia: &TiaFields, line: u16, from: u8, to: u8, sink: &mut S)
-        requires fit { MasksFit tia.now self.now }
-        requires fresh { self.now.stale ≡ no_objects }
+        requires shown { AreShown tia.now self.now }
         requires order { from ≤ to }
         requires range { to ≤ 160 }
         ensures { sink.new ≡ sink_after_pixels S.drawn sink.old (stretch_pixels tia.now line from (to - from)) }

@@ -73,7 +73,7 @@ impl Objects {
     /// in bit 5.
     #[inline]
     fn number(self) -> u8
-        ensures value { result ≡ set_number self.player0 self.player1 self.missile0 self.missile1 self.ball self.playfield }
+        ensures value { result ≡ set_number self }
         ensures range { result < 64 }
     {
         self.player0 as u8

@@ -1,7 +1,8 @@
 -- What the masks of a line are to say, and which pairs of objects meet in a stretch of it. This
 -- project's own.
-use Rattle.std.specs.Prelude.{◌≡◌, ◌<◌, ℕ, zero, suc, ◌+◌, ◌*◌, ◌&&◌, ◌||◌, Bool, false}
-use Rattle.std.specs.Prelude.{if◌then◌else◌, List, [], ◌∷◌, bit_or}
+use Rattle.std.specs.Prelude.{◌≡◌, ◌<◌, ℕ, ◌+◌, ◌*◌, ◌&&◌, ◌||◌, Bool, false}
+use Rattle.std.specs.Prelude.{if◌then◌else◌, List, [], ◌∷◌, bit_or, map}
+use Rattle.std.specs.List.{range_with_len}
 use Rattle.tia_core.specs.Clock.{Pixel}
 use Rattle.tia_core.specs.Collision.{pairs_of}
 use Rattle.tia_core.specs.Colour.{colour_at}
@@ -94,10 +95,13 @@ stretch_pairs t x k =
     ∷ meet_within t m0 pf x k ∷ meet_within t m0 bl x k ∷ meet_within t m1 pf x k ∷ meet_within t m1 bl x k
     ∷ meet_within t bl pf x k ∷ meet_within t p0 p1 x k ∷ meet_within t m0 m1 x k ∷ []
 
+-- a pixel of a line
+abbrev pub pixel_at : TiaFields → ℕ → ℕ → Pixel
+pixel_at t line x = record { line = line; x = x; colour = colour_at t (objects_at t x) x }
+
 -- the k pixels of a line from x on
 abbrev pub stretch_pixels : TiaFields → ℕ → ℕ → ℕ → List Pixel
-stretch_pixels t line x zero = []
-stretch_pixels t line x (suc k) = record { line = line; x = x; colour = colour_at t (objects_at t x) x } ∷ stretch_pixels t line (x + 1) k
+stretch_pixels t line x k = map (pixel_at t line) (range_with_len x k)
 
 -- the objects whose masks cover pixel x
 abbrev pub objects_in : Masks → ℕ → Objects
@@ -110,12 +114,16 @@ objects_in m x = record {
   playfield = covers m.playfield x;
 }
 
+-- the masks cover what the objects cover
+abbrev pub AreShown : TiaFields → Masks → Type 0
+AreShown t m = (x : ℕ) → x < 160 → objects_in m x ≡ objects_at t x
+
 -- whether two of six objects are there
 abbrev pub has_two : Bool → Bool → Bool → Bool → Bool → Bool → Bool
 has_two a b c d e f = (a && b) || ((a || b) && c) || ((a || b || c) && d) || ((a || b || c || d) && e) || ((a || b || c || d || e) && f)
 
 -- the number of a set of objects
-abbrev pub set_number : Bool → Bool → Bool → Bool → Bool → Bool → ℕ
-set_number a b c d e f =
-    (if a then 1 else 0) + 2 * (if b then 1 else 0) + 4 * (if c then 1 else 0) + 8 * (if d then 1
-    else 0) + 16 * (if e then 1 else 0) + 32 * (if f then 1 else 0)
+abbrev pub set_number : Objects → ℕ
+set_number o =
+    (if o.player0 then 1 else 0) + 2 * (if o.player1 then 1 else 0) + 4 * (if o.missile0 then 1 else 0)
+    + 8 * (if o.missile1 then 1 else 0) + 16 * (if o.ball then 1 else 0) + 32 * (if o.playfield then 1 else 0)

@@ -1,4 +1,4 @@
-use Rattle.std.proofs.Common.{◌≡◌, ◌||◌, ◌∙◌, sym, ap, ℕ, Bool, take, slice_index_or, List}
+use Rattle.std.proofs.Common.{◌∙◌, refl, ap, ℕ, Bool, slice_index_or, List}
 use Rattle.std.specs.List.{list_any}
 use Rattle.std.proofs.lemmas.List.{take_all}
 use Rattle.std.proofs.lemmas.List.Folds.{list_any_more}
@@ -12,12 +12,13 @@ loop-copy-preserved c = λ x h.
     let test : ℕ → Bool = λ k. has_bit c.args.row (distance_of x c.args.position k) in
     let items : List ℕ = c.copies-copy-items.result.now in
     let i : ℕ = c.loop-copy.copy-index in
-    let place : distance_of x c.right_of.result 0 ≡ distance_of x c.args.position (slice_index_or items i 0) =
-    ap (λ (p : ℕ). distance_of x p 0) c.right_of.ensures.value ∙ distance_of-moved x c.args.position (slice_index_or items i 0) h c.requires in
-    c.place.ensures x h
-    ∙ ap (λ (b : Bool). b || has_bit c.args.row (distance_of x c.right_of.result 0)) (c.loop-copy.invariant x h)
-    ∙ ap (λ (d : ℕ). list_any test (take i items) || has_bit c.args.row d) place
-    ∙ sym (list_any_more test items i 0 c.loop-copy-test.true)
+    rw (
+      c.place.ensures x h,
+      c.loop-copy.invariant x h,
+      c.right_of.ensures.value,
+      distance_of-moved x c.args.position (slice_index_or items i 0) h c.requires,
+      list_any_more test items i 0 c.loop-copy-test.true,
+    ) refl
 
 pub returns : goal.returns
 returns c = λ x h.

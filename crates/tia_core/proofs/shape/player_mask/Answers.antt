@@ -1,8 +1,7 @@
 use Rattle.std.proofs.Common.{◌∙◌}
-use Rattle.tia_core.proofs.Shapes.{copies-player}
+use Rattle.tia_core.specs.Coverage.{copies_of, distance_of}
+use Rattle.tia_core.proofs.RoundTheLine.{list_any-same}
 use Rattle.tia_core.proofs.shape.player_mask.Goals as goal
 
 pub returns : goal.returns
-returns c = λ x h. c.mask_of_copies.ensures x h
-    ∙ copies-player c.player_row.result c.args.mode c.args.reflected c.args.graphic c.args.position
-    x c.player_row.ensures
+returns c = λ x h. c.mask_of_copies.ensures x h ∙ list_any-same _ _ (copies_of c.args.mode) (λ k. c.player_row.ensures (distance_of x c.args.position k))

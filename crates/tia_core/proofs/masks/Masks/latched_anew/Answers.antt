@@ -1,6 +1,5 @@
 use Rattle.std.proofs.Common.{◌∙◌, ◌-◌, ◌<◌, sym, ap, arith}
 use Rattle.tia_core.specs.Collision.{pairs_of}
-use Rattle.tia_core.proofs.MaskFits.{objects_in-fit}
 use Rattle.tia_core.proofs.PairLemmas.{stretch-none}
 use Rattle.tia_core.proofs.masks.Masks.latched_anew.Goals as goal
 
@@ -8,5 +7,5 @@ pub returns-clause-value : goal.returns-clause-value
 returns-clause-value c =
     stretch-none c.args.tia.now c.args.tia.now.collisions c.args.from (c.args.to - c.args.from) (λ y le lt.
     let h : y < 160 = omega arith in
-    ap pairs_of (sym (objects_in-fit c.args.tia.now c.renew.new.self y c.renew.ensures.fit c.renew.ensures.fresh h))
+    ap pairs_of (sym (c.renew.ensures.shown y h))
     ∙ c.any_two_meet.ensures c.if-any_two_meet.false y le (omega arith))

@@ -16,4 +16,4 @@ returns-then-is_dark-clause-sink g c =
     let t = c.args.tia.now in
     c.put_run.ensures ∙ stretch-one g.S.Paint.drawn c.args.sink.now t c.args.line c.args.from
     (c.args.to - c.args.from) 0
-    (λ y. colour-dark t (objects_at t y) y (sym c.is_dark.ensures ∙ c.if-is_dark.true))
+    (λ y le lt. colour-dark t (objects_at t y) y (sym c.is_dark.ensures ∙ c.if-is_dark.true))

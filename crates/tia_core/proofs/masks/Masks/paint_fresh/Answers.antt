@@ -1,8 +1,5 @@
-use Rattle.std.proofs.Common.{sym, ◌∙◌, ap, arith}
-use Rattle.tia_core.specs.declared.objects.Objects.{Objects}
-use Rattle.tia_core.specs.Colour.{colour_at}
+use Rattle.std.proofs.Common.{◌∙◌, arith}
 use Rattle.tia_core.proofs.RunLemmas.{colour-same, same_side, stretch-run-to}
-use Rattle.tia_core.proofs.MaskFits.{objects_in-fit}
 use Rattle.tia_core.proofs.masks.Masks.paint_fresh.Goals as goal
 
 pub loop-x-preserved : goal.loop-x-preserved
@@ -14,11 +11,9 @@ loop-x-preserved g c =
     record {
       order = run.range;
       sink = rw c.put_run.ensures
-          (stretch-run-to g.S.Paint.drawn c.loop-x.sink t c.args.line x end c.args.to
-          c.colour_at.result (omega (arith, run.after)) run.range (λ y le lt.
-          ap (λ (o : Objects). colour_at t o y)
-          (sym (objects_in-fit t c.args.self.now y c.requires.fit c.requires.fresh
-          (omega (arith, run.range, c.requires.range))) ∙ run.same y le lt ∙ sym c.objects.ensures)
-          ∙ colour-same t c.objects.result x y (same_side x y 8 end le lt run.comb) (same_side x y 80 end le lt run.half)
-          ∙ sym c.colour_at.ensures) ∙ c.loop-x.invariant.sink);
+          (stretch-run-to g.S.Paint.drawn c.loop-x.sink t c.args.line x end c.args.to c.colour_at.result (omega (arith, run.after)) run.range
+          (λ y le lt.
+          rw (← c.requires.shown y (omega (arith, run.range, c.requires.range)), run.same y le lt, ← c.objects.ensures, c.colour_at.ensures)
+          (colour-same t c.objects.result x y (same_side x y 8 end le lt run.comb) (same_side x y 80 end le lt run.half)))
+          ∙ c.loop-x.invariant.sink);
     }

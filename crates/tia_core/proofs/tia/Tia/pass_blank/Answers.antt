@@ -7,4 +7,4 @@ pub invariant_of-self : goal.invariant_of-self
 invariant_of-self c = (search rules, fit-placed c.self.inside.fields c.self.inside.masks _ _ _ c.self.invariant.1)
 
 pub returns : goal.returns
-returns c = rw (blank-stretch c.args.count c.args.self.now c.requires, ← c.self.view_is)
+returns c = rw ((blank-stretch c.args.count c.args.self.now c.requires).0, ← c.self.view_is)
