@@ -3,6 +3,7 @@ pub mod BankLaws
 pub mod BankLemmas
 pub mod BeamLaws
 pub mod FrameOutcomes
+pub mod KeptFacts
 pub mod LagLemmas
 pub mod LoggedLemmas
 pub mod OneStop

@@ -4,17 +4,18 @@ use Rattle.std.proofs.Common.{Result, Ok, Err, true, refl, sym, ap, ◌∙◌, a
 use Rattle.std.specs.Prelude.{IfOk, fold, nat_lt}
 use Rattle.std.proofs.lemmas.Bool.Decides.{nat_tests}
 use Rattle.std.proofs.lemmas.List.{length-append}
-use Rattle.mos_cpu.specs.Accesses.{StoredByte, Use, Nothing, Reads, Stores, Modifies, Pushes, Pulls}
+use Rattle.mos_cpu.specs.Accesses.{StoredByte, Use, Reads, Stores, Modifies, Pushes, Pulls}
 use Rattle.mos_cpu.specs.Accesses.{accesses_by as accesses_by_use, accesses_of, instruction_cycles}
 use Rattle.mos_cpu.specs.Accesses.{pulls, pushes, use_of}
 use Rattle.mos_cpu.specs.Buses.{Meaning, Respects}
-use Rattle.mos_cpu.specs.Execution.{Progress, after_access, after_transfer, at_start, step_by, step_of}
-use Rattle.mos_cpu.specs.Operands.{Operand, Register, Value, Place, Instruction, instruction_at}
+use Rattle.mos_cpu.specs.Execution.{Progress, after_access, after_transfer, at_start, map_step, step_by}
+use Rattle.mos_cpu.specs.Execution.{step_of}
+use Rattle.mos_cpu.specs.Operands.{Operand, Register, Instruction, instruction_at}
 use Rattle.mos_cpu.specs.Registers.{Registers}
 use Rattle.mos_cpu.specs.Timing.{IsTimed, least_of}
 use Rattle.mos_cpu.specs.declared.access.Access.{Access}
 use Rattle.mos_cpu.specs.declared.access.Transfer.{Transfer}
-use Rattle.mos_cpu.specs.declared.access.Transfer.TheVariants.{Read, Write}
+use Rattle.mos_cpu.specs.declared.access.Transfer.TheVariants.{Read}
 use Rattle.mos_cpu.specs.declared.fault.CpuFault.{CpuFault}
 use Rattle.mos_cpu.specs.declared.operation.Operation.{Operation}
 use Rattle.mos_cpu.proofs.AlongMaps.{decoded-along, step_of-along}
@@ -34,24 +35,12 @@ pulls-length s n (suc more) = ap suc (pulls-length s (n + 1) more)
 
 few_by : (how : Use) (operand : Operand) (r : Registers) (cycles : ℕ) → least_of how ≤ 7
     → length (accesses_by_use how operand r cycles) ≤ 8
-few_by Nothing operand r cycles h = omega arith
-few_by Reads Register r cycles h = omega arith
-few_by Reads (Value b) r cycles h = omega arith
-few_by Reads (Place at crossed) r cycles h = omega arith
-few_by (Stores what) Register r cycles h = omega arith
-few_by (Stores what) (Value b) r cycles h = omega arith
-few_by (Stores what) (Place at crossed) r cycles h = omega arith
-few_by Modifies Register r cycles h = omega arith
-few_by Modifies (Value b) r cycles h = omega arith
-few_by Modifies (Place at crossed) r cycles h = omega arith
 few_by (Pushes first rest) operand r cycles h = let same = pushes-length first r 0 rest in omega (arith, same, h)
 few_by (Pulls count) operand r cycles h = let same = pulls-length r.s 1 count in omega (arith, same, h)
-
-few : (i : Instruction) (r : Registers) → IsTimed i.row → length (accesses_of i r (instruction_cycles i r.p)) ≤ 8
-few i r timed =
-    let room = (cycles_of-timed i r.p timed).2 in
-    let most = (cycles_of-timed i r.p timed).1 in
-    few_by (use_of i.row.operation) i.operand r (instruction_cycles i r.p) (omega (arith, room, most))
+few_by Reads Register r cycles h = omega arith
+few_by (Stores what) Register r cycles h = omega arith
+few_by Modifies Register r cycles h = omega arith
+few_by how operand r cycles h = omega arith
 
 -- ---- what is listed
 module _ {S : Type 0} (m : Meaning S) where
@@ -66,10 +55,8 @@ module _ {S : Type 0} (m : Meaning S) where
       → after_transfer (logging m) o p g cycle address t
       ≡ listed (after_transfer m o p (plain g) cycle address t) (g.bus.accesses ++ with_byte m o p (plain g) cycle address t ∷ [])
   unfolding logging
-  one o p g cycle address Read room =
-      let fits : nat_lt (length g.bus.accesses) 8 ≡ true = grind (arith, nat_tests) in rw fits refl
-  one o p g cycle address (Write source) room =
-      let fits : nat_lt (length g.bus.accesses) 8 ≡ true = grind (arith, nat_tests) in rw fits refl
+  one o p g cycle address Read room = let fits : nat_lt (length g.bus.accesses) 8 ≡ true = grind (arith, nat_tests) in rw fits refl
+  one o p g cycle address write room = let fits : nat_lt (length g.bus.accesses) 8 ≡ true = grind (arith, nat_tests) in rw fits refl
 
   all : (o : Operation) (p : ℕ) (g : Progress (Logged S)) (accesses : List Access) → length g.bus.accesses + length accesses ≤ 8
       → (fold (after_access (logging m) o p) g accesses).bus.accesses ≡ g.bus.accesses ++ with_bytes m o p (plain g) accesses
@@ -102,7 +89,9 @@ module _ {S : Type 0} (m : Meaning S) where
   unfolding logging
   by_instruction r s (Err fault) timed = refl
   by_instruction r s (Ok i) timed =
-      all i.row.operation r.p (at_start (unlisted s)) (accesses_of i r (instruction_cycles i r.p)) (let short = few i r timed in omega (arith, short))
+      all i.row.operation r.p (at_start (unlisted s)) (accesses_of i r (instruction_cycles i r.p))
+      (let timing = cycles_of-timed i r.p timed in
+      let few = few_by (use_of i.row.operation) i.operand r (instruction_cycles i r.p) (omega (arith, timing.2, timing.1)) in omega (arith, few))
 
   -- The list after an instruction, if it was empty before.
   pub logged-accesses : (r : Registers) (s : S) → (step_of (logging m) r (unlisted s)).bus.accesses ≡ data_accesses m r s
@@ -113,8 +102,5 @@ module _ {S : Type 0} (m : Meaning S) where
       ∙ by_instruction r s (instruction_at m s r) (decoded-timed m s r)
 
   -- What an instruction answers and leaves on the bus below.
-  pub logged-step : (r : Registers) (l : Logged S) (answer : Result ℕ CpuFault) (after : Registers) (bus : Logged S)
-      → answer ≡ (step_of (logging m) r l).answer → after ≡ (step_of (logging m) r l).registers → bus ≡ (step_of (logging m) r l).bus
-      → step_of m r l.bus ≡ record { answer = answer; registers = after; bus = bus.bus }
-  logged-step r l answer after bus a b c =
-      step_of-along (logging m) m (λ l. l.bus) logging-respects r l ∙ rw (a, b, c) refl
+  pub logged-below : (r : Registers) (l : Logged S) → step_of m r l.bus ≡ map_step (λ l. l.bus) (step_of (logging m) r l)
+  logged-below r l = step_of-along (logging m) m (λ l. l.bus) logging-respects r l

@@ -1,5 +1,5 @@
 -- A run of pixels of one colour in a picture.
-use Rattle.std.proofs.Common.{◌≡◌, ℕ, zero, suc, ◌+◌, ◌-◌, ◌<◌, ◌≤◌, nat_lt, true, false, List, []}
+use Rattle.std.proofs.Common.{◌≡◌, ℕ, zero, suc, ◌+◌, ◌<◌, ◌≤◌, List, []}
 use Rattle.std.proofs.Common.{length, slice_set, slice_index_or, refl, sym, ap, ◌∙◌, arith}
 use Rattle.std.proofs.lemmas.Bool.Decides.{nat_tests}
 use Rattle.std.proofs.lemmas.List.{set-get_or, set-set, get_or-set_same, length-set}
@@ -7,22 +7,12 @@ use Rattle.tia_core.specs.Runs.{run_drawn}
 use Rattle.vcs_machine.specs.Pictures.{Rows, with_pixel}
 use Rattle.vcs_machine.specs.Private.Rows.{with_pixels}
 
-one_less : (n i : ℕ) → i < n → n - i ≡ suc (n - (i + 1))
-one_less n i h = omega arith
-
-pub filled-step : (row : List ℕ) (x to colour : ℕ) → x < to
-    → with_pixels row x (to - x) colour ≡ with_pixels (slice_set row x colour) (x + 1) (to - (x + 1)) colour
-filled-step row x to colour h = rw (one_less to x h) refl
-
 pixel-inside : (rows : Rows) (line x colour : ℕ) → line < length rows → x < 160
     → with_pixel rows line x colour ≡ slice_set rows line (slice_set (slice_index_or rows line []) x colour)
-pixel-inside rows line x colour h lt =
-    let a : nat_lt line (length rows) ≡ true = grind (arith, nat_tests) in
-    let b : nat_lt x 160 ≡ true = grind (arith, nat_tests) in
-    rw (a, b) refl
+pixel-inside rows line x colour h lt = grind (arith, nat_tests)
 
 pixel-outside : (rows : Rows) (line x colour : ℕ) → length rows ≤ line → with_pixel rows line x colour ≡ rows
-pixel-outside rows line x colour h = let a : nat_lt line (length rows) ≡ false = grind (arith, nat_tests) in rw a refl
+pixel-outside rows line x colour h = grind (arith, nat_tests)
 
 pub run-inside : (rows : Rows) (line x k colour : ℕ) → line < length rows → x + k ≤ 160
     → run_drawn with_pixel rows line x k colour ≡ slice_set rows line (with_pixels (slice_index_or rows line []) x k colour)

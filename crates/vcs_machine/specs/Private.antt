@@ -6,4 +6,3 @@ pub mod Logged
 pub mod Mapped
 pub mod Polls
 pub mod Rows
-pub mod Searching

@@ -1,10 +1,9 @@
 //! Instructions until a frame stops.
 ghost use Rattle.std.specs.Prelude.{◌≡◌, ◌<◌, ◌≤◌, ◌+◌, false, IfOk, IfErr};
 ghost use Rattle.mos_cpu.specs.Registers.{Registers};
-ghost use Rattle.vcs_machine.specs.Consoles.{Console as ConsoleOf, console_rules};
+ghost use Rattle.vcs_machine.specs.Consoles.{console_rules};
 ghost use Rattle.vcs_machine.specs.Faults.{stop_with};
-ghost use Rattle.vcs_machine.specs.Frame.{Machine, Stop, stop_of, Ended, most_frame_cycles};
-ghost use Rattle.vcs_machine.specs.Private.Searching.{Searches};
+ghost use Rattle.vcs_machine.specs.Frame.{Machine, stop_of, Ended, most_frame_cycles};
 
 use crate::console::Console;
 use crate::fault::{FaultKind, Halt};
@@ -24,9 +23,8 @@ pub const TOO_MANY_CYCLES: u32 = 24_320;
 fn pass_rounds<S: Paint>(cpu: Cpu, console: &mut Console<S>, cycles: u32) -> (Cpu, u32)
     requires no_wait { console.old.awaits_line ≡ false }
     requires no_end { console.old.ended ≡ false }
-    ensures searches { (stop : Stop (ConsoleOf S)) →
-        Searches (console_rules S.drawn) (record { registers = cpu; bus = console.old; cycles = cycles }) stop →
-        Searches (console_rules S.drawn) (record { registers = result.0; bus = console.new; cycles = result.1 }) stop }
+    ensures stops { stop_of (console_rules S.drawn) (record { registers = cpu; bus = console.old; cycles = cycles })
+        ≡ stop_of (console_rules S.drawn) (record { registers = result.0; bus = console.new; cycles = result.1 }) }
     ensures later { cycles ≤ result.1 }
     ensures most { cycles ≤ most_frame_cycles → result.1 ≤ most_frame_cycles }
 {
@@ -66,9 +64,8 @@ fn pass_rounds_after<S: Paint>(
 ) -> (Cpu, u32)
     requires no_wait { console.old.awaits_line ≡ false }
     requires no_end { console.old.ended ≡ false }
-    ensures searches { (stop : Stop (ConsoleOf S)) →
-        Searches (console_rules S.drawn) (record { registers = cpu; bus = console.old; cycles = cycles }) stop →
-        Searches (console_rules S.drawn) (record { registers = result.0; bus = console.new; cycles = result.1 }) stop }
+    ensures stops { stop_of (console_rules S.drawn) (record { registers = cpu; bus = console.old; cycles = cycles })
+        ≡ stop_of (console_rules S.drawn) (record { registers = result.0; bus = console.new; cycles = result.1 }) }
     ensures later { cycles ≤ result.1 }
     ensures most { cycles ≤ most_frame_cycles → result.1 ≤ most_frame_cycles }
 {

@@ -4,6 +4,7 @@ use Rattle.std.specs.Prelude.{ℕ, ◌≡◌, ◌+◌, ◌-◌, ◌*◌, ◌/◌
 use Rattle.std.specs.Prelude.{if◌then◌else◌, List}
 use Rattle.mos_cpu.specs.Arithmetic.{load_of}
 use Rattle.mos_cpu.specs.Effects.{with_a}
+use Rattle.mos_cpu.specs.Registers.{Registers}
 use Rattle.mos_cpu.specs.Status.{has_flag}
 use Rattle.mos_cpu.specs.declared.operation.Operation.{Operation}
 use Rattle.mos_cpu.specs.declared.operation.Operation.TheVariants.{Bne, Beq, Bpl, Bmi}
@@ -58,15 +59,14 @@ pub record IsPoll (cart : List ℕ) (bank pc : ℕ) (poll : Poll) : Type 0 where
   pub timer : has_bit poll.register 2 ≡ true
   pub cycles : poll.cycles ≡ 7 + (if not ((pc + 2) / 256 == (pc - 3) / 256) then 1 else 0)
 
--- A machine at the branch after so many cycles, the last of them that of a load.
+-- A machine after a load of a register on this bus, and the same after so many cycles, the last of
+-- them that of the load.
+abbrev pub loaded_at : {S : Type 0} → Registers → ℕ → Console S → ℕ → Machine (Console S)
+loaded_at r register bus cycles =
+    record { registers = with_a r (load_of (riot_read bus.riot register) r.p); bus = read_at bus (Io register); cycles = cycles }
+
 abbrev pub after_load : {S : Type 0} → (S → ℕ → ℕ → ℕ → S) → ℕ → ℕ → Machine (Console S) → Machine (Console S)
-after_load drawn register n m =
-    let bus = passed drawn m.bus n in
-    record {
-      registers = with_a m.registers (load_of (riot_read bus.riot register) m.registers.p);
-      bus = read_at bus (Io register);
-      cycles = m.cycles + n;
-    }
+after_load drawn register n m = loaded_at m.registers register (passed drawn m.bus n) (m.cycles + n)
 
 -- Rounds that surely go on: what is loaded in each but the last has the branch taken again.
 abbrev pub GoOn : Poll → RiotState → ℕ → Type 0

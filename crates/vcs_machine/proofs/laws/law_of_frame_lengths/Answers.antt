@@ -1,14 +1,12 @@
-use Rattle.vcs_machine.proofs.FrameOutcomes.{stop-cycles, stop-rows, stop-beam, stop-line_cycle}
+use Rattle.std.proofs.Common.{[], arith}
+use Rattle.vcs_machine.specs.Consoles.{with_pixel_logged}
+use Rattle.vcs_machine.proofs.FrameOutcomes.{stop-way}
 use Rattle.vcs_machine.proofs.laws.law_of_frame_lengths.Goals as goal
 
-pub returns-clause-cycles : goal.returns-clause-cycles
-returns-clause-cycles c cart s i small = stop-cycles cart s i small
-
-pub returns-clause-rows : goal.returns-clause-rows
-returns-clause-rows c cart s i small = stop-rows cart s i small
-
-pub returns-clause-beam : goal.returns-clause-beam
-returns-clause-beam c cart s i small = stop-beam cart s i small
-
-pub returns-clause-line_cycle : goal.returns-clause-line_cycle
-returns-clause-line_cycle c cart s i small = stop-line_cycle cart s i small
+pub returns : goal.returns
+returns c = record {
+  cycles = λ cart s i lawful. (stop-way with_pixel_logged cart s i [] lawful).most;
+  rows = λ cart s i lawful. let room = (stop-way with_pixel_logged cart s i [] lawful).room in omega arith;
+  beam = λ cart s i lawful. let beam = (stop-way with_pixel_logged cart s i [] lawful).beam in omega arith;
+  line_cycle = λ cart s i lawful. let beam = (stop-way with_pixel_logged cart s i [] lawful).beam in omega arith;
+}

@@ -1,20 +1,18 @@
-use Rattle.std.proofs.Common.{◌≡◌, ◌∙◌, ℕ, IsTrue, take, sym, ap, refl}
-use Rattle.tia_core.specs.Clock.{sink_after_pixels}
-use Rattle.vcs_machine.specs.Pictures.{Rows, picture_of, rows_of, with_pixel}
-use Rattle.vcs_machine.specs.States.{is_state, line_cycle_of}
-use Rattle.vcs_machine.proofs.FrameOutcomes.{played, played-cycles, length-picture_of, failed, ended-rows}
+use Rattle.std.proofs.Common.{◌≡◌, ◌≤◌, ◌∙◌, [], arith, refl}
+use Rattle.vcs_machine.specs.Consoles.{with_pixel_logged}
+use Rattle.vcs_machine.specs.Pictures.{picture_of, rows_of}
+use Rattle.vcs_machine.specs.States.{line_cycle_of}
+use Rattle.vcs_machine.proofs.FrameOutcomes.{failed, picture, played, played-cycles, played-rows, stop-way}
 use Rattle.vcs_machine.proofs.PictureTable.{take-painted}
 use Rattle.vcs_machine.proofs.timing.timed_frame.Goals as goal
 
 pub returns-in-Ok-clause-ok : goal.returns-in-Ok-clause-ok
 returns-in-Ok-clause-ok c =
-    let p = c.in-Ok.ensures.ok in
-    let line_cycle = c.line_cycle-line_cycle.ensures.value in
-    let counted : c.rows.result ≡ rows_of (line_cycle_of c.args.state.now) p.0.cycles =
-    c.rows.ensures ∙ ap (λ (n : ℕ). rows_of n c.in-Ok.cycles) line_cycle ∙ ap (rows_of (line_cycle_of c.args.state.now)) (sym p.4) in (
-      picture_of (rows_of (line_cycle_of c.args.state.now) p.0.cycles) p.0.bus.sink,
-      played c.args.cart.now c.args.state.now _ c.args.input p.0 p.1 p.2,
-      counted ∙ sym (length-picture_of (rows_of (line_cycle_of c.args.state.now) p.0.cycles) p.0.bus.sink),
+    let s = c.args.state.now in
+    let p = c.in-Ok.ensures.ok in (
+      picture _ c.args.cart.now s _ c.args.input _ _ c.in-Ok.cycles p,
+      played _ c.args.cart.now s _ c.args.input _ _ _ p,
+      (rw c.line_cycle-line_cycle.ensures.value at c.rows.ensures) ∙ played-rows _ c.args.cart.now s _ c.args.input _ _ _ p,
       rw c.if-not-keep.true refl,
     )
 
@@ -26,20 +24,18 @@ returns-in-Err-clause-err c = failed c.args.cart.now c.args.state.now _ c.args.i
 
 pub returns-in-Ok-frame_onto-clause-ok : goal.returns-in-Ok-frame_onto-clause-ok
 returns-in-Ok-frame_onto-clause-ok c =
+    let s = c.args.state.now in
+    let cycles = c.in-Ok-frame_onto.cycles in
     let p = c.in-Ok-frame_onto.ensures.ok in
-    let line_cycle = c.line_cycle-line_cycle.ensures.value in
-    let lawful : IsTrue (is_state c.args.state.now) = c.line_cycle-line_cycle.ensures.lawful in
-    let rows = rows_of (line_cycle_of c.args.state.now) p.0.cycles in
-    let counted : c.rows-rows.result ≡ rows =
-    c.rows-rows.ensures ∙ ap (λ (n : ℕ). rows_of n c.in-Ok-frame_onto.cycles) line_cycle ∙ ap (rows_of (line_cycle_of c.args.state.now)) (sym p.4) in
-    let kept : c.cut.result ≡ picture_of rows p.0.bus.sink =
+    let counted : c.rows-rows.result ≡ rows_of (line_cycle_of s) cycles = rw c.line_cycle-line_cycle.ensures.value at c.rows-rows.ensures in
+    let way = rw p.1 at (stop-way with_pixel_logged c.args.cart.now s c.args.input [] c.line_cycle-line_cycle.ensures.lawful) in
+    let few : rows_of (line_cycle_of s) cycles ≤ 322 = (let room = way.room in rw (← p.4) (omega arith)) in
+    let kept : c.cut.result ≡ picture_of (rows_of (line_cycle_of s) cycles) p.0.bus.sink =
     c.cut.ensures
-    ∙ ap (λ (n : ℕ). take n c.in-Ok-frame_onto.picture) counted
-    ∙ ap (take rows) (sym p.3 ∙ ap (λ (blank : Rows). sink_after_pixels with_pixel blank p.0.bus.sink) c.in-Ok-blank.ensures)
-    ∙ take-painted rows 322 p.0.bus.sink (ended-rows c.args.cart.now c.args.state.now c.args.input p.0 lawful p.1) in (
-      picture_of rows p.0.bus.sink,
-      played c.args.cart.now c.args.state.now _ c.args.input p.0 p.1 p.2,
-      counted ∙ sym (length-picture_of rows p.0.bus.sink),
+    ∙ rw (counted, ← p.3, c.in-Ok-blank.ensures) (take-painted (rows_of (line_cycle_of s) cycles) 322 p.0.bus.sink few) in (
+      picture _ c.args.cart.now s _ c.args.input _ _ cycles p,
+      played _ c.args.cart.now s _ c.args.input _ _ _ p,
+      counted ∙ played-rows _ c.args.cart.now s _ c.args.input _ _ _ p,
       rw (c.if-not-keep.false, kept) refl,
     )
 

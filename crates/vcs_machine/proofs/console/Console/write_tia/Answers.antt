@@ -1,5 +1,4 @@
-use Rattle.std.proofs.Common.{◌-◌, ◌*◌, ap, refl, sym}
-use Rattle.vcs_machine.specs.Consoles.{Console}
+use Rattle.std.proofs.Common.{◌-◌, ◌*◌, refl}
 use Rattle.vcs_machine.proofs.LagLemmas.{written-unchanged}
 use Rattle.vcs_machine.proofs.console.Console.write_tia.Goals as goal
 
@@ -7,4 +6,4 @@ pub returns-then-is_unchanged_by : goal.returns-then-is_unchanged_by
 returns-then-is_unchanged_by g c =
     let d = c.self.inside.devices in
     written-unchanged c.args.self.now (3 * (76 - d.lag_left)) d.tia c.args.register c.args.value
-    (ap (λ (z : Console g.row.S.Denot). z.tia) (sym c.self.view_is)) (c.if-is_unchanged_by.ensures.state refl) (c.if-is_unchanged_by.ensures.effect refl)
+    (cc) (c.if-is_unchanged_by.ensures.state refl) (c.if-is_unchanged_by.ensures.effect refl)

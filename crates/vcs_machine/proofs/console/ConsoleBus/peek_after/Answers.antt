@@ -1,5 +1,4 @@
-use Rattle.std.proofs.Common.{rules, ◌<◌, ap}
-use Rattle.vcs_machine.specs.Consoles.{Console as ConsoleOf}
+use Rattle.std.proofs.Common.{rules, ◌<◌}
 use Rattle.vcs_machine.proofs.BankLemmas.{told-after}
 use Rattle.vcs_machine.proofs.console.ConsoleBus.peek_after.Goals as goal
 
@@ -8,5 +7,5 @@ returns-in-Cart g c =
     let word : c.args.address < 65536 = search rules in
     told-after g.S.Paint.drawn c.args.self.now c.args.address c.in-Cart.address
     c.self.inside.mapped.cart.now c.self.inside.mapped.bank c.after.result word (search rules)
-    (ap (λ (k : ConsoleOf g.row.S.Denot). k.cart) c.self.view_is) (ap (λ (k : ConsoleOf g.row.S.Denot). k.bank) c.self.view_is)
+    (cc) (cc)
     c.after.ensures.byte c.after.ensures.inside

@@ -1,20 +1,14 @@
-use Rattle.std.proofs.Common.{◌-◌}
+use Rattle.std.proofs.Common.{◌-◌, rules}
 use Rattle.vcs_machine.proofs.LagLemmas.{left-less, riot-later, tia-later, sink-later}
 use Rattle.vcs_machine.proofs.devices.Devices.pass.Goals as goal
 
-pub returns-else-is_short-clause-riot : goal.returns-else-is_short-clause-riot
-returns-else-is_short-clause-riot g c =
+pub returns-else-is_short : goal.returns-else-is_short
+returns-else-is_short g c =
     let d = c.args.self.now in
-    rw (left-less d.lag_left c.args.cycles c.if-is_short.false c.requires.behind.most)
-    (riot-later (76 - d.lag_left) d.riot_ahead c.args.cycles d.riot c.requires.behind.riot_ahead)
-
-pub returns-else-is_short-clause-tia : goal.returns-else-is_short-clause-tia
-returns-else-is_short-clause-tia g c =
-    let d = c.args.self.now in
-    rw (left-less d.lag_left c.args.cycles c.if-is_short.false c.requires.behind.most) (tia-later (76 - d.lag_left) c.args.cycles d.tia)
-
-pub returns-else-is_short-clause-sink : goal.returns-else-is_short-clause-sink
-returns-else-is_short-clause-sink g c =
-    let d = c.args.self.now in
-    rw (left-less d.lag_left c.args.cycles c.if-is_short.false c.requires.behind.most)
-    (sink-later g.S.Paint.drawn (76 - d.lag_left) c.args.cycles d.tia d.sink)
+    let less = left-less d.lag_left c.args.cycles c.if-is_short.false c.requires.behind.most in
+    record {
+      behind = search rules;
+      riot = rw less (riot-later (76 - d.lag_left) d.riot_ahead c.args.cycles d.riot c.requires.behind.riot_ahead);
+      tia = rw less (tia-later (76 - d.lag_left) c.args.cycles d.tia);
+      sink = rw less (sink-later g.S.Paint.drawn (76 - d.lag_left) c.args.cycles d.tia d.sink);
+    }

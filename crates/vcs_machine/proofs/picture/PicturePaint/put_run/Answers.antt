@@ -1,9 +1,7 @@
-use Rattle.std.proofs.Common.{◌≡◌, ◌<◌, ◌≤◌, ◌+◌, ◌-◌, List, ℕ, [], length, slice_set}
-use Rattle.std.proofs.Common.{slice_index_or, sym, ap, ◌∙◌, arith}
+use Rattle.std.proofs.Common.{◌≡◌, ◌<◌, ◌≤◌, ◌+◌, ◌-◌, [], length}
+use Rattle.std.proofs.Common.{slice_index_or, sym, ◌∙◌, arith}
 use Rattle.std.proofs.lemmas.List.{get_or_default}
-use Rattle.tia_core.specs.Runs.{run_drawn}
-use Rattle.vcs_machine.specs.Pictures.{Rows, with_pixel}
-use Rattle.vcs_machine.specs.Private.Rows.{with_pixels}
+use Rattle.vcs_machine.specs.Pictures.{Rows}
 use Rattle.vcs_machine.proofs.RowLemmas.{run-inside, run-outside}
 use Rattle.vcs_machine.proofs.picture.PicturePaint.put_run.Goals as goal
 
@@ -15,14 +13,11 @@ returns-then-line-len c =
     ≡ slice_index_or rows c.args.line [] = c.index_mut.ensures.value
     ∙ get_or_default rows c.args.line c.index_mut.result.now [] here in
     let end : c.args.from + (c.args.to - c.args.from) ≤ 160 = omega (arith, c.requires.order, c.requires.range) in
-    ap (slice_set rows c.args.line) (c.fill.ensures ∙ ap (λ (r : List ℕ). with_pixels r c.args.from (c.args.to - c.args.from) c.args.colour) row)
-    ∙ sym (run-inside rows c.args.line c.args.from (c.args.to - c.args.from) c.args.colour here end)
-    ∙ ap (λ (r : Rows). run_drawn with_pixel r c.args.line c.args.from (c.args.to - c.args.from) c.args.colour) c.self.view_is
+    rw (c.fill.ensures, row, ← c.self.view_is)
+    (sym (run-inside rows c.args.line c.args.from (c.args.to - c.args.from) c.args.colour here end))
 
 pub returns-else-line-len : goal.returns-else-line-len
 returns-else-line-len c =
     let rows : Rows = c.self.inside.rows.items in
     let past : length rows ≤ c.args.line = omega (arith, c.len.ensures, c.if-line-len.false) in
-    sym (ap (λ (r : Rows). run_drawn with_pixel r c.args.line c.args.from (c.args.to - c.args.from) c.args.colour) (sym c.self.view_is)
-    ∙ run-outside rows c.args.line c.args.from (c.args.to - c.args.from) c.args.colour past
-    ∙ c.self.view_is)
+    rw (← c.self.view_is) (sym (run-outside rows c.args.line c.args.from (c.args.to - c.args.from) c.args.colour past))
