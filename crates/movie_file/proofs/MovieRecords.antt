@@ -9,7 +9,8 @@ use Rattle.std.proofs.lemmas.List.{take_at, take_all, length-append, length-take
 use Rattle.std.proofs.lemmas.List.{get_or_append_left, get_or-append_right}
 use Rattle.riot_map.specs.Cart.{has_banks}
 use Rattle.vcs_machine.specs.declared.fields.StateFields.{StateFields}
-use Rattle.movie_file.specs.Format.{takes_cart, most_frames, record_length, whole_record}
+use Rattle.movie_file.specs.Format.{takes_cart, most_frames, record_length, state_length, whole_record}
+use Rattle.movie_file.specs.Private.RecordNumbers.{bank_place}
 use Rattle.movie_file.specs.Movie.{IsState, IsStateWith}
 use Rattle.movie_file.specs.Record.{record_of, recorded_state, movie_record, fits_bank}
 use Rattle.movie_file.specs.Record.{with_fitting_bank, movie_state_at}
@@ -23,10 +24,14 @@ use Rattle.movie_file.proofs.RecordLaws.{state_takes, state_again, length-record
 
 -- ---- the numbers of a version
 
-pub record_length-most : (version : ℕ) → record_length version ≤ 188
+-- the length of a record, by whether the version is 1
+abbrev length_if : Bool → ℕ
+length_if old = cond {A = ℕ} old bank_place state_length
+
+pub record_length-most : (version : ℕ) → record_length version ≤ state_length
 record_length-most version = by (eqb version 1)
   where
-    by : (old : Bool) → cond {A = ℕ} old 187 188 ≤ 188
+    by : (old : Bool) → length_if old ≤ state_length
     by true = omega arith
     by false = omega arith
 
@@ -50,13 +55,13 @@ record_parts : (f : StateFields) → record_of f ≡ prefix_bytes f ++ f.bank �
 unfolding record_of
 record_parts f = refl
 
-prefix_length : (f : StateFields) → IsState f → length (prefix_bytes f) ≡ 187
+prefix_length : (f : StateFields) → IsState f → length (prefix_bytes f) ≡ bank_place
 prefix_length f h =
     let riot = length-riot_bytes f.riot h.ram in
     omega (arith, length-append (riot_bytes f.riot) (bytes_of tia_numbers f.tia))
 
-take_prefix : (f : StateFields) → IsState f → take 187 (record_of f) ≡ prefix_bytes f
-take_prefix f h = ap (take 187) (record_parts f) ∙ take_at (prefix_bytes f) (f.bank ∷ []) 187 (prefix_length f h)
+take_prefix : (f : StateFields) → IsState f → take bank_place (record_of f) ≡ prefix_bytes f
+take_prefix f h = ap (take bank_place) (record_parts f) ∙ take_at (prefix_bytes f) (f.bank ∷ []) bank_place (prefix_length f h)
 
 pub length-movie_record : (version : ℕ) (f : StateFields) → IsState f → length (movie_record version f) ≡ record_length version
 length-movie_record version f h = omega (arith, length-take (record_length version) (record_of f), length-record_of f h, record_length-most version)
@@ -68,11 +73,11 @@ whole_again : (version cart : ℕ) (f : StateFields) → IsTrue (takes_cart vers
 whole_again version cart f takes h = by (eqb version 1) refl
   where
     by : (old : Bool) → eqb version 1 ≡ old
-        → cond {A = List ℕ} old (take (cond {A = ℕ} old 187 188) (record_of f) ++ 0 ∷ []) (take (cond {A = ℕ} old 187 188) (record_of f)) ≡ record_of f
+        → cond {A = List ℕ} old (take (length_if old) (record_of f) ++ 0 ∷ []) (take (length_if old) (record_of f)) ≡ record_of f
     by true e =
         let none : f.bank ≡ 0 = bank_of_old version cart f.bank e takes h.bank in
         ap (λ (w : List ℕ). w ++ 0 ∷ []) (take_prefix f h.state) ∙ ap (λ (bank : ℕ). prefix_bytes f ++ bank ∷ []) (sym none) ∙ sym (record_parts f)
-    by false e = take_all 188 (record_of f) (omega (arith, length-record_of f h.state))
+    by false e = take_all state_length (record_of f) (omega (arith, length-record_of f h.state))
 
 pub movie_state_again : (version cart : ℕ) (f : StateFields) → IsTrue (takes_cart version cart) → IsStateWith cart f
     → movie_state_at version cart (movie_record version f) ≡ Some f
@@ -103,9 +108,9 @@ IsBytes-whole version bytes fits = by (eqb version 1)
 whole_back : (version : ℕ) (bytes : List ℕ) → length bytes ≡ record_length version → take (record_length version) (whole_record version bytes) ≡ bytes
 whole_back version bytes = by (eqb version 1)
   where
-    by : (old : Bool) → length bytes ≡ cond {A = ℕ} old 187 188 → take (cond {A = ℕ} old 187 188) (cond {A = List ℕ} old (bytes ++ 0 ∷ []) bytes) ≡ bytes
-    by true len = take_at bytes (0 ∷ []) 187 len
-    by false len = take_all 188 bytes (omega arith)
+    by : (old : Bool) → length bytes ≡ length_if old → take (length_if old) (cond {A = List ℕ} old (bytes ++ 0 ∷ []) bytes) ≡ bytes
+    by true len = take_at bytes (0 ∷ []) bank_place len
+    by false len = take_all state_length bytes (omega arith)
 
 fitting : (cart : ℕ) (o : Option StateFields) (f : StateFields) → with_fitting_bank cart o ≡ Some f → (o ≡ Some f) × IsTrue (fits_bank cart f)
 fitting cart (Some g) f e =

@@ -19,7 +19,7 @@ use Rattle.record_table.specs.Numbers.{bytes_of}
 use Rattle.mos_cpu.specs.Registers.{processor_numbers}
 use Rattle.tia_core.specs.Numbers.{tia_numbers}
 use Rattle.movie_file.specs.Record.{record_of, recorded_state, riot_bytes}
-use Rattle.movie_file.specs.Private.RecordNumbers.{fields_at, cpu_part, riot_part, tia_part}
+use Rattle.movie_file.specs.Private.RecordNumbers.{fields_at, cpu_part, riot_part, tia_part, cpu_length, riot_length, tia_length, tia_place, bank_place}
 use Rattle.movie_file.specs.Private.RecordNumbers.{cpu_at, riot_at, tia_at}
 use Rattle.movie_file.specs.Movie.{IsState}
 use Rattle.movie_file.proofs.ByteLemmas.{IsBytes, IsBytes-take, IsBytes-drop, two_below, and_true}
@@ -34,32 +34,32 @@ pub same_parts : (c d r s t u : List ℕ) (x : ℕ) → c ≡ d → r ≡ s → 
 same_parts c d r s t u x cpu riot tia = cc
 
 module _ (b : List ℕ) (fits : IsBytes b) (len : length b ≡ state_length) where
-  parts_are : cpu_part b ++ riot_part b ++ tia_part b ++ get_or b 187 0 ∷ [] ≡ b
+  parts_are : cpu_part b ++ riot_part b ++ tia_part b ++ get_or b bank_place 0 ∷ [] ≡ b
   parts_are =
-      ap (λ (w : List ℕ). w ++ tia_part b ++ get_or b 187 0 ∷ []) (sym (take-add 7 138 b))
-      ∙ ap (λ (w : List ℕ). w ++ get_or b 187 0 ∷ []) (sym (take-add 145 42 b))
-      ∙ sym (take_more b 187 0 (omega arith)) ∙ take_all 188 b (omega arith)
+      ap (λ (w : List ℕ). w ++ tia_part b ++ get_or b bank_place 0 ∷ []) (sym (take-add cpu_length riot_length b))
+      ∙ ap (λ (w : List ℕ). w ++ get_or b bank_place 0 ∷ []) (sym (take-add tia_place tia_length b))
+      ∙ sym (take_more b bank_place 0 (omega arith)) ∙ take_all state_length b (omega arith)
 
   cpu_fits : IsBytes (cpu_part b)
-  cpu_fits = IsBytes-take 7 b fits
+  cpu_fits = IsBytes-take cpu_length b fits
 
   riot_fits : IsBytes (riot_part b)
-  riot_fits = IsBytes-take 138 (drop 7 b) (IsBytes-drop 7 b fits)
+  riot_fits = IsBytes-take riot_length (drop cpu_length b) (IsBytes-drop cpu_length b fits)
 
   tia_fits : IsBytes (tia_part b)
-  tia_fits = IsBytes-take 42 (drop 145 b) (IsBytes-drop 145 b fits)
+  tia_fits = IsBytes-take tia_length (drop tia_place b) (IsBytes-drop tia_place b fits)
 
-  riot_length : length (riot_part b) ≡ 138
-  riot_length = omega (arith, length-take 138 (drop 7 b), length-drop 7 b)
+  length-riot_part : length (riot_part b) ≡ riot_length
+  length-riot_part = omega (arith, length-take riot_length (drop cpu_length b), length-drop cpu_length b)
 
   record_back : record_of (fields_at b) ≡ b
   unfolding record_of
   record_back =
-      let cpu_length : length (cpu_part b) ≡ 7 = omega (arith, length-take 7 b) in
-      let tia_length : length (tia_part b) ≡ 42 =
-      omega (arith, length-take 42 (drop 145 b), length-drop 145 b) in
-      same_parts _ _ _ _ _ _ _ (cpu_back (cpu_part b) cpu_fits cpu_length)
-      (riot_back (riot_part b) riot_fits riot_length) (tia_back (tia_part b) tia_fits tia_length)
+      let cpu : length (cpu_part b) ≡ cpu_length = omega (arith, length-take cpu_length b) in
+      let tia : length (tia_part b) ≡ tia_length =
+      omega (arith, length-take tia_length (drop tia_place b), length-drop tia_place b) in
+      same_parts _ _ _ _ _ _ _ (cpu_back (cpu_part b) cpu_fits cpu)
+      (riot_back (riot_part b) riot_fits length-riot_part) (tia_back (tia_part b) tia_fits tia)
       ∙ parts_are
 
   lawful_at : IsTrue (is_state (fields_at b)) → IsState (fields_at b)
@@ -70,7 +70,7 @@ module _ (b : List ℕ) (fits : IsBytes b) (len : length b ≡ state_length) whe
         pc = two_below _ _ (cpu_fits 5) (cpu_fits 6);
         part = two_below _ _ (port_fits 5) (port_fits 6);
         collisions = two_below _ _ (tia_fits 37) (tia_fits 38);
-        ram = omega (arith, length-take 128 (riot_part b), riot_length);
+        ram = omega (arith, length-take 128 (riot_part b), length-riot_part);
       }
 
 pub state_takes : (b : List ℕ) (f : StateFields) → IsBytes b → recorded_state b ≡ Some f
@@ -109,7 +109,7 @@ module _ (f : StateFields) (h : IsState f) where
       append_assoc (bytes_of processor_numbers f.cpu ++ riot_bytes f.riot) (bytes_of tia_numbers f.tia) (f.bank ∷ [])
       ∙ append_assoc (bytes_of processor_numbers f.cpu) (riot_bytes f.riot) (tail_of f)
 
-  riot_length_of : length (riot_bytes f.riot) ≡ 138
+  riot_length_of : length (riot_bytes f.riot) ≡ riot_length
   riot_length_of = length-riot_bytes f.riot h.ram
 
   pub length-record_of : length (record_of f) ≡ state_length
@@ -118,19 +118,19 @@ module _ (f : StateFields) (h : IsState f) where
       ∙ omega (arith, length-append (riot_bytes f.riot) (tail_of f), riot_length_of)
 
   riot_there : riot_part (record_of f) ≡ riot_bytes f.riot
-  riot_there = ap riot_part parts_of ∙ take_at (riot_bytes f.riot) (tail_of f) 138 riot_length_of
+  riot_there = ap riot_part parts_of ∙ take_at (riot_bytes f.riot) (tail_of f) riot_length riot_length_of
 
-  tail_there : drop 145 (record_of f) ≡ tail_of f
-  tail_there = ap (drop 145) parts_of ∙ drop_at (riot_bytes f.riot) (tail_of f) 138 riot_length_of
+  tail_there : drop tia_place (record_of f) ≡ tail_of f
+  tail_there = ap (drop tia_place) parts_of ∙ drop_at (riot_bytes f.riot) (tail_of f) riot_length riot_length_of
 
   fields_again : fields_at (record_of f) ≡ f
   fields_again =
-      let tia = ap (λ (w : List ℕ). tia_at (take 42 w)) tail_there in
-      let last = ap (λ (w : List ℕ). get_or w 42 0) tail_there in
+      let tia = ap (λ (w : List ℕ). tia_at (take tia_length w)) tail_there in
+      let last = ap (λ (w : List ℕ). get_or w tia_length 0) tail_there in
       same_state _ _ _ _ _ _ _ _ (ap (λ (w : List ℕ). cpu_at (cpu_part w)) parts_of ∙ cpu_again f.cpu h.pc)
       (ap riot_at riot_there ∙ riot_again f.riot h.ram h.part)
       (tia ∙ tia_again f.tia h.collisions (clock-thirds f h.lawful))
-      (sym (get_or-drop 145 (record_of f) 42 0) ∙ last)
+      (sym (get_or-drop tia_place (record_of f) tia_length 0) ∙ last)
 
   pub state_again : recorded_state (record_of f) ≡ Some f
   unfolding recorded_state
@@ -139,17 +139,22 @@ module _ (f : StateFields) (h : IsState f) where
       ap (λ (g : StateFields). cond (long && is_state g) (Some g) None) fields_again
       ∙ rw length-record_of (ap (λ (b : Bool). cond b (Some f) None) h.lawful)
 
+-- what is read of a record
+pub state_only : (b : List ℕ) (o : Option StateFields) → o ≡ recorded_state b
+    → (f : StateFields) → IsState f → b ≡ record_of f → o ≡ Some f
+state_only b o exact f h is = exact ∙ ap recorded_state is ∙ state_again f h
+
 -- ---- how a record is read
 
 -- the parts were found, and a state has them
 pub state_of_parts : (b : List ℕ) (cpu : Registers) (riot : RiotFields) (tia : TiaFields)
     (o : Option StateFields) → length b ≡ state_length
     → cpu ≡ cpu_at (cpu_part b) → riot ≡ riot_at (riot_part b) → tia ≡ tia_at (tia_part b)
-    → let f = built cpu riot tia (get_or b 187 0) in
+    → let f = built cpu riot tia (get_or b bank_place 0) in
     o ≡ cond (is_state f) (Some f) None → o ≡ recorded_state b
 unfolding recorded_state
 state_of_parts b cpu riot tia o len first second third e =
-    let same : built cpu riot tia (get_or b 187 0) ≡ fields_at b =
+    let same : built cpu riot tia (get_or b bank_place 0) ≡ fields_at b =
     same_state _ _ _ _ _ _ _ _ first second third refl in
     rw len (e ∙ ap (λ (f : StateFields). cond (is_state f) (Some f) None) same)
 
@@ -192,12 +197,12 @@ put_after a k prefix part rest len =
 
 -- three parts and a byte
 pub put_all : (c r t rest : List ℕ) (old bank : ℕ)
-    → length c ≡ 7 → length r ≡ 138 → length t ≡ 42 → drop 42 (drop 138 rest) ≡ old ∷ []
-    → set (put_mid 145 42 (put_mid 7 138 (c ++ rest) r) t) 187 bank ≡ c ++ r ++ t ++ bank ∷ []
+    → length c ≡ cpu_length → length r ≡ riot_length → length t ≡ tia_length → drop tia_length (drop riot_length rest) ≡ old ∷ []
+    → set (put_mid tia_place tia_length (put_mid cpu_length riot_length (c ++ rest) r) t) bank_place bank ≡ c ++ r ++ t ++ bank ∷ []
 put_all c r t rest old bank cpu riot tia left =
-    let prefix : length (c ++ r) ≡ 145 = omega (arith, length-append c r) in
-    let whole : length (c ++ r ++ t) ≡ 187 = omega (arith, length-append (c ++ r) t) in
-    ap (λ (w : List ℕ). set (put_mid 145 42 w t) 187 bank) (put_after 7 138 c r rest cpu)
-    ∙ ap (λ (w : List ℕ). set w 187 bank) (put_after 145 42 (c ++ r) t (drop 138 rest) prefix)
-    ∙ ap (λ (w : List ℕ). set (c ++ r ++ t ++ w) 187 bank) left
-    ∙ set_at (c ++ r ++ t) old [] bank 187 whole
+    let prefix : length (c ++ r) ≡ tia_place = omega (arith, length-append c r) in
+    let whole : length (c ++ r ++ t) ≡ bank_place = omega (arith, length-append (c ++ r) t) in
+    ap (λ (w : List ℕ). set (put_mid tia_place tia_length w t) bank_place bank) (put_after cpu_length riot_length c r rest cpu)
+    ∙ ap (λ (w : List ℕ). set w bank_place bank) (put_after tia_place tia_length (c ++ r) t (drop riot_length rest) prefix)
+    ∙ ap (λ (w : List ℕ). set (c ++ r ++ t ++ w) bank_place bank) left
+    ∙ set_at (c ++ r ++ t) old [] bank bank_place whole

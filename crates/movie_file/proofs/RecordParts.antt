@@ -12,21 +12,21 @@ use Rattle.mos_cpu.specs.Registers.{processor_numbers}
 use Rattle.riot_map.specs.RiotFields.{riot_numbers}
 use Rattle.tia_core.specs.Numbers.{tia_numbers}
 use Rattle.movie_file.specs.Record.{riot_bytes}
-use Rattle.movie_file.specs.Private.RecordNumbers.{cpu_at, riot_with, riot_at, tia_at}
+use Rattle.movie_file.specs.Private.RecordNumbers.{cpu_at, riot_with, riot_at, tia_at, cpu_length, riot_length, tia_length}
 use Rattle.movie_file.proofs.ByteLemmas.{IsBytes, IsBytes-drop, cells, cells_whole, two_back}
 
 -- ---- written as they were read
 
-pub cpu_back : (b : List ℕ) → IsBytes b → length b ≡ 7 → bytes_of processor_numbers (cpu_at b) ≡ b
+pub cpu_back : (b : List ℕ) → IsBytes b → length b ≡ cpu_length → bytes_of processor_numbers (cpu_at b) ≡ b
 cpu_back b fits len =
-    ap (λ (w : List ℕ). cells 5 0 b ++ w) (two_back _ _ (fits 5) (fits 6)) ∙ cells_whole 7 b len
+    ap (λ (w : List ℕ). cells 5 0 b ++ w) (two_back _ _ (fits 5) (fits 6)) ∙ cells_whole cpu_length b len
 
 ports_back : (ram b : List ℕ) → IsBytes b → length b ≡ 10 → bytes_of riot_numbers (riot_with ram b) ≡ b
 ports_back ram b fits len =
     ap (λ (w : List ℕ). cells 5 0 b ++ w ++ cells 3 7 b) (two_back _ _ (fits 5) (fits 6))
     ∙ cells_whole 10 b len
 
-pub riot_back : (b : List ℕ) → IsBytes b → length b ≡ 138 → riot_bytes (riot_at b) ≡ b
+pub riot_back : (b : List ℕ) → IsBytes b → length b ≡ riot_length → riot_bytes (riot_at b) ≡ b
 riot_back b fits len =
     let ports_fit = IsBytes-drop 128 b fits in
     let ports : bytes_of riot_numbers (riot_at b) ≡ drop 128 b =
@@ -36,13 +36,13 @@ riot_back b fits len =
 third_back : (n : ℕ) → 3 * n / 3 ≡ n
 third_back n = omega arith
 
-pub tia_back : (b : List ℕ) → IsBytes b → length b ≡ 42 → bytes_of tia_numbers (tia_at b) ≡ b
+pub tia_back : (b : List ℕ) → IsBytes b → length b ≡ tia_length → bytes_of tia_numbers (tia_at b) ≡ b
 tia_back b fits len =
     let last = λ (n : ℕ). n ∷ get_or b 41 0 ∷ [] in
     ap (λ (w : List ℕ). cells 37 0 b ++ w ++ get_or b 39 0 ∷ last (3 * get_or b 40 0 / 3))
     (two_back _ _ (fits 37) (fits 38))
     ∙ ap (λ (n : ℕ). cells 40 0 b ++ last n) (third_back (get_or b 40 0))
-    ∙ cells_whole 42 b len
+    ∙ cells_whole tia_length b len
 
 -- ---- read as they were written
 
@@ -50,7 +50,7 @@ pub cpu_again : (c : Registers) → c.pc < 2 ^ 16 → cpu_at (bytes_of processor
 cpu_again c pc = ap (λ (n : ℕ). record c { pc = n }) (from_be_bytes-to_be_bytes_2 c.pc pc)
 
 module _ (r : RiotFields) (ram : length r.ram ≡ 128) where
-  pub length-riot_bytes : length (riot_bytes r) ≡ 138
+  pub length-riot_bytes : length (riot_bytes r) ≡ riot_length
   length-riot_bytes = omega (arith, length-append r.ram (bytes_of riot_numbers r))
 
   pub riot_again : r.part < 2 ^ 16 → riot_at (riot_bytes r) ≡ r

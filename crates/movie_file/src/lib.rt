@@ -34,7 +34,7 @@ pub use making::{claim, do_counts_fit, make_movie, version_made};
 pub use movie::Movie;
 pub use reading::{read_inputs, read_movie};
 pub use record::{
-    BANK_NUMBERS, PROCESSOR_NUMBERS, RIOT_NUMBERS, RecordNumber, TIA_NUMBERS, read_state,
-    write_state,
+    BANK_NUMBERS, BANK_NUMBERS_AT, PROCESSOR_NUMBERS, RIOT_NUMBERS, RIOT_NUMBERS_AT, RecordNumber,
+    TIA_NUMBERS, TIA_NUMBERS_AT, read_state, write_state,
 };
 pub use writing::write_movie;

@@ -6,50 +6,54 @@ ghost use Rattle.movie_file.specs.Format.{record_length, whole_record};
 ghost use Rattle.movie_file.specs.Record.{record_of, recorded_state, movie_state_at};
 
 mod cpu;
+mod number;
 mod riot;
 mod tia;
 
 use crate::format::STATE_LENGTH;
 use crate::reading::Sizes;
 pub use cpu::PROCESSOR_NUMBERS;
-use cpu::{cpu_bytes, cpu_in};
+use cpu::{PROCESSOR_LENGTH, cpu_bytes, cpu_in};
+pub use number::RecordNumber;
+use number::number;
 pub use riot::RIOT_NUMBERS;
-use riot::{riot_bytes, riot_in};
+use riot::{MEMORY_LENGTH, RIOT_LENGTH, riot_bytes, riot_in};
 use riot_map::Cart;
 pub use tia::TIA_NUMBERS;
-use tia::{tia_bytes, tia_in};
+use tia::{TIA_LENGTH, tia_bytes, tia_in};
 use vcs_machine::{State, StateFields};
 
-/// A number of a record: its name in a report, its bytes, one or two, and of the first of them the
-/// bits that may be set and the most that it may be.
-pub type RecordNumber = (&'static str, usize, u8, u8);
-
 /// The numbers of a state that are none of its parts'.
-pub const BANK_NUMBERS: [RecordNumber; 1] = [("bank", 1, 0xFF, 1)];
+pub const BANK_NUMBERS: [RecordNumber; 1] = [number!("bank", most: 1)];
 
-/// The state whose record the bytes are.
-#[tactic(auto, unfolding(crate::specs::Record::recorded_state))]
-fn state_in(bytes: &[u8]) -> Option<State>
-    ensures { result ≡ recorded_state bytes.now }
-{
-    if bytes.len() != STATE_LENGTH {
-        return None;
-    }
-    State::from_fields(StateFields {
-        cpu: cpu_in(&bytes[..7])?,
-        riot: riot_in(&bytes[7..145]),
-        tia: tia_in(&bytes[145..187])?,
-        bank: bytes[187],
-    })
-}
+/// Where the RIOT begins in a record, after the processor.
+const RIOT_AT: usize = PROCESSOR_LENGTH;
+
+/// Where the numbers of the RIOT begin, after its memory.
+pub const RIOT_NUMBERS_AT: usize = RIOT_AT + MEMORY_LENGTH;
+
+/// Where the numbers of the TIA begin.
+pub const TIA_NUMBERS_AT: usize = RIOT_AT + RIOT_LENGTH;
+
+/// Where the bank is.
+pub const BANK_NUMBERS_AT: usize = TIA_NUMBERS_AT + TIA_LENGTH;
 
 /// The state whose record the bytes are; none if they aren't 188 bytes or break a condition.
+#[tactic(auto, unfolding(crate::specs::Record::recorded_state))]
 pub fn read_state(bytes: &[u8]) -> Option<State>
     ensures exact { result ≡ recorded_state bytes.now }
     ensures found { IfSome result (λ f. IsState f × (bytes.now ≡ record_of f)) }
     ensures only { (f : StateFields) → IsState f → bytes.now ≡ record_of f → result ≡ Some f }
 {
-    state_in(bytes)
+    if bytes.len() != STATE_LENGTH {
+        return None;
+    }
+    State::from_fields(StateFields {
+        cpu: cpu_in(&bytes[..RIOT_AT])?,
+        riot: riot_in(&bytes[RIOT_AT..TIA_NUMBERS_AT]),
+        tia: tia_in(&bytes[TIA_NUMBERS_AT..BANK_NUMBERS_AT])?,
+        bank: bytes[BANK_NUMBERS_AT],
+    })
 }
 
 /// The state whose whole record the bytes are, but for a bank that version 1 leaves out.
@@ -86,9 +90,9 @@ pub fn write_state(state: &State) -> [u8; STATE_LENGTH]
 {
     let fields = state.fields();
     let mut out = [0; STATE_LENGTH];
-    out[..7].copy_from_slice(&cpu_bytes(&fields.cpu));
-    out[7..145].copy_from_slice(&riot_bytes(&fields.riot));
-    out[145..187].copy_from_slice(&tia_bytes(&fields.tia));
-    out[187] = fields.bank;
+    out[..RIOT_AT].copy_from_slice(&cpu_bytes(&fields.cpu));
+    out[RIOT_AT..TIA_NUMBERS_AT].copy_from_slice(&riot_bytes(&fields.riot));
+    out[TIA_NUMBERS_AT..BANK_NUMBERS_AT].copy_from_slice(&tia_bytes(&fields.tia));
+    out[BANK_NUMBERS_AT] = fields.bank;
     out
 }

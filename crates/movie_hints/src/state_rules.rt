@@ -5,40 +5,35 @@ ghost use Rattle.movie_hints.specs.Hints.{IsTrueOf};
 use crate::hint::Hint;
 use crate::places::{Places, byte_at, two_at};
 use movie_file::{
-    BANK_NUMBERS, PROCESSOR_NUMBERS, RIOT_NUMBERS, RecordNumber, STATE_LENGTH, TIA_NUMBERS,
+    BANK_NUMBERS, BANK_NUMBERS_AT, PROCESSOR_NUMBERS, RIOT_NUMBERS, RIOT_NUMBERS_AT, RecordNumber,
+    TIA_NUMBERS, TIA_NUMBERS_AT,
 };
 use riot_map::Cart;
-
-/// Where the numbers of the RIOT that follow its memory begin in a record.
-const RIOT_AT: usize = 135;
-
-/// Where those of the TIA begin.
-const TIA_AT: usize = 145;
 
 /// What a number of a table says that breaks its condition. The first begins at this place of a file.
 fn broken_in(numbers: &[RecordNumber], bytes: &[u8], at: usize) -> Option<Hint>
     ensures { IfSome result (IsTrueOf bytes.now) }
 {
     let mut at = at;
-    for (name, length, mask, most) in numbers.iter().copied() {
+    for number in numbers.iter().copied() {
         let found = byte_at(bytes, at);
-        if found & mask != found {
+        if found & number.mask != found {
             return Some(Hint::Bits {
-                name,
+                name: number.name,
                 at,
-                mask,
+                mask: number.mask,
                 found,
             });
         }
-        if found > most {
+        if found > number.most {
             return Some(Hint::TooLarge {
-                name,
+                name: number.name,
                 at,
-                most,
+                most: number.most,
                 found,
             });
         }
-        at = at.saturating_add(length);
+        at = at.saturating_add(number.length);
     }
     None
 }
@@ -50,16 +45,16 @@ fn broken_alone(bytes: &[u8], at: usize, version: u16) -> Option<Hint>
     if let Some(hint) = broken_in(&PROCESSOR_NUMBERS, bytes, at) {
         return Some(hint);
     }
-    if let Some(hint) = broken_in(&RIOT_NUMBERS, bytes, at.saturating_add(RIOT_AT)) {
+    if let Some(hint) = broken_in(&RIOT_NUMBERS, bytes, at.saturating_add(RIOT_NUMBERS_AT)) {
         return Some(hint);
     }
-    if let Some(hint) = broken_in(&TIA_NUMBERS, bytes, at.saturating_add(TIA_AT)) {
+    if let Some(hint) = broken_in(&TIA_NUMBERS, bytes, at.saturating_add(TIA_NUMBERS_AT)) {
         return Some(hint);
     }
     if version == 1 {
         return None;
     }
-    broken_in(&BANK_NUMBERS, bytes, at.saturating_add(STATE_LENGTH - 1))
+    broken_in(&BANK_NUMBERS, bytes, at.saturating_add(BANK_NUMBERS_AT))
 }
 
 /// The cycles of an interval of the timer, by its code.
@@ -76,12 +71,12 @@ fn interval_of(code: u8) -> u16 {
 fn broken_timer(bytes: &[u8], at: usize) -> Option<Hint>
     ensures { IfSome result (IsTrueOf bytes.now) }
 {
-    let most = if byte_at(bytes, at.saturating_add(RIOT_AT + 8)) == 1 {
+    let most = if byte_at(bytes, at.saturating_add(RIOT_NUMBERS_AT + 8)) == 1 {
         1
     } else {
-        interval_of(byte_at(bytes, at.saturating_add(RIOT_AT + 7)))
+        interval_of(byte_at(bytes, at.saturating_add(RIOT_NUMBERS_AT + 7)))
     };
-    let at = at.saturating_add(RIOT_AT + 5);
+    let at = at.saturating_add(RIOT_NUMBERS_AT + 5);
     let found = two_at(bytes, at);
     if found == 0 || found > most {
         Some(Hint::TimerPart { at, most, found })
@@ -94,8 +89,8 @@ fn broken_timer(bytes: &[u8], at: usize) -> Option<Hint>
 fn broken_latches(bytes: &[u8], at: usize) -> Option<Hint>
     ensures { IfSome result (IsTrueOf bytes.now) }
 {
-    let blank = byte_at(bytes, at.saturating_add(TIA_AT + 1));
-    let at = at.saturating_add(TIA_AT + 39);
+    let blank = byte_at(bytes, at.saturating_add(TIA_NUMBERS_AT + 1));
+    let at = at.saturating_add(TIA_NUMBERS_AT + 39);
     let found = byte_at(bytes, at);
     if found != 0 && blank & 0x40 == 0 {
         Some(Hint::Latches { at, found })
@@ -108,7 +103,7 @@ fn broken_latches(bytes: &[u8], at: usize) -> Option<Hint>
 fn broken_bank(bytes: &[u8], at: usize, places: Places) -> Option<Hint>
     ensures { IfSome result (IsTrueOf bytes.now) }
 {
-    let at = at.saturating_add(STATE_LENGTH - 1);
+    let at = at.saturating_add(BANK_NUMBERS_AT);
     let found = byte_at(bytes, at);
     if found != 0 && places.version != 1 && !Cart::is_banked(usize::from(places.cartridge)) {
         Some(Hint::Bank { at, found })

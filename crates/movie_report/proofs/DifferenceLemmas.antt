@@ -7,6 +7,8 @@ use Rattle.std.specs.Str.{bytes_eq}
 use Rattle.std.specs.List.{flat_map, range_with_len}
 use Rattle.std.proofs.Math.Seq.{drop-cons, drop-length}
 use Rattle.std.proofs.lemmas.List.FromFn.{length-range_with_len}
+use Rattle.movie_file.specs.Format.{state_length}
+use Rattle.movie_report.specs.declared.numbers.TheConstants.{COUNT}
 use Rattle.movie_report.specs.Differences.{Pair, number_pairs, text_if_different, pairs_text}
 use Rattle.movie_report.specs.Differences.{difference_text}
 use Rattle.movie_report.specs.Numbers.{NumberData, state_names, memory_name, memory_names}
@@ -33,12 +35,12 @@ unfolding bytes_in
 bytes_in-memory [] = refl
 bytes_in-memory (address ∷ more) = let rest = bytes_in-memory more in omega arith
 
-bytes_in-numbers : bytes_in state_names ≡ 188
+bytes_in-numbers : bytes_in state_names ≡ state_length
 unfolding bytes_in state_names memory_names
 bytes_in-numbers =
     bytes_in-append processor_names (memory_names ++ other_names)
-    ∙ ap (λ (n : ℕ). 7 + n) (bytes_in-append memory_names other_names
-    ∙ ap (λ (n : ℕ). n + 53) (bytes_in-memory (range_with_len 0x80 128) ∙ length-range_with_len 0x80 128))
+    ∙ ap (λ (n : ℕ). bytes_in processor_names + n) (bytes_in-append memory_names other_names
+    ∙ ap (λ (n : ℕ). n + bytes_in other_names) (bytes_in-memory (range_with_len 0x80 128) ∙ length-range_with_len 0x80 128))
 
 -- What is said of the numbers from a place on, whose bytes begin here.
 abbrev rest_text : Notation → Comparison → List ℕ → List ℕ → ℕ → ℕ → List ℕ
@@ -47,14 +49,14 @@ rest_text notation comparison a b place at = flat_map (text_if_different notatio
 -- What is said of the numbers before a place has been written, and the next number begins here.
 pub record IsUpTo (notation : Notation) (comparison : Comparison) (a b : List ℕ) (place at : ℕ) (text : List ℕ) : Type 0 where
   pub text_is : text ++ rest_text notation comparison a b place at ≡ pairs_text notation comparison a b
-  pub bytes : at + bytes_in (drop place state_names) ≡ 188
+  pub bytes : at + bytes_in (drop place state_names) ≡ state_length
 
 pub IsUpTo-start : (notation : Notation) (comparison : Comparison) (a b : List ℕ) → IsUpTo notation comparison a b 0 0 []
 unfolding pairs_text
 IsUpTo-start notation comparison a b = record { text_is = refl; bytes = omega (arith, bytes_in-numbers) }
 
 -- After the last number all is there.
-pub IsUpTo-end : (notation : Notation) (comparison : Comparison) (a b : List ℕ) (place at : ℕ) (text : List ℕ) → 185 ≤ place → place ≤ 185
+pub IsUpTo-end : (notation : Notation) (comparison : Comparison) (a b : List ℕ) (place at : ℕ) (text : List ℕ) → COUNT ≤ place → place ≤ COUNT
     → IsUpTo notation comparison a b place at text
     → text ≡ pairs_text notation comparison a b
 IsUpTo-end notation comparison a b place at text high low is =
@@ -62,7 +64,7 @@ IsUpTo-end notation comparison a b place at text high low is =
     let none : drop place state_names ≡ [] = rw last (drop-length state_names) in
     sym (append-nil text) ∙ rw none at is.text_is
 
-module _ (notation : Notation) (comparison : Comparison) (a b : List ℕ) (place at : ℕ) (low : place < 185) where
+module _ (notation : Notation) (comparison : Comparison) (a b : List ℕ) (place at : ℕ) (low : place < COUNT) where
   drop-numbers : drop place state_names ≡ state_number_at place ∷ drop (place + 1) state_names
   unfolding state_number_at
   drop-numbers = let within : place < length state_names = omega (arith, length-numbers) in rw add-one (drop-cons state_names place no_place within)
@@ -71,7 +73,7 @@ module _ (notation : Notation) (comparison : Comparison) (a b : List ℕ) (place
   unfolding bytes_in
   bytes_next = rw drop-numbers refl
 
-  pub end_within : (text : List ℕ) → IsUpTo notation comparison a b place at text → at + (state_number_at place).length ≤ 188
+  pub end_within : (text : List ℕ) → IsUpTo notation comparison a b place at text → at + (state_number_at place).length ≤ state_length
   end_within text is = let bytes = is.bytes in omega (arith, bytes_next)
 
   -- The number at the place, in both records.

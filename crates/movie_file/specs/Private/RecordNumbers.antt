@@ -1,8 +1,11 @@
 -- The numbers that the bytes of a record spell, part by part: how `recorded_state` is found, of which
 -- `law_of_records` says the whole.
-use Rattle.std.specs.Prelude.{ℕ, List, [], ◌∷◌, ◌*◌, take, drop, slice_index}
+use Rattle.std.specs.Prelude.{ℕ, List, [], ◌∷◌, ◌+◌, ◌*◌, take, drop, slice_index}
 use Rattle.std.specs.Int.{w16, from_be_bytes}
-use Rattle.mos_cpu.specs.Registers.{Registers}
+use Rattle.record_table.specs.Numbers.{table_length}
+use Rattle.mos_cpu.specs.Registers.{Registers, processor_numbers}
+use Rattle.riot_map.specs.RiotFields.{riot_numbers}
+use Rattle.tia_core.specs.Numbers.{tia_numbers}
 use Rattle.riot_map.specs.declared.fields.RiotFields.{RiotFields}
 use Rattle.tia_core.specs.declared.fields.TiaFields.{TiaFields}
 use Rattle.vcs_machine.specs.declared.fields.StateFields.{StateFields}
@@ -80,15 +83,33 @@ tia_at b = record {
   comb = slice_index b 41;
 }
 
--- the bytes of each part
+-- ---- the parts
+
+abbrev pub cpu_length : ℕ
+cpu_length = table_length processor_numbers
+
+-- a RIOT's memory, and its other numbers
+abbrev pub riot_length : ℕ
+riot_length = 128 + table_length riot_numbers
+
+abbrev pub tia_length : ℕ
+tia_length = table_length tia_numbers
+
+-- where they begin
+abbrev pub tia_place : ℕ
+tia_place = cpu_length + riot_length
+
+abbrev pub bank_place : ℕ
+bank_place = tia_place + tia_length
+
 abbrev pub cpu_part : List ℕ → List ℕ
-cpu_part bytes = take 7 bytes
+cpu_part bytes = take cpu_length bytes
 
 abbrev pub riot_part : List ℕ → List ℕ
-riot_part bytes = take 138 (drop 7 bytes)
+riot_part bytes = take riot_length (drop cpu_length bytes)
 
 abbrev pub tia_part : List ℕ → List ℕ
-tia_part bytes = take 42 (drop 145 bytes)
+tia_part bytes = take tia_length (drop tia_place bytes)
 
 -- the numbers of the parts, and the bank
 abbrev pub fields_at : List ℕ → StateFields
@@ -96,5 +117,5 @@ fields_at bytes = record {
   cpu = cpu_at (cpu_part bytes);
   riot = riot_at (riot_part bytes);
   tia = tia_at (tia_part bytes);
-  bank = slice_index bytes 187;
+  bank = slice_index bytes bank_place;
 }

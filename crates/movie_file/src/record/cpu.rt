@@ -4,22 +4,25 @@ ghost use Rattle.record_table.specs.Numbers.{bytes_of};
 ghost use Rattle.mos_cpu.specs.Registers.{is_status, processor_numbers};
 ghost use Rattle.movie_file.specs.Private.RecordNumbers.{cpu_at};
 
-use super::RecordNumber;
+use super::number::{RecordNumber, number};
 use mos_cpu::Cpu;
 
 /// The numbers of a processor.
 pub const PROCESSOR_NUMBERS: [RecordNumber; 6] = [
-    ("A", 1, 0xFF, 0xFF),
-    ("X", 1, 0xFF, 0xFF),
-    ("Y", 1, 0xFF, 0xFF),
-    ("S", 1, 0xFF, 0xFF),
-    ("P", 1, 0xCF, 0xFF),
-    ("PC", 2, 0xFF, 0xFF),
+    number!("A"),
+    number!("X"),
+    number!("Y"),
+    number!("S"),
+    number!("P", mask: 0xCF),
+    number!("PC", length: 2),
 ];
+
+/// The bytes of a processor.
+pub const PROCESSOR_LENGTH: usize = 7;
 
 /// The processor that seven bytes spell; none if the one of P isn't a status.
 pub fn cpu_in(bytes: &[u8]) -> Option<Cpu>
-    requires { length bytes.now ≡ 7 }
+    requires { length bytes.now ≡ PROCESSOR_LENGTH }
     ensures { result
         ≡ (if is_status (slice_index bytes.now 4) then Some (cpu_at bytes.now) else None) }
 {
@@ -38,7 +41,7 @@ pub fn cpu_in(bytes: &[u8]) -> Option<Cpu>
 }
 
 /// The bytes that spell a processor.
-pub fn cpu_bytes(cpu: &Cpu) -> [u8; 7]
+pub fn cpu_bytes(cpu: &Cpu) -> [u8; PROCESSOR_LENGTH]
     ensures { result ≡ bytes_of processor_numbers cpu.now }
 {
     let pc = cpu.pc.to_be_bytes();

@@ -5,25 +5,34 @@ ghost use Rattle.riot_map.specs.RiotFields.{riot_numbers};
 ghost use Rattle.movie_file.specs.Record.{riot_bytes};
 ghost use Rattle.movie_file.specs.Private.RecordNumbers.{riot_at, riot_with};
 
-use super::RecordNumber;
+use super::number::{RecordNumber, number};
 use riot_map::RiotFields;
 
 /// The numbers of a RIOT, which follow its memory.
 pub const RIOT_NUMBERS: [RecordNumber; 9] = [
-    ("output latch of port A", 1, 0xFF, 0xFF),
-    ("direction of port A", 1, 0xFF, 0xFF),
-    ("output latch of port B", 1, 0xFF, 0xFF),
-    ("direction of port B", 1, 0xFF, 0xFF),
-    ("timer value", 1, 0xFF, 0xFF),
-    ("timer part", 2, 0xFF, 0xFF),
-    ("timer interval", 1, 0xFF, 3),
-    ("timer past zero", 1, 0xFF, 1),
-    ("timer flag", 1, 0xFF, 1),
+    number!("output latch of port A"),
+    number!("direction of port A"),
+    number!("output latch of port B"),
+    number!("direction of port B"),
+    number!("timer value"),
+    number!("timer part", length: 2),
+    number!("timer interval", most: 3),
+    number!("timer past zero", most: 1),
+    number!("timer flag", most: 1),
 ];
 
-/// The RIOT with this memory whose ports and timer ten bytes spell.
-fn riot_with(ram: [u8; 128], bytes: &[u8]) -> RiotFields
-    requires { length bytes.now ≡ 10 }
+/// The bytes of a RIOT's memory.
+pub const MEMORY_LENGTH: usize = 128;
+
+/// The bytes of its ports and its timer.
+const PORTS_LENGTH: usize = 10;
+
+/// The bytes of a RIOT.
+pub const RIOT_LENGTH: usize = MEMORY_LENGTH + PORTS_LENGTH;
+
+/// The RIOT with this memory whose ports and timer the bytes spell.
+fn riot_with(ram: [u8; MEMORY_LENGTH], bytes: &[u8]) -> RiotFields
+    requires { length bytes.now ≡ PORTS_LENGTH }
     ensures { result ≡ riot_with ram bytes.now }
 {
     RiotFields {
@@ -40,19 +49,19 @@ fn riot_with(ram: [u8; 128], bytes: &[u8]) -> RiotFields
     }
 }
 
-/// The RIOT that 138 bytes spell.
+/// The RIOT that the bytes spell.
 pub fn riot_in(bytes: &[u8]) -> RiotFields
-    requires { length bytes.now ≡ 138 }
+    requires { length bytes.now ≡ RIOT_LENGTH }
     ensures { result ≡ riot_at bytes.now }
 {
-    let (memory, ports) = bytes.split_at(128);
-    let mut ram = [0; 128];
+    let (memory, ports) = bytes.split_at(MEMORY_LENGTH);
+    let mut ram = [0; MEMORY_LENGTH];
     ram.copy_from_slice(memory);
     riot_with(ram, ports)
 }
 
 /// The bytes that spell the ports and the timer.
-fn port_bytes(riot: &RiotFields) -> [u8; 10]
+fn port_bytes(riot: &RiotFields) -> [u8; PORTS_LENGTH]
     ensures { result ≡ bytes_of riot_numbers riot.now }
 {
     let part = riot.part.to_be_bytes();
@@ -71,11 +80,11 @@ fn port_bytes(riot: &RiotFields) -> [u8; 10]
 }
 
 /// The bytes that spell a RIOT.
-pub fn riot_bytes(riot: &RiotFields) -> [u8; 138]
+pub fn riot_bytes(riot: &RiotFields) -> [u8; RIOT_LENGTH]
     ensures { result ≡ riot_bytes riot.now }
 {
-    let mut out = [0; 138];
-    out[..128].copy_from_slice(&riot.ram);
-    out[128..].copy_from_slice(&port_bytes(riot));
+    let mut out = [0; RIOT_LENGTH];
+    out[..MEMORY_LENGTH].copy_from_slice(&riot.ram);
+    out[MEMORY_LENGTH..].copy_from_slice(&port_bytes(riot));
     out
 }

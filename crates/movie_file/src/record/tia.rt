@@ -4,58 +4,61 @@ ghost use Rattle.record_table.specs.Numbers.{bytes_of};
 ghost use Rattle.tia_core.specs.Numbers.{tia_numbers};
 ghost use Rattle.movie_file.specs.Private.RecordNumbers.{tia_at};
 
-use super::RecordNumber;
+use super::number::{RecordNumber, number};
 use tia_core::TiaFields;
 use vcs_machine::LINE_CYCLES;
 
 /// The numbers of a TIA.
 pub const TIA_NUMBERS: [RecordNumber; 41] = [
-    ("VSYNC", 1, 0x02, 0xFF),
-    ("VBLANK", 1, 0xC2, 0xFF),
-    ("NUSIZ0", 1, 0x37, 0xFF),
-    ("NUSIZ1", 1, 0x37, 0xFF),
-    ("COLUP0", 1, 0xFE, 0xFF),
-    ("COLUP1", 1, 0xFE, 0xFF),
-    ("COLUPF", 1, 0xFE, 0xFF),
-    ("COLUBK", 1, 0xFE, 0xFF),
-    ("CTRLPF", 1, 0x37, 0xFF),
-    ("REFP0", 1, 0x08, 0xFF),
-    ("REFP1", 1, 0x08, 0xFF),
-    ("PF0", 1, 0xF0, 0xFF),
-    ("PF1", 1, 0xFF, 0xFF),
-    ("PF2", 1, 0xFF, 0xFF),
-    ("GRP0 new", 1, 0xFF, 0xFF),
-    ("GRP0 old", 1, 0xFF, 0xFF),
-    ("GRP1 new", 1, 0xFF, 0xFF),
-    ("GRP1 old", 1, 0xFF, 0xFF),
-    ("ENAM0", 1, 0x02, 0xFF),
-    ("ENAM1", 1, 0x02, 0xFF),
-    ("ENABL new", 1, 0x02, 0xFF),
-    ("ENABL old", 1, 0x02, 0xFF),
-    ("HMP0", 1, 0xF0, 0xFF),
-    ("HMP1", 1, 0xF0, 0xFF),
-    ("HMM0", 1, 0xF0, 0xFF),
-    ("HMM1", 1, 0xF0, 0xFF),
-    ("HMBL", 1, 0xF0, 0xFF),
-    ("VDELP0", 1, 0x01, 0xFF),
-    ("VDELP1", 1, 0x01, 0xFF),
-    ("VDELBL", 1, 0x01, 0xFF),
-    ("RESMP0", 1, 0x02, 0xFF),
-    ("RESMP1", 1, 0x02, 0xFF),
-    ("position of player 0", 1, 0xFF, 159),
-    ("position of player 1", 1, 0xFF, 159),
-    ("position of missile 0", 1, 0xFF, 159),
-    ("position of missile 1", 1, 0xFF, 159),
-    ("position of the ball", 1, 0xFF, 159),
-    ("collisions", 2, 0x7F, 0xFF),
-    ("button latches", 1, 0x03, 0xFF),
-    ("line cycle", 1, 0xFF, 75),
-    ("comb", 1, 0xFF, 1),
+    number!("VSYNC", mask: 0x02),
+    number!("VBLANK", mask: 0xC2),
+    number!("NUSIZ0", mask: 0x37),
+    number!("NUSIZ1", mask: 0x37),
+    number!("COLUP0", mask: 0xFE),
+    number!("COLUP1", mask: 0xFE),
+    number!("COLUPF", mask: 0xFE),
+    number!("COLUBK", mask: 0xFE),
+    number!("CTRLPF", mask: 0x37),
+    number!("REFP0", mask: 0x08),
+    number!("REFP1", mask: 0x08),
+    number!("PF0", mask: 0xF0),
+    number!("PF1"),
+    number!("PF2"),
+    number!("GRP0 new"),
+    number!("GRP0 old"),
+    number!("GRP1 new"),
+    number!("GRP1 old"),
+    number!("ENAM0", mask: 0x02),
+    number!("ENAM1", mask: 0x02),
+    number!("ENABL new", mask: 0x02),
+    number!("ENABL old", mask: 0x02),
+    number!("HMP0", mask: 0xF0),
+    number!("HMP1", mask: 0xF0),
+    number!("HMM0", mask: 0xF0),
+    number!("HMM1", mask: 0xF0),
+    number!("HMBL", mask: 0xF0),
+    number!("VDELP0", mask: 0x01),
+    number!("VDELP1", mask: 0x01),
+    number!("VDELBL", mask: 0x01),
+    number!("RESMP0", mask: 0x02),
+    number!("RESMP1", mask: 0x02),
+    number!("position of player 0", most: 159),
+    number!("position of player 1", most: 159),
+    number!("position of missile 0", most: 159),
+    number!("position of missile 1", most: 159),
+    number!("position of the ball", most: 159),
+    number!("collisions", length: 2, mask: 0x7F),
+    number!("button latches", mask: 0x03),
+    number!("line cycle", most: 75),
+    number!("comb", most: 1),
 ];
 
-/// The TIA that 42 bytes spell; none if the beam is beyond its scanline.
+/// The bytes of a TIA.
+pub const TIA_LENGTH: usize = 42;
+
+/// The TIA that the bytes spell; none if the beam is beyond its scanline.
 pub fn tia_in(bytes: &[u8]) -> Option<TiaFields>
-    requires { length bytes.now ≡ 42 }
+    requires { length bytes.now ≡ TIA_LENGTH }
     ensures { result
         ≡ (if nat_lt (slice_index bytes.now 40) 76 then Some (tia_at bytes.now) else None) }
 {
@@ -109,7 +112,7 @@ pub fn tia_in(bytes: &[u8]) -> Option<TiaFields>
 }
 
 /// The bytes that spell a TIA.
-pub fn tia_bytes(tia: &TiaFields) -> [u8; 42]
+pub fn tia_bytes(tia: &TiaFields) -> [u8; TIA_LENGTH]
     ensures { result ≡ bytes_of tia_numbers tia.now }
 {
     let collisions = tia.collisions.to_be_bytes();
