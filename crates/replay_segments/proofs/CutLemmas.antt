@@ -7,7 +7,7 @@ use Rattle.std.proofs.lemmas.Option.{slice_get_within, slice_get_read, get_or_fr
 use Rattle.std.proofs.lemmas.Nat.{div-add-mod'}
 use Rattle.std.specs.List.{Contains}
 use Rattle.replay_segments.specs.Cuts.{AreCuts, IsEvery}
-use Rattle.replay_segments.proofs.ListLemmas.{slice_get-below, same_at}
+use Rattle.replay_segments.proofs.ListLemmas.{slice_get-below, same_at, each-below}
 
 pub AreCuts-more : (most more : ℕ) (cuts : List ℕ) → most ≤ more → AreCuts most cuts → AreCuts more cuts
 AreCuts-more most more cuts le are = record {
@@ -25,31 +25,21 @@ index-below most cuts are (suc i) n at =
     let rises = are.rising i (suc i) p n (omega arith) before at in omega (arith, low, rises)
 
 pub few : (most : ℕ) (cuts : List ℕ) → AreCuts most cuts → length cuts ≤ most
-few most cuts are = by (cases_lt 0 (length cuts))
-  where
-    by : (0 < length cuts) ⊎ (length cuts ≤ 0) → length cuts ≤ most
-    by (inl some) =
-        let (n, at) = slice_get-below cuts (length cuts - 1) (omega arith) in
-        let low = index-below most cuts are (length cuts - 1) n at in
-        let high = (are.range (length cuts - 1) n at).1 in omega (arith, low, high)
-    by (inr none) = omega arith
+few most cuts are =
+    elim (cases_lt 0 (length cuts)) [
+      | inl some ↦
+          (let (n, at) = slice_get-below cuts (length cuts - 1) (omega arith) in
+          let low = index-below most cuts are (length cuts - 1) n at in
+          let high = (are.range (length cuts - 1) n at).1 in omega (arith, low, high))
+      | inr none ↦ omega arith
+    ]
 
 -- The first i numbers are cuts, and `last` is the last of them, or 0 where there is none.
 pub record AreCutsBelow (most : ℕ) (numbers : List ℕ) (i last : ℕ) : Type 0 where
   pub within : last ≤ most
-  pub none : i ≡ 0 → last ≡ 0
-  pub last_is : 0 < i → slice_get numbers (i - 1) ≡ Some last
+  pub last_is : (last ≡ 0) ⊎ ((0 < i) × (slice_get numbers (i - 1) ≡ Some last))
   pub range : (j n : ℕ) → j < i → slice_get numbers j ≡ Some n → (0 < n) × (n ≤ last)
   pub rising : (j k n p : ℕ) → j < k → k < i → slice_get numbers j ≡ Some n → slice_get numbers k ≡ Some p → n < p
-
-pub AreCutsBelow-start : (most : ℕ) (numbers : List ℕ) → AreCutsBelow most numbers 0 0
-AreCutsBelow-start most numbers = record {
-  within = omega arith;
-  none = λ e. refl;
-  last_is = λ less. absurd (omega arith);
-  range = λ j n less. absurd (omega arith);
-  rising = λ j k n p low less. absurd (omega arith);
-}
 
 pub AreCutsBelow-whole : (most : ℕ) (numbers : List ℕ) (i last : ℕ) → length numbers ≤ i → AreCutsBelow most numbers i last → AreCuts most numbers
 AreCutsBelow-whole most numbers i last past below = record {
@@ -64,47 +54,34 @@ module _ (most : ℕ) (numbers : List ℕ) (i last number : ℕ) (at : slice_get
   -- A number that is not above the last one, or is no checkpoint.
   pub AreCutsBelow-not : (number ≤ last) ⊎ (most < number) → AreCuts most numbers → ⊥
   AreCutsBelow-not (inr above) are = let h = (are.range i number at).1 in omega (arith, h)
-  AreCutsBelow-not (inl low) are = by (cases_lt 0 i)
-    where
-      by : (0 < i) ⊎ (i ≤ 0) → ⊥
-      by (inl some) = let rises = are.rising (i - 1) i last number (omega arith) (below.last_is some) at in omega (arith, rises)
-      by (inr none) =
-          let first = below.none (omega arith) in
-          let positive = (are.range i number at).0 in omega (arith, first, positive)
+  AreCutsBelow-not (inl low) are =
+      elim below.last_is [
+        | inl none ↦ (let positive = (are.range i number at).0 in omega (arith, positive))
+        | inr w ↦ (let rises = are.rising (i - 1) i last number (omega (arith, w.0)) w.1 at in omega (arith, rises))
+      ]
 
   pub AreCutsBelow-next : last < number → number ≤ most → AreCutsBelow most numbers (i + 1) number
   AreCutsBelow-next above le = record {
     within = le;
-    none = λ e. absurd (omega arith);
-    last_is = λ less. let same : i + 1 - 1 ≡ i = omega arith in rw same at;
-    range = range;
-    rising = λ j k n p low less here there. rising j k n p low less here there (cases_lt k i);
+    last_is = let same : i + 1 - 1 ≡ i = omega arith in inr (omega arith, rw same at);
+    range = each-below (λ (n : ℕ). (0 < n) × (n ≤ number)) numbers i number at (omega arith, omega arith)
+        (λ j n low here. let h = below.range j n low here in (h.0, omega (arith, h.1)));
+    rising = λ j k n p low less here there. elim (cases_lt k i) [
+      | inl before ↦ below.rising j k n p low before here there
+      | inr high ↦
+          (let same = same_at numbers k i p number (omega arith) there at in
+          let h = (below.range j n (omega arith) here).1 in omega (arith, same, h))
+    ];
   }
-    where
-      same : (j n : ℕ) → j ≡ i → slice_get numbers j ≡ Some n → n ≡ number
-      same j n is here = same_at numbers j i n number is here at
-
-      range : (j n : ℕ) → j < i + 1 → slice_get numbers j ≡ Some n → (0 < n) × (n ≤ number)
-      range j n less here = by (cases_lt j i)
-        where
-          by : (j < i) ⊎ (i ≤ j) → (0 < n) × (n ≤ number)
-          by (inl low) = let h = below.range j n low here in (h.0, omega (arith, h.1))
-          by (inr high) = let e = same j n (omega arith) here in (omega (arith, e), omega (arith, e))
-
-      rising : (j k n p : ℕ) → j < k → k < i + 1 → slice_get numbers j ≡ Some n → slice_get numbers k ≡ Some p → (k < i) ⊎ (i ≤ k) → n < p
-      rising j k n p low less here there (inl before) = below.rising j k n p low before here there
-      rising j k n p low less here there (inr high) =
-          let e = same k p (omega arith) there in
-          let h = (below.range j n (omega arith) here).1 in omega (arith, e, h)
 
 -- The multiples of k, one after another, up to a number.
-module _ (k most : ℕ) (numbers : List ℕ) (positive : 0 < k) (count : length numbers ≡ most / k)
+module _ (k most found : ℕ) (numbers : List ℕ) (positive : 0 < k) (all : found ≡ most) (count : length numbers ≡ found / k)
     (each : (j n : ℕ) → slice_get numbers j ≡ Some n → n ≡ (j + 1) * k) where
   above : (j : ℕ) → 0 < (j + 1) * k
   above j = let h = mul-le-mul_right {m = 1} {n = j + 1} k (omega arith) in omega (arith, h)
 
   within : (j : ℕ) → j < length numbers → (j + 1) * k ≤ most
-  within j less = (le-div_iff_mul-le {k = k} {x = j + 1} {y = most} positive).0 (omega (arith, count))
+  within j less = let h = (le-div_iff_mul-le {k = k} {x = j + 1} {y = found} positive).0 (omega (arith, count)) in omega (arith, all, h)
 
   rises : (i j : ℕ) → i < j → (i + 1) * k < (j + 1) * k
   rises i j less = let h = mul-le-mul_right {m = i + 1 + 1} {n = j + 1} k (omega arith) in omega (arith, h)
@@ -122,10 +99,10 @@ module _ (k most : ℕ) (numbers : List ℕ) (positive : 0 < k) (count : length 
   }
 
   pub IsEvery-each : IsEvery k most numbers
-  IsEvery-each n = (found, place)
+  IsEvery-each n = (is_multiple, place)
     where
-      found : Contains numbers n → (0 < n) × (n ≤ most) × (n % k ≡ 0)
-      found (j, less, is) =
+      is_multiple : Contains numbers n → (0 < n) × (n ≤ most) × (n % k ≡ 0)
+      is_multiple (j, less, is) =
           let at : slice_get numbers j ≡ Some n = slice_get_read numbers (length numbers) j n refl less (sym is) in
           let e = each j n at in
           let low = above j in
@@ -134,17 +111,10 @@ module _ (k most : ℕ) (numbers : List ℕ) (positive : 0 < k) (count : length 
       place : (0 < n) × (n ≤ most) × (n % k ≡ 0) → Contains numbers n
       place (some, le, whole) =
           let split = div-add-mod' n k in
-          let q : 0 < n / k = by (cases_lt 0 (n / k)) in
+          let q : 0 < n / k = grind (arith, zero-mul k) in
           let j : n / k - 1 + 1 ≡ n / k = omega (arith, q) in
-          let less : n / k ≤ most / k = (le-div_iff_mul-le {k = k} {x = n / k} {y = most} positive).1 (omega (arith, split, whole)) in
+          let less : n / k ≤ found / k = (le-div_iff_mul-le {k = k} {x = n / k} {y = found} positive).1 (omega (arith, split, whole, all)) in
           let low : n / k - 1 < length numbers = omega (arith, q, less, count) in
           let (p, at) = slice_get-below numbers (n / k - 1) low in
           let e : p ≡ n = rw (each (n / k - 1) p at, j) (omega (arith, split, whole)) in
           (n / k - 1, low, get_or_from_slice_get numbers (n / k - 1) p n at ∙ e)
-        where
-          by : (0 < n / k) ⊎ (n / k ≤ 0) → 0 < n / k
-          by (inl w) = w
-          by (inr w) =
-              let none : n / k ≡ 0 = omega arith in
-              let split : n / k * k + n % k ≡ n = div-add-mod' n k in
-              let zeros : n / k * k ≡ 0 = rw none (zero-mul k) in omega (arith, split, zeros, whole, some)

@@ -7,8 +7,8 @@ use Rattle.std.proofs.lemmas.Option.{slice_get_within}
 use Rattle.replay_segments.specs.declared.gathering.GatherError.{GatherError}
 use Rattle.replay_segments.specs.declared.gathering.GatherError.TheVariants.{Missing, NoMemory}
 use Rattle.replay_segments.specs.declared.outcome.Outcome.TheVariants.{NoMemory as NoMemoryOutcome}
-use Rattle.replay_segments.specs.Private.Finding.{IsAnswer}
-use Rattle.replay_segments.specs.Gathering.{HasNumber, HasPassed}
+use Rattle.replay_segments.specs.Private.Finding.{ArePassedBelow, IsAnswer}
+use Rattle.replay_segments.specs.Gathering.{HasNumber, HasPassed, PassedBelow}
 use Rattle.replay_segments.specs.Pieces.{PieceData, passed}
 use Rattle.replay_segments.proofs.ListLemmas.{each-below}
 
@@ -16,6 +16,9 @@ use Rattle.replay_segments.proofs.ListLemmas.{each-below}
 pub found : (P : ℕ → Type 0) (o : Option ℕ) → is_some o ≡ true → IfSome o P → (i : ℕ) × P i
 found P (Some i) is holds = (i, holds)
 found P None is holds = absurd cc
+
+pub PassedBelow-found : (pieces : List PieceData) (n : ℕ) → ArePassedBelow pieces n → PassedBelow pieces n
+PassedBelow-found pieces n below k less = let (i, (p, at, is, good, lawful)) = below k less in (i, p, at, is, good)
 
 -- The piece passed, or it is without memory.
 abbrev pub IsUnjudged : PieceData → Type 0

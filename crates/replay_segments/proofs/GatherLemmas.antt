@@ -19,6 +19,7 @@ use Rattle.replay_segments.specs.Pieces.{PieceData, Job, passed, segments_of}
 use Rattle.replay_segments.specs.Verdicts.{IsVerdict}
 use Rattle.replay_segments.proofs.Composition.{IsPrefix, IsPrefix-start, IsPrefix-next}
 use Rattle.replay_segments.proofs.Composition.{IsVerdict-bad}
+use Rattle.replay_segments.proofs.FindLemmas.{PassedBelow-found}
 use Rattle.replay_segments.proofs.TakeLemmas.{of_job}
 
 passed_pictures : (o : Outcome) → IsTrue (passed o) → (kept : List Rows) × (o ≡ Judged (Genuine kept))
@@ -36,10 +37,7 @@ prefix_of job pieces names (suc k) below =
     let (i, (p, at, is, good, lawful)) = below k (omega arith) in
     let (more, judged) = passed_pictures p.outcome good in
     let of = of_job job pieces i p k (Genuine more) names at is judged lawful in
-    (kept ++ more, subst (λ (n : ℕ). IsPrefix job n (kept ++ more)) (add-one k) (IsPrefix-next job k kept more of.0 of.1 begun of.2))
-
-pub PassedBelow-found : (pieces : List PieceData) (n : ℕ) → ArePassedBelow pieces n → PassedBelow pieces n
-PassedBelow-found pieces n below k less = let (i, (p, at, is, good, lawful)) = below k less in (i, p, at, is, good)
+    (kept ++ more, subst (λ (n : ℕ). IsPrefix job n (kept ++ more)) (add-one k) (IsPrefix-next job of.0 k of.1 kept begun more of.2))
 
 missing_none : (pieces : List PieceData) (k : ℕ) → IsMissing pieces k → HasPassed pieces k → ⊥
 missing_none pieces k missing (i, p, at, is, good) = missing i p at is
@@ -48,12 +46,11 @@ refused_none : (pieces : List PieceData) (k : ℕ) → AllRefused pieces k → H
 refused_none pieces k refused (i, p, at, is, good) = let none = refused i p at is in absurd cc
 
 -- Where each number has a piece that passed, none is missing and none is without memory.
-module _ (pieces : List PieceData) (n : ℕ) (all : PassedBelow pieces n) where
-  pub none_missing : (k : ℕ) → IsFirstMissing pieces n k → ⊥
-  none_missing k (less, missing, _) = missing_none pieces k missing (all k less)
+pub none_missing : {P : Type 0} (pieces : List PieceData) (n k : ℕ) → PassedBelow pieces n → IsFirstMissing pieces n k → P
+none_missing pieces n k all (less, missing, _) = absurd (missing_none pieces k missing (all k less))
 
-  pub none_refused : (k : ℕ) → IsFirstRefused pieces n k → ⊥
-  none_refused k (less, has, refused, _) = refused_none pieces k refused (all k less)
+pub none_refused : {P : Type 0} (pieces : List PieceData) (n k : ℕ) → PassedBelow pieces n → IsFirstRefused pieces n k → P
+none_refused pieces n k all (less, has, refused, _) = absurd (refused_none pieces k refused (all k less))
 
 module _ (pieces : List PieceData) (n number : ℕ) (first : IsFirstUnpassed pieces n number) where
   passed_below : PassedBelow pieces number
@@ -66,38 +63,32 @@ module _ (pieces : List PieceData) (n number : ℕ) (first : IsFirstUnpassed pie
         | inr ge ↦ elim (cases_lt number k) [ inl less ↦ absurd (first.none (below number less)) | inr le ↦ omega arith ]
       ]
 
-  missing_here : (k : ℕ) → IsFirstMissing pieces n k → IsMissing pieces number × (k ≡ number)
-  missing_here k (less, missing, below) =
-      let same = same_first k (missing_none pieces k missing) below in
-      (subst (λ (x : ℕ). IsMissing pieces x) same missing, same)
+  missing_is : (k : ℕ) → IsFirstMissing pieces n k → k ≡ number
+  missing_is k (less, missing, below) = same_first k (missing_none pieces k missing) below
 
-  refused_here : (k : ℕ) → IsFirstRefused pieces n k → AllRefused pieces number
-  refused_here k (less, has, refused, below) =
-      subst (λ (x : ℕ). AllRefused pieces x) (same_first k (refused_none pieces k refused) below) refused
+  refused_is : (k : ℕ) → IsFirstRefused pieces n k → k ≡ number
+  refused_is k (less, has, refused, below) = same_first k (refused_none pieces k refused) below
 
   pub verdict-answer : (r : Result Verdict GatherError) → IsAnswer pieces number r
       → IfOk r (λ v. (job : Job) → NamesAll job pieces → n ≡ segments_of job → IsVerdict job.movie job.keep v)
   verdict-answer (Ok v) (i, p, at, is, judged, bad, lawful) = λ job names whole.
       let (kept, begun) = prefix_of job pieces names number first.below in
       let of = of_job job pieces i p number v names at is judged lawful in
-      IsVerdict-bad job number kept v of.0 of.1 begun of.2 (subst (λ (o : Outcome). IsFalse (passed o)) judged bad)
+      IsVerdict-bad job of.0 number of.1 kept begun v of.2 (subst (λ (o : Outcome). IsFalse (passed o)) judged bad)
   verdict-answer (Err e) answer = tt
 
   pub missing-answer : (r : Result Verdict GatherError) → IsAnswer pieces number r → (k : ℕ) → (r ≡ Err (Missing k)) ↔ IsFirstMissing pieces n k
-  missing-answer (Ok v) (i, p, at, is, judged, bad, lawful) k = (λ e. absurd cc, λ missing. absurd ((missing_here k missing).0 i p at is))
+  missing-answer (Ok v) (i, p, at, is, judged, bad, lawful) k = (λ e. absurd cc, λ first. absurd (first.1 i p at (is ∙ sym (missing_is k first))))
   missing-answer (Err (Missing j)) (here, missing) k = (
-    λ e.
-        let same : number ≡ k = cc in
-        subst (λ (x : ℕ). IsFirstMissing pieces n x) same (first.within, missing, passed_below),
-    λ other. let same = (missing_here k other).1 in ap (λ (x : ℕ). Err (Missing x)) (here ∙ sym same),
+    λ e. let same : number ≡ k = cc in rw (← same) (first.within, missing, passed_below),
+    λ other. ap (λ (x : ℕ). Err (Missing x)) (here ∙ sym (missing_is k other)),
   )
-  missing-answer (Err NoMemory) ((i, p, at, is), refused) k = (λ e. absurd cc, λ missing. absurd ((missing_here k missing).0 i p at is))
+  missing-answer (Err NoMemory) ((i, p, at, is), _) k = (λ e. absurd cc, λ first. absurd (first.1 i p at (is ∙ sym (missing_is k first))))
 
   pub refused-answer : (r : Result Verdict GatherError) → IsAnswer pieces number r → (k : ℕ) → IsFirstRefused pieces n k → r ≡ Err NoMemory
-  refused-answer (Ok v) (i, p, at, is, judged, bad, lawful) k refused = let none = refused_here k refused i p at is in absurd cc
-  refused-answer (Err (Missing j)) (here, missing) k (less, (i, p, at, is), refused, below) =
-      let same = same_first k (refused_none pieces k refused) below in absurd (missing i p at (is ∙ same))
-  refused-answer (Err NoMemory) answer k refused = refl
+  refused-answer (Ok v) (i, p, at, is, judged, bad, lawful) k first = let none = first.2 i p at (is ∙ sym (refused_is k first)) in absurd cc
+  refused-answer (Err (Missing j)) (here, missing) k first = let (i, p, at, is) = first.1 in absurd (missing i p at (is ∙ refused_is k first))
+  refused-answer (Err NoMemory) answer k first = refl
 
   pub memory-answer : (r : Result Verdict GatherError) → IsAnswer pieces number r → r ≡ Err NoMemory
       → ((k : ℕ) × IsFirstRefused pieces n k) ⊎ (PassedBelow pieces n × (0 < picture_count pieces))

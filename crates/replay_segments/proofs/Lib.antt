@@ -1,3 +1,4 @@
+pub mod BadFrames
 pub mod CheckpointLemmas
 pub mod Composition
 pub mod Conversions

@@ -1,6 +1,6 @@
 -- Elements of lists by their places.
-use Rattle.std.proofs.Common.{◌≡◌, ◌≢◌, ℕ, ◌+◌, ◌<◌, ◌≤◌, List, length, Some, slice_get, slice_set}
-use Rattle.std.proofs.Common.{length-set, All, arith, ap, ◌∙◌, subst, sym, ◌⊎◌, inl, inr}
+use Rattle.std.proofs.Common.{◌≡◌, ◌≢◌, ℕ, ◌+◌, ◌<◌, List, length, Some, slice_get, slice_set}
+use Rattle.std.proofs.Common.{length-set, All, arith, ap, ◌∙◌, subst, sym, inl, inr}
 use Rattle.std.proofs.lemmas.Bool.{cases_lt}
 use Rattle.std.proofs.lemmas.List.{get_or-set_other}
 use Rattle.std.proofs.lemmas.Option.{slice_get_cases, slice_get_within, get_or_from_slice_get}
@@ -18,11 +18,8 @@ same_at xs i n p q is one two = let both : Some p ≡ Some q = sym one ∙ (ap (
 -- What holds of the first n and of the next holds of the first n + 1.
 pub each-below : {X : Type 0} (P : X → Type 0) (xs : List X) (n : ℕ) (q : X) → slice_get xs n ≡ Some q → P q
     → ((k : ℕ) (p : X) → k < n → slice_get xs k ≡ Some p → P p) → (k : ℕ) (p : X) → k < n + 1 → slice_get xs k ≡ Some p → P p
-each-below P xs n q at here below k p less there = by (cases_lt k n)
-  where
-    by : (k < n) ⊎ (n ≤ k) → P p
-    by (inl low) = below k p low there
-    by (inr high) = subst P (sym (same_at xs k n p q (omega arith) there at)) here
+each-below P xs n q at here below k p less there =
+    elim (cases_lt k n) [ inl low ↦ below k p low there | inr high ↦ subst P (sym (same_at xs k n p q (omega arith) there at)) here ]
 
 -- What holds of all holds of the one at a place.
 pub All-at : {X : Type 0} (P : X → Type 0) (xs : List X) (i : ℕ) (x : X) → slice_get xs i ≡ Some x → All P xs → P x

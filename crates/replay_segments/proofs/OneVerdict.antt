@@ -1,10 +1,9 @@
 -- A movie has one verdict.
-use Rattle.std.proofs.Common.{◌≡◌, ℕ, ◌<◌, ◌≤◌, List, arith, ap, ◌∙◌, subst, sym, ◌⊎◌, inl, inr}
+use Rattle.std.proofs.Common.{◌≡◌, ℕ, arith, ◌∙◌, subst, sym, inl, inr}
 use Rattle.std.proofs.lemmas.Bool.{cases_lt}
-use Rattle.vcs_machine.specs.Pictures.{Rows}
 use Rattle.vcs_machine.specs.declared.fields.StateFields.{StateFields}
 use Rattle.movie_file.specs.Movie.{MovieData, IsMovie}
-use Rattle.movie_file.specs.Judgement.{FaultsAt, IsFalseAt}
+use Rattle.movie_file.specs.Judgement.{IsSound}
 use Rattle.movie_file.proofs.RunLemmas.{sound_no_fault, false_no_fault, sound_no_false, same_number}
 use Rattle.movie_file.proofs.RunLemmas.{same_kind}
 use Rattle.replay_plan.specs.declared.keep.Keep.{Keep}
@@ -12,50 +11,38 @@ use Rattle.replay_segments.specs.declared.verdict.Verdict.{Verdict}
 use Rattle.replay_segments.specs.declared.verdict.Verdict.TheVariants.{Genuine, FalseCheckpoint}
 use Rattle.replay_segments.specs.declared.verdict.Verdict.TheVariants.{Fault}
 use Rattle.replay_segments.specs.Verdicts.{IsJudged}
+use Rattle.replay_segments.proofs.BadFrames.{IsBadAt, IsGenuineOrBad, judged_cases}
 
 module _ (m : MovieData) (start : StateFields) (from : ℕ) where
+  -- No frame is both sound and bad.
+  sound_no_bad : (k : ℕ) (v : Verdict) → IsSound m start from k → IsBadAt m start from k v → ⊥
+  sound_no_bad k (Genuine kept) sound bad = bad
+  sound_no_bad k (FalseCheckpoint number frame) sound bad = sound_no_false m start from k number sound bad.1
+  sound_no_bad k (Fault frame kind) sound bad = sound_no_fault m start from k kind sound bad.1
+
+  -- A frame is bad in one way.
+  bad_once : (k : ℕ) (v w : Verdict) → IsMovie m → IsBadAt m start from k v → IsBadAt m start from k w → v ≡ w
+  bad_once k (FalseCheckpoint n e) (FalseCheckpoint n' e') movie one two =
+      let same = same_number m start from k n n' movie one.1 two.1 in cc (one.0, two.0)
+  bad_once k (Fault e kind) (Fault e' kind') movie one two = let same = same_kind m start from k kind kind' one.1 two.1 in cc (one.0, two.0)
+  bad_once k (FalseCheckpoint n e) (Fault e' kind) movie one two = absurd (false_no_fault m start from k n kind one.1 two.1)
+  bad_once k (Fault e kind) (FalseCheckpoint n e') movie one two = absurd (false_no_fault m start from k n kind two.1 one.1)
+  bad_once k (Genuine kept) w movie one two = absurd one
+  bad_once k v (Genuine kept) movie one two = absurd two
+
   -- What is said of some frames of a run is one thing.
   pub IsJudged-once : (keep : Keep) (len : ℕ) (v w : Verdict) → IsMovie m → IsJudged m keep start from len v → IsJudged m keep start from len w → v ≡ w
-  IsJudged-once keep len (Genuine f) (Genuine g) movie one two = ap (λ (x : List Rows). Genuine x) (one.1 ∙ sym two.1)
-  IsJudged-once keep len (Genuine f) (FalseCheckpoint n e) movie one (k, less, at, before, bad) = absurd (sound_no_false m start from k n (one.0 k less) bad)
-  IsJudged-once keep len (Genuine f) (Fault e kind) movie one (k, less, at, before, bad) = absurd (sound_no_fault m start from k kind (one.0 k less) bad)
-  IsJudged-once keep len (FalseCheckpoint n e) (Genuine g) movie (k, less, at, before, bad) two = absurd (sound_no_false m start from k n (two.0 k less) bad)
-  IsJudged-once keep len (Fault e kind) (Genuine g) movie (k, less, at, before, bad) two = absurd (sound_no_fault m start from k kind (two.0 k less) bad)
-  IsJudged-once keep len (FalseCheckpoint n e) (FalseCheckpoint n' e') movie (k, less, at, before, bad) (k', less', at', before', bad') =
-      by (cases_lt k k') (cases_lt k' k)
+  IsJudged-once keep len v w movie one two = by (judged_cases m keep start from len v one) (judged_cases m keep start from len w two)
     where
-      by : (k < k') ⊎ (k' ≤ k) → (k' < k) ⊎ (k ≤ k') → FalseCheckpoint n e ≡ FalseCheckpoint n' e'
-      by (inl low) other = absurd (sound_no_false m start from k n (before' k low) bad)
-      by (inr le) (inl low) = absurd (sound_no_false m start from k' n' (before k' low) bad')
-      by (inr le) (inr ge) =
-          let same : k' ≡ k = omega arith in
-          let frames : e ≡ e' = omega arith in
-          let numbers = same_number m start from k n n' movie bad (subst (λ (x : ℕ). IsFalseAt m start from x n') same bad') in cc
-  IsJudged-once keep len (Fault e kind) (Fault e' other) movie (k, less, at, before, bad) (k', less', at', before', bad') =
-      by (cases_lt k k') (cases_lt k' k)
-    where
-      by : (k < k') ⊎ (k' ≤ k) → (k' < k) ⊎ (k ≤ k') → Fault e kind ≡ Fault e' other
-      by (inl low) more = absurd (sound_no_fault m start from k kind (before' k low) bad)
-      by (inr le) (inl low) = absurd (sound_no_fault m start from k' other (before k' low) bad')
-      by (inr le) (inr ge) =
-          let same : k' ≡ k = omega arith in
-          let frames : e ≡ e' = omega arith in
-          let kinds = same_kind m start from k kind other bad (subst (λ (x : ℕ). FaultsAt m start from x other) same bad') in cc
-  IsJudged-once keep len (FalseCheckpoint n e) (Fault e' kind) movie (k, less, at, before, bad) (k', less', at', before', bad') =
-      by (cases_lt k k') (cases_lt k' k)
-    where
-      by : (k < k') ⊎ (k' ≤ k) → (k' < k) ⊎ (k ≤ k') → FalseCheckpoint n e ≡ Fault e' kind
-      by (inl low) more = absurd (sound_no_false m start from k n (before' k low) bad)
-      by (inr le) (inl low) = absurd (sound_no_fault m start from k' kind (before k' low) bad')
-      by (inr le) (inr ge) =
-          let same : k' ≡ k = omega arith in
-          absurd (false_no_fault m start from k n kind bad (subst (λ (x : ℕ). FaultsAt m start from x kind) same bad'))
-  IsJudged-once keep len (Fault e kind) (FalseCheckpoint n e') movie (k, less, at, before, bad) (k', less', at', before', bad') =
-      by (cases_lt k k') (cases_lt k' k)
-    where
-      by : (k < k') ⊎ (k' ≤ k) → (k' < k) ⊎ (k ≤ k') → Fault e kind ≡ FalseCheckpoint n e'
-      by (inl low) more = absurd (sound_no_fault m start from k kind (before' k low) bad)
-      by (inr le) (inl low) = absurd (sound_no_false m start from k' n (before k' low) bad')
-      by (inr le) (inr ge) =
-          let same : k' ≡ k = omega arith in
-          absurd (false_no_fault m start from k n kind (subst (λ (x : ℕ). IsFalseAt m start from x n) same bad') bad)
+      by : IsGenuineOrBad m keep start from len v → IsGenuineOrBad m keep start from len w → v ≡ w
+      by (inl (sound, is)) (inl (_, other)) = is ∙ sym other
+      by (inl (sound, is)) (inr (k, less, _, bad)) = absurd (sound_no_bad k w (sound k less) bad)
+      by (inr (k, less, _, bad)) (inl (sound, is)) = absurd (sound_no_bad k v (sound k less) bad)
+      by (inr (k, less, before, bad)) (inr (k', less', before', bad')) =
+          elim (cases_lt k k') [
+            | inl low ↦ absurd (sound_no_bad k v (before' k low) bad)
+            | inr le ↦ elim (cases_lt k' k) [
+              | inl low ↦ absurd (sound_no_bad k' w (before k' low) bad')
+              | inr ge ↦ bad_once k v w movie bad (subst (λ (x : ℕ). IsBadAt m start from x w) (omega arith) bad')
+            ]
+          ]

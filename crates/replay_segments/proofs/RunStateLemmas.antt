@@ -1,6 +1,6 @@
 -- From where the one unbroken run of a movie can be replayed.
 use Rattle.std.proofs.Common.{◌≡◌, ℕ, zero, suc, ◌+◌, ◌-◌, ◌<◌, ◌≤◌, length, Option, Some, None}
-use Rattle.std.proofs.Common.{IsSome, false, slice_get, refl, arith, ap, subst, sym, add-zero}
+use Rattle.std.proofs.Common.{IsSome, slice_get, refl, arith, subst, add-zero}
 use Rattle.std.specs.Prelude.{option_and_then}
 use Rattle.std.proofs.lemmas.Option.{slice_get_within}
 use Rattle.vcs_machine.specs.declared.fault.FaultKind.{FaultKind}
@@ -9,11 +9,11 @@ use Rattle.movie_file.specs.Movie.{MovieData, IsMovie}
 use Rattle.movie_file.specs.Judgement.{AllSound, FaultsAt}
 use Rattle.movie_file.specs.Run.{frame_after, run, state_after}
 use Rattle.movie_file.specs.declared.checkpoint.Checkpoint.{Checkpoint}
-use Rattle.movie_file.proofs.CheckpointLemmas.{checkpoint_in_range, checkpoints_rise}
 use Rattle.movie_file.proofs.RunLemmas.{run-shift, run-fault}
 use Rattle.replay_segments.specs.Private.Resuming.{IsResumable}
 use Rattle.replay_segments.specs.Verdicts.{HasVerdict}
 use Rattle.replay_segments.specs.declared.verdict.Verdict.TheVariants.{FalseCheckpoint, Fault}
+use Rattle.replay_segments.proofs.CheckpointLemmas.{frame_in_range, frames_rise}
 
 some_before : {A B : Type 0} (f : A → Option B) (o : Option A) → IsSome (option_and_then f o) → IsSome o
 some_before f (Some x) is = refl
@@ -39,31 +39,25 @@ no_fault m s a k kind ends fault = let no : IsSome {T = StateFields} None = rw (
 pub claim_of_sound : (m : MovieData) (k j : ℕ) (c : Checkpoint) → IsMovie m → AllSound m m.start 0 k → slice_get m.checkpoints j ≡ Some c → c.frame ≤ k
     → run m m.start 0 c.frame ≡ Some c.state
 claim_of_sound m k j c movie sound here le =
-    let h = checkpoint_in_range (length m.cart) m.checkpoints 0 (length m.inputs) j c movie.checkpoints here in
-    let low = h.0 in
-    let last = sound (c.frame - 1) (omega arith) in
-    let whole : c.frame - 1 + 1 ≡ c.frame = omega arith in
-    let at : c.frame ≡ 0 + (c.frame - 1) + 1 = omega arith in
-    let state : c.state ≡ last.0 = last.2 j c here at in
-    let ran : run m m.start 0 c.frame ≡ Some last.0 = subst (λ (x : ℕ). run m m.start 0 x ≡ Some last.0) whole last.1 in
-    rw ran (ap (λ (x : StateFields). Some x) (sym state))
+    let low = (frame_in_range m movie j c here).0 in
+    let (state, ran, claims) = sound (c.frame - 1) (omega (arith, low)) in
+    let whole : c.frame - 1 + 1 ≡ c.frame = omega (arith, low) in
+    rw (claims j c here (omega (arith, whole))) (subst (λ (x : ℕ). run m m.start 0 x ≡ Some state) whole ran)
 
 -- The run can be replayed from the checkpoint before the first false one.
 pub IsResumable-false : (m : MovieData) (number frame : ℕ) → IsMovie m → HasVerdict m (FalseCheckpoint number frame)
-    → (0 < number) × IsResumable m (number - 1) frame
+    → IsResumable m (number - 1) frame
 IsResumable-false m number frame movie (keep, (k, less, at, sound, (state, j, c, ran, num, here, after, ne))) =
     let e : frame ≡ k + 1 = omega arith in
-    let within = slice_get_within m.checkpoints j c here in (
-      omega arith,
-      record {
-        within = omega arith;
-        last = omega arith;
-        ends = rw (e, ran) refl;
-        claim = λ d some there.
-            let rises = checkpoints_rise (length m.cart) m.checkpoints 0 (length m.inputs) (number - 1 - 1) j d c movie.checkpoints (omega arith) there here in
-            (omega arith, claim_of_sound m k (number - 1 - 1) d movie sound there (omega arith));
-      },
-    )
+    let within = slice_get_within m.checkpoints j c here in
+    record {
+      within = omega arith;
+      last = omega arith;
+      ends = rw (e, ran) refl;
+      claim = λ d some there.
+          let rises = frames_rise m movie (number - 1 - 1) j d c (omega arith) there here in
+          (omega arith, claim_of_sound m k (number - 1 - 1) d movie sound there (omega arith));
+    }
 
 -- From a checkpoint of the run to the frame.
 pub run-resumed : (m : MovieData) (from frame : ℕ) (state : StateFields) → from ≤ frame → run m m.start 0 from ≡ Some state
@@ -77,17 +71,14 @@ run-resumed m from frame state le is =
 -- It can be replayed from the last checkpoint before the frame that faults.
 pub IsResumable-fault : (m : MovieData) (frame next : ℕ) (kind : FaultKind) → IsMovie m → HasVerdict m (Fault frame kind) → next ≤ length m.checkpoints
     → ((j : ℕ) (c : Checkpoint) → j < next → slice_get m.checkpoints j ≡ Some c → c.frame < frame)
-    → (0 < frame) × (frame ≤ length m.inputs) × IsResumable m next (frame - 1)
+    → IsResumable m next (frame - 1)
 IsResumable-fault m frame next kind movie (keep, (k, less, at, sound, (state, left, ran, fails))) within before =
-    let e : frame - 1 ≡ k = omega arith in (
-      omega arith,
-      omega arith,
-      record {
-        within = within;
-        last = omega arith;
-        ends = rw (e, ran) refl;
-        claim = λ c some here.
-            let early = before (next - 1) c (omega arith) here in
-            (omega arith, claim_of_sound m k (next - 1) c movie sound here (omega arith));
-      },
-    )
+    let e : frame - 1 ≡ k = omega arith in
+    record {
+      within = within;
+      last = omega arith;
+      ends = rw (e, ran) refl;
+      claim = λ c some here.
+          let early = before (next - 1) c (omega arith) here in
+          (omega arith, claim_of_sound m k (next - 1) c movie sound here (omega arith));
+    }

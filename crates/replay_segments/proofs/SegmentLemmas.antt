@@ -1,14 +1,12 @@
 -- Where segments begin and end.
-use Rattle.std.proofs.Common.{◌≡◌, ℕ, zero, suc, ◌+◌, ◌-◌, ◌<◌, ◌≤◌, List, length, Some, Result, Ok}
-use Rattle.std.proofs.Common.{Err, IfOk, OnErr, true, max, slice_get, refl, arith, ap, ◌∙◌, subst}
-use Rattle.std.proofs.Common.{sym, add-one, ◌⊎◌, inl, inr}
+use Rattle.std.proofs.Common.{◌≡◌, ℕ, zero, suc, ◌+◌, ◌-◌, ◌<◌, ◌≤◌, List, length, Some}
+use Rattle.std.proofs.Common.{true, max, slice_get, refl, arith, ◌∙◌, subst}
+use Rattle.std.proofs.Common.{add-one, inl, inr}
 use Rattle.std.proofs.lemmas.Bool.{cases_lt}
 use Rattle.std.proofs.lemmas.Bool.Decides.{nat_tests}
-use Rattle.std.proofs.lemmas.Option.{slice_get_past, slice_get_within}
-use Rattle.vcs_machine.specs.declared.fields.StateFields.{StateFields}
+use Rattle.std.proofs.lemmas.Option.{slice_get_past}
 use Rattle.movie_file.specs.Movie.{MovieData, IsMovie}
 use Rattle.movie_file.specs.declared.checkpoint.Checkpoint.{Checkpoint}
-use Rattle.movie_file.proofs.CheckpointLemmas.{checkpoint_in_range, checkpoints_rise}
 use Rattle.replay_plan.specs.declared.keep.Keep.{Keep}
 use Rattle.replay_segments.specs.declared.verdict.Verdict.{Verdict}
 use Rattle.replay_segments.specs.Cuts.{Fits}
@@ -17,7 +15,8 @@ use Rattle.replay_segments.specs.Pieces.{Job, HasKept}
 use Rattle.replay_segments.specs.Segments.{end_of, from_of, start_of, IsSegment}
 use Rattle.replay_segments.specs.Private.Steps.{IsNext}
 use Rattle.replay_segments.specs.Verdicts.{IsJudged}
-use Rattle.replay_segments.proofs.ListLemmas.{slice_get-below, same_at}
+use Rattle.replay_segments.proofs.CheckpointLemmas.{frame_in_range, frames_rise, IsNext-after}
+use Rattle.replay_segments.proofs.ListLemmas.{slice_get-below}
 
 -- The i-th cut is at this checkpoint, of number n.
 pub record AtCut (m : MovieData) (cuts : List ℕ) (i n : ℕ) (c : Checkpoint) : Type 0 where
@@ -27,7 +26,7 @@ pub record AtCut (m : MovieData) (cuts : List ℕ) (i n : ℕ) (c : Checkpoint) 
 
 -- A checkpoint is after a frame of its movie.
 pub checkpoint_within : (m : MovieData) (j : ℕ) (c : Checkpoint) → IsMovie m → slice_get m.checkpoints j ≡ Some c → c.frame ≤ length m.inputs
-checkpoint_within m j c movie at = (checkpoint_in_range (length m.cart) m.checkpoints 0 (length m.inputs) j c movie.checkpoints at).1
+checkpoint_within m j c movie at = (frame_in_range m movie j c at).1
 
 -- The last segment ends with the movie.
 pub end_of-last : (m : MovieData) (cuts : List ℕ) (i : ℕ) → length cuts ≤ i → end_of m cuts i ≡ length m.inputs
@@ -49,12 +48,7 @@ module _ (m : MovieData) (cuts : List ℕ) (i n : ℕ) (c : Checkpoint) (at : At
   -- What is judged from a cut to the next is the segment.
   pub IsSegment-cut : (keep : Keep) (len : ℕ) (v : Verdict) → c.frame + len ≡ end_of m cuts (i + 1) → IsJudged m keep c.state c.frame len v
       → IsSegment m cuts keep (i + 1) v
-  IsSegment-cut keep len v ends judged = (
-    len,
-    rw from_of-after ends,
-    subst (λ (s : StateFields). IsJudged m keep s (from_of m cuts (i + 1)) len v) (sym start_of-after)
-        (subst (λ (a : ℕ). IsJudged m keep c.state a len v) (sym from_of-after) judged),
-  )
+  IsSegment-cut keep len v ends judged = (len, rw from_of-after ends, rw (from_of-after, start_of-after) judged)
 
 module _ (m : MovieData) (cuts : List ℕ) (movie : IsMovie m) (fits : Fits cuts m) where
   -- A cut is the number of a checkpoint.
@@ -67,40 +61,30 @@ module _ (m : MovieData) (cuts : List ℕ) (movie : IsMovie m) (fits : Fits cuts
       (cut.0, claim.0, record { cut = cut.1; positive = range.0; checkpoint = claim.1 })
 
   pub end_of-within : (i : ℕ) → end_of m cuts i ≤ length m.inputs
-  end_of-within i = by (cases_lt i (length cuts))
-    where
-      by : (i < length cuts) ⊎ (length cuts ≤ i) → end_of m cuts i ≤ length m.inputs
-      by (inl w) =
-          let (n, c, at) = at_cut i w in
-          rw (end_of-cut m cuts i n c at) (checkpoint_within m (n - 1) c movie at.checkpoint)
-      by (inr w) = rw (end_of-last m cuts i w) (omega arith)
+  end_of-within i =
+      elim (cases_lt i (length cuts)) [
+        | inl low ↦ (let (n, c, at) = at_cut i low in rw (end_of-cut m cuts i n c at) (checkpoint_within m (n - 1) c movie at.checkpoint))
+        | inr past ↦ rw (end_of-last m cuts i past) (omega arith)
+      ]
 
   -- A segment that ends at a cut has a frame.
   pub from_of-below : (i : ℕ) → i < length cuts → from_of m cuts i < end_of m cuts i
   from_of-below zero less =
-      let (n, c, at) = at_cut 0 less in
-      let h = checkpoint_in_range (length m.cart) m.checkpoints 0 (length m.inputs) (n - 1) c movie.checkpoints at.checkpoint in
-      rw (end_of-cut m cuts 0 n c at) h.0
+      let (n, c, at) = at_cut 0 less in rw (end_of-cut m cuts 0 n c at) (frame_in_range m movie (n - 1) c at.checkpoint).0
   from_of-below (suc i) less =
       let (n, c, was) = at_cut i (omega arith) in
       let (n', c', at) = at_cut (suc i) less in
       let rises = fits.rising i (suc i) n n' (omega arith) was.cut at.cut in
-      let p = was.positive in
-      let h =
-      checkpoints_rise (length m.cart) m.checkpoints 0 (length m.inputs) (n - 1) (n' - 1) c c' movie.checkpoints (omega (arith, rises, p))
-      was.checkpoint at.checkpoint in
-      rw (end_of-cut m cuts i n c was, end_of-cut m cuts (suc i) n' c' at) h
+      let later : n - 1 < n' - 1 = omega (arith, rises, was.positive) in
+      rw (end_of-cut m cuts i n c was, end_of-cut m cuts (suc i) n' c' at) (frames_rise m movie (n - 1) (n' - 1) c c' later was.checkpoint at.checkpoint)
 
   from_of-le : (i : ℕ) → from_of m cuts i ≤ end_of m cuts i
   from_of-le zero = omega arith
-  from_of-le (suc i) = by (cases_lt (suc i) (length cuts))
-    where
-      by : (suc i < length cuts) ⊎ (length cuts ≤ suc i) → from_of m cuts (suc i) ≤ end_of m cuts (suc i)
-      by (inl w) = let h = from_of-below (suc i) w in omega (arith, h)
-      by (inr w) = rw (end_of-last m cuts (suc i) w) (end_of-within i)
-
-  after_cut : (i n : ℕ) (c : Checkpoint) → AtCut m cuts i n c → c.frame ≤ end_of m cuts (i + 1)
-  after_cut i n c at = rw (← from_of-after m cuts i n c at) (from_of-le (i + 1))
+  from_of-le (suc i) =
+      elim (cases_lt (suc i) (length cuts)) [
+        | inl low ↦ (let h = from_of-below (suc i) low in omega (arith, h))
+        | inr past ↦ rw (end_of-last m cuts (suc i) past) (end_of-within i)
+      ]
 
 -- A replay from a cut to the end of the segment that begins there.
 pub record IsStretch (m : MovieData) (cuts : List ℕ) (i n : ℕ) (c : Checkpoint) (end : ℕ) : Type 0 where
@@ -113,29 +97,15 @@ pub IsStretch-found : (m : MovieData) (cuts : List ℕ) (i n : ℕ) (c : Checkpo
     → end ≡ end_of m cuts (i + 1) → IsStretch m cuts i n c end
 IsStretch-found m cuts i n c end movie fits cut here is =
     let at : AtCut m cuts i n c = record { cut = cut; positive = (fits.range i n cut).0; checkpoint = here } in
-    let le = after_cut m cuts movie fits i n c at in
+    let le : c.frame ≤ end_of m cuts (i + 1) = rw (← from_of-after m cuts i n c at) (from_of-le m cuts movie fits (i + 1)) in
     record { at = at; le = omega (arith, le, is); ends = omega (arith, le, is) }
 
 -- After the frame of a checkpoint its number is the index of the next one.
 pub IsNext-cut : (m : MovieData) (n : ℕ) (c : Checkpoint) → IsMovie m → 0 < n → slice_get m.checkpoints (n - 1) ≡ Some c → IsNext m n (c.frame + 1)
-IsNext-cut m n c movie positive at =
-    let within = slice_get_within m.checkpoints (n - 1) c at in
-    record {
-      within = omega arith;
-      before = λ j d here less. before j d here less (cases_lt j (n - 1));
-      after = λ j d here le. let h = checkpoints_rise (length m.cart) m.checkpoints 0
-          (length m.inputs) (n - 1) j c d movie.checkpoints (omega arith) at here in omega (arith, h);
-    }
-  where
-    before : (j : ℕ) (d : Checkpoint) → slice_get m.checkpoints j ≡ Some d → j < n → (j < n - 1) ⊎ (n - 1 ≤ j) → d.frame < c.frame + 1
-    before j d here less (inl low) = let h = checkpoints_rise (length m.cart) m.checkpoints 0
-        (length m.inputs) j (n - 1) d c movie.checkpoints low here at in omega (arith, h)
-    before j d here less (inr high) =
-        let equal = same_at m.checkpoints j (n - 1) d c (omega arith) here at in
-        let frames : d.frame ≡ c.frame = ap (λ (x : Checkpoint). x.frame) equal in omega arith
+IsNext-cut m n c movie positive here = subst (λ (k : ℕ). IsNext m k (c.frame + 1)) (omega arith) (IsNext-after m movie (n - 1) c here)
 
 -- Where some are kept, one is.
-pub kept-one : (keep : Keep) (from len : ℕ) → 0 < kept_count keep from len → (frame : ℕ) × (from < frame) × (frame ≤ from + len) × (is_kept keep frame ≡ true)
+kept-one : (keep : Keep) (from len : ℕ) → 0 < kept_count keep from len → (frame : ℕ) × (from < frame) × (frame ≤ from + len) × (is_kept keep frame ≡ true)
 kept-one keep from len some = (max keep.first (from + 1), omega arith, omega arith, grind (arith, nat_tests))
 
 pub HasKept-cut : (job : Job) (i n : ℕ) (c : Checkpoint) (len : ℕ) → AtCut job.movie job.cuts i n c → c.frame + len ≡ end_of job.movie job.cuts (i + 1)
@@ -143,11 +113,3 @@ pub HasKept-cut : (job : Job) (i n : ℕ) (c : Checkpoint) (len : ℕ) → AtCut
 HasKept-cut job i n c len at ends some =
     let (frame, low, high, is) = kept-one job.keep c.frame len some in
     (frame, rw (from_of-after job.movie job.cuts i n c at) low, rw (← ends) high, is)
-
-pub IfOk-follows : {X E : Type 0} (P Q : X → Type 0) (r : Result X E) → ((x : X) → P x → Q x) → IfOk r P → IfOk r Q
-IfOk-follows P Q (Ok x) f h = f x h
-IfOk-follows P Q (Err e) f h = tt
-
-pub OnErr-follows : {X E : Type 0} (P Q : Type 0) (r : Result X E) → (P → Q) → OnErr r P → OnErr r Q
-OnErr-follows P Q (Ok x) f h = tt
-OnErr-follows P Q (Err e) f h = f h

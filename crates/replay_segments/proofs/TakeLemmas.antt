@@ -1,17 +1,16 @@
 -- The pictures of a piece are taken.
 use Rattle.std.proofs.Common.{◌≡◌, ◌≢◌, ℕ, ◌<◌, List, length, Some, refl, slice_get, slice_set}
-use Rattle.std.proofs.Common.{get_or, arith, ap, ◌∙◌, subst, sym}
+use Rattle.std.proofs.Common.{get_or, arith, ap, ◌∙◌, sym}
 use Rattle.std.proofs.lemmas.List.Elements.{All-set}
 use Rattle.std.proofs.lemmas.List.Sums.{sum_by-set}
 use Rattle.std.proofs.lemmas.Option.{slice_get_within, get_or_from_slice_get}
 use Rattle.vcs_machine.specs.Pictures.{Rows}
-use Rattle.replay_segments.specs.declared.outcome.Outcome.{Outcome}
 use Rattle.replay_segments.specs.declared.outcome.Outcome.TheVariants.{Judged, NoMemory}
 use Rattle.replay_segments.specs.declared.verdict.Verdict.{Verdict}
 use Rattle.replay_segments.specs.declared.verdict.Verdict.TheVariants.{Genuine}
 use Rattle.replay_segments.specs.Private.Finding.{IsPassedAt, IsTaken}
 use Rattle.replay_segments.specs.Gathering.{NamesAll, HasPassed}
-use Rattle.replay_segments.specs.Pieces.{PieceData, IsPiece, IsOutcome, Job, IsJob, segments_of}
+use Rattle.replay_segments.specs.Pieces.{PieceData, IsPiece, Job, IsJob, segments_of}
 use Rattle.replay_segments.specs.Pieces.{outcome_pictures}
 use Rattle.replay_segments.specs.Segments.{IsSegment}
 use Rattle.replay_segments.proofs.ListLemmas.{same_at, All-at, slice_get-set_other}
@@ -21,11 +20,7 @@ pub of_job : (job : Job) (pieces : List PieceData) (i : ℕ) (p : PieceData) (nu
     → p.number ≡ number → p.outcome ≡ Judged v → IsPiece p → IsJob job × (number < segments_of job) × IsSegment job.movie job.cuts job.keep number v
 of_job job pieces i p number v names at is judged lawful =
     let same : p.job ≡ job = All-at (λ (q : PieceData). q.job ≡ job) pieces i p at names in
-    let one : IsOutcome job p.number p.outcome = subst (λ (j : Job). IsOutcome j p.number p.outcome) same lawful.outcome in
-    let two : IsOutcome job number p.outcome = subst (λ (n : ℕ). IsOutcome job n p.outcome) is one in
-    let three : IsOutcome job number (Judged v) = subst (λ (o : Outcome). IsOutcome job number o) judged two in
-    let four : number < segments_of job = subst (λ (j : Job). number < segments_of j) same (subst (λ (n : ℕ). n < segments_of p.job) is lawful.number) in
-    (subst (λ (j : Job). IsJob j) same lawful.job, four, three)
+    rw (← same, ← is) (lawful.job, lawful.number, rw judged at lawful.outcome)
 
 pub IsTaken-set : (old : List PieceData) (number i : ℕ) (q x : PieceData) (kept : List Rows) → IsPassedAt old number i → slice_get old i ≡ Some q
     → q.outcome ≡ Judged (Genuine kept) → x ≡ record { number = q.number; outcome = NoMemory; job = q.job } → IsPiece q
@@ -33,12 +28,9 @@ pub IsTaken-set : (old : List PieceData) (number i : ℕ) (q x : PieceData) (kep
 IsTaken-set old number i q x kept (p, at, is, passed, _) here genuine new lawful =
     let same = same_at old i i q p refl here at in
     let number_is : q.number ≡ number = ap (λ (y : PieceData). y.number) same ∙ is in
-    let within = slice_get_within old i q here in
-    let sums = sum_by-set (λ (y : PieceData). outcome_pictures y.outcome) old i x q within in
-    let there = get_or_from_slice_get old i q q here in
-    let had : outcome_pictures (get_or old i q).outcome ≡ length kept =
-    ap (λ (y : PieceData). outcome_pictures y.outcome) there ∙ ap outcome_pictures genuine in
-    let has : outcome_pictures x.outcome ≡ 0 = ap (λ (y : PieceData). outcome_pictures y.outcome) new in
+    let sums = sum_by-set (λ (y : PieceData). outcome_pictures y.outcome) old i x q (slice_get_within old i q here) in
+    let had : outcome_pictures (get_or old i q).outcome ≡ length kept = rw (get_or_from_slice_get old i q q here, genuine) refl in
+    let has : outcome_pictures x.outcome ≡ 0 = rw new refl in
     record {
       of = λ job names. of_job job old i q number (Genuine kept) names here number_is genuine lawful;
       names = λ job names.

@@ -28,7 +28,7 @@ loop-number-preserved c =
       prefix = λ job names whole.
           let of = taken.of job (c.loop-number.invariant.names job names) in
           let begun = c.loop-number.invariant.prefix job names whole in
-          let next = IsPrefix-next job c.loop-number.number c.loop-number.all.items c.take_passed.result of.0 of.1 begun of.2 in
+          let next = IsPrefix-next job of.0 c.loop-number.number of.1 c.loop-number.all.items begun c.take_passed.result of.2 in
           let items : c.append.new.self.items ≡ c.loop-number.all.items ++ c.take_passed.result =
           c.in-Ok-append.ensures.items ∙ ap (λ (xs : List Rows). c.loop-number.all.items ++ xs) c.into_vec-part.ensures in
           subst (λ (xs : List Rows). IsPrefix job (c.loop-number.number + 1) xs) (sym items) next;

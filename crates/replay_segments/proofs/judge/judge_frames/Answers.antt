@@ -7,9 +7,8 @@ use Rattle.replay_segments.proofs.judge.judge_frames.Goals as goal
 pub returns-in-False-clause-judged : goal.returns-in-False-clause-judged
 returns-in-False-clause-judged c =
     let a = c.in-Ok-advance.ensures.advance in
-    IsJudged-false c.args.movie.now c.args.keep c.args.start.now c.args.from c.loop-k.k c.args.len c.loop-k.state
-    c.advance.new.state c.loop-k.next c.in-False.number a.0 c.loop-k.pictures.items
-    c.loop-k.invariant.far a.1 c.loop-k-test.true c.in-False.ensures
+    IsJudged-false c.args.movie.now c.args.keep c.args.start.now c.args.from c.loop-k.k c.loop-k.state c.advance.new.state a.0 c.loop-k.pictures.items
+    c.loop-k.invariant.far a.1 c.args.len c.loop-k.next c.in-False.number c.loop-k-test.true c.in-False.ensures
 
 pub loop-k-preserved : goal.loop-k-preserved
 loop-k-preserved c =
@@ -18,8 +17,7 @@ loop-k-preserved c =
     record {
       far =
           SoFar-next c.args.movie.now c.args.keep c.args.start.now c.args.from c.loop-k.k c.loop-k.state c.advance.new.state a.0
-          c.loop-k.pictures.items c.advance.new.pictures.items
-          c.loop-k.invariant.far a.1 claim.1 a.2;
+          c.loop-k.pictures.items c.loop-k.invariant.far a.1 c.advance.new.pictures.items claim.1 a.2;
       count = let e = kept_count-next c.args.keep c.args.from c.loop-k.k in cc (c.in-Ok-advance.ensures.len);
       room = omega arith;
       next = let e : c.args.from + c.loop-k.k + 1 + 1

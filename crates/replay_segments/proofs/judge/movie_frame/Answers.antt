@@ -6,5 +6,5 @@ pub returns : goal.returns
 returns c =
     let same : c.args.before + 1 - 1 ≡ c.args.before = omega arith in
     let at = rw same at c.input.ensures in
-    IsStep-frame c.args.movie.now c.args.before c.args.state.now c.frame.new.state c.cart.result.now c.input.result c.args.keep c.frame.result c.cart.ensures at
-    (λ picture e. rw e at c.frame.ensures.ok) (λ error e. rw e at c.frame.ensures.err) c.frame.ensures.memory
+    IsStep-frame c.args.movie.now c.args.before c.args.state.now c.frame.new.state c.cart.result.now c.input.result c.args.keep c.cart.ensures at
+    c.frame.result (λ picture e. rw e at c.frame.ensures.ok) (λ error e. rw e at c.frame.ensures.err) c.frame.ensures.memory

@@ -3,5 +3,5 @@ use Rattle.replay_segments.proofs.run_states.left_state.Goals as goal
 
 pub resume-state-requires : goal.resume-state-requires
 resume-state-requires c =
-    (IsResumable-fault c.args.movie.now c.args.frame c.checkpoints_before-next.result c.args.kind c.checkpoints_before-next.ensures.lawful c.requires
-    c.checkpoints_before-next.ensures.within c.checkpoints_before-next.ensures.before).2
+    IsResumable-fault c.args.movie.now c.args.frame c.checkpoints_before-next.result c.args.kind c.checkpoints_before-next.ensures.lawful c.requires
+    c.checkpoints_before-next.ensures.within c.checkpoints_before-next.ensures.before
