@@ -1,10 +1,10 @@
 pub mod CutMovies
 pub mod CutParts
-pub mod RunLines
-pub mod RunPictures
+pub mod RunFrames
 pub mod RunSteps
 pub mod StandingCheckpoints
 pub mod TraceSteps
 pub mod TracedFrames
+pub mod WrittenFrames
 pub mod WrittenLines
 pub mod WrittenPictures

@@ -18,10 +18,10 @@ use Rattle.vcs_engine.specs.declared.status.Status.{Status}
 use Rattle.vcs_engine.specs.declared.status.Status.TheVariants as statuses
 use Rattle.vcs_engine.specs.Lines.{line_bytes}
 use Rattle.vcs_engine.specs.declared.run_error.RunError.TheVariants as runs
-use Rattle.view_engine.specs.Private.Stops.{of_drawing}
+use Rattle.view_engine.specs.Private.Stops.{of_writing}
 use Rattle.view_engine.specs.Stretches.{FaultsWithin}
-use Rattle.view_engine.specs.declared.drawing.DrawError.{DrawError}
-use Rattle.view_engine.specs.declared.drawing.DrawError.TheVariants as draws
+use Rattle.view_engine.specs.declared.stop.WriteError.{WriteError}
+use Rattle.view_engine.specs.declared.stop.WriteError.TheVariants as writes
 use Rattle.view_engine.specs.Traces.{BeginsIn, TracesOf, instructions, last_line, status_of}
 use Rattle.vcs_engine.specs.declared.line.Line.TheVariants as lines
 use Rattle.view_engine.proofs.TraceSteps.{lines_begin, stops_later}
@@ -103,6 +103,6 @@ module _ (m : MovieData) (frame earlier : ℕ) (kind : FaultKind) (there : frame
   pub earlier_part : AppendsPrefix a b (line_bytes (lines.Fault earlier kind)) → InPart m frame a b
   earlier_part last = (statuses.Fault, line_bytes (lines.Fault earlier kind), faulty_before, last)
 
-pub only_write_fault : (e : DrawError) → of_drawing e ≡ runs.WriteFault → e ≡ draws.WriteFault
-only_write_fault draws.NoMemory is = absurd (cc)
-only_write_fault draws.WriteFault is = refl
+pub only_write_fault : (e : WriteError) → of_writing e ≡ runs.WriteFault → e ≡ writes.WriteFault
+only_write_fault writes.NoMemory is = absurd (cc)
+only_write_fault writes.WriteFault is = refl

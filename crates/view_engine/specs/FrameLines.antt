@@ -1,6 +1,6 @@
 -- The lines about the frames of a movie's run, one for each, and the status. This
 -- project's own.
-use Rattle.std.specs.Prelude.{◌≡◌, ◌⊎◌, ◌≤◌, ℕ, zero, suc, ◌+◌, ◌-◌, ◌==◌, if◌then◌else◌, List, []}
+use Rattle.std.specs.Prelude.{◌≡◌, ◌⊎◌, ◌≤◌, ℕ, ◌+◌, ◌-◌, ◌==◌, if◌then◌else◌, List, []}
 use Rattle.std.specs.Prelude.{◌∷◌, ◌++◌, length, codes, slice_get, slice_index, Option, Some, None}
 use Rattle.std.specs.Prelude.{Result, Ok, Err}
 use Rattle.std.specs.Fmt.{decimal}
@@ -27,7 +27,7 @@ use Rattle.replay_plan.specs.declared.watches.Details.{Details}
 use Rattle.vcs_engine.specs.declared.status.Status.{Status}
 use Rattle.vcs_engine.specs.declared.status.Status.TheVariants as statuses
 use Rattle.vcs_engine.specs.Lines.{frame_text, line_bytes}
-use Rattle.view_engine.specs.Stretches.{frames_asked, last_asked, Ends, FaultsWithin}
+use Rattle.view_engine.specs.Stretches.{frames_asked, from_frames, last_asked, Ends, FaultsWithin}
 use Rattle.vcs_engine.specs.declared.line.Line.TheVariants as lines
 
 -- ---- one frame
@@ -79,14 +79,13 @@ frame_line m details k = played_line m details (k + 1) (run m m.start 0 k) (slic
 
 -- ---- several frames
 
--- The lines of the `len` frames of the run that follow frame `from`, in order, up to its fault.
-abbrev pub lines_after : MovieData → Details → ℕ → ℕ → List ℕ
-lines_after m details from zero = []
-lines_after m details from (suc k) = lines_after m details from k ++ frame_line m details (from + k)
+-- The lines of the first so many of the frames that are asked for, in order, up to a fault.
+abbrev pub first_lines : MovieData → Details → ℕ → ℕ → List ℕ
+first_lines m details first k = from_frames (frame_line m details) (first - 1) k
 
--- Those of the frames that are asked for.
+-- All of them.
 abbrev pub lines_asked : MovieData → Details → ℕ → ℕ → List ℕ
-lines_asked m details first count = lines_after m details (first - 1) (frames_asked m first count)
+lines_asked m details first count = first_lines m details first (frames_asked m first count)
 
 -- What is written of a movie: these lines, and after them nothing, if each frame up to the last one
 -- that is asked for ends, or the line of the fault. Frames after that one are not looked at.
@@ -104,5 +103,5 @@ Describes (Err error) details first count status text = (status ≡ statuses.Ref
 -- A writer has got the lines of the first so many of the frames that are asked for, each whole.
 abbrev pub AppendsLines : Result MovieData MovieError → Details → ℕ → ℕ → Option (List ℕ) → Option (List ℕ) → Type 0
 AppendsLines (Ok m) details first count old new =
-    (k : ℕ) × (k ≤ frames_asked m first count) × Appends old new (lines_after m details (first - 1) k)
+    (k : ℕ) × (k ≤ frames_asked m first count) × Appends old new (first_lines m details first k)
 AppendsLines (Err error) details first count old new = Keeps old new

@@ -30,7 +30,11 @@ Ends m frames = (state : StateFields) × (run m m.start 0 frames ≡ Some state)
 abbrev pub FaultsWithin : MovieData → ℕ → ℕ → FaultKind → Type 0
 FaultsWithin m frames frame kind = (k : ℕ) × (k < frames) × (frame ≡ k + 1) × FaultsAt m m.start 0 k kind
 
--- The pictures of the `len` frames of the run that follow frame `from`, in order, up to its fault.
+-- What comes of the `len` frames that follow frame `from`, in order, if this comes of frame k + 1.
+abbrev pub from_frames : {X : Type 0} → (ℕ → List X) → ℕ → ℕ → List X
+from_frames what from zero = []
+from_frames what from (suc k) = from_frames what from k ++ what (from + k)
+
+-- Their pictures, up to a fault.
 abbrev pub pictures_after : MovieData → ℕ → ℕ → List Rows
-pictures_after m from zero = []
-pictures_after m from (suc k) = pictures_after m from k ++ picture_after m (from + k) (run m m.start 0 (from + k))
+pictures_after m from len = from_frames (λ k. picture_after m k (run m m.start 0 k)) from len

@@ -1,5 +1,5 @@
 //! From the bytes of a movie to a line for each of some of its frames.
-ghost use Rattle.std.specs.Prelude.{◌≡◌, ◌≢◌, ◌≤◌, ◌<◌, ◌+◌, ◌^◌, ◌⊎◌, List, ℕ, length, Ok, Some, IfOk};
+ghost use Rattle.std.specs.Prelude.{◌≡◌, ◌≢◌, ◌≤◌, ◌<◌, ◌+◌, ◌-◌, ◌^◌, ◌⊎◌, List, ℕ, length, Ok, Some, IfOk};
 ghost use Rattle.std.specs.Prelude.{IfErr, OnOk, OnErr};
 ghost use Rattle.std.specs.Io.KnownBytes.{Appends, Keeps};
 ghost use Rattle.std.specs.NonZero.{non_zero_u32_get};
@@ -7,14 +7,15 @@ ghost use Rattle.movie_file.specs.Reading.{movie_at};
 ghost use Rattle.movie_file.specs.Run.{run};
 ghost use Rattle.picture_file.specs.Prefixes.{AppendsPrefix};
 ghost use Rattle.vcs_engine.specs.Streams.{ReadsAll, IsTooLong};
-ghost use Rattle.view_engine.specs.FrameLines.{AppendsLines, Describes, DescribesOf, lines_after};
+ghost use Rattle.view_engine.specs.FrameLines.{AppendsLines, Describes, DescribesOf};
+ghost use Rattle.view_engine.specs.FrameLines.{frame_line, lines_asked};
 ghost use Rattle.vcs_engine.specs.Lines.{line_bytes};
-ghost use Rattle.view_engine.specs.Private.Describing.{StopsTelling};
-ghost use Rattle.view_engine.specs.Stretches.{Ends};
+ghost use Rattle.view_engine.specs.Private.Stops.{StopsWriting};
+ghost use Rattle.view_engine.specs.Stretches.{Ends, frames_asked, from_frames, last_asked};
 
-use crate::drawing::{DrawError, Stop};
 use crate::frame_line::{checkpoints_before, played_line};
 use crate::last_line::write_last;
+use crate::stop::{Stop, WriteError};
 use crate::stretch::{frames_asked, state_after};
 use movie_file::{Movie, MovieError, read_movie};
 use picture_file::write_bytes;
@@ -40,8 +41,10 @@ fn write_frames<L: Write>(
     requires fits { from + frames < 2 ^ 32 }
     requires ran { run movie.now movie.now.start 0 from ≡ Some start }
     ensures ends { OnOk result (Ends movie.now (from + frames)) }
-    ensures ok { OnOk result (Appends (L.contents lines.old) (L.contents lines.new) (lines_after movie.now details.now from frames)) }
-    ensures err { IfErr result (StopsTelling movie.now details.now from frames (L.contents lines.old) (L.contents lines.new)) }
+    ensures ok { OnOk result (Appends (L.contents lines.old) (L.contents lines.new)
+        (from_frames (frame_line movie.now details.now) from frames)) }
+    ensures err { IfErr result (StopsWriting movie.now (frame_line movie.now details.now) (from + frames) from frames
+        (L.contents lines.old) (L.contents lines.new)) }
 {
     let mut state = start;
     let mut next = 0;
@@ -56,28 +59,29 @@ fn write_frames<L: Write>(
     Ok(())
 }
 
-/// Runs a movie up to the last of the frames that follow frame `from`, and writes their lines.
+/// Runs a movie up to the last of the frames that are asked for, and writes their lines.
 fn write_asked<L: Write>(
     alloc: Global,
     movie: &Movie,
     details: &Details,
-    from: u32,
-    frames: u32,
+    first: NonZeroU32,
+    count: u32,
     lines: &mut L,
 ) -> Result<(), Stop>
-    requires within { from + frames ≤ length movie.now.inputs }
-    requires fits { from + frames < 2 ^ 32 }
-    ensures ends { OnOk result (Ends movie.now (from + frames)) }
-    ensures ok { OnOk result (Appends (L.contents lines.old) (L.contents lines.new) (lines_after movie.now details.now from frames)) }
-    ensures err { IfErr result (StopsTelling movie.now details.now from frames (L.contents lines.old) (L.contents lines.new)) }
+    ensures ends { OnOk result (Ends movie.now (last_asked movie.now (non_zero_u32_get first) count)) }
+    ensures ok { OnOk result (Appends (L.contents lines.old) (L.contents lines.new)
+        (lines_asked movie.now details.now (non_zero_u32_get first) count)) }
+    ensures err { IfErr result (StopsWriting movie.now (frame_line movie.now details.now)
+        (last_asked movie.now (non_zero_u32_get first) count) (non_zero_u32_get first - 1)
+        (frames_asked movie.now (non_zero_u32_get first) count) (L.contents lines.old) (L.contents lines.new)) }
 {
-    match state_after(movie, from) {
-        Ok(start) => write_frames(alloc, movie, details, start, from, frames, lines),
-        Err(fault) => Err(Stop::Fault {
-            frame: fault.frame,
-            kind: fault.kind,
-        }),
+    let frames = frames_asked(movie, first, count);
+    if frames == 0 {
+        return Ok(());
     }
+    let from = first.get() - 1;
+    let start = state_after(movie, from)?;
+    write_frames(alloc, movie, details, start, from, frames, lines)
 }
 
 /// Writes the lines of a movie that are asked for, and that of a fault.
@@ -88,27 +92,23 @@ fn describe<L: Write>(
     first: NonZeroU32,
     count: u32,
     lines: &mut L,
-) -> Result<Status, DrawError>
+) -> Result<Status, WriteError>
     ensures ok { IfOk result (λ status. (text : List ℕ) × DescribesOf movie.now details.now (non_zero_u32_get first) count status text
         × Appends (L.contents lines.old) (L.contents lines.new) text) }
-    ensures memory { result ≡ Err DrawError.NoMemory →
+    ensures memory { result ≡ Err WriteError.NoMemory →
         AppendsLines (Ok movie.now) details.now (non_zero_u32_get first) count (L.contents lines.old) (L.contents lines.new) }
-    ensures fault { result ≡ Err DrawError.WriteFault → (status : Status) × (text : List ℕ)
+    ensures fault { result ≡ Err WriteError.WriteFault → (status : Status) × (text : List ℕ)
         × DescribesOf movie.now details.now (non_zero_u32_get first) count status text
         × AppendsPrefix (L.contents lines.old) (L.contents lines.new) text }
 {
-    let frames = frames_asked(movie, first, count);
-    if frames == 0 {
-        return Ok(Status::Done);
-    }
-    match write_asked(alloc, movie, details, first.get() - 1, frames, lines) {
+    match write_asked(alloc, movie, details, first, count, lines) {
         Ok(()) => Ok(Status::Done),
         Err(Stop::Fault { frame, kind }) => {
             write_last(alloc, Line::Fault { frame, kind }, lines)?;
             Ok(Status::Fault)
         }
-        Err(Stop::NoMemory) => Err(DrawError::NoMemory),
-        Err(Stop::WriteFault) => Err(DrawError::WriteFault),
+        Err(Stop::NoMemory) => Err(WriteError::NoMemory),
+        Err(Stop::WriteFault) => Err(WriteError::WriteFault),
     }
 }
 
@@ -120,18 +120,18 @@ fn describe_bytes<L: Write>(
     first: NonZeroU32,
     count: u32,
     lines: &mut L,
-) -> Result<Status, DrawError>
+) -> Result<Status, WriteError>
     ensures ok { IfOk result (λ status. (text : List ℕ) × Describes (movie_at bytes.now) details.now (non_zero_u32_get first) count status text
         × Appends (L.contents lines.old) (L.contents lines.new) text) }
-    ensures memory { result ≡ Err DrawError.NoMemory → Keeps (L.contents lines.old) (L.contents lines.new)
+    ensures memory { result ≡ Err WriteError.NoMemory → Keeps (L.contents lines.old) (L.contents lines.new)
         ⊎ AppendsLines (movie_at bytes.now) details.now (non_zero_u32_get first) count (L.contents lines.old) (L.contents lines.new) }
-    ensures fault { result ≡ Err DrawError.WriteFault → (status : Status) × (text : List ℕ)
+    ensures fault { result ≡ Err WriteError.WriteFault → (status : Status) × (text : List ℕ)
         × Describes (movie_at bytes.now) details.now (non_zero_u32_get first) count status text
         × AppendsPrefix (L.contents lines.old) (L.contents lines.new) text }
 {
     match read_movie(alloc, bytes) {
         Ok(movie) => describe(alloc, &movie, details, first, count, lines),
-        Err(MovieError::NoMemory) => Err(DrawError::NoMemory),
+        Err(MovieError::NoMemory) => Err(WriteError::NoMemory),
         Err(error) => {
             write_last(alloc, Line::Refused(error), lines)?;
             Ok(Status::Refused)

@@ -12,10 +12,11 @@ ghost use Rattle.replay_segments.specs.KeptPictures.{picture_after};
 ghost use Rattle.vcs_engine.specs.Answers.{AnswerData};
 ghost use Rattle.vcs_engine.specs.Streams.{ReadsAll, WritesPart, IsTooLong};
 ghost use Rattle.vcs_engine.specs.Lines.{line_bytes, status_of};
-ghost use Rattle.view_engine.specs.Private.Stops.{PicturesFail, StopsDrawing};
+ghost use Rattle.view_engine.specs.Private.Stops.{PicturesFail, StopsWriting, picture_of_frame};
 ghost use Rattle.view_engine.specs.Drawings.{AppendsSome, Draws, DrawsOf};
-ghost use Rattle.view_engine.specs.Stretches.{Ends, pictures_after};
+ghost use Rattle.view_engine.specs.Stretches.{Ends, frames_asked, from_frames, last_asked};
 
+use crate::stop::{Stop, WriteError};
 use crate::stretch::{frames_asked, state_after};
 use movie_file::{Movie, MovieError, read_movie};
 use picture_file::{WriteFault, ppm, write_bytes};
@@ -23,60 +24,7 @@ use std::alloc::Global;
 use std::io::{Read, Write};
 use std::num::NonZeroU32;
 use vcs_engine::{Line, RunError, Status, read_all};
-use vcs_machine::{FaultKind, FrameError, Picture, State, frame};
-
-/// Why no more pictures are written.
-#[derive(Clone, Copy)]
-pub(crate) enum Stop {
-    /// This frame of the movie, counted from 1, faults.
-    Fault { frame: u32, kind: FaultKind },
-    NoMemory,
-    WriteFault,
-}
-
-/// Why the pictures of a movie are not all written.
-#[derive(Clone, Copy)]
-pub(crate) enum DrawError {
-    NoMemory,
-    WriteFault,
-}
-
-impl Stop {
-    ghost use Rattle.view_engine.specs.Private.Stops.{stop_of};
-
-    /// Why there is no picture of this frame, counted from 1.
-    pub(crate) fn of_frame(frame: u32, error: FrameError) -> Stop
-        ensures { result ≡ stop_of frame error }
-    {
-        match error {
-            FrameError::Fault(kind) => Stop::Fault { frame, kind },
-            FrameError::NoMemory => Stop::NoMemory,
-        }
-    }
-}
-
-impl From<WriteFault> for Stop {
-    ghost use Rattle.view_engine.specs.declared.drawing.Stop.TheVariants.{WriteFault};
-
-    ghost from_gives = { λ _ stop. stop ≡ WriteFault };
-
-    fn from(_fault: WriteFault) -> Stop {
-        Stop::WriteFault
-    }
-}
-
-impl From<DrawError> for RunError {
-    ghost use Rattle.view_engine.specs.Private.Stops.{of_drawing};
-
-    ghost from_gives = { λ error e. e ≡ of_drawing error };
-
-    fn from(error: DrawError) -> RunError {
-        match error {
-            DrawError::NoMemory => RunError::NoMemory,
-            DrawError::WriteFault => RunError::WriteFault,
-        }
-    }
-}
+use vcs_machine::{FrameError, Picture, State, frame};
 
 /// Plays frame `before` + 1 of the run, with its picture.
 fn picture_of(
@@ -113,8 +61,10 @@ fn write_frames<P: Write>(
     requires fits { from + frames < 2 ^ 32 }
     requires ran { run movie.now movie.now.start 0 from ≡ Some start }
     ensures ends { OnOk result (Ends movie.now (from + frames)) }
-    ensures ok { OnOk result (Appends (P.contents pictures.old) (P.contents pictures.new) (pictures_bytes (pictures_after movie.now from frames))) }
-    ensures err { IfErr result (StopsDrawing movie.now from frames (P.contents pictures.old) (P.contents pictures.new)) }
+    ensures ok { OnOk result (Appends (P.contents pictures.old) (P.contents pictures.new)
+        (from_frames (picture_of_frame movie.now) from frames)) }
+    ensures err { IfErr result (StopsWriting movie.now (picture_of_frame movie.now) (from + frames) from frames
+        (P.contents pictures.old) (P.contents pictures.new)) }
 {
     let mut state = start;
     for k in 0..frames {
@@ -127,27 +77,31 @@ fn write_frames<P: Write>(
     Ok(())
 }
 
-/// Runs a movie up to the last of the frames that follow frame `from`, and writes their pictures.
+/// Runs a movie up to the last of the frames that are asked for, and writes their pictures. The
+/// answer is how many they are.
 fn write_asked<P: Write>(
     alloc: Global,
     movie: &Movie,
-    from: u32,
-    frames: u32,
+    first: NonZeroU32,
+    count: u32,
     pictures: &mut P,
-) -> Result<(), Stop>
-    requires within { from + frames ≤ length movie.now.inputs }
-    requires fits { from + frames < 2 ^ 32 }
-    ensures ends { OnOk result (Ends movie.now (from + frames)) }
-    ensures ok { OnOk result (Appends (P.contents pictures.old) (P.contents pictures.new) (pictures_bytes (pictures_after movie.now from frames))) }
-    ensures err { IfErr result (StopsDrawing movie.now from frames (P.contents pictures.old) (P.contents pictures.new)) }
+) -> Result<u32, Stop>
+    ensures frames { IfOk result (λ frames. frames ≡ frames_asked movie.now (non_zero_u32_get first) count) }
+    ensures ends { OnOk result (Ends movie.now (last_asked movie.now (non_zero_u32_get first) count)) }
+    ensures ok { OnOk result (Appends (P.contents pictures.old) (P.contents pictures.new)
+        (from_frames (picture_of_frame movie.now) (non_zero_u32_get first - 1) (frames_asked movie.now (non_zero_u32_get first) count))) }
+    ensures err { IfErr result (StopsWriting movie.now (picture_of_frame movie.now)
+        (last_asked movie.now (non_zero_u32_get first) count) (non_zero_u32_get first - 1)
+        (frames_asked movie.now (non_zero_u32_get first) count) (P.contents pictures.old) (P.contents pictures.new)) }
 {
-    match state_after(movie, from) {
-        Ok(start) => write_frames(alloc, movie, start, from, frames, pictures),
-        Err(fault) => Err(Stop::Fault {
-            frame: fault.frame,
-            kind: fault.kind,
-        }),
+    let frames = frames_asked(movie, first, count);
+    if frames == 0 {
+        return Ok(frames);
     }
+    let from = first.get() - 1;
+    let start = state_after(movie, from)?;
+    write_frames(alloc, movie, start, from, frames, pictures)?;
+    Ok(frames)
 }
 
 /// Writes the pictures of a movie that are asked for, and answers the last line.
@@ -157,23 +111,19 @@ fn draw<P: Write>(
     first: NonZeroU32,
     count: u32,
     pictures: &mut P,
-) -> Result<Line, DrawError>
+) -> Result<Line, WriteError>
     ensures ok { IfOk result (λ told. (answer : AnswerData) × DrawsOf movie.now (non_zero_u32_get first) count answer × (status_of told ≡ answer.status)
         × (line_bytes told ≡ answer.line) × Appends (P.contents pictures.old) (P.contents pictures.new) (pictures_bytes answer.pictures)) }
-    ensures memory { result ≡ Err DrawError.NoMemory →
+    ensures memory { result ≡ Err WriteError.NoMemory →
         AppendsSome (Ok movie.now) (non_zero_u32_get first) count (P.contents pictures.old) (P.contents pictures.new) }
-    ensures fault { result ≡ Err DrawError.WriteFault → (answer : AnswerData) × DrawsOf movie.now (non_zero_u32_get first) count answer
+    ensures fault { result ≡ Err WriteError.WriteFault → (answer : AnswerData) × DrawsOf movie.now (non_zero_u32_get first) count answer
         × AppendsPrefix (P.contents pictures.old) (P.contents pictures.new) (pictures_bytes answer.pictures) }
 {
-    let frames = frames_asked(movie, first, count);
-    if frames == 0 {
-        return Ok(Line::Pictures { frames });
-    }
-    match write_asked(alloc, movie, first.get() - 1, frames, pictures) {
-        Ok(()) => Ok(Line::Pictures { frames }),
+    match write_asked(alloc, movie, first, count, pictures) {
+        Ok(frames) => Ok(Line::Pictures { frames }),
         Err(Stop::Fault { frame, kind }) => Ok(Line::Fault { frame, kind }),
-        Err(Stop::NoMemory) => Err(DrawError::NoMemory),
-        Err(Stop::WriteFault) => Err(DrawError::WriteFault),
+        Err(Stop::NoMemory) => Err(WriteError::NoMemory),
+        Err(Stop::WriteFault) => Err(WriteError::WriteFault),
     }
 }
 
@@ -184,18 +134,18 @@ fn draw_bytes<P: Write>(
     first: NonZeroU32,
     count: u32,
     pictures: &mut P,
-) -> Result<Line, DrawError>
+) -> Result<Line, WriteError>
     ensures ok { IfOk result (λ told. (answer : AnswerData) × Draws (movie_at bytes.now) (non_zero_u32_get first) count answer
         × (status_of told ≡ answer.status)
         × (line_bytes told ≡ answer.line) × Appends (P.contents pictures.old) (P.contents pictures.new) (pictures_bytes answer.pictures)) }
-    ensures memory { result ≡ Err DrawError.NoMemory → Keeps (P.contents pictures.old) (P.contents pictures.new)
+    ensures memory { result ≡ Err WriteError.NoMemory → Keeps (P.contents pictures.old) (P.contents pictures.new)
         ⊎ AppendsSome (movie_at bytes.now) (non_zero_u32_get first) count (P.contents pictures.old) (P.contents pictures.new) }
-    ensures fault { result ≡ Err DrawError.WriteFault → (answer : AnswerData) × Draws (movie_at bytes.now) (non_zero_u32_get first) count answer
+    ensures fault { result ≡ Err WriteError.WriteFault → (answer : AnswerData) × Draws (movie_at bytes.now) (non_zero_u32_get first) count answer
         × AppendsPrefix (P.contents pictures.old) (P.contents pictures.new) (pictures_bytes answer.pictures) }
 {
     match read_movie(alloc, bytes) {
         Ok(movie) => draw(alloc, &movie, first, count, pictures),
-        Err(MovieError::NoMemory) => Err(DrawError::NoMemory),
+        Err(MovieError::NoMemory) => Err(WriteError::NoMemory),
         Err(error) => Ok(Line::Refused(error)),
     }
 }

@@ -10,6 +10,7 @@ mod drawing;
 mod frame_line;
 mod last_line;
 mod laws;
+mod stop;
 mod stretch;
 mod tracing;
 

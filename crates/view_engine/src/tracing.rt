@@ -13,8 +13,8 @@ ghost use Rattle.vcs_engine.specs.Lines.{line_bytes};
 ghost use Rattle.view_engine.specs.Private.Tracing.{stop_at};
 ghost use Rattle.view_engine.specs.Traces.{AppendsInstructions, Traces, TracesOf, lines_of};
 
-use crate::drawing::DrawError;
 use crate::last_line::write_last;
+use crate::stop::WriteError;
 use crate::stretch::state_after;
 use movie_file::{Movie, MovieError, read_movie};
 use picture_file::write_bytes;
@@ -31,17 +31,17 @@ fn write_instruction<L: Write>(
     executed: &Executed,
     has_banks: bool,
     lines: &mut L,
-) -> Result<(), DrawError>
+) -> Result<(), WriteError>
     ensures ok { OnOk result (Appends (L.contents lines.old) (L.contents lines.new) (trace_line has_banks executed.now)) }
-    ensures memory { result ≡ Err DrawError.NoMemory → Keeps (L.contents lines.old) (L.contents lines.new) }
-    ensures fault { result ≡ Err DrawError.WriteFault → AppendsPrefix (L.contents lines.old) (L.contents lines.new) (trace_line has_banks executed.now) }
+    ensures memory { result ≡ Err WriteError.NoMemory → Keeps (L.contents lines.old) (L.contents lines.new) }
+    ensures fault { result ≡ Err WriteError.WriteFault → AppendsPrefix (L.contents lines.old) (L.contents lines.new) (trace_line has_banks executed.now) }
 {
     let Ok(text) = trace_line(alloc, executed, has_banks) else {
-        return Err(DrawError::NoMemory);
+        return Err(WriteError::NoMemory);
     };
     match write_bytes(text.as_bytes(), lines) {
         Ok(()) => Ok(()),
-        Err(_) => Err(DrawError::WriteFault),
+        Err(_) => Err(WriteError::WriteFault),
     }
 }
 
@@ -52,14 +52,14 @@ fn write_instructions<L: Write>(
     stepping: &mut Stepping<'_>,
     has_banks: bool,
     lines: &mut L,
-) -> Result<Option<FaultKind>, DrawError>
+) -> Result<Option<FaultKind>, WriteError>
     requires fresh { stepping.old.cycles ≡ 0 }
     requires unended { stepping.old.bus.ended ≡ false }
     ensures ok { IfOk result (λ fault. (count : ℕ) × StopsAfter undrawn_rules stepping.old count (stop_at fault stepping.new)
         × Appends (L.contents lines.old) (L.contents lines.new) (lines_of has_banks (begun undrawn_rules stepping.old count))) }
-    ensures memory { result ≡ Err DrawError.NoMemory → (count : ℕ) × (here : Machine Undrawn) × Reaches undrawn_rules stepping.old count here
+    ensures memory { result ≡ Err WriteError.NoMemory → (count : ℕ) × (here : Machine Undrawn) × Reaches undrawn_rules stepping.old count here
         × Appends (L.contents lines.old) (L.contents lines.new) (lines_of has_banks (begun undrawn_rules stepping.old count)) }
-    ensures fault { result ≡ Err DrawError.WriteFault → (count : ℕ) × (here : Machine Undrawn) × Reaches undrawn_rules stepping.old count here
+    ensures fault { result ≡ Err WriteError.WriteFault → (count : ℕ) × (here : Machine Undrawn) × Reaches undrawn_rules stepping.old count here
         × AppendsPrefix (L.contents lines.old) (L.contents lines.new) (lines_of has_banks (begun undrawn_rules stepping.old count)) }
 {
     while !stepping.is_over() {
@@ -82,14 +82,14 @@ fn trace_frame<L: Write>(
     frame: u32,
     state: &State,
     lines: &mut L,
-) -> Result<Status, DrawError>
+) -> Result<Status, WriteError>
     requires first { 0 < frame }
     requires last { frame ≤ length movie.now.inputs }
     requires ran { run movie.now movie.now.start 0 (frame - 1) ≡ Some state.now }
     ensures ok { IfOk result (λ status. (text : List ℕ) × TracesOf movie.now frame status text
         × Appends (L.contents lines.old) (L.contents lines.new) text) }
-    ensures memory { result ≡ Err DrawError.NoMemory → AppendsInstructions (Ok movie.now) frame (L.contents lines.old) (L.contents lines.new) }
-    ensures fault { result ≡ Err DrawError.WriteFault → (status : Status) × (text : List ℕ) × TracesOf movie.now frame status text
+    ensures memory { result ≡ Err WriteError.NoMemory → AppendsInstructions (Ok movie.now) frame (L.contents lines.old) (L.contents lines.new) }
+    ensures fault { result ≡ Err WriteError.WriteFault → (status : Status) × (text : List ℕ) × TracesOf movie.now frame status text
         × AppendsPrefix (L.contents lines.old) (L.contents lines.new) text }
 {
     let cart = movie.cart();
@@ -117,12 +117,12 @@ fn trace<L: Write>(
     movie: &Movie,
     frame: NonZeroU32,
     lines: &mut L,
-) -> Result<Status, DrawError>
+) -> Result<Status, WriteError>
     ensures ok { IfOk result (λ status. (text : List ℕ) × TracesOf movie.now (non_zero_u32_get frame) status text
         × Appends (L.contents lines.old) (L.contents lines.new) text) }
-    ensures memory { result ≡ Err DrawError.NoMemory → Keeps (L.contents lines.old) (L.contents lines.new)
+    ensures memory { result ≡ Err WriteError.NoMemory → Keeps (L.contents lines.old) (L.contents lines.new)
         ⊎ AppendsInstructions (Ok movie.now) (non_zero_u32_get frame) (L.contents lines.old) (L.contents lines.new) }
-    ensures fault { result ≡ Err DrawError.WriteFault → (status : Status) × (text : List ℕ) × TracesOf movie.now (non_zero_u32_get frame) status text
+    ensures fault { result ≡ Err WriteError.WriteFault → (status : Status) × (text : List ℕ) × TracesOf movie.now (non_zero_u32_get frame) status text
         × AppendsPrefix (L.contents lines.old) (L.contents lines.new) text }
 {
     let frame = frame.get();
@@ -149,17 +149,17 @@ fn trace_bytes<L: Write>(
     bytes: &[u8],
     frame: NonZeroU32,
     lines: &mut L,
-) -> Result<Status, DrawError>
+) -> Result<Status, WriteError>
     ensures ok { IfOk result (λ status. (text : List ℕ) × Traces (movie_at bytes.now) (non_zero_u32_get frame) status text
         × Appends (L.contents lines.old) (L.contents lines.new) text) }
-    ensures memory { result ≡ Err DrawError.NoMemory → Keeps (L.contents lines.old) (L.contents lines.new)
+    ensures memory { result ≡ Err WriteError.NoMemory → Keeps (L.contents lines.old) (L.contents lines.new)
         ⊎ AppendsInstructions (movie_at bytes.now) (non_zero_u32_get frame) (L.contents lines.old) (L.contents lines.new) }
-    ensures fault { result ≡ Err DrawError.WriteFault → (status : Status) × (text : List ℕ) × Traces (movie_at bytes.now) (non_zero_u32_get frame) status text
+    ensures fault { result ≡ Err WriteError.WriteFault → (status : Status) × (text : List ℕ) × Traces (movie_at bytes.now) (non_zero_u32_get frame) status text
         × AppendsPrefix (L.contents lines.old) (L.contents lines.new) text }
 {
     match read_movie(alloc, bytes) {
         Ok(movie) => trace(alloc, &movie, frame, lines),
-        Err(MovieError::NoMemory) => Err(DrawError::NoMemory),
+        Err(MovieError::NoMemory) => Err(WriteError::NoMemory),
         Err(error) => {
             write_last(alloc, Line::Refused(error), lines)?;
             Ok(Status::Refused)

@@ -1,4 +1,4 @@
--- Why the pictures of a run end before the last one. This project's own.
+-- Why what is written of the frames of a run ends before the last one. This project's own.
 use Rattle.std.specs.Prelude.{ℕ, ◌+◌, ◌≤◌, List, Option}
 use Rattle.std.specs.Io.KnownBytes.{Appends}
 use Rattle.vcs_machine.specs.declared.fault.FrameError.{FrameError}
@@ -9,11 +9,13 @@ use Rattle.picture_file.specs.PictureBytes.{pictures_bytes}
 use Rattle.picture_file.specs.Prefixes.{AppendsPrefix}
 use Rattle.vcs_engine.specs.declared.run_error.RunError.{RunError}
 use Rattle.vcs_engine.specs.declared.run_error.RunError.TheVariants as runs
-use Rattle.view_engine.specs.Stretches.{FaultsWithin, pictures_after}
-use Rattle.view_engine.specs.declared.drawing.DrawError.{DrawError}
-use Rattle.view_engine.specs.declared.drawing.DrawError.TheVariants as draws
-use Rattle.view_engine.specs.declared.drawing.Stop.{Stop}
-use Rattle.view_engine.specs.declared.drawing.Stop.TheVariants.{Fault, NoMemory, WriteFault}
+use Rattle.replay_segments.specs.KeptPictures.{picture_after}
+use Rattle.movie_file.specs.Run.{run}
+use Rattle.view_engine.specs.Stretches.{from_frames, FaultsWithin}
+use Rattle.view_engine.specs.declared.stop.WriteError.{WriteError}
+use Rattle.view_engine.specs.declared.stop.WriteError.TheVariants as writes
+use Rattle.view_engine.specs.declared.stop.Stop.{Stop}
+use Rattle.view_engine.specs.declared.stop.Stop.TheVariants.{Fault, NoMemory, WriteFault}
 
 -- frame k + 1 has no picture
 abbrev pub PicturesFail : MovieData → ℕ → FrameError → Type 0
@@ -25,14 +27,18 @@ abbrev pub stop_of : ℕ → FrameError → Stop
 stop_of frame (frames.Fault kind) = Fault frame kind
 stop_of frame frames.NoMemory = NoMemory
 
--- why no more of the `len` pictures after frame `from` were written, and what a writer has got
-abbrev pub StopsDrawing : MovieData → ℕ → ℕ → Option (List ℕ) → Option (List ℕ) → Stop → Type 0
-StopsDrawing m from len old new (Fault frame kind) =
-    FaultsWithin m (from + len) frame kind × Appends old new (pictures_bytes (pictures_after m from len))
-StopsDrawing m from len old new NoMemory = (k : ℕ) × (k ≤ len) × Appends old new (pictures_bytes (pictures_after m from k))
-StopsDrawing m from len old new WriteFault = AppendsPrefix old new (pictures_bytes (pictures_after m from len))
+-- the bytes of the picture of frame k + 1
+abbrev pub picture_of_frame : MovieData → ℕ → List ℕ
+picture_of_frame m k = pictures_bytes (picture_after m k (run m m.start 0 k))
 
--- the error of a run for that of its pictures
-abbrev pub of_drawing : DrawError → RunError
-of_drawing draws.NoMemory = runs.NoMemory
-of_drawing draws.WriteFault = runs.WriteFault
+-- Why no more is written of the `len` frames that follow frame `from`, up to the last frame of a run,
+-- of each of which `text` is to be written; and what a writer has got.
+abbrev pub StopsWriting : MovieData → (ℕ → List ℕ) → ℕ → ℕ → ℕ → Option (List ℕ) → Option (List ℕ) → Stop → Type 0
+StopsWriting m text last from len old new (Fault frame kind) = FaultsWithin m last frame kind × Appends old new (from_frames text from len)
+StopsWriting m text last from len old new NoMemory = (k : ℕ) × (k ≤ len) × Appends old new (from_frames text from k)
+StopsWriting m text last from len old new WriteFault = AppendsPrefix old new (from_frames text from len)
+
+-- the error of a run for why not all is written
+abbrev pub of_writing : WriteError → RunError
+of_writing writes.NoMemory = runs.NoMemory
+of_writing writes.WriteFault = runs.WriteFault

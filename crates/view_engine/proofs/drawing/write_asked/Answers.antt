@@ -1,11 +1,35 @@
-use Rattle.std.proofs.Common.{◌+◌, arith}
-use Rattle.view_engine.proofs.RunSteps.{faults_sooner}
-use Rattle.view_engine.proofs.WrittenPictures.{none_written}
+use Rattle.std.proofs.Common.{◌≡◌, ◌-◌, ◌<◌, ap, refl, arith}
+use Rattle.std.specs.NonZero.{non_zero_u32_get}
+use Rattle.std.proofs.lemmas.Result.{err_from_is_err_and}
+use Rattle.view_engine.specs.Private.Stops.{picture_of_frame}
+use Rattle.view_engine.proofs.RunFrames.{no_picture}
+use Rattle.view_engine.proofs.WrittenFrames.{asked_before, asked_none, asked_stop}
 use Rattle.view_engine.proofs.drawing.write_asked.Goals as goal
 
-pub returns-in-Err-clause-err : goal.returns-in-Err-clause-err
-returns-in-Err-clause-err g c =
-    let fault = c.in-Err.fault in (
-      faults_sooner c.args.movie.now c.args.from (c.args.from + c.args.frames) fault.frame fault.kind (omega arith) c.in-Err.ensures.err,
-      none_written c.args.movie.now c.args.from c.args.frames fault.frame fault.kind (g.P.Write.contents c.args.pictures.now) c.in-Err.ensures.err,
-    )
+pub returns-then-frames-eq0-clause-ends : goal.returns-then-frames-eq0-clause-ends
+returns-then-frames-eq0-clause-ends g c =
+    asked_none c.args.movie.now (non_zero_u32_get c.args.first) c.args.count (non_zero_u32_get c.args.first - 1) c.frames_asked-frames.result
+    refl c.frames_asked-frames.ensures.value c.if-frames-eq0.true
+
+pub returns-in_err-start-clause-err : goal.returns-in_err-start-clause-err
+returns-in_err-start-clause-err g c =
+    let m = c.args.movie.now in
+    let first = non_zero_u32_get c.args.first in
+    let from_is : c.get-from.result - 1 ≡ first - 1 = ap (λ n. n - 1) c.get-from.ensures.value in
+    let some : 0 < c.frames_asked-frames.result = omega arith in
+    let p = err_from_is_err_and c.from_residual.result c.from_residual.ensures.1 in
+    rw (p.1, p.2)
+    (asked_before m first c.args.count (c.get-from.result - 1) c.frames_asked-frames.result from_is c.frames_asked-frames.ensures.value some
+    (picture_of_frame m) (no_picture m)
+    c.in_err-start.field-0.0.frame c.in_err-start.field-0.0.kind (g.P.Write.contents c.args.pictures.now) c.in_err-start.ensures.err)
+
+pub returns-in_err-write_frames-clause-err : goal.returns-in_err-write_frames-clause-err
+returns-in_err-write_frames-clause-err g c =
+    let m = c.args.movie.now in
+    let from_is : c.get-from.result - 1 ≡ non_zero_u32_get c.args.first - 1 = ap (λ n. n - 1) c.get-from.ensures.value in
+    let some : 0 < c.frames_asked-frames.result = omega arith in
+    let p = err_from_is_err_and c.from_residual-in_err-write_frames.result c.from_residual-in_err-write_frames.ensures.1 in
+    rw (p.1, p.2)
+    (asked_stop m (non_zero_u32_get c.args.first) c.args.count (c.get-from.result - 1) c.frames_asked-frames.result
+    from_is c.frames_asked-frames.ensures.value some (picture_of_frame m) (g.P.Write.contents c.args.pictures.now)
+    (g.P.Write.contents c.write_frames.new.pictures) c.in_err-write_frames.field-0.0 c.in_err-write_frames.ensures.err)

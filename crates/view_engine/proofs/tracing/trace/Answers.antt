@@ -1,6 +1,6 @@
 use Rattle.std.proofs.Common.{◌≤◌, ◌∙◌, Err, ap, sym, arith, length}
 use Rattle.std.proofs.lemmas.Result.{err_from_is_err_and}
-use Rattle.view_engine.specs.declared.drawing.DrawError.TheVariants.{WriteFault}
+use Rattle.view_engine.specs.declared.stop.WriteError.TheVariants.{WriteFault}
 use Rattle.view_engine.proofs.WrittenLines.{same_error}
 use Rattle.view_engine.proofs.TracedFrames.{earlier_part, earlier_whole}
 use Rattle.view_engine.proofs.tracing.trace.Goals as goal

@@ -1,7 +1,7 @@
 use Rattle.std.proofs.Common.{◌∙◌, ℕ, Err, ap, sym}
 use Rattle.std.proofs.lemmas.Result.{err_from_is_err_and}
 use Rattle.vcs_machine.specs.Pictures.{rows_of}
-use Rattle.view_engine.specs.declared.drawing.DrawError.TheVariants.{WriteFault}
+use Rattle.view_engine.specs.declared.stop.WriteError.TheVariants.{WriteFault}
 use Rattle.view_engine.proofs.WrittenLines.{same_error}
 use Rattle.view_engine.proofs.TracedFrames.{ended_part, ended_whole, faulted_part, faulted_whole, traced_part}
 use Rattle.view_engine.proofs.tracing.trace_frame.Goals as goal

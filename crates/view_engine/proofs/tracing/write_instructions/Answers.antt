@@ -6,7 +6,7 @@ use Rattle.trace_text.specs.TraceLines.{trace_line}
 use Rattle.vcs_machine.specs.Faults.{stop_with}
 use Rattle.vcs_machine.specs.Frame.{Faulted}
 use Rattle.vcs_machine.specs.Instructions.{ExecutedData}
-use Rattle.view_engine.specs.declared.drawing.DrawError.TheVariants.{NoMemory, WriteFault}
+use Rattle.view_engine.specs.declared.stop.WriteError.TheVariants.{NoMemory, WriteFault}
 use Rattle.view_engine.proofs.TraceSteps.{ended_here, faulted_here, halts_as, long_of, one_written, overlong_here}
 use Rattle.view_engine.proofs.TraceSteps.{part_written, short_of, some_written}
 use Rattle.view_engine.proofs.WrittenLines.{same_error}
