@@ -44,6 +44,7 @@ use Rattle.clap.specs.declared.parser.matches.ValueSource.{ValueSource}
 use Rattle.clap.specs.declared.parser.matches.ValueSource.TheVariants.{CommandLine, DefaultValue}
 use Rattle.clap.proofs.ValueTestLemmas.{accepts-Accepts}
 use Rattle.command_line.specs.Private.Numbers.{IsNumberIn}
+use Rattle.command_line.proofs.Lists.{Each, both, found}
 
 -- ---- lists of kinds
 
@@ -54,6 +55,18 @@ none_first (k ∷ ks) b h = h
 pub none_then : (a b : Kinds) → or_else a b ≡ [] → b ≡ []
 none_then [] b h = h
 none_then (k ∷ ks) b h = cc
+
+-- ---- the branches of an `if`
+
+pub by_cases : {X : Type 0} (P : X → Type 0) (b : Bool) (x y : X) → (b ≡ true → P x) → (b ≡ false → P y) → P (if b then x else y)
+by_cases P true x y first second = first refl
+by_cases P false x y first second = second refl
+
+-- The same where no mistake is found in the branch that is taken.
+either : {X : Type 0} (P : X → Type 0) (b : Bool) (f g : Kinds) (x y : X) → (if b then f else g) ≡ [] → (f ≡ [] → P x) → (g ≡ [] → P y)
+    → P (if b then x else y)
+either P true f g x y none first second = first none
+either P false f g x y none first second = second none
 
 -- ---- the number that a text writes
 
@@ -99,26 +112,14 @@ module _ (id : Text) (least most : ℕ) where
   IsOwn a = bytes_eq a.id id ≡ true → IsNumberRule a
 
   abbrev pub AreOwn : List Rule → Type 0
-  AreOwn [] = Unit {0}
-  AreOwn (a ∷ more) = IsOwn a × AreOwn more
+  AreOwn = Each IsOwn
 
   found_own : (p : Rule → Bool) (c : List Rule) (a : Rule) → AreOwn c → find p c ≡ Some a → IsOwn a
-  found_own p [] a own is = cc
-  found_own p (x ∷ more) a own is = go (p x) refl (found_own p more a own.1)
-    where
-      go : (b : Bool) → p x ≡ b → (find p more ≡ Some a → IsOwn a) → IsOwn a
-      go true e later =
-          let same : Some x ≡ Some a = rw e at is in
-          let it : x ≡ a = ap (λ (o : Option Rule). unwrap_or o x) same in
-          subst IsOwn it own.0
-      go false e later =
-          let rest : find p more ≡ Some a = rw e at is in
-          later rest
+  found_own p c a own is = (found IsOwn p c a own is).0
 
   -- Each text writes a number in the range.
   abbrev AreIn : List Text → Type 0
-  AreIn [] = Unit {0}
-  AreIn (v ∷ more) = IsNumberIn least most (Some (without_minus v)) × AreIn more
+  AreIn = Each (λ v. IsNumberIn least most (Some (without_minus v)))
 
   abbrev pub IsFilled : List Text → Reading → Type 0
   IsFilled values how = (0 < length values) × AreIn values × (how ≡ reading.WithoutMinus)
@@ -127,31 +128,19 @@ module _ (id : Text) (least most : ℕ) where
   IsGood r = IsFilled r.values r.reading
 
   abbrev pub AreGood : List Row → Type 0
-  AreGood [] = Unit {0}
-  AreGood (r ∷ rs) = (bytes_eq r.id id ≡ true → IsGood r) × AreGood rs
-
-  both_in : (xs ys : List Text) → AreIn xs → AreIn ys → AreIn (xs ++ ys)
-  both_in [] ys a b = b
-  both_in (x ∷ xs) ys a b = (a.0, both_in xs ys a.1 b)
+  AreGood = Each (λ r. bytes_eq r.id id ≡ true → IsGood r)
 
   longer : (xs ys : List Text) → 0 < length ys → 0 < length (xs ++ ys)
   longer [] ys h = h
   longer (x ∷ xs) ys h = omega arith
 
-  both_good : (xs ys : List Row) → AreGood xs → AreGood ys → AreGood (xs ++ ys)
-  both_good [] ys a b = b
-  both_good (x ∷ xs) ys a b = (a.0, both_good xs ys a.1 b)
-
   at_good : (name : Text) (change : Row → List Row) (missing rows : List Row)
       → ((r : Row) → bytes_eq r.id name ≡ true → (bytes_eq r.id id ≡ true → IsGood r) → AreGood (change r)) → AreGood missing
       → AreGood rows → AreGood (at_row name change missing rows)
   at_good name change missing [] each none good = none
-  at_good name change missing (r ∷ rs) each none good = go (bytes_eq r.id name) refl (at_good name change missing rs each none good.1)
-    where
-      go : (b : Bool) → bytes_eq r.id name ≡ b → AreGood (at_row name change missing rs)
-          → AreGood (if b then change r ++ rs else r ∷ at_row name change missing rs)
-      go true e later = both_good (change r) rs (each r e good.0) good.1
-      go false e later = (good.0, later)
+  at_good name change missing (r ∷ rs) each none good =
+      by_cases AreGood (bytes_eq r.id name) _ _ (λ e. both _ (change r) rs (each r e good.0) good.1)
+      (λ e. (good.0, at_good name change missing rs each none good.1))
 
   -- A row that answers to two names has both.
   same_name : (r : Row) (name : Text) → bytes_eq r.id name ≡ true → bytes_eq r.id id ≡ true → bytes_eq name id ≡ true
@@ -165,7 +154,7 @@ module _ (id : Text) (least most : ℕ) where
   values_good name how s values rows filled good = at_good name (more_values s values) _ rows
       (λ r is g. (
         λ own. let now = g own in let new = filled (same_name r name is own)
-            in (longer r.values values new.0, both_in r.values values now.1 new.1, now.2),
+            in (longer r.values values new.0, both _ r.values values now.1 new.1, now.2),
         tt,
       ))
       (filled, tt) good
@@ -178,20 +167,24 @@ module _ (id : Text) (least most : ℕ) where
 
   -- ---- one use of an argument
 
+  other_values : (name : Text) (how : Reading) (values : List Text) (rows : List Row) → bytes_eq name id ≡ false
+      → AreGood rows → AreGood (with_values name how CommandLine values rows)
+  other_values name how values rows other good =
+      values_good name how CommandLine values rows (λ own. absurd (true≢false (sym own ∙ other))) good
+
+  other_anew : (name : Text) (how : Reading) (values : List Text) (rows : List Row) → bytes_eq name id ≡ false
+      → AreGood rows → AreGood (with_values name how CommandLine values (without name rows))
+  other_anew name how values rows other good = other_values name how values (without name rows) other (without_good name rows good)
+
   other_used : (x : ArgAction) (name : Text) (how : Reading) (values : List Text) (rows : List Row) → bytes_eq name id ≡ false
       → AreGood rows → AreGood (used_as x name how values rows)
-  other_used action.Set name how values rows other good =
-      values_good name how CommandLine values (without name rows) (λ own. absurd (true≢false (sym own ∙ other))) (without_good name rows good)
-  other_used action.SetTrue name how values rows other good =
-      values_good name how CommandLine values (without name rows) (λ own. absurd (true≢false (sym own ∙ other))) (without_good name rows good)
-  other_used action.SetFalse name how values rows other good =
-      values_good name how CommandLine values (without name rows) (λ own. absurd (true≢false (sym own ∙ other))) (without_good name rows good)
-  other_used action.Append name how values rows other good =
-      values_good name how CommandLine values rows (λ own. absurd (true≢false (sym own ∙ other))) good
+  other_used action.Set name how values rows other good = other_anew name how values rows other good
+  other_used action.SetTrue name how values rows other good = other_anew name how values rows other good
+  other_used action.SetFalse name how values rows other good = other_anew name how values rows other good
+  other_used action.Append name how values rows other good = other_values name how values rows other good
   other_used action.Count name how [] rows other good =
       count_good name how CommandLine (min (count_of name rows + 1) 255) (without name rows) other (without_good name rows good)
-  other_used action.Count name how (v ∷ vs) rows other good =
-      values_good name how CommandLine (v ∷ vs) (without name rows) (λ own. absurd (true≢false (sym own ∙ other))) (without_good name rows good)
+  other_used action.Count name how (v ∷ vs) rows other good = other_anew name how (v ∷ vs) rows other good
   other_used action.Help name how values rows other good = good
   other_used action.HelpShort name how values rows other good = good
   other_used action.HelpLong name how values rows other good = good
@@ -244,166 +237,151 @@ module _ (id : Text) (least most : ℕ) where
 
   -- ---- the walk
 
-  settle_good : (c : List Rule) (again : Bool) (pending : Option (Text × List Text)) (rows : List Row) → AreOwn c
-      → option_map_or (λ p. option_map_or (λ a. use_fault again a p.1 rows) (arg_by_id c p.0) []) pending [] ≡ []
-      → AreGood rows → AreGood (settled_rows c pending rows)
-  settle_good c again None rows own none good = good
-  settle_good c again (Some p) rows own none good = go (arg_by_id c p.0) refl none
-    where
-      go : (o : Option Rule) → arg_by_id c p.0 ≡ o → option_map_or (λ a. use_fault again a p.1 rows) o [] ≡ [] → AreGood (used_by_id o p.1 rows)
-      go None e n = good
-      go (Some a) e n = used_good a again p.1 rows (found_own _ c a own e) n good
+  -- Where no mistake is found, good rows stay good.
+  abbrev pub Keeps : Kinds → Held → Held → Type 0
+  Keeps fault old new = fault ≡ [] → AreGood old.rows → AreGood new.rows
 
-  pub settled_good : (c : List Rule) (again : Bool) (h : Held) → AreOwn c → settle_fault c again h ≡ [] → AreGood h.rows → AreGood (settled c h).rows
-  settled_good c again h own none good = settle_good c again h.pending h.rows own none good
+  module _ (c : List Rule) (again : Bool) (own : AreOwn c) where
+    pub settled_good : (h : Held) → Keeps (settle_fault c again h) h (settled c h)
+    settled_good h none good = go h.pending none
+      where
+        named : (p : Text × List Text) (o : Option Rule) → arg_by_id c p.0 ≡ o → option_map_or (λ a. use_fault again a p.1 h.rows) o [] ≡ []
+            → AreGood (used_by_id o p.1 h.rows)
+        named p None e n = good
+        named p (Some a) e n = used_good a again p.1 h.rows (found_own _ c a own e) n good
 
-  reacted_good : (c : List Rule) (again : Bool) (a : Rule) (values : List Text) (h : Held) → AreOwn c → IsOwn a → react_fault c again a values h ≡ []
-      → AreGood h.rows → AreGood (reacted c a values h).rows
-  reacted_good c again a values h own mine none good =
-      used_good a again values (settled c h).rows mine (none_then _ _ none) (settled_good c again h own (none_first _ _ none) good)
+        go : (pending : Option (Text × List Text))
+            → option_map_or (λ p. option_map_or (λ a. use_fault again a p.1 h.rows) (arg_by_id c p.0) []) pending [] ≡ []
+            → AreGood (settled_rows c pending h.rows)
+        go None n = good
+        go (Some p) n = named p (arg_by_id c p.0) refl n
 
-  option_good : (c : List Rule) (again : Bool) (a : Rule) (v : Option Text) (h : Held) → AreOwn c → IsOwn a → option_fault c again a v h ≡ []
-      → AreGood h.rows → AreGood (option_met c a v h).0.rows
-  option_good c again a (Some v) h own mine none good = reacted_good c again a (v ∷ []) h own mine none good
-  option_good c again a None h own mine none good = settled_good c again h own none good
+    reacted_good : (a : Rule) (values : List Text) (h : Held) → IsOwn a → Keeps (react_fault c again a values h) h (reacted c a values h)
+    reacted_good a values h mine none good =
+        used_good a again values (settled c h).rows mine (none_then _ _ none) (settled_good h (none_first _ _ none) good)
 
-  flag_good : (c : List Rule) (again : Bool) (a : Rule) (v : Option Text) (h : Held) → AreOwn c → IsOwn a
-      → (if is_some v then kind.TooManyValues ∷ [] else react_fault c again a [] h) ≡ [] → AreGood h.rows → AreGood (flag_met c a v h).0.rows
-  flag_good c again a (Some v) h own mine none good = good
-  flag_good c again a None h own mine none good = reacted_good c again a [] h own mine none good
+    option_good : (a : Rule) (v : Option Text) (h : Held) → IsOwn a → Keeps (option_fault c again a v h) h (option_met c a v h).0
+    option_good a (Some v) h mine none good = reacted_good a (v ∷ []) h mine none good
+    option_good a None h mine none good = settled_good h none good
 
-  long_good : (c : List Rule) (again : Bool) (o : Option Rule) (v : Option Text) (h : Held) → AreOwn c → ((a : Rule) → o ≡ Some a → IsOwn a)
-      → long_fault c again o v h ≡ [] → AreGood h.rows → AreGood (long_met c o v h).0.rows
-  long_good c again None v h own mine none good = good
-  long_good c again (Some a) v h own mine none good = go (takes_values a) none
-    where
-      go : (b : Bool) → (if b then option_fault c again a v h else (if is_some v then kind.TooManyValues ∷ [] else react_fault c again a [] h)) ≡ []
-          → AreGood (if b then option_met c a v h else flag_met c a v h).0.rows
-      go true n = option_good c again a v h own (mine a refl) n good
-      go false n = flag_good c again a v h own (mine a refl) n good
+    flag_good : (a : Rule) (v : Option Text) (h : Held) → IsOwn a
+        → Keeps (if is_some v then kind.TooManyValues ∷ [] else react_fault c again a [] h) h (flag_met c a v h).0
+    flag_good a (Some v) h mine none good = good
+    flag_good a None h mine none good = reacted_good a [] h mine none good
 
-  short_good : (c : List Rule) (again : Bool) (o : Option Rule) (rest : Text) (h : Held) (after : Held → Held × Outcome) (fault : Held → Kinds)
-      → AreOwn c → ((a : Rule) → o ≡ Some a → IsOwn a) → ((x : Held) → fault x ≡ [] → AreGood x.rows → AreGood (after x).0.rows)
-      → short_fault c again o rest h fault ≡ [] → AreGood h.rows → AreGood (short_met c o rest h after).0.rows
-  short_good c again None rest h after fault own mine later none good = good
-  short_good c again (Some a) rest h after fault own mine later none good = go (takes_values a) none
-    where
-      go : (b : Bool)
-          → (if b then option_fault c again a (attached_value rest) h else or_else (react_fault c again a [] h) (fault (reacted c a [] h))) ≡ []
-          → AreGood (if b then option_met c a (attached_value rest) h else after (reacted c a [] h)).0.rows
-      go true n = option_good c again a (attached_value rest) h own (mine a refl) n good
-      go false n = later (reacted c a [] h) (none_then _ _ n) (reacted_good c again a [] h own (mine a refl) (none_first _ _ n) good)
+    long_good : (o : Option Rule) (v : Option Text) (h : Held) → ((a : Rule) → o ≡ Some a → IsOwn a)
+        → Keeps (long_fault c again o v h) h (long_met c o v h).0
+    long_good None v h mine none good = good
+    long_good (Some a) v h mine none good =
+        either (λ (r : Held × Outcome). AreGood r.0.rows) (takes_values a) _ _ _ _ none
+        (λ n. option_good a v h (mine a refl) n good) (λ n. flag_good a v h (mine a refl) n good)
 
-  bundle_good : (c : List Rule) (again : Bool) (k : ℕ) (flags : Text) (skip : ℕ) (so_far : Outcome) (h : Held) → AreOwn c
-      → flags_fault c again k flags skip h ≡ [] → AreGood h.rows → AreGood (bundle_met c k flags skip so_far h).0.rows
-  unfolding bundle_met flags_fault
-  bundle_good c again zero flags skip so_far h own none good = good
-  bundle_good c again (suc k) flags skip so_far h own none good =
-      go (λ f s o x n g. bundle_good c again k f s o x own n g) (slice_get (chars flags) 0) skip none
-    where
-      go : ((f : Text) (s : ℕ) (o : Outcome) (x : Held) → flags_fault c again k f s x ≡ [] → AreGood x.rows → AreGood (bundle_met c k f s o x).0.rows)
-          → (first : Option ℕ) (s : ℕ) → bundle_step_fault c again first flags s h (flags_fault c again k) ≡ []
-          → AreGood (bundle_step c first flags s so_far h (bundle_met c k)).0.rows
-      go later None s n = good
-      go later (Some x) zero n =
-          let rest = drop (length (encode_utf8 x)) flags in
-          short_good c again (arg_by_short c x) rest h (bundle_met c k rest 0 done) (flags_fault c again k rest 0) own
-          (λ a e. found_own _ c a own e) (λ y f g. later rest 0 done y f g) n good
-      go later (Some x) (suc s) n = later (drop (length (encode_utf8 x)) flags) s so_far h n good
+    short_good : (o : Option Rule) (rest : Text) (h : Held) (after : Held → Held × Outcome) (fault : Held → Kinds)
+        → ((a : Rule) → o ≡ Some a → IsOwn a) → ((x : Held) → Keeps (fault x) x (after x).0)
+        → Keeps (short_fault c again o rest h fault) h (short_met c o rest h after).0
+    short_good None rest h after fault mine later none good = good
+    short_good (Some a) rest h after fault mine later none good =
+        either (λ (r : Held × Outcome). AreGood r.0.rows) (takes_values a) _ _ _ _ none
+        (λ n. option_good a (attached_value rest) h (mine a refl) n good)
+        (λ n. later (reacted c a [] h) (none_then _ _ n) (reacted_good a [] h (mine a refl) (none_first _ _ n) good))
 
-  -- A word that is no flag changes no row.
-  plain_good : (c : List Rule) (waiting : Waiting) (word : Text) (h : Held) → AreGood h.rows → AreGood (plain_word c waiting word h).0.rows
-  plain_good c idle word h good = good
-  plain_good c positional word h good = good
-  plain_good c (option name) word h good = go (arg_by_id c name)
-    where
-      go : (o : Option Rule) → AreGood (option_word o name word h).0.rows
-      go None = good
-      go (Some a) = good
+    bundle_good : (k : ℕ) (flags : Text) (skip : ℕ) (so_far : Outcome) (h : Held)
+        → Keeps (flags_fault c again k flags skip h) h (bundle_met c k flags skip so_far h).0
+    unfolding bundle_met flags_fault
+    bundle_good zero flags skip so_far h none good = good
+    bundle_good (suc k) flags skip so_far h none good =
+        go (λ f s o x n g. bundle_good k f s o x n g) (slice_get (chars flags) 0) skip none
+      where
+        go : ((f : Text) (s : ℕ) (o : Outcome) (x : Held) → Keeps (flags_fault c again k f s x) x (bundle_met c k f s o x).0)
+            → (first : Option ℕ) (s : ℕ) → bundle_step_fault c again first flags s h (flags_fault c again k) ≡ []
+            → AreGood (bundle_step c first flags s so_far h (bundle_met c k)).0.rows
+        go later None s n = good
+        go later (Some x) zero n =
+            let rest = drop (length (encode_utf8 x)) flags in
+            short_good (arg_by_short c x) rest h (bundle_met c k rest 0 done) (flags_fault c again k rest 0)
+            (λ a e. found_own _ c a own e) (λ y f g. later rest 0 done y f g) n good
+        go later (Some x) (suc s) n = later (drop (length (encode_utf8 x)) flags) s so_far h n good
 
-  after_good : (c : List Rule) (waiting : Waiting) (word : Text) (h : Held) (o : Outcome) → AreGood h.rows → AreGood (after_flag c waiting word h o).0.rows
-  after_good c waiting word h done good = good
-  after_good c waiting word h (waits name) good = good
-  after_good c waiting word h plain good = plain_good c waiting word h good
-  after_good c waiting word h refused good = plain_good c waiting word h good
+    -- A word that is no flag changes no row.
+    plain_good : (waiting : Waiting) (word : Text) (h : Held) → AreGood h.rows → AreGood (plain_word c waiting word h).0.rows
+    plain_good idle word h good = good
+    plain_good positional word h good = good
+    plain_good (option name) word h good = go (arg_by_id c name)
+      where
+        go : (o : Option Rule) → AreGood (option_word o name word h).0.rows
+        go None = good
+        go (Some a) = good
 
-  flag_word_good : (c : List Rule) (again : Bool) (waiting : Waiting) (word : Text) (o : Option (Text × Option Text)) (h : Held) → AreOwn c
-      → flag_word_fault c again o word h ≡ [] → AreGood h.rows → AreGood (long_or_other c waiting word o h).0.rows
-  flag_word_good c again waiting word (Some p) h own none good =
-      after_good c waiting word (long_met c (arg_by_long c p.0) p.1 h).0 (long_met c (arg_by_long c p.0) p.1 h).1
-      (long_good c again (arg_by_long c p.0) p.1 h own (λ a e. found_own _ c a own e) none good)
-  flag_word_good c again waiting word None h own none good = go (short_of word) none
-    where
-      go : (o : Option Text) → option_map_or (λ flags. bundle_fault c again flags h) o [] ≡ [] → AreGood (short_or_plain c waiting word o h).0.rows
-      go (Some flags) n = after_good c waiting word (bundle c flags h).0 (bundle c flags h).1
-          (bundle_good c again (length flags) flags h.skip plain (record h { skip = 0 }) own n good)
-      go None n = plain_good c waiting word h good
+    after_good : (waiting : Waiting) (word : Text) (h : Held) (o : Outcome) → AreGood h.rows → AreGood (after_flag c waiting word h o).0.rows
+    after_good waiting word h done good = good
+    after_good waiting word h (waits name) good = good
+    after_good waiting word h plain good = plain_good waiting word h good
+    after_good waiting word h refused good = plain_good waiting word h good
+
+    flag_word_good : (waiting : Waiting) (word : Text) (o : Option (Text × Option Text)) (h : Held)
+        → Keeps (flag_word_fault c again o word h) h (long_or_other c waiting word o h).0
+    flag_word_good waiting word (Some p) h none good =
+        after_good waiting word (long_met c (arg_by_long c p.0) p.1 h).0 (long_met c (arg_by_long c p.0) p.1 h).1
+        (long_good (arg_by_long c p.0) p.1 h (λ a e. found_own _ c a own e) none good)
+    flag_word_good waiting word None h none good = go (short_of word) none
+      where
+        go : (o : Option Text) → option_map_or (λ flags. bundle_fault c again flags h) o [] ≡ [] → AreGood (short_or_plain c waiting word o h).0.rows
+        go (Some flags) n = after_good waiting word (bundle c flags h).0 (bundle c flags h).1
+            (bundle_good (length flags) flags h.skip plain (record h { skip = 0 }) n good)
+        go None n = plain_good waiting word h good
+
+    positional_good : (a : Rule) (word : Text) (h : Held) → Keeps (positional_fault c again a h) h (positional_held c a word h)
+    positional_good a word h none good =
+        either (λ (x : Held). AreGood x.rows) (is_pending a h.pending && takes_several a) _ _ _ _ none (λ n. good) (λ n. settled_good h n good)
 
   -- ---- one word
 
-  word_good : (s : Shape) (names : Names) (b : Bool) (waiting : Waiting) (position : ℕ) (word : Text) (h : Held) → AreOwn s.rules
-      → word_fault s names b waiting word h ≡ [] → AreGood h.rows → AreGood (word_met s.rules names b waiting position word h).0.rows
-  word_good s names true waiting position word h own none good = good
-  word_good s names false waiting position word h own none good = go (subcommand_met names waiting word) none
-    where
-      dashes : (b : Bool) → (if b then [] else flag_word_fault s.rules s.args_override_self (long_of word) word h) ≡ []
-          → AreGood (if b then (h, trailing position) else long_or_other s.rules waiting word (long_of word) h).0.rows
-      dashes true n = good
-      dashes false n = flag_word_good s.rules s.args_override_self waiting word (long_of word) h own n good
+  module _ (s : Shape) (names : Names) (own : AreOwn s.rules) where
+    other_good : (o : Option Text) (waiting : Waiting) (position : ℕ) (word : Text) (h : Held)
+        → Keeps (other_fault s o word h) h (subcommand_or_other s.rules o waiting position word h).0
+    other_good (Some name) waiting position word h none good = good
+    other_good None waiting position word h none good =
+        either (λ (r : Held × Step). AreGood r.0.rows) (bytes_eq word (45 ∷ 45 ∷ [])) _ _ _ _ none (λ n. good)
+        (λ n. flag_word_good s.rules s.args_override_self own waiting word (long_of word) h n good)
 
-      go : (o : Option Text) → other_fault s o word h ≡ [] → AreGood (subcommand_or_other s.rules o waiting position word h).0.rows
-      go (Some name) n = good
-      go None n = dashes (bytes_eq word (45 ∷ 45 ∷ [])) n
+    word_good : (b : Bool) (waiting : Waiting) (position : ℕ) (word : Text) (h : Held)
+        → Keeps (word_fault s names b waiting word h) h (word_met s.rules names b waiting position word h).0
+    word_good true waiting position word h none good = good
+    word_good false waiting position word h none good = other_good (subcommand_met names waiting word) waiting position word h none good
 
-  positional_good : (c : List Rule) (again : Bool) (a : Rule) (word : Text) (h : Held) → AreOwn c → positional_fault c again a h ≡ []
-      → AreGood h.rows → AreGood (positional_held c a word h).rows
-  positional_good c again a word h own none good = go (is_pending a h.pending && takes_several a) none
-    where
-      go : (b : Bool) → (if b then [] else settle_fault c again h) ≡ [] → AreGood (if b then h else settled c h).rows
-      go true n = good
-      go false n = settled_good c again h own n good
+    value_good : (o : Option Rule) (word : Text) (w : Walk) (h : Held)
+        → Keeps (option_map_or (λ a. positional_fault s.rules s.args_override_self a h) o (stray_fault s)) h (to_positional s.rules o word w h).held
+    value_good None word w h none good = good
+    value_good (Some a) word w h none good = positional_good s.rules s.args_override_self own a word h none good
 
-  value_good : (s : Shape) (word : Text) (w : Walk) (h : Held) → AreOwn s.rules → step_fault s w.position h value ≡ []
-      → AreGood h.rows → AreGood (to_positional s.rules (arg_by_index s.rules w.position) word w h).held.rows
-  value_good s word w h own none good = go (arg_by_index s.rules w.position) none
-    where
-      go : (o : Option Rule) → option_map_or (λ a. positional_fault s.rules s.args_override_self a h) o (stray_fault s) ≡ []
-          → AreGood (to_positional s.rules o word w h).held.rows
-      go None n = good
-      go (Some a) n = positional_good s.rules s.args_override_self a word h own n good
+    step_good : (word : Text) (w : Walk) (h : Held) (step : Step) → Keeps (step_fault s w.position h step) h (after_step s.rules word w h step).held
+    step_good word w h (next waiting) none good = good
+    step_good word w h (trailing position) none good = good
+    step_good word w h (subcommand name) none good = good
+    step_good word w h value none good = value_good (arg_by_index s.rules w.position) word w h none good
 
-  step_good : (s : Shape) (word : Text) (w : Walk) (h : Held) (step : Step) → AreOwn s.rules → step_fault s w.position h step ≡ []
-      → AreGood h.rows → AreGood (after_step s.rules word w h step).held.rows
-  step_good s word w h (next waiting) own none good = good
-  step_good s word w h (trailing position) own none good = good
-  step_good s word w h (subcommand name) own none good = good
-  step_good s word w h value own none good = value_good s word w h own none good
+    turn_good : (w : Walk) (word : Text) → Keeps (turn_fault s names w word) w.held (walked s.rules names w word).held
+    unfolding walked
+    turn_good w word none good = go w.stopped none
+      where
+        go : (o : Option (Text × List Text))
+            → (if is_some o then [] else or_else (word_fault s names w.is_trailing w.waiting word w.held)
+            (step_fault s w.position (word_met s.rules names w.is_trailing w.waiting w.position word w.held).0
+            (word_met s.rules names w.is_trailing w.waiting w.position word w.held).1)) ≡ []
+            → AreGood (walked_from s.rules names o w word).held.rows
+        go (Some p) n = good
+        go None n =
+            let met = word_met s.rules names w.is_trailing w.waiting w.position word w.held in
+            step_good word w met.0 met.1 (none_then _ _ n) (word_good w.is_trailing w.waiting w.position word w.held (none_first _ _ n) good)
 
-  turn_good : (s : Shape) (names : Names) (w : Walk) (word : Text) → AreOwn s.rules → turn_fault s names w word ≡ []
-      → AreGood w.held.rows → AreGood (walked s.rules names w word).held.rows
-  unfolding walked
-  turn_good s names w word own none good = go w.stopped none
-    where
-      go : (o : Option (Text × List Text))
-          → (if is_some o then [] else or_else (word_fault s names w.is_trailing w.waiting word w.held)
-          (step_fault s w.position (word_met s.rules names w.is_trailing w.waiting w.position word w.held).0
-          (word_met s.rules names w.is_trailing w.waiting w.position word w.held).1)) ≡ []
-          → AreGood (walked_from s.rules names o w word).held.rows
-      go (Some p) n = good
-      go None n =
-          let met = word_met s.rules names w.is_trailing w.waiting w.position word w.held in
-          step_good s word w met.0 met.1 own (none_then _ _ n)
-          (word_good s names w.is_trailing w.waiting w.position word w.held own (none_first _ _ n) good)
+    -- ---- all words, and the defaults
 
-  -- ---- all words, and the defaults
-
-  pub walk_good : (s : Shape) (names : Names) (w : Walk) (words : List Text) → AreOwn s.rules → walk_fault s names w words ≡ []
-      → AreGood w.held.rows → AreGood (fold (walked s.rules names) w words).held.rows
-  unfolding walk_fault
-  walk_good s names w [] own none good = good
-  walk_good s names w (word ∷ rest) own none good =
-      walk_good s names (walked s.rules names w word) rest own (none_then (turn_fault s names w word) _ none)
-      (turn_good s names w word own (none_first (turn_fault s names w word) _ none) good)
+    pub walk_good : (w : Walk) (words : List Text) → Keeps (walk_fault s names w words) w.held (fold (walked s.rules names) w words).held
+    unfolding walk_fault
+    walk_good w [] none good = good
+    walk_good w (word ∷ rest) none good =
+        walk_good (walked s.rules names w word) rest (none_then (turn_fault s names w word) _ none)
+        (turn_good w word (none_first (turn_fault s names w word) _ none) good)
 
   default_good : (a : Rule) (rows : List Row) → IsOwn a → default_fault rows a ≡ [] → AreGood rows → AreGood (with_default rows a)
   default_good a rows own none good = go (has_row a.id rows) none

@@ -1,8 +1,6 @@
 -- What the getters of `clap` read, by the rows that it found.
-use Rattle.std.proofs.Common.{◌≡◌, ◌↔◌, ◌^◌, ◌<◌, ◌≤◌, ◌∙◌, ℕ, Bool, true, false, [], Option, Some, None, Result, Ok, Err, option_map, codes, slice_index}
-use Rattle.std.proofs.Common.{IfNone, IfOk, IfSome, IsOk, IsSome, MatchOption, unwrap_or, sym, subst, refl, ap, arith}
-use Rattle.std.specs.Result.{result_ok}
-use Rattle.replay_plan.specs.declared.keep.Keep.{Keep}
+use Rattle.std.proofs.Common.{◌≡◌, ◌↔◌, ◌^◌, ◌<◌, ◌≤◌, ◌∙◌, ℕ, Bool, true, false, [], Option, Some, None, Result, option_map, codes, slice_index}
+use Rattle.std.proofs.Common.{IfNone, IfSome, IsSome, MatchOption, unwrap_or, sym, subst, refl, ap, arith}
 use Rattle.std.specs.Str.Parse.{ParsesUnsigned, ExplainsUnsignedError, HasUnsignedDigitsIfOk, ParsesBool}
 use Rattle.std.specs.Borrow.{Bor}
 use Rattle.std.specs.declared.num.ParseIntError.{ParseIntError}
@@ -40,12 +38,17 @@ pub word_read : (m : ArgMatches) (id : Text) (r : Option (Bor Text)) → option_
     → option_map (λ s. s.now) r ≡ first_of id (rows_of (found_of m))
 word_read m id r is = is ∙ first_value-rows (found_of m) id
 
--- What a `u32` reads where it reads nothing, or a number that is not taken.
+-- What is known where it reads nothing, and where it reads a number.
 pub nothing_read : (k : ℕ) (o : Option Text) (r : Option ℕ) → IsRead k o r → r ≡ None → (least most : ℕ) → most < 2 ^ k → IsNumberIn least most o → ⊥
 nothing_read k o r read is = subst (IsRead k o) is read
 
 pub one_read : (k : ℕ) (o : Option Text) (r : Option ℕ) (n : ℕ) → IsRead k o r → r ≡ Some n → option_map number_in o ≡ Some n
 one_read k o r n read is = subst (IsRead k o) is read
+
+-- A number in a range is in each wider one.
+pub wider : (o : Option Text) (least most lower higher : ℕ) → lower ≤ least → most ≤ higher → IsNumberIn least most o → IsNumberIn lower higher o
+wider None least most lower higher low high fits = fits
+wider (Some t) least most lower higher low high fits = (fits.0, omega arith, omega arith)
 
 -- The same of an answer as it is.
 pub number_some : (k : ℕ) (o : Option Text) (r : Option ℕ) → IsRead k o r → IfSome r (λ n. option_map number_in o ≡ Some n)
@@ -63,6 +66,8 @@ read_in (Some t) n least most is fits =
     let same : number_in t ≡ n = cc in
     (subst (λ m. least ≤ m) same fits.1, subst (λ m. m ≤ most) same fits.2)
 
+pub ruleset ranges = (read_in, wider)
+
 -- ---- what a type makes of a number
 
 pub none_if : {X : Type 0} (r : Option X) (P : Type 0) → (P → IsSome r) → IfNone r (P → ⊥)
@@ -74,11 +79,6 @@ none_if (Some x) P h = tt
 pub none_if_zero : {X : Type 0} (r : Option X) (n : ℕ) (get : X → ℕ) (P : Type 0) → MatchOption r (n ≡ 0) (λ x. get x ≡ n) → (P → 1 ≤ n) → IfNone r (P → ⊥)
 none_if_zero None n get P zero some = λ p. let h : 1 ≤ n = some p in absurd (omega (arith, h, zero))
 none_if_zero (Some x) n get P zero some = tt
-
-pub some_if : {X : Type 0} (r : Option X) (o : Option ℕ) (n : ℕ) (get : X → ℕ) (P : Type 0) → MatchOption r P (λ x. get x ≡ n) → o ≡ Some n
-    → IfSome r (λ x. o ≡ Some (get x))
-some_if None o n get P h is = tt
-some_if (Some x) o n get P h is = is ∙ ap Some (sym h)
 
 -- ---- texts
 
@@ -111,25 +111,3 @@ pub flag_read : (m : ArgMatches) (id : Text) (r : Option Bool) → (one_text (fo
     → (unwrap_or r false ≡ true) ↔ (one_of id (rows_of (found_of m)) ≡ Some (codes "true"))
 flag_read m id r none value =
     subst (λ o. (unwrap_or r false ≡ true) ↔ (o ≡ Some (codes "true"))) (one_text-rows (found_of m) id) (flag_from (one_text (found_of m) id) r none value)
-
-pub some_then : {X : Type 0} (r : Option X) (P Q : X → Type 0) → ((x : X) → P x → Q x) → IfSome r P → IfSome r Q
-some_then None P Q f h = tt
-some_then (Some x) P Q f h = f x h
-
--- ---- which pictures are kept
-
-pub keep_first : {E : Type 0} (r : Result Keep E) (o : Option ℕ) (first count : ℕ) → IfOk r (λ keep. (keep.first ≡ first) × (keep.count ≡ count))
-    → o ≡ Some first → IfSome (result_ok r) (λ keep. o ≡ Some keep.first)
-keep_first (Ok keep) o first count h is = is ∙ ap Some (sym h.0)
-keep_first (Err e) o first count h is = tt
-
-pub keep_count : {E : Type 0} (r : Result Keep E) (o : Option ℕ) (b : Bool) (first count : ℕ) → IfOk r (λ keep. (keep.first ≡ first) × (keep.count ≡ count))
-    → (b ≡ true → o ≡ Some count) → IfSome (result_ok r) (λ keep. b ≡ true → o ≡ Some keep.count)
-keep_count (Ok keep) o b first count h is = λ on. is on ∙ ap Some (sym h.1)
-keep_count (Err e) o b first count h is = tt
-
-pub keep_none : {X E : Type 0} (r : Result X E) (P Q : Type 0) → (P → Q → IsOk r) → IfNone (result_ok r) (P → Q → ⊥)
-keep_none (Ok x) P Q h = tt
-keep_none (Err e) P Q h = λ p q.
-    let bad : false ≡ true = h p q in
-    cc

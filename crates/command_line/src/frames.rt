@@ -14,7 +14,7 @@ ghost use Rattle.command_line.specs.Pictures.{KeepsWhatIsTaken};
 ghost use Rattle.command_line.specs.Table.{frames_listed, watch_row};
 
 use crate::command::{Command, LineFault};
-use crate::line::{count_of_frames, first_of_frames, is_given, text_of};
+use crate::line::{is_given, number_at, number_from_one, text_of};
 use clap::ArgMatches;
 use hex::FromHex;
 use replay_plan::{Address, Details, Watches};
@@ -78,10 +78,10 @@ pub(crate) fn frames_of(alloc: Global, matches: &ArgMatches<'_>) -> Result<Comma
 {
     let file = text_of(alloc, matches, "file")?;
     let digests = is_given(matches, "digests");
-    let Some(first) = first_of_frames(matches) else {
+    let Some(first) = number_from_one(matches, "first") else {
         unreachable!()
     };
-    let Some(count) = count_of_frames(matches) else {
+    let Some(count) = number_at(matches, "count") else {
         unreachable!()
     };
     let Some(watches) = watches_of(matches) else {

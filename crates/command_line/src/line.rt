@@ -5,9 +5,11 @@ ghost use Rattle.std.specs.NonZero.{non_zero_u16_get, non_zero_u32_get};
 ghost use Rattle.clap.specs.Words.{fault_of as faults_at, found_of, kind_of, rows_of, subcommand_of};
 ghost use Rattle.clap.specs.Words.{first_of, one_of};
 ghost use Rattle.command_line.specs.Faults.{HasBadValue, IsAnswerTo, IsRefusal};
-ghost use Rattle.command_line.specs.Meanings.{IsCommand, IsCommandAt, IsPlan, number_of};
+ghost use Rattle.command_line.specs.Meanings.{IsCommand, IsCommandAt, IsPlan};
+ghost use Rattle.command_line.specs.Meanings.{number_in, number_of};
 ghost use Rattle.command_line.specs.Private.Names.{IsUnlisted};
-ghost use Rattle.command_line.specs.Private.Numbers.{HasNumbers, HasNumbersOf, Suits};
+ghost use Rattle.command_line.specs.Private.Numbers.{HasNumbers, HasNumbersOf, IsNumberIn};
+ghost use Rattle.command_line.specs.Private.Numbers.{Suits};
 ghost use Rattle.command_line.specs.Pictures.{KeepsWhatIsTaken};
 ghost use Rattle.command_line.specs.declared.command.LineFault.TheVariants.{Memory};
 ghost use Rattle.command_line.specs.Table.{commands, program_app, verify_listed, report_listed};
@@ -29,6 +31,7 @@ use std::convert::AsStr;
 use std::num::{NonZeroU16, NonZeroU32};
 
 /// The word of an argument, or the empty text.
+#[tactic(auto, using(crate::proofs::Getters::text_or, crate::proofs::Getters::word_read))]
 pub(crate) fn text_of(
     alloc: Global,
     matches: &ArgMatches<'_>,
@@ -61,6 +64,7 @@ fn cuts_of(matches: &ArgMatches<'_>) -> Option<NonZeroU16>
 }
 
 /// The pictures that are kept, which are none if no file takes them.
+#[tactic(auto, using(crate::proofs::Getters::ranges))]
 fn keep_of(matches: &ArgMatches<'_>, pictures: bool) -> Option<Keep>
     ensures kept { IfSome result (λ keep. pictures ≡ false → keep.count ≡ 0) }
     ensures first { IfSome result (λ keep.
@@ -71,8 +75,8 @@ fn keep_of(matches: &ArgMatches<'_>, pictures: bool) -> Option<Keep>
         Suits first_row.kind (one_of first_row.name (rows_of (found_of matches.now)))
         → Suits count_row.kind (one_of count_row.name (rows_of (found_of matches.now))) → ⊥) }
 {
-    let first = matches.get_one::<u32>("first")?;
-    let wanted = matches.get_one::<u32>("count")?;
+    let first = number_at(matches, "first")?;
+    let wanted = number_at(matches, "count")?;
     let count = if pictures { wanted } else { 0 };
     Keep::new(first, count).ok()
 }
@@ -94,6 +98,7 @@ fn plan_of(matches: &ArgMatches<'_>, pictures: bool) -> Option<Plan>
 }
 
 /// The file that takes the pictures, if there is one.
+#[tactic(auto, using(crate::proofs::Getters::word_read))]
 fn pictures_of(alloc: Global, matches: &ArgMatches<'_>) -> Result<Option<String>, AllocError>
     ensures { IfOk result (λ pictures. option_map string_bytes pictures
         ≡ first_of pictures_row.name (rows_of (found_of matches.now))) }
@@ -140,14 +145,25 @@ fn report_of(alloc: Global, matches: &ArgMatches<'_>) -> Result<Command, AllocEr
     })
 }
 
-/// The frames between the checkpoints of `make` and `cut`.
-fn checkpoints_of(matches: &ArgMatches<'_>) -> Option<NonZeroU32>
-    ensures some { IfSome result (λ every. number_of checkpoints_row
-        (rows_of (found_of matches.now)) ≡ Some (non_zero_u32_get every)) }
-    ensures none { IfNone result (Suits checkpoints_row.kind
-        (one_of checkpoints_row.name (rows_of (found_of matches.now))) → ⊥) }
+/// The number of an argument, if its text writes one that a `u32` holds.
+pub(crate) fn number_at(matches: &ArgMatches<'_>, name: &str) -> Option<u32>
+    ensures some { IfSome result (λ number.
+        option_map number_in (one_of name.now (rows_of (found_of matches.now))) ≡ Some number) }
+    ensures none { IfNone result (
+        IsNumberIn 0 4294967295 (one_of name.now (rows_of (found_of matches.now))) → ⊥) }
 {
-    NonZeroU32::new(matches.get_one::<u32>("every")?)
+    matches.get_one::<u32>(name)
+}
+
+/// The number of an argument that is at least 1.
+#[tactic(auto, using(crate::proofs::Getters::ranges))]
+pub(crate) fn number_from_one(matches: &ArgMatches<'_>, name: &str) -> Option<NonZeroU32>
+    ensures some { IfSome result (λ number. option_map number_in
+        (one_of name.now (rows_of (found_of matches.now))) ≡ Some (non_zero_u32_get number)) }
+    ensures none { IfNone result (
+        IsNumberIn 1 4294967295 (one_of name.now (rows_of (found_of matches.now))) → ⊥) }
+{
+    NonZeroU32::new(number_at(matches, name)?)
 }
 
 /// Whether an option without a word is there.
@@ -192,7 +208,7 @@ fn make_of(alloc: Global, matches: &ArgMatches<'_>) -> Result<Command, AllocErro
     let inputs = text_of(alloc, matches, "inputs")?;
     let out = text_of(alloc, matches, "out")?;
     let form = form_of(matches);
-    let Some(every) = checkpoints_of(matches) else {
+    let Some(every) = number_from_one(matches, "every") else {
         unreachable!()
     };
     Ok(Command::Make {
@@ -204,26 +220,6 @@ fn make_of(alloc: Global, matches: &ArgMatches<'_>) -> Result<Command, AllocErro
     })
 }
 
-/// The first frame that `frames`, `pictures` and `cut` ask for.
-pub(crate) fn first_of_frames(matches: &ArgMatches<'_>) -> Option<NonZeroU32>
-    ensures some { IfSome result (λ first. number_of first_row
-        (rows_of (found_of matches.now)) ≡ Some (non_zero_u32_get first)) }
-    ensures none { IfNone result (Suits first_row.kind
-        (one_of first_row.name (rows_of (found_of matches.now))) → ⊥) }
-{
-    NonZeroU32::new(matches.get_one::<u32>("first")?)
-}
-
-/// How many frames `frames`, `pictures` and `cut` ask for.
-pub(crate) fn count_of_frames(matches: &ArgMatches<'_>) -> Option<u32>
-    ensures some { IfSome result (λ count. number_of asked_row
-        (rows_of (found_of matches.now)) ≡ Some count) }
-    ensures none { IfNone result (Suits asked_row.kind
-        (one_of asked_row.name (rows_of (found_of matches.now))) → ⊥) }
-{
-    matches.get_one::<u32>("count")
-}
-
 /// The command `pictures`.
 fn drawing_of(alloc: Global, matches: &ArgMatches<'_>) -> Result<Command, AllocError>
     requires { HasNumbers drawing_listed (rows_of (found_of matches.now)) }
@@ -232,10 +228,10 @@ fn drawing_of(alloc: Global, matches: &ArgMatches<'_>) -> Result<Command, AllocE
 {
     let file = text_of(alloc, matches, "file")?;
     let out = text_of(alloc, matches, "out")?;
-    let Some(first) = first_of_frames(matches) else {
+    let Some(first) = number_from_one(matches, "first") else {
         unreachable!()
     };
-    let Some(count) = count_of_frames(matches) else {
+    let Some(count) = number_at(matches, "count") else {
         unreachable!()
     };
     Ok(Command::Pictures {
@@ -254,13 +250,13 @@ fn cut_of(alloc: Global, matches: &ArgMatches<'_>) -> Result<Command, AllocError
 {
     let file = text_of(alloc, matches, "file")?;
     let out = text_of(alloc, matches, "out")?;
-    let Some(first) = first_of_frames(matches) else {
+    let Some(first) = number_from_one(matches, "first") else {
         unreachable!()
     };
-    let Some(count) = count_of_frames(matches) else {
+    let Some(count) = number_at(matches, "count") else {
         unreachable!()
     };
-    let Some(every) = checkpoints_of(matches) else {
+    let Some(every) = number_from_one(matches, "every") else {
         unreachable!()
     };
     Ok(Command::Cut {
@@ -272,16 +268,6 @@ fn cut_of(alloc: Global, matches: &ArgMatches<'_>) -> Result<Command, AllocError
     })
 }
 
-/// The frame that `trace` asks for.
-fn frame_of(matches: &ArgMatches<'_>) -> Option<NonZeroU32>
-    ensures some { IfSome result (λ frame. number_of frame_row
-        (rows_of (found_of matches.now)) ≡ Some (non_zero_u32_get frame)) }
-    ensures none { IfNone result (Suits frame_row.kind
-        (one_of frame_row.name (rows_of (found_of matches.now))) → ⊥) }
-{
-    NonZeroU32::new(matches.get_one::<u32>("frame")?)
-}
-
 /// The command `trace`.
 fn trace_of(alloc: Global, matches: &ArgMatches<'_>) -> Result<Command, AllocError>
     requires { HasNumbers trace_listed (rows_of (found_of matches.now)) }
@@ -289,7 +275,7 @@ fn trace_of(alloc: Global, matches: &ArgMatches<'_>) -> Result<Command, AllocErr
     ensures ok { IfOk result (IsCommandAt (codes "trace") (rows_of (found_of matches.now))) }
 {
     let file = text_of(alloc, matches, "file")?;
-    let Some(frame) = frame_of(matches) else {
+    let Some(frame) = number_from_one(matches, "frame") else {
         unreachable!()
     };
     Ok(Command::Trace { file, frame })

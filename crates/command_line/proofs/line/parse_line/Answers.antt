@@ -13,45 +13,31 @@ returns-in-Err-clause-err g c =
     refused words _ c.fault_of.result
     (failing (app_of c.in_ok-program.program) words c.in-Err.error c.in_ok-program.ensures.0 c.in-Err.ensures.kinds) c.fault_of.ensures
 
-pub command_of-requires-clause-numbers : goal.command_of-requires-clause-numbers
-command_of-requires-clause-numbers g c =
+pub command_of-requires : goal.command_of-requires
+command_of-requires g c =
     let words = map g.S.AsStr.text c.args.words.now in
     let none = taken (app_of c.in_ok-program.program) words c.in_ok-program.ensures.0 c.in-Ok.ensures.kinds in
     let met = meets (app_of c.in_ok-program.program) words c.in-Ok.matches c.in_ok-program.ensures.0 c.in-Ok.ensures.matches in
-    let both = both_of _ _ _ c.in-Some.name.now (rows_of (found_of c.in-Some.inner.now)) c.in-Some.ensures.name c.in-Some.ensures.rows in
-    numbers_met words c.in-Some.name.now (rows_of (found_of c.in-Some.inner.now)) none (sym met ∙ both)
+    let rows = rows_of (found_of c.in-Some.inner.now) in
+    let at = sym met ∙ both_of _ _ _ c.in-Some.name.now rows c.in-Some.ensures.name c.in-Some.ensures.rows in
+    record { numbers = numbers_met words c.in-Some.name.now rows none at; listed = listed_met words c.in-Some.name.now rows none at }
 
-pub command_of-requires-clause-listed : goal.command_of-requires-clause-listed
-command_of-requires-clause-listed g c =
-    let words = map g.S.AsStr.text c.args.words.now in
-    let none = taken (app_of c.in_ok-program.program) words c.in_ok-program.ensures.0 c.in-Ok.ensures.kinds in
-    let met = meets (app_of c.in_ok-program.program) words c.in-Ok.matches c.in_ok-program.ensures.0 c.in-Ok.ensures.matches in
-    let both = both_of _ _ _ c.in-Some.name.now (rows_of (found_of c.in-Some.inner.now)) c.in-Some.ensures.name c.in-Some.ensures.rows in
-    listed_met words c.in-Some.name.now (rows_of (found_of c.in-Some.inner.now)) none (sym met ∙ both)
-
-pub returns-in-Some-clause-taken : goal.returns-in-Some-clause-taken
-returns-in-Some-clause-taken g c =
-    let words = map g.S.AsStr.text c.args.words.now in
-    in_both c.command_of.result _ (taken (app_of c.in_ok-program.program) words c.in_ok-program.ensures.0 c.in-Ok.ensures.kinds)
-
-pub returns-in-Some-clause-err : goal.returns-in-Some-clause-err
-returns-in-Some-clause-err g c =
+pub returns-in-Some : goal.returns-in-Some
+returns-in-Some g c =
     let words = map g.S.AsStr.text c.args.words.now in
     let met = meets (app_of c.in_ok-program.program) words c.in-Ok.matches c.in_ok-program.ensures.0 c.in-Ok.ensures.matches in
-    let both = both_of _ _ _ c.in-Some.name.now (rows_of (found_of c.in-Some.inner.now)) c.in-Some.ensures.name c.in-Some.ensures.rows in
-    IfErr-weaker c.command_of.result _ _ (λ fault bad. bad_value words _ _ fault (sym met ∙ both) bad) c.command_of.ensures.err
+    let at = sym met ∙ both_of _ _ _ c.in-Some.name.now (rows_of (found_of c.in-Some.inner.now)) c.in-Some.ensures.name c.in-Some.ensures.rows in
+    record {
+      kept = c.command_of.ensures.kept;
+      taken = in_both c.command_of.result _ (taken (app_of c.in_ok-program.program) words c.in_ok-program.ensures.0 c.in-Ok.ensures.kinds);
+      ok = IfOk-weaker c.command_of.result _ _ (λ command is. named words _ _ command at is) c.command_of.ensures.ok;
+      err = IfErr-weaker c.command_of.result _ _ (λ fault bad. bad_value words _ _ fault at bad) c.command_of.ensures.err;
+    }
 
 pub returns-clause-taken : goal.returns-clause-taken
 returns-clause-taken g c =
     let words = map g.S.AsStr.text c.args.words.now in
     in_both c.command_of_no_words.result _ (taken (app_of c.in_ok-program.program) words c.in_ok-program.ensures.0 c.in-Ok.ensures.kinds)
-
-pub returns-in-Some-clause-ok : goal.returns-in-Some-clause-ok
-returns-in-Some-clause-ok g c =
-    let words = map g.S.AsStr.text c.args.words.now in
-    let met = meets (app_of c.in_ok-program.program) words c.in-Ok.matches c.in_ok-program.ensures.0 c.in-Ok.ensures.matches in
-    let both = both_of _ _ _ c.in-Some.name.now (rows_of (found_of c.in-Some.inner.now)) c.in-Some.ensures.name c.in-Some.ensures.rows in
-    IfOk-weaker c.command_of.result _ _ (λ command at. named words _ _ command (sym met ∙ both) at) c.command_of.ensures.ok
 
 pub returns-clause-ok : goal.returns-clause-ok
 returns-clause-ok g c =
