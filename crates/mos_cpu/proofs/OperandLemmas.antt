@@ -1,5 +1,5 @@
 -- Addresses, as the code makes them.
-use Rattle.std.proofs.Common.{◌≡◌, ℕ, ◌+◌, ◌*◌, ◌/◌, ◌%◌, ◌^◌, ◌<◌, arith, bit_and, bit_or}
+use Rattle.std.proofs.Common.{◌≡◌, ℕ, ◌+◌, ◌*◌, ◌/◌, ◌%◌, ◌<◌, arith, bit_and, bit_or}
 use Rattle.std.proofs.lemmas.Nat.{or_shifted, and_mask}
 use Rattle.std.proofs.lemmas.Nat.Bits.{and_high_mask}
 
@@ -7,8 +7,6 @@ use Rattle.std.proofs.lemmas.Nat.Bits.{and_high_mask}
 pub page_next : (n : ℕ) → n < 65536
     → bit_or (bit_and n 65280) (bit_and ((n + 1) % 65536) 255) ≡ n / 256 * 256 + (n + 1) % 256
 page_next n h =
-    let e : bit_and n 65280 ≡ n / 256 * 256 = and_high_mask 16 8 (omega arith) n h in
-    let f : bit_and ((n + 1) % 65536) 255 ≡ (n + 1) % 65536 % 256 = and_mask ((n + 1) % 65536) 8 in
-    let g : (n + 1) % 65536 % 256 ≡ (n + 1) % 256 = omega arith in
-    let b : (n + 1) % 256 < 2 ^ 8 = omega arith in
-    rw (e, f, g) (or_shifted (n / 256) 8 ((n + 1) % 256) b)
+    let low : (n + 1) % 65536 % 256 ≡ (n + 1) % 256 = omega arith in
+    rw (and_high_mask 16 8 (omega arith) n h, and_mask ((n + 1) % 65536) 8, low)
+    (or_shifted (n / 256) 8 ((n + 1) % 256) (omega arith))

@@ -10,7 +10,7 @@ use Rattle.mos_cpu.specs.Opcodes.{row_of}
 use Rattle.mos_cpu.specs.Operands.{Instruction, and_then, instruction_byte, operand_of}
 use Rattle.mos_cpu.specs.Operands.{row_or_fault, instruction_at}
 use Rattle.mos_cpu.specs.Accesses.{accesses_of, instruction_cycles, use_of}
-use Rattle.mos_cpu.specs.Execution.{Progress, bus_at, after_transfer, after_access, at_start}
+use Rattle.mos_cpu.specs.Execution.{Progress, progress_at, bus_at, after_transfer, after_access, at_start}
 use Rattle.mos_cpu.specs.Execution.{execution_of, step_by, step_of}
 use Rattle.mos_cpu.specs.Timing.{IsTimed, least_of, AscendsTo, access_clocks, KeepsTime}
 use Rattle.mos_cpu.proofs.AccessLemmas.{accesses_of-ascend, cycles_of-least, cycles_of-most}
@@ -34,174 +34,130 @@ documented-ok : {U : Type 0} (P : U → Type 0) (x : Option Row) (opcode at : �
 documented-ok P (Some row) opcode at next timed h = h row timed
 documented-ok P None opcode at next timed h = tt
 
--- An instruction that was decoded is one of the table.
-pub decoded-timed : {S : Type 0} (m : Meaning S) (s : S) (r : Registers)
-    → IfOk (instruction_at m s r) (λ i. IsTimed i.row)
-decoded-timed m s r =
-    let Timed : Instruction → Type 0 = λ i. IsTimed i.row in
-    and_then-ok Timed (instruction_byte m s r.pc) _
-    (λ opcode. documented-ok Timed (row_of opcode) opcode r.pc _ (row_of-timed opcode)
-    (λ row timed. and_then-ok Timed (operand_of m s r row) _ (λ operand. timed)))
+module _ {S : Type 0} (m : Meaning S) where
+  -- What holds of each instruction of the table holds of one that was decoded.
+  decoded-ok : (s : S) (r : Registers) (P : Instruction → Type 0) → ((i : Instruction) → IsTimed i.row → P i)
+      → IfOk (instruction_at m s r) P
+  decoded-ok s r P h =
+      and_then-ok P (instruction_byte m s r.pc) _
+      (λ opcode. documented-ok P (row_of opcode) opcode r.pc _ (row_of-timed opcode)
+      (λ row timed. and_then-ok P (operand_of m s r row) _ (λ operand. h _ timed)))
 
+  -- An instruction that was decoded is one of the table.
+  pub decoded-timed : (s : S) (r : Registers) → IfOk (instruction_at m s r) (λ i. IsTimed i.row)
+  decoded-timed s r = decoded-ok s r (λ i. IsTimed i.row) (λ i timed. timed)
+
+  step_by-ok : (P : ℕ → S → Type 0) (r : Registers) (s : S) (d : Result Instruction CpuFault)
+      → IfOk d (λ i. P (instruction_cycles i r.p) (execution_of m r s i).bus)
+      → IfOk (step_by m r s d).answer (λ cycles. P cycles (step_by m r s d).bus)
+  step_by-ok P r s (Ok i) h = h
+  step_by-ok P r s (Err fault) h = tt
+
+  -- What holds of the cycles of each instruction of the table, and of the bus after it, holds of a step.
+  step_of-ok : (P : ℕ → S → Type 0) (r : Registers) (s : S)
+      → ((i : Instruction) → IsTimed i.row → P (instruction_cycles i r.p) (execution_of m r s i).bus)
+      → IfOk (step_of m r s).answer (λ cycles. P cycles (step_of m r s).bus)
+  step_of-ok P r s h = step_by-ok P r s (instruction_at m s r) (decoded-ok s r _ h)
+
+-- The cycles of an instruction of the table: 2 to 7, with room for its accesses.
 pub cycles_of-timed : (i : Instruction) (p : ℕ) → IsTimed i.row
     → (2 ≤ instruction_cycles i p) × (instruction_cycles i p ≤ 7) × (least_of (use_of i.row.operation) ≤ instruction_cycles i p)
 cycles_of-timed i p timed =
     let low = cycles_of-least i p in
     let high = cycles_of-most i p in
-    let least = timed.least in
-    let room = timed.room in
-    let most = timed.most in
     (omega arith, omega arith, omega arith)
 
 module _ {S : Type 0} (m : Meaning S) where
-  step_by-least : (r : Registers) (s : S) (d : Result Instruction CpuFault)
-      → IfOk d (λ i. IsTimed i.row) → IfOk (step_by m r s d).answer (λ cycles. 2 ≤ cycles)
-  step_by-least r s (Ok i) timed = (cycles_of-timed i r.p timed).0
-  step_by-least r s (Err fault) timed = tt
-
   -- An instruction takes at least 2 cycles.
   pub step_of-least : (r : Registers) (s : S) → IfOk (step_of m r s).answer (λ cycles. 2 ≤ cycles)
-  step_of-least r s = step_by-least r s (instruction_at m s r) (decoded-timed m s r)
-
-  step_by-most : (r : Registers) (s : S) (d : Result Instruction CpuFault)
-      → IfOk d (λ i. IsTimed i.row) → IfOk (step_by m r s d).answer (λ cycles. cycles ≤ 7)
-  step_by-most r s (Ok i) timed = (cycles_of-timed i r.p timed).1
-  step_by-most r s (Err fault) timed = tt
+  step_of-least r s = step_of-ok m (λ cycles bus. 2 ≤ cycles) r s (λ i timed. (cycles_of-timed i r.p timed).0)
 
   -- It takes at most 7.
   pub step_of-most : (r : Registers) (s : S) → IfOk (step_of m r s).answer (λ cycles. cycles ≤ 7)
-  step_of-most r s = step_by-most r s (instruction_at m s r) (decoded-timed m s r)
+  step_of-most r s = step_of-ok m (λ cycles bus. cycles ≤ 7) r s (λ i timed. (cycles_of-timed i r.p timed).1)
 
 module _ {S : Type 0} (m : Meaning S) (advance : ℕ → ℕ → ℕ) (clock : S → ℕ) (is : IsClock m advance clock) where
   -- A clock is ahead of a time by the cycles of an instruction that are over.
-  abbrev IsAhead : ℕ → Progress S → Type 0
-  IsAhead t g = (n : ℕ) → advance (clock g.bus) n ≡ advance t (g.cycle + n)
+  abbrev IsAhead : ℕ → S → ℕ → Type 0
+  IsAhead t bus cycle = (n : ℕ) → advance (clock bus) n ≡ advance t (cycle + n)
 
-  begun-ahead : (s : S) → IsAhead (clock s) (at_start s)
-  begun-ahead s n = ap (advance (clock s)) (sym (zero-add n))
-
-  ahead-after : (t : ℕ) (g : Progress S) (cycle : ℕ) (bus : S) → g.cycle ≤ cycle → IsAhead t g
-      → clock bus ≡ clock (bus_at m g cycle) → (n : ℕ)
-      → advance (clock bus) n ≡ advance t (cycle + n)
-  ahead-after t g cycle bus le ahead e n =
-      let over = cycle - g.cycle in
-      let sum : g.cycle + (over + n) ≡ cycle + n = omega arith in
-      ap (λ (c : ℕ). advance c n) (e ∙ is.passed g.bus over)
-      ∙ is.adds (clock g.bus) over n
-      ∙ ahead (over + n)
-      ∙ ap (advance t) sum
-
-  transferred-ahead : (o : Operation) (p t : ℕ) (g : Progress S) (cycle address : ℕ) (transfer : Transfer)
-      → g.cycle ≤ cycle → IsAhead t g
-      → IsAhead t (after_transfer m o p g cycle address transfer)
-  transferred-ahead o p t g cycle address Read le ahead n = ahead-after t g cycle _ le ahead (is.read _ address) n
-  transferred-ahead o p t g cycle address (Write source) le ahead n = ahead-after t g cycle _ le ahead (is.written _ address _) n
-
-  accessed-ahead : (o : Operation) (p t : ℕ) (g : Progress S) (access : Access)
-      → g.cycle ≤ access.cycle → IsAhead t g → IsAhead t (after_access m o p g access)
-  accessed-ahead o p t g access le ahead = transferred-ahead o p t g access.cycle access.address access.transfer le ahead
-
-  transferred-ascends : (o : Operation) (p : ℕ) (g : Progress S) (cycle address : ℕ) (transfer : Transfer) (accesses : List Access) (last : ℕ)
-      → AscendsTo cycle accesses last
-      → AscendsTo (after_transfer m o p g cycle address transfer).cycle accesses last
-  transferred-ascends o p g cycle address Read accesses last h = h
-  transferred-ascends o p g cycle address (Write source) accesses last h = h
-
-  accessed-ascends : (o : Operation) (p : ℕ) (g : Progress S) (access : Access)
-      (accesses : List Access) (last : ℕ) → AscendsTo access.cycle accesses last
-      → AscendsTo (after_access m o p g access).cycle accesses last
-  accessed-ascends o p g access accesses last h =
-      transferred-ascends o p g access.cycle access.address access.transfer accesses last h
-
-  reached-clock : (t : ℕ) (g : Progress S) (cycle : ℕ) → g.cycle ≤ cycle → IsAhead t g
+  reached-clock : (t : ℕ) (g : Progress S) (cycle : ℕ) → g.cycle ≤ cycle → IsAhead t g.bus g.cycle
       → clock (bus_at m g cycle) ≡ advance t cycle
   reached-clock t g cycle le ahead =
       let e : g.cycle + (cycle - g.cycle) ≡ cycle = omega arith in
       is.passed g.bus (cycle - g.cycle) ∙ ahead (cycle - g.cycle) ∙ ap (advance t) e
 
-  ended-clock : (o : Operation) (p t : ℕ) (g : Progress S) (accesses : List Access) (last : ℕ)
-      → AscendsTo g.cycle accesses last → IsAhead t g
-      → (let end = fold (after_access m o p) g accesses in clock (bus_at m end last)) ≡ advance t last
-  ended-clock o p t g [] last ascends ahead = reached-clock t g last ascends ahead
-  ended-clock o p t g (access ∷ accesses) last ascends ahead =
-      ended-clock o p t (after_access m o p g access) accesses last
-      (accessed-ascends o p g access accesses last ascends.1)
-      (accessed-ahead o p t g access ascends.0 ahead)
+  ahead-after : (t : ℕ) (g : Progress S) (cycle : ℕ) (bus : S) → g.cycle ≤ cycle → IsAhead t g.bus g.cycle
+      → clock bus ≡ clock (bus_at m g cycle) → IsAhead t bus cycle
+  ahead-after t g cycle bus le ahead e n =
+      ap (λ (c : ℕ). advance c n) (e ∙ is.passed g.bus (cycle - g.cycle))
+      ∙ is.adds (clock g.bus) (cycle - g.cycle) n
+      ∙ ahead (cycle - g.cycle + n)
+      ∙ ap (advance t) (omega arith)
 
-  pub executed-clock : (r : Registers) (s : S) (i : Instruction) → IsTimed i.row
-      → clock (execution_of m r s i).bus ≡ advance (clock s) (instruction_cycles i r.p)
-  executed-clock r s i timed =
+  -- What holds after whatever shows the clock of an access's cycle holds after the access.
+  accessed : (P : Progress S → Type 0) (o : Operation) (p : ℕ) (g : Progress S) (access : Access)
+      → ((bus : S) (bytes : List ℕ) → clock bus ≡ clock (bus_at m g access.cycle) → P (progress_at bus access.cycle bytes))
+      → P (after_access m o p g access)
+  accessed P o p g access h = by access.transfer
+    where
+      by : (t : Transfer) → P (after_transfer m o p g access.cycle access.address t)
+      by Read = h _ _ (is.read _ access.address)
+      by (Write source) = h _ _ (is.written _ access.address _)
+
+  -- Each access is made, and the last cycle ends, when that many cycles have passed.
+  abbrev IsInTime : Operation → ℕ → ℕ → List Access → ℕ → Progress S → Type 0
+  IsInTime o p t accesses last g =
+      (access_clocks m clock o p g accesses ≡ map (λ access. advance t access.cycle) accesses)
+      × (clock (bus_at m (fold (after_access m o p) g accesses) last) ≡ advance t last)
+
+  accesses-timed : (o : Operation) (p t : ℕ) (g : Progress S) (accesses : List Access) (last : ℕ)
+      → AscendsTo g.cycle accesses last → IsAhead t g.bus g.cycle → IsInTime o p t accesses last g
+  accesses-timed o p t g [] last ascends ahead = (refl, reached-clock t g last ascends ahead)
+  accesses-timed o p t g (access ∷ accesses) last ascends ahead =
+      let rest = accessed (IsInTime o p t accesses last) o p g access
+      (λ bus bytes e. accesses-timed o p t (progress_at bus access.cycle bytes) accesses last ascends.1
+      (ahead-after t g access.cycle bus ascends.0 ahead e)) in
+      (rw (reached-clock t g access.cycle ascends.0 ahead, rest.0) refl, rest.1)
+
+  executed-timed : (r : Registers) (s : S) (i : Instruction) → IsTimed i.row
+      → (let cycles = instruction_cycles i r.p in
+      IsInTime i.row.operation r.p (clock s) (accesses_of i r cycles) cycles (at_start s))
+  executed-timed r s i timed =
       let cycles = instruction_cycles i r.p in
-      let ascends = accesses_of-ascend i r cycles (cycles_of-timed i r.p timed).2 in
-      ended-clock i.row.operation r.p (clock s) (at_start s) (accesses_of i r cycles) cycles ascends
-      (begun-ahead s)
-
-  step_by-clock : (r : Registers) (s : S) (d : Result Instruction CpuFault)
-      → IfOk d (λ i. IsTimed i.row)
-      → IfOk (step_by m r s d).answer (λ cycles. clock (step_by m r s d).bus ≡ advance (clock s) cycles)
-  step_by-clock r s (Ok i) timed = executed-clock r s i timed
-  step_by-clock r s (Err fault) timed = tt
+      accesses-timed i.row.operation r.p (clock s) (at_start s) (accesses_of i r cycles) cycles
+      (accesses_of-ascend i r cycles (cycles_of-timed i r.p timed).2) (λ n. ap (advance (clock s)) (sym (zero-add n)))
 
   -- A clock of the bus is advanced by the cycles of the instruction.
   pub step_of-clock : (r : Registers) (s : S)
       → IfOk (step_of m r s).answer (λ cycles. clock (step_of m r s).bus ≡ advance (clock s) cycles)
-  step_of-clock r s = step_by-clock r s (instruction_at m s r) (decoded-timed m s r)
-
-  access_clocks-ahead : (o : Operation) (p t : ℕ) (g : Progress S) (accesses : List Access) (last : ℕ)
-      → AscendsTo g.cycle accesses last → IsAhead t g
-      → access_clocks m clock o p g accesses ≡ map (λ access. advance t access.cycle) accesses
-  access_clocks-ahead o p t g [] last ascends ahead = refl
-  access_clocks-ahead o p t g (access ∷ accesses) last ascends ahead =
-      let rest = access_clocks-ahead o p t (after_access m o p g access) accesses last
-      (accessed-ascends o p g access accesses last ascends.1)
-      (accessed-ahead o p t g access ascends.0 ahead) in
-      rw (reached-clock t g access.cycle ascends.0 ahead, rest) refl
+  step_of-clock r s =
+      step_of-ok m (λ cycles bus. clock bus ≡ advance (clock s) cycles) r s (λ i timed. (executed-timed r s i timed).1)
 
 -- Each access of an instruction is made when its cycle has passed.
-pub timed-keeps : {S : Type 0} (m : Meaning S) (r : Registers) (s : S) (i : Instruction)
-    → IsTimed i.row → KeepsTime m r s i
-timed-keeps m r s i timed advance clock is =
-    let cycles = instruction_cycles i r.p in
-    let ascends = accesses_of-ascend i r cycles (cycles_of-timed i r.p timed).2 in
-    access_clocks-ahead m advance clock is i.row.operation r.p (clock s) (at_start s)
-    (accesses_of i r cycles) cycles ascends (begun-ahead m advance clock is s)
-
-pub decoded-keeps : {S : Type 0} (m : Meaning S) (r : Registers) (s : S)
-    → IfOk (instruction_at m s r) (KeepsTime m r s)
-decoded-keeps m r s = by (instruction_at m s r) (decoded-timed m s r)
-  where
-    by : (d : Result Instruction CpuFault) → IfOk d (λ i. IsTimed i.row) → IfOk d (KeepsTime m r s)
-    by (Ok i) timed = timed-keeps m r s i timed
-    by (Err fault) timed = tt
+pub decoded-keeps : {S : Type 0} (m : Meaning S) (r : Registers) (s : S) → IfOk (instruction_at m s r) (KeepsTime m r s)
+decoded-keeps m r s =
+    decoded-ok m s r _ (λ i timed advance clock is. (executed-timed m advance clock is r s i timed).0)
 
 module _ {S : Type 0} (m : Meaning S) (Fact : S → Type 0) (kept : IsInvariant m Fact) where
-  transferred-kept : (o : Operation) (p : ℕ) (g : Progress S) (cycle address : ℕ) (t : Transfer)
-      → Fact g.bus → Fact (after_transfer m o p g cycle address t).bus
-  transferred-kept o p g cycle address Read h = kept.read _ address (kept.passed g.bus (cycle - g.cycle) h)
-  transferred-kept o p g cycle address (Write source) h = kept.written _ address _ (kept.passed g.bus (cycle - g.cycle) h)
-
   fold-kept : (o : Operation) (p : ℕ) (g : Progress S) (accesses : List Access) → Fact g.bus
       → Fact (fold (after_access m o p) g accesses).bus
   fold-kept o p g [] h = h
-  fold-kept o p g (access ∷ accesses) h =
-      fold-kept o p (after_access m o p g access) accesses (transferred-kept o p g access.cycle access.address access.transfer h)
-
-  step_by-kept : (r : Registers) (s : S) (d : Result Instruction CpuFault) → Fact s
-      → Fact (step_by m r s d).bus
-  step_by-kept r s (Ok i) h =
-      let cycles = instruction_cycles i r.p in
-      kept.passed _ _ (fold-kept i.row.operation r.p (at_start s) (accesses_of i r cycles) h)
-  step_by-kept r s (Err fault) h = h
+  fold-kept o p g (access ∷ accesses) h = fold-kept o p (after_access m o p g access) accesses (by access.transfer)
+    where
+      by : (t : Transfer) → Fact (after_transfer m o p g access.cycle access.address t).bus
+      by Read = kept.read _ access.address (kept.passed g.bus (access.cycle - g.cycle) h)
+      by (Write source) = kept.written _ access.address _ (kept.passed g.bus (access.cycle - g.cycle) h)
 
   -- What each call of a bus keeps, an instruction keeps.
   pub step_of-kept : (r : Registers) (s : S) → Fact s → Fact (step_of m r s).bus
-  step_of-kept r s h = step_by-kept r s (instruction_at m s r) h
+  step_of-kept r s h = by (instruction_at m s r)
+    where
+      by : (d : Result Instruction CpuFault) → Fact (step_by m r s d).bus
+      by (Ok i) = kept.passed _ _ (fold-kept i.row.operation r.p (at_start s) (accesses_of i r (instruction_cycles i r.p)) h)
+      by (Err fault) = h
 
--- Counts that may be clocks: one that goes on without end, and one modulo a number, at a rate of so
--- many a cycle.
-pub count-adds : (rate t a b : ℕ) → t + rate * a + rate * b ≡ t + rate * (a + b)
-count-adds rate t a b = grind arith
-
+-- A count modulo a number, at a rate of so many a cycle, may be a clock.
 pub count_modulo-adds : (rate modulus t a b : ℕ)
     → ((t + rate * a) % modulus + rate * b) % modulus ≡ (t + rate * (a + b)) % modulus
-count_modulo-adds rate modulus t a b = mod-add-mod (t + rate * a) modulus (rate * b) ∙ ap (λ n. n % modulus) (count-adds rate t a b)
+count_modulo-adds rate modulus t a b = mod-add-mod (t + rate * a) modulus (rate * b) ∙ ap (λ n. n % modulus) (grind arith)

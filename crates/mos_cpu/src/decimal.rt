@@ -88,6 +88,7 @@ const fn lacking_digit(have: u8, taken: u8) -> u8
 }
 
 /// The difference of the low digits with borrow, and the 16 that it borrows or 0.
+#[tactic(auto, using(crate::proofs::DecimalLemmas::low_digits))]
 #[inline(always)]
 const fn low_difference(a: u8, m: u8, p: u8) -> (u8, u8)
     ensures difference { pos result.0 -ℤ pos result.1 ≡ low_difference_of a m p }
@@ -104,6 +105,7 @@ const fn low_difference(a: u8, m: u8, p: u8) -> (u8, u8)
 }
 
 /// The decimal difference with borrow: a digit that lacks borrows from the next, and is 6 less.
+#[tactic(auto, using(crate::proofs::DecimalLemmas::high_lacks, crate::proofs::DecimalLemmas::high_suffices))]
 #[inline(never)]
 pub const fn decimal_sub(a: u8, m: u8, p: u8) -> u8
     ensures { result ≡ decimal_difference a m p }

@@ -29,6 +29,7 @@ fn pulled_at(s: u8, n: u8) -> u16
 }
 
 /// JMP to the address after the opcode.
+#[tactic(auto, using(crate::proofs::OpcodeRunLemmas::outside))]
 pub fn jmp<B: Bus>(cpu: &mut Cpu, bus: &mut B, low: u8) -> Option<u8>
     requires row { IsRow B.meaning (B.state bus.old) cpu.old Operation.Jmp Mode.Absolute 3 false }
     requires low { IsLow B.meaning (B.state bus.old) cpu.old low }
@@ -41,6 +42,7 @@ pub fn jmp<B: Bus>(cpu: &mut Cpu, bus: &mut B, low: u8) -> Option<u8>
 }
 
 /// JSR: pushes the address of its last byte, high byte first, and jumps.
+#[tactic(auto, using(crate::proofs::OpcodeRunLemmas::outside))]
 pub fn jsr<B: Bus>(cpu: &mut Cpu, bus: &mut B, low: u8) -> Option<u8>
     requires row { IsRow B.meaning (B.state bus.old) cpu.old Operation.Jsr Mode.Absolute 6 false }
     requires low { IsLow B.meaning (B.state bus.old) cpu.old low }
@@ -167,6 +169,7 @@ pub fn brk<B: Bus>(cpu: &mut Cpu, bus: &mut B) -> Option<u8>
 }
 
 /// JMP to the address that stands at the one after the opcode.
+#[tactic(auto, using(crate::proofs::OpcodeRunLemmas::outside))]
 pub fn jmp_indirect<B: Bus>(cpu: &mut Cpu, bus: &mut B, low: u8) -> Option<u8>
     requires row { IsRow B.meaning (B.state bus.old) cpu.old Operation.Jmp Mode.Indirect 5 false }
     requires low { IsLow B.meaning (B.state bus.old) cpu.old low }

@@ -1,8 +1,7 @@
 -- Lists cell by cell, bytes, and numbers of several bytes.
-use Rattle.std.proofs.Common.{◌≡◌, ℕ, zero, suc, ◌+◌, ◌^◌, ◌<◌, ◌≤◌, Bool, true, false, cond, List}
-use Rattle.std.proofs.Common.{[], ◌∷◌, length, get_or, take, drop, Some, None, refl, ap, ◌∙◌, arith}
-use Rattle.std.proofs.Common.{inl, inr, drop-cons}
-use Rattle.std.specs.Prelude.{◌&&◌}
+use Rattle.std.proofs.Common.{◌≡◌, ℕ, zero, suc, ◌+◌, ◌<◌, ◌≤◌, Bool, true, false, cond, List}
+use Rattle.std.proofs.Common.{[], ◌∷◌, length, get_or, take, drop, Some, None, refl, ◌∙◌, arith}
+use Rattle.std.proofs.Common.{drop-cons}
 use Rattle.std.specs.Int.{w16, from_be_bytes, to_be_bytes}
 use Rattle.std.proofs.lemmas.Bool.{cases_lt}
 use Rattle.std.proofs.lemmas.List.{take_all, length-take, get_or-drop, get_or-take, get_or_past}
@@ -15,11 +14,7 @@ pub IsBytes-drop : (n : ℕ) (bytes : List ℕ) → IsBytes bytes → IsBytes (d
 IsBytes-drop n bytes h i = rw get_or-drop (h (n + i))
 
 pub IsBytes-take : (n : ℕ) (bytes : List ℕ) → IsBytes bytes → IsBytes (take n bytes)
-IsBytes-take n bytes h i =
-    elim (cases_lt i n) [
-      | inl lt ↦ rw (get_or-take n bytes i 0 lt) (h i)
-      | inr le ↦ rw (get_or_past (take n bytes) i 0 (omega (arith, length-take n bytes))) (omega arith)
-    ]
+IsBytes-take n bytes h i = grind (arith, get_or-take, get_or_past, length-take, cases_lt, h i)
 
 -- n cells from i on
 abbrev pub cells : ℕ → ℕ → List ℕ → List ℕ
@@ -29,8 +24,7 @@ cells (suc n) i b = get_or b i 0 ∷ cells n (suc i) b
 pub cells_is : (n i : ℕ) (b : List ℕ) → i + n ≤ length b → cells n i b ≡ take n (drop i b)
 cells_is zero i b h = refl
 cells_is (suc n) i b h =
-    let lt : i < length b = omega arith in
-    rw (drop-cons b i 0) (ap (λ (r : List ℕ). get_or b i 0 ∷ r) (cells_is n (suc i) b (omega arith)))
+    let lt : i < length b = omega arith in rw (drop-cons b i 0, ← cells_is n (suc i) b (omega arith)) refl
 
 -- a list is its cells
 pub cells_whole : (n : ℕ) (b : List ℕ) → length b ≡ n → cells n 0 b ≡ b
@@ -44,17 +38,7 @@ IsBytes_two x y hx hy (suc (suc i)) = omega arith
 pub two_back : (x y : ℕ) → x < 256 → y < 256 → to_be_bytes w16 (from_be_bytes w16 (x ∷ y ∷ [])) ≡ x ∷ y ∷ []
 two_back x y hx hy = be_bytes_2 (x ∷ y ∷ []) _ refl (IsBytes_two x y hx hy) refl
 
-pub two_below : (x y : ℕ) → x < 256 → y < 256 → from_be_bytes w16 (x ∷ y ∷ []) < 2 ^ 16
-two_below x y hx hy = omega arith
-
-pub and_true : (a b : Bool) → (a && b) ≡ true → (a ≡ true) × (b ≡ true)
-and_true true b h = (refl, h)
-and_true false b h = absurd cc
-
-pub chosen_some : {A : Type 0} (t : Bool) (x y : A) → cond t (Some x) None ≡ Some y → (t ≡ true) × (x ≡ y)
-chosen_some true x y e = (refl, cc)
-chosen_some false x y e = absurd cc
-
+-- nothing was taken, since a test failed
 pub unchosen : {A : Type 0} (t : Bool) (x : A) → cond t (Some x) None ≡ None → t ≡ false
 unchosen true x e = absurd cc
 unchosen false x e = refl

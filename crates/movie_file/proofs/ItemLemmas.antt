@@ -1,14 +1,14 @@
--- Reading items one after the other, as a loop does.
-use Rattle.std.proofs.Common.{◌≡◌, ℕ, suc, ◌-◌, ◌+◌, ◌≤◌, ◌<◌, List, [], ◌∷◌, ◌++◌, drop, Result}
+-- Reading items one after the other: as a loop does, and what is spelled by those that are read.
+use Rattle.std.proofs.Common.{◌≡◌, ℕ, zero, suc, ◌-◌, ◌+◌, ◌*◌, ◌≤◌, ◌<◌, List, [], ◌∷◌, ◌++◌, length, take, drop, Result}
 use Rattle.std.proofs.Common.{Ok, Err, refl, sym, ap, ◌∙◌, append_assoc, arith}
-use Rattle.std.proofs.lemmas.List.{append-nil}
-use Rattle.vcs_machine.specs.Inputs.{InputData}
-use Rattle.movie_file.specs.Format.{input_length, checkpoint_length}
+use Rattle.std.specs.List.{flat_map}
+use Rattle.std.proofs.lemmas.List.{append-nil, drop_at, length-drop, take-append-drop}
+use Rattle.std.proofs.lemmas.List.Concat.{flat_map-cons}
 use Rattle.movie_file.specs.declared.error.MovieError.{MovieError}
-use Rattle.movie_file.specs.declared.checkpoint.Checkpoint.{Checkpoint}
-use Rattle.movie_file.specs.declared.reading.sizes.Sizes.{Sizes}
-use Rattle.movie_file.specs.Reading.{◌>>=◌, input_at, inputs_at, claimed_checkpoint, checkpoints_at}
+use Rattle.movie_file.specs.Reading.{◌>>=◌}
 use Rattle.movie_file.specs.MovieError.{Fails}
+use Rattle.movie_file.proofs.ByteLemmas.{IsBytes, IsBytes-drop}
+use Rattle.movie_file.proofs.ReadLemmas.{bind_ok, ok_is, Takes}
 
 -- what was read before, and what is still read
 abbrev pub with_prefix : {A : Type 0} → List A → Result (List A × List ℕ) MovieError → Result (List A × List ℕ) MovieError
@@ -19,110 +19,68 @@ regroup : {A : Type 0} (prefix : List A) (n : A) (read : Result (List A × List 
 regroup prefix n (Ok x) = ap (λ (ns : List _). Ok (ns, x.1)) (simp append_assoc)
 regroup prefix n (Err f) = refl
 
--- a refusal is what any reading that is refused so gives
-pub fails_is : {A : Type 0} (e : MovieError) (x y : Result A MovieError) → x ≡ y → Fails e x → Fails e y
-fails_is e x y same h = λ n. sym same ∙ h n
+-- Items of so many bytes each are read one after the other. `next` says how an item is read after one.
+pub record ReadsItems {A S : Type 0} (item : S → List ℕ → Result A MovieError) (next : S → A → S) (size : ℕ)
+    (items : ℕ → S → List ℕ → Result (List A × List ℕ) MovieError) : Type 0 where
+  pub none : (s : S) (bytes : List ℕ) → items 0 s bytes ≡ Ok ([], bytes)
+  pub more : (n : ℕ) (s : S) (bytes : List ℕ)
+      → items (suc n) s bytes ≡ (item s bytes >>= λ a. items n (next s a) (drop size bytes) >>= λ x. Ok (a ∷ x.0, x.1))
 
--- a refusal of the first step is one of the whole
-pub fails_on : {A B : Type 0} (e : MovieError) (x : Result A MovieError) (f : A → Result B MovieError) → Fails e x → Fails e (x >>= f)
-fails_on e x f h = λ n. ap (λ (r : Result _ MovieError). r >>= f) (h n)
+-- what was read is spelled by the bytes before the rest
+pub record ItemsRead {A : Type 0} (text : A → List ℕ) (Are : List A → Type 0) (size n : ℕ) (bytes : List ℕ) (x : List A × List ℕ) : Type 0 where
+  pub takes : Takes bytes (flat_map text x.0) x.1
+  pub count : length x.0 ≡ n
+  pub each : Are x.0
+  pub left : length x.1 + size * n ≡ length bytes
 
--- ---- inputs
+module _ {A S : Type 0} {item : S → List ℕ → Result A MovieError} {next : S → A → S} {size : ℕ}
+    {items : ℕ → S → List ℕ → Result (List A × List ℕ) MovieError} (reads : ReadsItems item next size items) where
+  -- an item goes from what is read to what was read
+  pub go_on : (prefix : List A) (count i : ℕ) (s : S) (bytes : List ℕ) (a : A) → i < count → item s bytes ≡ Ok a
+      → with_prefix prefix (items (count - i) s bytes) ≡ with_prefix (prefix ++ a ∷ []) (items (count - (i + 1)) (next s a) (drop size bytes))
+  go_on prefix count i s bytes a lt is =
+      let k : count - i ≡ suc (count - (i + 1)) = omega arith in
+      rw (k, reads.more, is) (regroup prefix a (items (count - (i + 1)) (next s a) (drop size bytes)))
 
-pub inputs_step : (count i : ℕ) (bytes : List ℕ) → i < count
-    → inputs_at (count - i) (i + 1) bytes
-    ≡ (input_at (i + 1) bytes >>= λ first. inputs_at (count - (i + 1)) (i + 1 + 1)
-    (drop input_length bytes) >>= λ others. Ok (first ∷ others.0, others.1))
-unfolding inputs_at
-inputs_step count i bytes lt =
-    let k : count - i ≡ suc (count - (i + 1)) = omega arith in
-    let j : suc (i + 1) ≡ i + 1 + 1 = omega arith in
-    ap (λ (n : ℕ). inputs_at n (i + 1) bytes) k
-    ∙ ap
-    (λ (n : ℕ). input_at (i + 1) bytes >>= λ first. inputs_at (count - (i + 1)) n (drop input_length bytes) >>= λ others. Ok (first ∷ others.0, others.1))
-    j
+  -- an item that is refused ends it
+  pub ends : (e : MovieError) (prefix : List A) (count i : ℕ) (s : S) (bytes : List ℕ) → i < count → Fails e (item s bytes)
+      → Fails e (with_prefix prefix (items (count - i) s bytes))
+  ends e prefix count i s bytes lt fails = λ n. let k : count - i ≡ suc (count - (i + 1)) = omega arith in rw (k, reads.more, fails n) refl
 
-pub inputs_go_on : (prefix : List InputData) (count i : ℕ) (bytes : List ℕ) (n : InputData) (total : Result (List InputData × List ℕ) MovieError)
-    → i < count → input_at (i + 1) bytes ≡ Ok n
-    → with_prefix prefix (inputs_at (count - i) (i + 1) bytes) ≡ total
-    → with_prefix (prefix ++ n ∷ []) (inputs_at (count - (i + 1)) (i + 1 + 1) (drop input_length bytes)) ≡ total
-inputs_go_on prefix count i bytes n total lt h so_far =
-    let rest = inputs_at (count - (i + 1)) (i + 1 + 1) (drop input_length bytes) in
-    sym
-    (ap (with_prefix prefix)
-    (inputs_step count i bytes lt
-    ∙ ap (λ (r : Result InputData MovieError). r >>= λ first. rest >>= λ others. Ok
-    (first ∷ others.0, others.1)) h) ∙ regroup prefix n rest)
-    ∙ so_far
+  -- and none are left at its end
+  pub done : (prefix : List A) (count i : ℕ) (s : S) (bytes : List ℕ) → count ≤ i → with_prefix prefix (items (count - i) s bytes) ≡ Ok (prefix, bytes)
+  done prefix count i s bytes le = let k : count - i ≡ 0 = omega arith in rw (k, reads.none, append-nil) refl
 
-pub inputs_end : (e : MovieError) (prefix : List InputData) (count i : ℕ) (bytes : List ℕ) (total : Result (List InputData × List ℕ) MovieError)
-    → i < count → Fails e (input_at (i + 1) bytes)
-    → with_prefix prefix (inputs_at (count - i) (i + 1) bytes) ≡ total → Fails e total
-inputs_end e prefix count i bytes total lt h so_far =
-    let rest = inputs_at (count - (i + 1)) (i + 1 + 1) (drop input_length bytes) in
-    fails_is e _ total so_far (fails_is e _ _ (ap (with_prefix prefix) (sym (inputs_step count i bytes lt)))
-    (fails_on e (input_at (i + 1) bytes >>= λ first. rest >>= λ others. Ok (first ∷ others.0, others.1)) (λ x. Ok (prefix ++ x.0, x.1))
-    (fails_on e (input_at (i + 1) bytes) (λ first. rest >>= λ others. Ok (first ∷ others.0, others.1)) h)))
+  module _ (text : A → List ℕ) (Are : S → List A → Type 0) where
+    -- items that are read are lawful, and spelled so, if each is
+    pub items_take : ((s : S) → Are s [])
+        → ((s : S) (bytes : List ℕ) (a : A) → size ≤ length bytes → IsBytes bytes → item s bytes ≡ Ok a
+        → (text a ≡ take size bytes) × ((others : List A) → Are (next s a) others → Are s (a ∷ others)))
+        → (n : ℕ) (s : S) (bytes : List ℕ) (x : List A × List ℕ) → size * n ≤ length bytes → IsBytes bytes → items n s bytes ≡ Ok x
+        → ItemsRead text (Are s) size n bytes x
+    items_take empty first zero s bytes x long fits e =
+        let is = ok_is ([], bytes) x (sym (reads.none s bytes) ∙ e) in
+        rw (← is) (record { takes = record { parts = refl; rest_fits = fits }; count = refl; each = empty s; left = omega arith })
+    items_take empty first (suc n) s bytes x long fits e =
+        let a = bind_ok (item s bytes) _ x (sym (reads.more n s bytes) ∙ e) in
+        let b = bind_ok (items n (next s a.0) (drop size bytes)) _ x a.2 in
+        let here = first s bytes a.0 (omega arith) fits a.1 in
+        let later = items_take empty first n (next s a.0) (drop size bytes) b.0 (omega (arith, length-drop size bytes)) (IsBytes-drop size bytes fits) b.1 in
+        let parts : bytes ≡ text a.0 ++ (flat_map text b.0.0 ++ b.0.1) = rw (here.0, ← later.takes.parts) (sym (take-append-drop size bytes)) in
+        rw (← ok_is (a.0 ∷ b.0.0, b.0.1) x b.2) (record {
+          takes = record { parts = rw (flat_map-cons, append_assoc) parts; rest_fits = later.takes.rest_fits };
+          count = ap suc later.count;
+          each = here.1 b.0.0 later.each;
+          left = omega (arith, later.left, length-drop size bytes);
+        })
 
-pub inputs_done : (prefix : List InputData) (count i : ℕ) (bytes : List ℕ) (total : Result (List InputData × List ℕ) MovieError) → count ≤ i
-    → with_prefix prefix (inputs_at (count - i) (i + 1) bytes) ≡ total → total ≡ Ok (prefix, bytes)
-unfolding inputs_at
-inputs_done prefix count i bytes total le so_far =
-    let k : count - i ≡ 0 = omega arith in
-    sym so_far ∙ ap (λ (n : ℕ). with_prefix prefix (inputs_at n (i + 1) bytes)) k ∙ ap (λ (ns : List InputData). Ok (ns, bytes)) (append-nil prefix)
-
--- ---- checkpoints
-
-checkpoints_step : (h : Sizes) (count i last : ℕ) (bytes : List ℕ) → i < count
-    → checkpoints_at h (count - i) (i + 1) last bytes
-    ≡ (claimed_checkpoint h (i + 1) last bytes >>= λ first. checkpoints_at h (count - (i + 1))
-    (i + 1 + 1) first.frame (drop (checkpoint_length h.version) bytes) >>= λ others. Ok
-    (first ∷ others.0, others.1))
-unfolding checkpoints_at
-checkpoints_step h count i last bytes lt =
-    let k : count - i ≡ suc (count - (i + 1)) = omega arith in
-    let j : suc (i + 1) ≡ i + 1 + 1 = omega arith in
-    ap (λ (m : ℕ). checkpoints_at h m (i + 1) last bytes) k
-    ∙ ap
-    (λ (m : ℕ). claimed_checkpoint h (i + 1) last bytes >>= λ first. checkpoints_at h
-    (count - (i + 1)) m first.frame (drop (checkpoint_length h.version) bytes) >>= λ others. Ok
-    (first ∷ others.0, others.1))
-    j
-
-pub checkpoints_go_on : (h : Sizes) (prefix : List Checkpoint) (count i last : ℕ) (bytes : List ℕ)
-    (c : Checkpoint) (total : Result (List Checkpoint × List ℕ) MovieError)
-    → i < count → claimed_checkpoint h (i + 1) last bytes ≡ Ok c
-    → with_prefix prefix (checkpoints_at h (count - i) (i + 1) last bytes) ≡ total
-    → with_prefix (prefix ++ c ∷ []) (checkpoints_at h (count - (i + 1)) (i + 1 + 1) c.frame (drop (checkpoint_length h.version) bytes)) ≡ total
-checkpoints_go_on h prefix count i last bytes c total lt is so_far =
-    let rest =
-    λ (first : Checkpoint). checkpoints_at h (count - (i + 1)) (i + 1 + 1) first.frame (drop (checkpoint_length h.version) bytes) >>= λ others. Ok
-    (first ∷ others.0, others.1) in
-    sym
-    (ap (with_prefix prefix)
-    (checkpoints_step h count i last bytes lt
-    ∙ ap (λ (r : Result Checkpoint MovieError). r >>= rest) is)
-    ∙ regroup prefix c (checkpoints_at h (count - (i + 1)) (i + 1 + 1) c.frame
-    (drop (checkpoint_length h.version) bytes)))
-    ∙ so_far
-
-pub checkpoints_end : (h : Sizes) (e : MovieError) (prefix : List Checkpoint) (count i last : ℕ)
-    (bytes : List ℕ) (total : Result (List Checkpoint × List ℕ) MovieError)
-    → i < count → Fails e (claimed_checkpoint h (i + 1) last bytes)
-    → with_prefix prefix (checkpoints_at h (count - i) (i + 1) last bytes) ≡ total → Fails e total
-checkpoints_end h e prefix count i last bytes total lt fails so_far =
-    let rest =
-    λ (first : Checkpoint). checkpoints_at h (count - (i + 1)) (i + 1 + 1) first.frame (drop (checkpoint_length h.version) bytes) >>= λ others. Ok
-    (first ∷ others.0, others.1) in
-    fails_is e _ total so_far (fails_is e _ _ (ap (with_prefix prefix) (sym (checkpoints_step h count i last bytes lt)))
-    (fails_on e (claimed_checkpoint h (i + 1) last bytes >>= rest) (λ x. Ok (prefix ++ x.0, x.1))
-    (fails_on e (claimed_checkpoint h (i + 1) last bytes) rest fails)))
-
-pub checkpoints_done : (h : Sizes) (prefix : List Checkpoint) (count i last : ℕ) (bytes : List ℕ) (total : Result (List Checkpoint × List ℕ) MovieError)
-    → count ≤ i → with_prefix prefix (checkpoints_at h (count - i) (i + 1) last bytes) ≡ total → total ≡ Ok (prefix, bytes)
-unfolding checkpoints_at
-checkpoints_done h prefix count i last bytes total le so_far =
-    let k : count - i ≡ 0 = omega arith in
-    sym so_far
-    ∙ ap (λ (m : ℕ). with_prefix prefix (checkpoints_at h m (i + 1) last bytes)) k
-    ∙ ap (λ (ns : List Checkpoint). Ok (ns, bytes)) (append-nil prefix)
+    -- what lawful items spell is read
+    pub items_again : ((s : S) (a : A) (others : List A) (rest : List ℕ) → Are s (a ∷ others)
+        → (item s (text a ++ rest) ≡ Ok a) × (length (text a) ≡ size) × Are (next s a) others)
+        → (s : S) (others : List A) (rest : List ℕ) → Are s others → items (length others) s (flat_map text others ++ rest) ≡ Ok (others, rest)
+    items_again again s [] rest each = reads.none s rest
+    items_again again s (a ∷ others) rest each =
+        let after = flat_map text others ++ rest in
+        let here = again s a others after each in
+        let left = drop_at (text a) after size here.1 in
+        rw (flat_map-cons, append_assoc, reads.more, here.0, left, items_again again (next s a) others rest here.2) refl

@@ -1,20 +1,19 @@
 -- Of a cartridge and inputs one movie is made, or one fault is found.
-use Rattle.std.proofs.Common.{◌≡◌, ℕ, suc, ◌+◌, ◌*◌, ◌<◌, ◌≤◌, List, [], ◌∷◌, length, Option, Some}
-use Rattle.std.proofs.Common.{None, refl, sym, ap, subst, ◌∙◌, arith, ◌⊎◌, inl, inr}
+use Rattle.std.proofs.Common.{◌≡◌, ℕ, suc, ◌+◌, ◌<◌, List, [], ◌∷◌, length, Option, Some}
+use Rattle.std.proofs.Common.{refl, sym, ap, ◌∙◌, arith}
 use Rattle.std.specs.Prelude.{slice_get}
-use Rattle.std.proofs.lemmas.Bool.{cases_lt}
-use Rattle.std.proofs.lemmas.Option.{slice_get_past}
+use Rattle.std.proofs.lemmas.Option.{slice_get_cases}
 use Rattle.vcs_machine.specs.Inputs.{InputData}
 use Rattle.vcs_machine.specs.States.{state_at_power_on}
 use Rattle.vcs_machine.specs.declared.fault.FaultKind.{FaultKind}
 use Rattle.vcs_machine.specs.declared.fields.StateFields.{StateFields}
 use Rattle.movie_file.specs.declared.checkpoint.Checkpoint.{Checkpoint}
 use Rattle.movie_file.specs.Judgement.{FaultsAt, IsGenuine}
-use Rattle.movie_file.specs.Making.{bare, version_made, IsFirstFault, IsMadeOf}
+use Rattle.movie_file.specs.Making.{bare, IsFirstFault, IsMadeOf}
 use Rattle.movie_file.specs.Movie.{MovieData}
-use Rattle.movie_file.specs.Run.{run, frame_after}
-use Rattle.movie_file.proofs.MakingRuns.{parts, with_checkpoints, run_same}
-use Rattle.movie_file.proofs.RunLemmas.{run-fault, sound_no_fault, same_kind}
+use Rattle.movie_file.specs.Run.{run}
+use Rattle.movie_file.proofs.MakingRuns.{parts}
+use Rattle.movie_file.proofs.RunLemmas.{run_same, run-fault, sound_no_fault, same_kind}
 
 -- lists of one length whose elements are the same at each place
 pub same_lists : (cs ds : List Checkpoint) → length cs ≡ length ds
@@ -40,64 +39,41 @@ same_claim c d frames states =
 -- a movie has each frame that faults
 fault_within : (cart : List ℕ) (inputs : List InputData) (k : ℕ) (kind : FaultKind) → FaultsAt (bare cart inputs) (state_at_power_on cart) 0 k kind
     → k < length inputs
-fault_within cart inputs k kind (state, left, ran, faults) = by (cases_lt k (length inputs))
-  where
-    by : (k < length inputs) ⊎ (length inputs ≤ k) → k < length inputs
-    by (inl less) = less
-    by (inr le) =
-        let none : slice_get inputs (0 + k) ≡ None = slice_get_past inputs (0 + k) (omega arith) in
-        let gone : frame_after (bare cart inputs) (0 + k) state ≡ None = rw none refl in
-        absurd cc
+fault_within cart inputs k kind (state, left, ran, faults) = grind (arith, slice_get_cases)
 
-module _ (cart : List ℕ) (inputs : List InputData) (every : ℕ) (m : MovieData) (made : IsMadeOf cart inputs every m) where
-  made_parts : m ≡ with_checkpoints cart inputs m.checkpoints
-  made_parts =
-      let version = version_made (length cart) (length inputs) in
-      ap (λ (v : ℕ). parts v m.cart m.start m.inputs m.checkpoints) made.version
-      ∙ ap (λ (c : List ℕ). parts version c m.start m.inputs m.checkpoints) made.cart_is
-      ∙ ap (λ (s : StateFields). parts version cart s m.inputs m.checkpoints) made.start
-      ∙ ap (λ (i : List InputData). parts version cart (state_at_power_on cart) i m.checkpoints) made.inputs_are
+-- a made movie's run is that of the movie that claims nothing
+made_run : (cart : List ℕ) (inputs : List InputData) (every : ℕ) (m : MovieData) → IsMadeOf cart inputs every m → (k : ℕ)
+    → run m m.start 0 k ≡ run (bare cart inputs) (state_at_power_on cart) 0 k
+made_run cart inputs every m made k = rw made.start (run_same m (bare cart inputs) (state_at_power_on cart) 0 k made.cart_is made.inputs_are)
 
-  -- its run is that of the movie that claims nothing
-  made_run : (k : ℕ) → run m m.start 0 k ≡ run (bare cart inputs) (state_at_power_on cart) 0 k
-  made_run k =
-      subst (λ (n : MovieData). run n n.start 0 k ≡ run (bare cart inputs) (state_at_power_on cart) 0 k) (sym made_parts)
-      (sym (run_same cart inputs m.checkpoints k))
-
-  made_state : (j : ℕ) (c : Checkpoint) → slice_get m.checkpoints j ≡ Some c
-      → run (bare cart inputs) (state_at_power_on cart) 0 (every * (j + 1)) ≡ Some c.state
-  made_state j c at =
-      ap (λ (k : ℕ). run (bare cart inputs) (state_at_power_on cart) 0 k) (sym (made.places j c at)) ∙ sym (made_run c.frame) ∙ made.states j c at
-
-  pub no_made_fault : IsGenuine m → (frame : ℕ) (kind : FaultKind) → IsFirstFault cart inputs frame kind → ⊥
-  no_made_fault genuine frame kind (k, is, before, fault) =
-      let sound = genuine k (subst (λ (is : List InputData). k < length is) (sym made.inputs_are) (fault_within cart inputs k kind fault)) in
-      let gone = run-fault (bare cart inputs) (state_at_power_on cart) 0 k kind fault in
-      let same = made_run (k + 1) in
-      let ran = sound.1 in
-      absurd cc
+pub no_made_fault : (cart : List ℕ) (inputs : List InputData) (every frame : ℕ) (kind : FaultKind) (m : MovieData) → IsMadeOf cart inputs every m
+    → IsGenuine m → IsFirstFault cart inputs frame kind → ⊥
+no_made_fault cart inputs every frame kind m made genuine (k, is, before, fault) =
+    let sound = genuine k (rw made.inputs_are (fault_within cart inputs k kind fault)) in
+    let gone = run-fault (bare cart inputs) (state_at_power_on cart) 0 k kind fault in
+    let same = made_run cart inputs every m made (k + 1) in
+    let ran = sound.1 in absurd cc
 
 pub one_made_movie : (cart : List ℕ) (inputs : List InputData) (every : ℕ) (m n : MovieData) → IsMadeOf cart inputs every m
     → IsMadeOf cart inputs every n → m ≡ n
 one_made_movie cart inputs every m n made again =
-    let lengths : length m.checkpoints ≡ length n.checkpoints = made.count ∙ sym again.count in
-    let each = λ (j : ℕ) (c d : Checkpoint) (at : slice_get m.checkpoints j ≡ Some c) (here : slice_get n.checkpoints j ≡ Some d).
-    same_claim c d (made.places j c at ∙ sym (again.places j d here))
-    (sym (made_state cart inputs every m made j c at) ∙ made_state cart inputs every n again j d here)
-    in
-    made_parts cart inputs every m made
-    ∙ ap (with_checkpoints cart inputs) (same_lists m.checkpoints n.checkpoints lengths each)
-    ∙ sym (made_parts cart inputs every n again)
+    let same = same_lists m.checkpoints n.checkpoints (made.count ∙ sym again.count) (λ j c d at here.
+    let frames : c.frame ≡ d.frame = made.places j c at ∙ sym (again.places j d here) in
+    let one = rw frames at (sym (made_run cart inputs every m made c.frame) ∙ made.states j c at) in
+    let two = sym (made_run cart inputs every n again d.frame) ∙ again.states j d here in
+    same_claim c d frames (sym one ∙ two)) in
+    same_movie _ _ _ _ _ _ _ _ _ _ (made.version ∙ sym again.version) (made.cart_is ∙ sym again.cart_is) (made.start ∙ sym again.start)
+    (made.inputs_are ∙ sym again.inputs_are) same
+  where
+    same_movie : (v w : ℕ) (c d : List ℕ) (s t : StateFields) (i j : List InputData) (k l : List Checkpoint) → v ≡ w → c ≡ d → s ≡ t → i ≡ j → k ≡ l
+        → parts v c s i k ≡ parts w d t j l
+    same_movie v w c d s t i j k l version cart start inputs checkpoints = cc
 
 pub one_first_fault : (cart : List ℕ) (inputs : List InputData) (frame other : ℕ) (kind other_kind : FaultKind) → IsFirstFault cart inputs frame kind
     → IsFirstFault cart inputs other other_kind
     → (frame ≡ other) × (kind ≡ other_kind)
-one_first_fault cart inputs frame other kind other_kind (k, is, before, fault) (k', is', before', fault') = by (cases_lt k k') (cases_lt k' k)
-  where
-    by : (k < k') ⊎ (k' ≤ k) → (k' < k) ⊎ (k ≤ k') → (frame ≡ other) × (kind ≡ other_kind)
-    by (inl low) more = absurd (sound_no_fault (bare cart inputs) (state_at_power_on cart) 0 k kind (before' k low) fault)
-    by (inr le) (inl low) = absurd (sound_no_fault (bare cart inputs) (state_at_power_on cart) 0 k' other_kind (before k' low) fault')
-    by (inr le) (inr ge) =
-        let same : k' ≡ k = omega arith in
-        let here = subst (λ (x : ℕ). FaultsAt (bare cart inputs) (state_at_power_on cart) 0 x other_kind) same fault' in
-        (omega arith, same_kind (bare cart inputs) (state_at_power_on cart) 0 k kind other_kind fault here)
+one_first_fault cart inputs frame other kind other_kind (k, is, before, fault) (k', is', before', fault') =
+    let later = λ (less : k < k'). sound_no_fault (bare cart inputs) (state_at_power_on cart) 0 k kind (before' k less) fault in
+    let sooner = λ (less : k' < k). sound_no_fault (bare cart inputs) (state_at_power_on cart) 0 k' other_kind (before k' less) fault' in
+    let same : k' ≡ k = omega arith in
+    (omega arith, same_kind (bare cart inputs) (state_at_power_on cart) 0 k kind other_kind fault (rw same at fault'))

@@ -21,27 +21,20 @@ pub cpu_back : (b : List ℕ) → IsBytes b → length b ≡ cpu_length → byte
 cpu_back b fits len =
     ap (λ (w : List ℕ). cells 5 0 b ++ w) (two_back _ _ (fits 5) (fits 6)) ∙ cells_whole cpu_length b len
 
-ports_back : (ram b : List ℕ) → IsBytes b → length b ≡ 10 → bytes_of riot_numbers (riot_with ram b) ≡ b
-ports_back ram b fits len =
-    ap (λ (w : List ℕ). cells 5 0 b ++ w ++ cells 3 7 b) (two_back _ _ (fits 5) (fits 6))
-    ∙ cells_whole 10 b len
-
 pub riot_back : (b : List ℕ) → IsBytes b → length b ≡ riot_length → riot_bytes (riot_at b) ≡ b
 riot_back b fits len =
+    let ports = drop 128 b in
     let ports_fit = IsBytes-drop 128 b fits in
-    let ports : bytes_of riot_numbers (riot_at b) ≡ drop 128 b =
-    ports_back (take 128 b) (drop 128 b) ports_fit (omega (arith, length-drop 128 b)) in
-    ap (λ (w : List ℕ). take 128 b ++ w) ports ∙ take-append-drop 128 b
-
-third_back : (n : ℕ) → 3 * n / 3 ≡ n
-third_back n = omega arith
+    let whole = cells_whole 10 ports (omega (arith, length-drop 128 b)) in
+    let part = ap (λ (w : List ℕ). cells 5 0 ports ++ w ++ cells 3 7 ports) (two_back _ _ (ports_fit 5) (ports_fit 6)) in
+    ap (λ (w : List ℕ). take 128 b ++ w) (part ∙ whole) ∙ take-append-drop 128 b
 
 pub tia_back : (b : List ℕ) → IsBytes b → length b ≡ tia_length → bytes_of tia_numbers (tia_at b) ≡ b
 tia_back b fits len =
     let last = λ (n : ℕ). n ∷ get_or b 41 0 ∷ [] in
-    ap (λ (w : List ℕ). cells 37 0 b ++ w ++ get_or b 39 0 ∷ last (3 * get_or b 40 0 / 3))
-    (two_back _ _ (fits 37) (fits 38))
-    ∙ ap (λ (n : ℕ). cells 40 0 b ++ last n) (third_back (get_or b 40 0))
+    let third : 3 * get_or b 40 0 / 3 ≡ get_or b 40 0 = omega arith in
+    ap (λ (w : List ℕ). cells 37 0 b ++ w ++ get_or b 39 0 ∷ last (3 * get_or b 40 0 / 3)) (two_back _ _ (fits 37) (fits 38))
+    ∙ ap (λ (n : ℕ). cells 40 0 b ++ last n) third
     ∙ cells_whole tia_length b len
 
 -- ---- read as they were written
@@ -59,8 +52,7 @@ module _ (r : RiotFields) (ram : length r.ram ≡ 128) where
       ∙ ap (λ (w : List ℕ). riot_with r.ram w) (drop_at r.ram (bytes_of riot_numbers r) 128 ram)
       ∙ ap (λ (n : ℕ). record r { part = n }) (from_be_bytes-to_be_bytes_2 r.part part)
 
-pub tia_again : (t : TiaFields) → t.collisions < 2 ^ 16 → t.clock ≡ 3 * (t.clock / 3)
-    → tia_at (bytes_of tia_numbers t) ≡ t
+pub tia_again : (t : TiaFields) → t.collisions < 2 ^ 16 → t.clock ≡ 3 * (t.clock / 3) → tia_at (bytes_of tia_numbers t) ≡ t
 tia_again t fits aligned =
     ap (λ (n : ℕ). record t { collisions = n; clock = 3 * (t.clock / 3) })
     (from_be_bytes-to_be_bytes_2 t.collisions fits)

@@ -1,7 +1,7 @@
 -- A run goes on from where it stands, and a frame is sound, faults or has a false checkpoint, and
 -- no two of these.
-use Rattle.std.proofs.Common.{◌≡◌, ℕ, zero, suc, ◌+◌, ◌-◌, ◌<◌, ◌≤◌, length, Option, Some, None}
-use Rattle.std.proofs.Common.{refl, sym, ap, subst, ◌∙◌, arith, add-one, add-zero, ◌⊎◌, inl, inr}
+use Rattle.std.proofs.Common.{◌≡◌, ℕ, zero, suc, ◌+◌, ◌-◌, ◌<◌, length, Some, None}
+use Rattle.std.proofs.Common.{refl, sym, ap, ◌∙◌, arith, add-one, add-zero, inl, inr}
 use Rattle.std.proofs.lemmas.Bool.{cases_lt}
 use Rattle.std.specs.Prelude.{slice_get}
 use Rattle.vcs_machine.specs.Inputs.{InputData}
@@ -13,6 +13,11 @@ use Rattle.movie_file.specs.Movie.{MovieData, IsMovie}
 use Rattle.movie_file.specs.Run.{frame_after, run}
 use Rattle.movie_file.specs.Judgement.{IsSound, AllSound, FaultsAt, IsFalseAt}
 use Rattle.movie_file.proofs.CheckpointLemmas.{checkpoints_rise}
+
+-- a run knows nothing of the version and of the checkpoints
+pub run_same : (m n : MovieData) (s : StateFields) (from k : ℕ) → m.cart ≡ n.cart → m.inputs ≡ n.inputs → run m s from k ≡ run n s from k
+run_same m n s from zero cart inputs = refl
+run_same m n s from (suc k) cart inputs = rw (run_same m n s from k cart inputs, cart, inputs) refl
 
 -- from where a run stands it goes on as a run of its own
 pub run-shift : (m : MovieData) (s : StateFields) (a i : ℕ) (t : StateFields) → run m s a i ≡ Some t → (j : ℕ) → run m s a (i + j) ≡ run m t (a + i) j
@@ -30,15 +35,13 @@ IsSound-shift m s a i t k is sound =
 -- two stretches of sound frames, of which the second begins where the first ends, are one
 pub AllSound-shift : (m : MovieData) (s : StateFields) (a i : ℕ) (t : StateFields) (j : ℕ) → run m s a i ≡ Some t → AllSound m s a i
     → AllSound m t (a + i) j → AllSound m s a (i + j)
-AllSound-shift m s a i t j is first second x less = by (cases_lt x i)
-  where
-    by : (x < i) ⊎ (i ≤ x) → IsSound m s a x
-    by (inl low) = first x low
-    by (inr high) =
-        let same : i + (x - i) ≡ x = omega arith in
-        subst (λ (y : ℕ). IsSound m s a y) same (IsSound-shift m s a i t (x - i) is (second (x - i) (omega arith)))
+AllSound-shift m s a i t j is first second x less =
+    elim (cases_lt x i) [
+      | inl low ↦ first x low
+      | inr high ↦
+          let same : i + (x - i) ≡ x = omega arith in rw (← same) (IsSound-shift m s a i t (x - i) is (second (x - i) (omega arith)))
+    ]
 
--- after a fault there is no state
 -- ---- one frame more: frame a + k + 1, whose input is the one at index n
 module _ (m : MovieData) (s : StateFields) (a k n : ℕ) (state : StateFields) (input : InputData)
     (ran : run m s a k ≡ Some state) (place : n ≡ a + k) (at : slice_get m.inputs n ≡ Some input) where
@@ -51,6 +54,7 @@ module _ (m : MovieData) (s : StateFields) (a k n : ℕ) (state : StateFields) (
   pub faults-here : (kind : FaultKind) (left : StateFields) → frame_of m.cart state input ≡ Failed kind left → FaultsAt m s a k kind
   faults-here kind left fails = (state, left, ran, frame_is (Failed kind left) fails)
 
+-- after a fault there is no state
 pub run-fault : (m : MovieData) (s : StateFields) (a k : ℕ) (kind : FaultKind) → FaultsAt m s a k kind → run m s a (k + 1) ≡ None
 run-fault m s a k kind (state, left, ran, faults) = rw (add-one k, ran, faults) refl
 
@@ -66,17 +70,12 @@ sound_no_false m s a k n (here, ran', claims) (state, j, c, ran, num, got, at, n
 
 -- a frame has one false checkpoint, and one fault
 pub same_number : (m : MovieData) (s : StateFields) (a k n n' : ℕ) → IsMovie m → IsFalseAt m s a k n → IsFalseAt m s a k n' → n ≡ n'
-same_number m s a k n n' lawful (state, j, c, ran, num, got, at, ne) (state', j', c', ran', num', got', at', ne') = by (cases_lt j j') (cases_lt j' j)
-  where
-    by : (j < j') ⊎ (j' ≤ j) → (j' < j) ⊎ (j ≤ j') → n ≡ n'
-    by (inl less) other = absurd (let h = checkpoints_rise (length m.cart) m.checkpoints 0 _ j j' c c' lawful.checkpoints less got got' in omega arith)
-    by (inr le) (inl less) = absurd (let h = checkpoints_rise (length m.cart) m.checkpoints 0 _ j' j c' c lawful.checkpoints less got' got in omega arith)
-    by (inr le) (inr ge) = omega arith
-
-abbrev failed : FaultKind → StateFields → Option FrameOutcome
-failed kind left = Some (Failed kind left)
+same_number m s a k n n' lawful (state, j, c, ran, num, got, at, ne) (state', j', c', ran', num', got', at', ne') =
+    let rise = checkpoints_rise (length m.cart) m.checkpoints 0 (length m.inputs) in
+    let later : ¬ (j < j') = λ less. let h = rise j j' c c' lawful.checkpoints less got got' in omega arith in
+    let sooner : ¬ (j' < j) = λ less. let h = rise j' j c' c lawful.checkpoints less got' got in omega arith in
+    omega arith
 
 pub same_kind : (m : MovieData) (s : StateFields) (a k : ℕ) (kind kind' : FaultKind) → FaultsAt m s a k kind → FaultsAt m s a k kind' → kind ≡ kind'
 same_kind m s a k kind kind' (state, left, ran, faults) (state', left', ran', faults') =
-    let same : state ≡ state' = cc in
-    let both : failed kind left ≡ failed kind' left' = sym faults ∙ (ap (λ (x : StateFields). frame_after m (a + k) x) same ∙ faults') in cc
+    let same : state ≡ state' = cc in let outcomes = ap (frame_after m (a + k)) same in cc

@@ -1,15 +1,13 @@
 //! Making movies.
 ghost use Rattle.std.specs.Prelude.{◌≡◌, ◌↔◌, ◌%◌, ◌/◌, ◌≤◌, ◌<◌, ◌++◌, ◌==◌, List, [], ◌∷◌};
 ghost use Rattle.std.specs.Prelude.{length, vec_len, vec_capacity, if◌then◌else◌, IfOk, IfErr};
-ghost use Rattle.std.specs.Prelude.{IsTrue, OnOk};
-ghost use Rattle.std.specs.List.{All};
+ghost use Rattle.std.specs.Prelude.{IsTrue};
 ghost use Rattle.riot_map.specs.Cart.{is_cart_length};
-ghost use Rattle.vcs_machine.specs.Inputs.{is_input};
 ghost use Rattle.vcs_machine.specs.States.{state_at_power_on};
-ghost use Rattle.movie_file.specs.Judgement.{AllSound, IsGenuine};
+ghost use Rattle.movie_file.specs.Judgement.{IsGenuine};
 ghost use Rattle.movie_file.specs.Making.{Explains, IsMadeOf, bare, counts_fit, version_made};
-ghost use Rattle.movie_file.specs.Private.MakingSteps.{Claims, RunFails, checkpoint_if};
-ghost use Rattle.movie_file.specs.Movie.{IsState};
+ghost use Rattle.movie_file.specs.Private.MakingSteps.{RunFails, checkpoint_if};
+ghost use Rattle.movie_file.specs.Movie.{IsMovie, IsState};
 
 use crate::assembling::movie_of;
 use crate::checkpoint::Checkpoint;
@@ -71,11 +69,9 @@ fn checkpoints_of_run(
     requires counts { IsTrue (counts_fit (length inputs.now) every) }
     requires room { length inputs.now / every ≤ vec_capacity checkpoints }
     ensures ok { IfOk result (λ made.
-        Claims (bare cart.now inputs.now) 0 every (length inputs.now) made.items) }
-    ensures sound { OnOk result (AllSound (bare cart.now inputs.now)
-        (state_at_power_on cart.now) 0 (length inputs.now)) }
-    ensures start { IsState start.now }
-    ensures inputs { OnOk result (All (λ i. IsTrue (is_input i)) inputs.now) }
+        let m = record (bare cart.now inputs.now) { checkpoints = made.items } in
+        IsMadeOf cart.now inputs.now every m × IsGenuine m
+        × (IsTrue (is_cart_length (length cart.now)) → IsMovie m)) }
     ensures err { IfErr result (RunFails cart.now inputs.now) }
 {
     let mut state = start.copy();

@@ -7,6 +7,7 @@ ghost use Rattle.riot_map.specs.RiotFields.{is_riot, AreInRange};
 ghost use Rattle.riot_map.specs.declared.fields.RiotFields.{RiotFields};
 
 /// Lawful numbers come back from the RIOT that they make.
+#[tactic(auto, using(crate::proofs::RiotNumbers::fields_back))]
 pub fn law_of_numbers()
     ensures { (f : RiotFields) → f.timer < 256 → is_riot f ≡ true → fields_of (riot_of f) ≡ f }
 {}

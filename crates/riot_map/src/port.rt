@@ -15,6 +15,7 @@ pub struct Port {
 
 impl Port {
     /// The pins, of which an output of 0 pulls its own down.
+    #[tactic(auto, using(crate::proofs::PortLemmas::port_a))]
     pub fn read_a(&self) -> u8
         ensures { result ≡ port_a_byte self.now }
     {
@@ -22,6 +23,7 @@ impl Port {
     }
 
     /// The outputs, and the pins elsewhere.
+    #[tactic(auto, using(crate::proofs::PortLemmas::port_b))]
     pub fn read_b(&self) -> u8
         ensures { result ≡ port_b_byte self.now }
     {

@@ -72,7 +72,7 @@ impl Timer {
     }
 
     /// The timer of some numbers; none if they aren't lawful.
-    #[tactic(auto, using(crate::proofs::RiotFieldLemmas::lawful_timers), unfolding(crate::specs::RiotFields::timer_of))]
+    #[tactic(auto, unfolding(crate::specs::RiotFields::timer_of, crate::specs::RiotFields::is_riot))]
     pub fn from_fields(fields: &RiotFields) -> Option<Timer>
         ensures { result ≡ (if is_riot fields.now then Some (timer_of fields.now) else None) }
     {
@@ -90,6 +90,7 @@ impl Timer {
     }
 
     /// What a read of INTIM gives.
+    #[tactic(auto, using(crate::proofs::TimerLemmas::parts))]
     pub fn value(&self) -> u8
         ensures value { result ≡ intim self.now }
         ensures count { count_of result (part_left self.now) self.now.interval (not (is_running self.now)) ≡ self.now.count }
@@ -98,6 +99,7 @@ impl Timer {
     }
 
     /// The cycles until the value changes.
+    #[tactic(auto, using(crate::proofs::TimerLemmas::parts))]
     pub fn part(&self) -> u16
         ensures value { result ≡ part_left self.now }
         ensures some { 1 ≤ result }
@@ -117,6 +119,7 @@ impl Timer {
     }
 
     /// Whether zero is behind.
+    #[tactic(auto, using(crate::proofs::TimerLemmas::parts))]
     pub fn is_past_zero(&self) -> bool
         ensures { result ≡ not (is_running self.now) }
     {
@@ -153,6 +156,7 @@ impl Timer {
     }
 
     /// Lets `n` cycles pass.
+    #[tactic(auto, using(crate::proofs::TimerLemmas::cycles))]
     #[inline(always)]
     pub fn cycles(&mut self, n: u8)
         ensures { self.new ≡ iterate after_cycle n self.old }

@@ -1,9 +1,9 @@
 -- Each event keeps the invariant, and what follows from it.
-use Rattle.std.proofs.Common.{◌≡◌, ℕ, zero, suc, ◌+◌, ◌-◌, ◌^◌, ◌<◌, ◌≤◌, ◌≢◌, min, Bool, true}
+use Rattle.std.proofs.Common.{◌≡◌, ℕ, ◌+◌, ◌-◌, ◌^◌, ◌<◌, ◌≤◌, ◌≢◌, min, Bool, true}
 use Rattle.std.proofs.Common.{false, if◌then◌else◌, List, [], ◌∷◌, ◌++◌, set, refl, sym, ap, ◌∙◌}
 use Rattle.std.proofs.Common.{subst, ⊎_elim, arith, lt_of_not-le, Some, sum_by}
 use mathlib.Core.Logic.{dite}
-use mathlib.Core.Option.{some, some-injective, some-ne-none}
+use mathlib.Core.Option.{some}
 use native.Mathlib.Decide.{dec_le}
 use lib.ListN.{get_elem?}
 use Rattle.std.proofs.lemmas.List.Sums.{sum_by-append}
@@ -27,8 +27,7 @@ All n w c l ps = (j : ℕ) (v : Part) → get_elem? ps j ≡ some v → IsSound 
 
 -- What ended tickets stand for is at most what they do.
 at_most : (b : Bool) (x : ℕ) → (if b then x else 0) ≤ x
-at_most true x = omega arith
-at_most false x = omega arith
+at_most b x = grind arith
 
 ended_le : (v : Part) → ended_share v ≤ v.share
 ended_le v = at_most v.ended v.share
@@ -47,27 +46,14 @@ module _ (n w : ℕ) where
 
     -- No number is drawn twice.
     once_at_most : (k : ℕ) → sum_by (drawn_of k) ps ≤ 1
-    once_at_most k = dite (dec_le c k)
-        (λ h. omega (arith, o.not_yet k h))
-        (λ a. dite (dec_le n k) (λ h. omega (arith, o.within k h)) (λ b. omega (arith, o.once k (lt_of_not-le a) (lt_of_not-le b))))
+    once_at_most k = grind arith
 
     -- Parts that have each number drawn and reported as often, and the same shares, are lawful
     -- where each is sound.
     same_numbers : (c' : ℕ) (ps' : List Part) → c ≤ c' → ((k : ℕ) → k < c' → k < n → k < c)
         → ((k : ℕ) → sum_by (drawn_of k) ps' ≡ sum_by (drawn_of k) ps) → ((k : ℕ) → sum_by (reported_of k) ps' ≡ sum_by (reported_of k) ps)
         → sum_by share_of ps' ≡ sum_by share_of ps → c' ≤ n + sum_by ended_share ps' → All n w c' l ps' → IsLawful n w c' l ps'
-    same_numbers c' ps' more below drawn reported shares few each = record {
-      small = o.small;
-      once = λ k h h'. drawn k ∙ o.once k (below k h h') h';
-      not_yet = λ k h. drawn k ∙ o.not_yet k (omega arith);
-      within = λ k h. drawn k ∙ o.within k h;
-      few = few;
-      least_le = o.least_le;
-      none_below = λ k h. reported k ∙ o.none_below k h;
-      is_reported = λ h. omega (arith, reported l, o.is_reported h);
-      shares = shares ∙ o.shares;
-      each = each;
-    }
+    same_numbers c' ps' more below drawn reported shares few each = grind arith
 
     module _ (j : ℕ) (v : Part) (at : get_elem? ps j ≡ some v) (pos : 0 < v.share) where
       abbrev s : IsSound n w c l v
@@ -78,10 +64,7 @@ module _ (n w : ℕ) where
 
       -- A ticket of all shares has all that there is.
       only_here : (f : Part → ℕ) → f spent_part ≡ 0 → v.share ≡ v.workers → sum_by f ps ≡ f v
-      only_here f zero_there all = alone share_of f ps j v at
-          (λ i u e none. ⊎_elim (λ (is : u ≡ spent_part). ap f is ∙ zero_there)
-          (λ (t : (u.segments ≡ n) × (u.workers ≡ w) × (0 < u.share)). absurd (omega (arith, t.2))) (o.each i u e).sized)
-          (o.shares ∙ sym (all ∙ (size_of n w c l v s pos).1))
+      only_here f zero_there all = grind (arith, alone, share_of, size_of)
 
       pub whole : v.ended ≡ true → v.share ≡ v.workers → IsWhole v
       whole ended all = let size = size_of n w c l v s pos in record {
@@ -211,19 +194,7 @@ module _ (n w : ℕ) where
 
 -- The desk at the start.
 first_sound : (n w : ℕ) → 0 < w → (j : ℕ) (v : Part) → get_elem? (fresh_part n w w ∷ []) j ≡ some v → IsSound n w 0 n v
-first_sound n w pos zero v e = subst (IsSound n w 0 n) (some-injective (fresh_part n w w) v e) (sound_fresh n w 0 n n w w (refl, refl, pos))
-first_sound n w pos (suc j) v e = absurd (some-ne-none v (sym e))
+first_sound n w pos j v e = grind arith
 
 pub opens : (n w : ℕ) → n + w < 2 ^ 33 → 0 < w → IsLawful n w 0 n (fresh_part n w w ∷ [])
-opens n w small pos = record {
-  small = small;
-  once = λ k h h'. absurd (omega arith);
-  not_yet = λ k h. refl;
-  within = λ k h. refl;
-  few = omega arith;
-  least_le = omega arith;
-  none_below = λ k h. refl;
-  is_reported = λ h. absurd (omega arith);
-  shares = omega arith;
-  each = λ j v e. first_sound n w pos j v e;
-}
+opens n w small pos = let each = first_sound n w pos in grind arith

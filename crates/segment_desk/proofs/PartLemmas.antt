@@ -1,10 +1,8 @@
 -- What the events do to one ticket's part.
-use Rattle.std.proofs.Common.{◌≡◌, ℕ, ◌+◌, ◌-◌, ◌<◌, ◌≤◌, ◌≢◌, ◌⊎◌, min, Bool, true, false}
+use Rattle.std.proofs.Common.{◌≡◌, ℕ, ◌+◌, ◌<◌, ◌≤◌, ◌≢◌, ◌⊎◌, min, Bool, true}
 use Rattle.std.proofs.Common.{if◌then◌else◌, ◌||◌, nat_lt, List, [], ◌∷◌, ◌++◌, refl, sym, ap, ◌∙◌}
-use Rattle.std.proofs.Common.{subst, inl, inr, ⊎_elim, arith, lt-ltb, le-ltb, lt_of_not-le, Option}
+use Rattle.std.proofs.Common.{inr, ⊎_elim, arith, Option}
 use Rattle.std.proofs.Common.{Some, None}
-use mathlib.Core.Logic.{dite}
-use native.Mathlib.Decide.{dec_le}
 use Rattle.segment_desk.specs.Desk.{times, with_number, fresh_part, spent_part, with_drawn}
 use Rattle.segment_desk.specs.Desk.{at_end, with_passed, look_at, report_at, smaller_of}
 use Rattle.segment_desk.specs.Desk.{with_handed_in}
@@ -15,9 +13,7 @@ use Rattle.segment_desk.proofs.ListLemmas.{times-append, times-snoc}
 
 -- A test of two numbers, by its two cases.
 pub tested : {A : Type 0} (F : A → Type 0) (x y : ℕ) (a b : A) → (x < y → F a) → (y ≤ x → F b) → F (if nat_lt x y then a else b)
-tested F x y a b hit miss = dite (dec_le y x)
-    (λ le. subst (λ t. F (if t then a else b)) (sym (le-ltb x y le)) (miss le))
-    (λ n. let lt = lt_of_not-le n in subst (λ t. F (if t then a else b)) (sym (lt-ltb x y lt)) (hit lt))
+tested F x y a b hit miss = grind arith
 
 -- With j in a list, no number stands in it more often than in one where j stands.
 with_number_le : (j k : ℕ) (xs ds : List ℕ) → 0 < times j ds → times k xs ≤ times k ds → times k (with_number j xs) ≤ times k ds
@@ -53,21 +49,15 @@ with_passed-sound x (Some m) ps ds drawn le behind k =
 -- What is at most each of two numbers is at most the smaller.
 smaller_of-above : (x : ℕ) (a b : Option ℕ) → ((k : ℕ) → a ≡ Some k → x ≤ k) → ((k : ℕ) → b ≡ Some k → x ≤ k)
     → (k : ℕ) → smaller_of a b ≡ Some k → x ≤ k
-smaller_of-above x None b ha hb k e = hb k e
-smaller_of-above x (Some y) None ha hb k e = ha k e
-smaller_of-above x (Some y) (Some z) ha hb k e = let p = ha y refl in let q = hb z refl in let is : min y z ≡ k = cc in omega arith
+smaller_of-above x a b ha hb k e = grind arith
 
 -- One of two is true where either is.
 or_true : (a b : Bool) → (a || b) ≡ true → (a ≡ true) ⊎ (b ≡ true)
-or_true true b e = inl refl
-or_true false b e = inr e
+or_true a b e = grind arith
 
 -- What ended tickets stand for: at most what the joined one does.
 either_share : (a b : Bool) (x y : ℕ) → (if a then x else 0) + (if b then y else 0) ≤ (if a || b then x + y else 0)
-either_share true true x y = omega arith
-either_share true false x y = omega arith
-either_share false true x y = omega arith
-either_share false false x y = omega arith
+either_share a b x y = grind arith
 
 pub both_ended : (v u : Part) → ended_share v + ended_share u ≤ ended_share (with_handed_in v u)
 both_ended v u = either_share v.ended u.ended v.share u.share
@@ -87,8 +77,7 @@ module _ (n w : ℕ) where
 
   -- A ticket that was not handed in has the desk's size beside it, also with another share.
   pub size_of : (c l : ℕ) (v : Part) → IsSound n w c l v → 0 < v.share → (v.segments ≡ n) × (v.workers ≡ w)
-  size_of c l v s pos = ⊎_elim (λ (e : v ≡ spent_part). absurd (let z : v.share ≡ 0 = ap (λ (u : Part). u.share) e in omega arith))
-      (λ (t : (v.segments ≡ n) × (v.workers ≡ w) × (0 < v.share)). (t.0, t.1)) s.sized
+  size_of c l v s pos = grind arith
 
   sized_as : (c l : ℕ) (v : Part) → IsSound n w c l v → 0 < v.share → (share : ℕ) → 0 < share → (v.segments ≡ n) × (v.workers ≡ w) × (0 < share)
   sized_as c l v s pos share more = let z = size_of c l v s pos in (z.0, z.1, more)
@@ -107,15 +96,7 @@ module _ (n w : ℕ) where
   }
 
   pub sound_end : (c l : ℕ) (v : Part) → IsSound n w c l v → 0 < v.share → n ≤ c → IsSound n w (c + 1) l (at_end v)
-  sound_end c l v s pos h = record {
-    sized = inr (sized_as c l v s pos v.share pos);
-    reports = s.reports;
-    passes = s.passes;
-    behind = s.behind;
-    last_drawn = s.last_drawn;
-    seen_above = s.seen_above;
-    done = λ e. omega arith;
-  }
+  sound_end c l v s pos h = grind arith
 
   pub sound_look : (c l : ℕ) (v : Part) → IsSound n w c l v → 0 < v.share → IsSound n w c l (look_at l v)
   sound_look c l v s pos = let p = with_passed-sound l v.last v.passed_over v.drawn s.last_drawn s.passes s.behind in record {
@@ -140,37 +121,13 @@ module _ (n w : ℕ) where
   }
 
   pub sound_kept : (c l : ℕ) (v : Part) → IsSound n w c l v → 1 < v.share → IsSound n w c l (staying_part v)
-  sound_kept c l v s more = record {
-    sized = inr (sized_as c l v s (omega arith) (v.share - 1) (omega arith));
-    reports = s.reports;
-    passes = s.passes;
-    behind = s.behind;
-    last_drawn = s.last_drawn;
-    seen_above = s.seen_above;
-    done = s.done;
-  }
+  sound_kept c l v s more = grind arith
 
   pub sound_fresh : (c l a b share : ℕ) → (a ≡ n) × (b ≡ w) × (0 < share) → IsSound n w c l (fresh_part a b share)
-  sound_fresh c l a b share size = record {
-    sized = inr size;
-    reports = λ k. omega arith;
-    passes = λ k. omega arith;
-    behind = λ k h. refl;
-    last_drawn = λ k e. cc;
-    seen_above = λ k e. cc;
-    done = λ e. cc;
-  }
+  sound_fresh c l a b share size = grind arith
 
   pub sound_spent : (c l : ℕ) → IsSound n w c l spent_part
-  sound_spent c l = record {
-    sized = inl refl;
-    reports = λ k. omega arith;
-    passes = λ k. omega arith;
-    behind = λ k h. refl;
-    last_drawn = λ k e. cc;
-    seen_above = λ k e. cc;
-    done = λ e. cc;
-  }
+  sound_spent c l = grind arith
 
   pub sound_handed : (c l : ℕ) (v u : Part) → IsSound n w c l v → IsSound n w c l u → 0 < v.share → IsSound n w c l (with_handed_in v u)
   sound_handed c l v u s t pos = record {

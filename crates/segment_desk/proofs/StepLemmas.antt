@@ -1,15 +1,16 @@
 -- From the events to what the table asks of each step, and what the calls' clauses say of a step.
-use Rattle.std.proofs.Common.{◌≡◌, ℕ, zero, suc, ◌+◌, ◌%◌, ◌^◌, ◌<◌, ◌≤◌, min, false, List, [], ◌∷◌}
+use Rattle.std.proofs.Common.{◌≡◌, ℕ, ◌+◌, ◌%◌, ◌^◌, ◌<◌, ◌≤◌, min, false, List, [], ◌∷◌}
 use Rattle.std.proofs.Common.{◌++◌, length, get_or, set, refl, sym, ap, ◌∙◌, subst, arith}
-use Rattle.std.proofs.Common.{length-set, get_or-set_same, get_or-set_other, lt_of_not-le, Option}
+use Rattle.std.proofs.Common.{length-set, get_or-set_same, get_or-set_other, lt_of_not-le}
 use Rattle.std.proofs.Common.{Some}
 use mathlib.Core.Logic.{dite}
 use native.Mathlib.Decide.{dec_le}
-use mathlib.Core.Option.{none, some, some-ne-none}
+use mathlib.Core.Option.{none, some}
 use lib.ListN.{get_elem?}
 use lib.Seq.{set-get_or}
 use Rattle.atomic_table.specs.Table.{step, keeps, opening, Allows, Splits, Joins}
 use Rattle.atomic_table.proofs.Lists.{set_here, set_again, set_else}
+use Rattle.std.proofs.lemmas.Option.{slice_get_within}
 use Rattle.segment_desk.specs.Desk.{times, fresh_part, spent_part, with_drawn, at_end, with_number}
 use Rattle.segment_desk.specs.Desk.{with_passed, draw_at, look_at, report_at, with_handed_in}
 use Rattle.segment_desk.specs.Desk.{Reached, opened, went_on, DeskState, desk_at, StandsIn}
@@ -31,9 +32,7 @@ draw_at-share x v = tested (λ (u : Part). u.share ≡ v.share) x v.segments (wi
 
 -- A place where a part stands is within the list.
 within : (l : List Part) (j : ℕ) (v : Part) → get_elem? l j ≡ some v → j < length l
-within [] j v e = absurd (some-ne-none v (sym e))
-within (x ∷ xs) zero v e = omega arith
-within (x ∷ xs) (suc j) v e = let r = within xs j v e in omega arith
+within l j v e = slice_get_within l j v (slice_get-of_some l j v e)
 
 module _ (n w : ℕ) where
   abbrev At : ℕ → ℕ → List Part → Type 0
@@ -55,9 +54,7 @@ module _ (n w : ℕ) where
   -- The part that a seat has in such a state.
   stands : (c l : ℕ) (ps : List Part) (j : ℕ) (v : Part) (holds : DeskState → Type 0) → At c l ps → get_elem? ps j ≡ some v → 0 < v.share
       → holds (desk_at c l ps) → StandsIn holds v
-  stands c l ps j v holds r at pos h =
-      let size = size_of n w c l v ((law c l ps r).each j v at) pos in
-      (desk_at c l ps, j, rw (size.0, size.1) r, (slice_get-of_some ps j v at, pos), h)
+  stands c l ps j v holds r at pos h = grind (arith, size_of, law, slice_get-of_some)
 
   -- A draw by a seat that has not ended.
   pub allows_draw : (slots id : ℕ) (m : Seat) → m.1 ≡ [] → 0 < m.0.share → m.0.ended ≡ false
@@ -185,14 +182,7 @@ apart_of v u m is known k =
 
 -- A fresh ticket's part is known.
 pub known_fresh : (n w share : ℕ) → IsKnown (fresh_part n w share)
-known_fresh n w share = record {
-  apart = λ k. omega arith;
-  within = λ k h. refl;
-  reports = λ k. omega arith;
-  passes = λ k. omega arith;
-  last_drawn = λ k e. cc;
-  whole = λ e. cc;
-}
+known_fresh n w share = grind arith
 
 -- A number above all that were drawn is not passed over.
 new_number : (v : Part) (k : ℕ) → IsKnown v → ((j : ℕ) → 0 < times j v.drawn → j < k) → times k v.passed_over ≡ 0
@@ -201,14 +191,11 @@ new_number v k known above = dite (dec_le (times k v.passed_over) 0) (λ h. omeg
 
 -- A look at a least number that is not below the last drawn one passes nothing over.
 pub look_keeps : (x k : ℕ) (v : Part) → v.last ≡ Some k → k ≤ x → (look_at x v).passed_over ≡ v.passed_over
-look_keeps x k v last le = ap (λ (m : Option ℕ). with_passed x m v.passed_over) last
-    ∙ tested (λ (ys : List ℕ). ys ≡ v.passed_over) x k (with_number k v.passed_over) v.passed_over (λ lt. absurd (omega arith)) (λ _. refl)
+look_keeps x k v last le = grind arith
 
 -- A look at one below it passes it over.
 pub look_passes : (x k : ℕ) (v : Part) → v.last ≡ Some k → x < k → 0 < times k (look_at x v).passed_over
-look_passes x k v last lt = subst (λ (m : Option ℕ). 0 < times k (with_passed x m v.passed_over)) (sym last)
-    (tested (λ (ys : List ℕ). 0 < times k ys) x k (with_number k v.passed_over) v.passed_over
-    (λ _. with_number-here k v.passed_over) (λ le. absurd (omega arith)))
+look_passes x k v last lt = grind (arith, tested, with_number-here)
 
 -- A number that is drawn is not passed over in that step.
 pub drawn_fresh : (v u : Part) (k : ℕ) → u ≡ draw_at k v → IsKnown v → ((j : ℕ) → 0 < times j v.drawn → j < k) → times k u.passed_over ≡ 0

@@ -4,8 +4,5 @@ use Rattle.mos_cpu.proofs.changes.change.Goals as goal
 
 pub returns : goal.returns
 returns g c =
-    let step = step_of-change g.B.Bus.meaning c.args.cpu.now
-    (g.B.Bus.state c.args.bus.now) g.O.Changer.operation g.M.PlaceMode.mode
-    (c.CYCLES.result + c.from.result) c.in_ok-target.target g.met.O.Changer.changes
-    (search rules) c.in_ok-target.ensures in
-    rw step (search rules)
+    rw (step_of-change _ _ _ _ _ (c.CYCLES.result + c.from.result) _ g.met.O.Changer.changes (search rules) c.in_ok-target.ensures)
+    (search rules)

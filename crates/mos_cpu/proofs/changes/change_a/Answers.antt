@@ -3,6 +3,4 @@ use Rattle.mos_cpu.proofs.OpcodeRunLemmas.{step_of-change_a}
 use Rattle.mos_cpu.proofs.changes.change_a.Goals as goal
 
 pub returns : goal.returns
-returns g c =
-    let step = step_of-change_a g.B.Bus.meaning c.args.cpu.now (g.B.Bus.state c.args.bus.now) g.O.Changer.operation g.met.O.Changer.changes c.requires in
-    rw step (search rules)
+returns g c = rw (step_of-change_a g.B.Bus.meaning c.args.cpu.now (g.B.Bus.state c.args.bus.now) _ g.met.O.Changer.changes c.requires) (search rules)

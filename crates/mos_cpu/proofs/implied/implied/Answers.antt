@@ -4,7 +4,4 @@ use Rattle.mos_cpu.proofs.implied.implied.Goals as goal
 
 pub returns : goal.returns
 returns g c =
-    let step = step_of-implied g.B.Bus.meaning c.args.cpu.now
-    (g.B.Bus.state c.args.bus.now) g.O.ImpliedOperation.operation
-    g.met.O.ImpliedOperation.implied c.requires in
-    rw step (search rules)
+    rw (step_of-implied g.B.Bus.meaning c.args.cpu.now (g.B.Bus.state c.args.bus.now) _ g.met.O.ImpliedOperation.implied c.requires) (search rules)

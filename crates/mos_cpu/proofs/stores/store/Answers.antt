@@ -3,8 +3,4 @@ use Rattle.mos_cpu.proofs.OpcodeRunLemmas.{step_of-store}
 use Rattle.mos_cpu.proofs.stores.store.Goals as goal
 
 pub returns : goal.returns
-returns g c =
-    let step = step_of-store g.B.Bus.meaning c.args.cpu.now
-    (g.B.Bus.state c.args.bus.now) g.O.Storer.operation g.O.Storer.what g.M.PlaceMode.mode _
-    c.in_ok-target.target g.met.O.Storer.stores c.requires.row c.in_ok-target.ensures in
-    rw step (search rules)
+returns g c = rw (step_of-store _ _ _ _ _ _ _ _ g.met.O.Storer.stores c.requires.row c.in_ok-target.ensures) (search rules)

@@ -4,13 +4,7 @@ use Rattle.segment_desk.specs.Desk.{with_handed_in}
 use Rattle.segment_desk.proofs.desk.Desk.hand_in.Goals as goal
 
 pub join_seat-requires : goal.join_seat-requires
-join_seat-requires c = let two = c.self.invariant.0 in (
-  ap (λ t. t.desk) c.into.view_is ∙ (c.requires.into.0 ∙ sym (ap (λ d. d.id) c.self.view_is)),
-  ap (λ t. t.desk) c.from.view_is ∙ (c.requires.from.0 ∙ sym (ap (λ d. d.id) c.self.view_is)),
-  c.from.invariant.0,
-  omega arith,
-  joins_seat _ _ _ _ _ _ c.into.invariant.2 c.from.invariant.2,
-)
+join_seat-requires c = grind (arith, joins_seat)
 
 pub load-requires : goal.load-requires
 load-requires c = let two = c.self.invariant.0 in let me = c.join_seat.ensures.2 in (
