@@ -1,40 +1,38 @@
 -- Where the parse of a command finds no mistake, what was found for a number is in its range.
-use Rattle.std.proofs.Common.{◌≡◌, ◌∙◌, ◌&&◌, ◌||◌, ◌<◌, ◌==◌, ◌++◌, ℕ, Bool, true, false, zero}
+use Rattle.std.proofs.Common.{◌≡◌, ◌||◌, ◌<◌, ◌==◌, ◌++◌, ℕ, Bool, true, false, zero}
 use Rattle.std.proofs.Common.{suc, cond, drop, length, List, [], ◌∷◌, Option, Some, None}
-use Rattle.std.proofs.Common.{if◌then◌else◌, is_some, sym, subst, refl, ap, unwrap_or, true≢false}
+use Rattle.std.proofs.Common.{if◌then◌else◌, is_some, sym, subst, refl, unwrap_or}
 use Rattle.std.proofs.Common.{arith}
-use Rattle.std.specs.Prelude.{◌+◌, min, find, fold, pos, slice_get, encode_utf8}
+use Rattle.std.specs.Prelude.{find, fold, pos, slice_get, encode_utf8}
 use Rattle.std.specs.Option.{option_map_or}
 use Rattle.std.specs.Str.{bytes_eq, chars}
 use Rattle.std.specs.Str.Parse.{IsNumeral, starts_with_minus, without_leading_plus}
 use Rattle.std.proofs.lemmas.Bool.{ne_eqb}
 use Rattle.std.proofs.lemmas.Int.{ints}
 use Rattle.std.proofs.lemmas.Slice.Eq.{bytes_eq-Decides}
-use Rattle.std.proofs.lemmas.Str.Parse.{digit_from_value}
 use Rattle.clap.specs.Words.{Row, Rule, Shape, Text}
 use Rattle.clap.specs.Walk.{Held, Names, Outcome, Step, Waiting, Walk, action_of, after_flag}
-use Rattle.clap.specs.Walk.{after_step, arg_by_id, arg_by_index, arg_by_long, arg_by_short, at_row}
-use Rattle.clap.specs.Walk.{attached_value, bundle, bundle_met, bundle_step, count_of, done}
-use Rattle.clap.specs.Walk.{flag_met, has_row, idle, is_empty, is_pending, long_met, long_or_other}
-use Rattle.clap.specs.Walk.{more_values, most_values, new_count, next, option, option_met}
+use Rattle.clap.specs.Walk.{after_step, arg_by_id, arg_by_long, arg_by_short, at_row}
+use Rattle.clap.specs.Walk.{attached_value, bundle, bundle_met, bundle_step, done}
+use Rattle.clap.specs.Walk.{flag_met, has_row, idle, is_empty, long_met, long_or_other}
+use Rattle.clap.specs.Walk.{option, option_met}
 use Rattle.clap.specs.Walk.{option_word, plain, plain_word, positional, positional_held, reacted}
-use Rattle.clap.specs.Walk.{reading_by, refused, settled, settled_rows, short_met, short_or_plain}
-use Rattle.clap.specs.Walk.{subcommand, subcommand_met, subcommand_or_other, takes_several}
-use Rattle.clap.specs.Walk.{takes_values, to_positional, trailing, used, used_as, used_by_id, value}
-use Rattle.clap.specs.Walk.{values_or_missing, waits, walked, walked_from, with_count, with_default}
+use Rattle.clap.specs.Walk.{reading_by, settled, settled_rows, short_met, short_or_plain}
+use Rattle.clap.specs.Walk.{subcommand_or_other}
+use Rattle.clap.specs.Walk.{takes_values, to_positional, used, used_as, used_by_id}
+use Rattle.clap.specs.Walk.{values_or_missing, walked, walked_from, with_count, with_default}
 use Rattle.clap.specs.Walk.{with_values, without, default_rows, word_met}
 use Rattle.clap.specs.declared.error.ErrorKind.TheVariants as kind
-use Rattle.clap.specs.Faults.{action_fault, bundle_fault, bundle_step_fault, default_fault}
+use Rattle.clap.specs.Faults.{bundle_fault, bundle_step_fault, default_fault}
 use Rattle.clap.specs.Faults.{defaults_fault, flag_word_fault, flags_fault, given_default_fault}
 use Rattle.clap.specs.Faults.{long_fault, option_fault, other_fault, positional_fault, react_fault}
 use Rattle.clap.specs.Faults.{settle_fault, short_fault, step_fault, stray_fault, turn_fault}
 use Rattle.clap.specs.Faults.{use_fault, values_fault, walk_fault, word_fault}
-use Rattle.clap.specs.Kinds.{Kinds, or_else, range_kinds, request_kinds, value_kinds, values_kinds}
+use Rattle.clap.specs.Kinds.{Kinds, or_else, request_kinds, value_kinds, values_kinds}
 use Rattle.clap.specs.Values.{IsSignedIn, refused_kind}
 use Rattle.clap.specs.declared.error.ErrorKind.{ErrorKind}
-use Rattle.clap.specs.Lexer.{long_of, short_of, without_minus}
+use Rattle.clap.specs.Lexer.{short_of, without_minus}
 use Rattle.clap.specs.ValueTests.{accepts}
-use Rattle.clap.specs.Facts.{unwrap_or_range}
 use Rattle.clap.specs.declared.builder.action.ArgAction.{ArgAction}
 use Rattle.clap.specs.declared.builder.action.ArgAction.TheVariants as action
 use Rattle.clap.specs.declared.builder.value_parser.Reading.{Reading}
@@ -49,24 +47,20 @@ use Rattle.command_line.proofs.Lists.{Each, both, found}
 -- ---- lists of kinds
 
 pub none_first : (a b : Kinds) → or_else a b ≡ [] → a ≡ []
-none_first [] b h = refl
-none_first (k ∷ ks) b h = h
+none_first a b h = grind arith
 
 pub none_then : (a b : Kinds) → or_else a b ≡ [] → b ≡ []
-none_then [] b h = h
-none_then (k ∷ ks) b h = cc
+none_then a b h = grind arith
 
 -- ---- the branches of an `if`
 
 pub by_cases : {X : Type 0} (P : X → Type 0) (b : Bool) (x y : X) → (b ≡ true → P x) → (b ≡ false → P y) → P (if b then x else y)
-by_cases P true x y first second = first refl
-by_cases P false x y first second = second refl
+by_cases P b x y first second = grind arith
 
 -- The same where no mistake is found in the branch that is taken.
 either : {X : Type 0} (P : X → Type 0) (b : Bool) (f g : Kinds) (x y : X) → (if b then f else g) ≡ [] → (f ≡ [] → P x) → (g ≡ [] → P y)
     → P (if b then x else y)
-either P true f g x y none first second = first none
-either P false f g x y none first second = second none
+either P b f g x y none first second = grind arith
 
 -- ---- the number that a text writes
 
@@ -79,10 +73,7 @@ without_minus_is (x ∷ xs) = go (x == 45)
     go false = refl
 
 no_plus : (ds : Text) → IsNumeral 10 ds → without_leading_plus ds ≡ ds
-no_plus [] h = refl
-no_plus (d ∷ ds) h =
-    let plus : (d == 43) ≡ false = ne_eqb _ _ (λ e. omega (arith, digit_from_value d h.1.0)) in
-    ap (λ (b : Bool). drop (cond b 1 0) (d ∷ ds)) plus
+no_plus ds h = grind arith
 
 in_range : (least most : ℕ) (t : Text) → IsSignedIn (pos least) (pos most) t → IsNumberIn least most (Some (without_minus t))
 in_range least most t passed = subst (λ (u : Text). IsNumberIn least most (Some u)) (sym (without_minus_is t)) (go (starts_with_minus t) refl)
@@ -151,26 +142,17 @@ module _ (id : Text) (least most : ℕ) where
 
   values_good : (name : Text) (how : Reading) (s : ValueSource) (values : List Text) (rows : List Row)
       → (bytes_eq name id ≡ true → IsFilled values how) → AreGood rows → AreGood (with_values name how s values rows)
-  values_good name how s values rows filled good = at_good name (more_values s values) _ rows
-      (λ r is g. (
-        λ own. let now = g own in let new = filled (same_name r name is own)
-            in (longer r.values values new.0, both _ r.values values now.1 new.1, now.2),
-        tt,
-      ))
-      (filled, tt) good
+  values_good name how s values rows filled good = grind (arith, at_good, same_name, longer, both)
 
   count_good : (name : Text) (how : Reading) (s : ValueSource) (n : ℕ) (rows : List Row) → bytes_eq name id ≡ false
       → AreGood rows → AreGood (with_count name how s n rows)
-  count_good name how s n rows other good = at_good name (new_count s n) _ rows
-      (λ r is g. (λ own. absurd (true≢false (sym (same_name r name is own) ∙ other)), tt))
-      ((λ own. absurd (true≢false (sym own ∙ other))), tt) good
+  count_good name how s n rows other good = grind (arith, at_good, same_name)
 
   -- ---- one use of an argument
 
   other_values : (name : Text) (how : Reading) (values : List Text) (rows : List Row) → bytes_eq name id ≡ false
       → AreGood rows → AreGood (with_values name how CommandLine values rows)
-  other_values name how values rows other good =
-      values_good name how CommandLine values rows (λ own. absurd (true≢false (sym own ∙ other))) good
+  other_values name how values rows other good = grind (arith, values_good)
 
   other_anew : (name : Text) (how : Reading) (values : List Text) (rows : List Row) → bytes_eq name id ≡ false
       → AreGood rows → AreGood (with_values name how CommandLine values (without name rows))
@@ -178,17 +160,7 @@ module _ (id : Text) (least most : ℕ) where
 
   other_used : (x : ArgAction) (name : Text) (how : Reading) (values : List Text) (rows : List Row) → bytes_eq name id ≡ false
       → AreGood rows → AreGood (used_as x name how values rows)
-  other_used action.Set name how values rows other good = other_anew name how values rows other good
-  other_used action.SetTrue name how values rows other good = other_anew name how values rows other good
-  other_used action.SetFalse name how values rows other good = other_anew name how values rows other good
-  other_used action.Append name how values rows other good = other_values name how values rows other good
-  other_used action.Count name how [] rows other good =
-      count_good name how CommandLine (min (count_of name rows + 1) 255) (without name rows) other (without_good name rows good)
-  other_used action.Count name how (v ∷ vs) rows other good = other_anew name how (v ∷ vs) rows other good
-  other_used action.Help name how values rows other good = good
-  other_used action.HelpShort name how values rows other good = good
-  other_used action.HelpLong name how values rows other good = good
-  other_used action.Version name how values rows other good = good
+  other_used x name how values rows other good = grind (arith, other_anew, other_values, count_good, without_good)
 
   accepted : (case : Bool) (v : Text) → value_kinds case (vp.Signed (pos least) (pos most)) v ≡ [] → accepts case (vp.Signed (pos least) (pos most)) v ≡ true
   accepted case v none = go (accepts case (vp.Signed (pos least) (pos most)) v) (refused_kind (vp.Signed (pos least) (pos most))) none
@@ -205,27 +177,14 @@ module _ (id : Text) (least most : ℕ) where
   )
 
   fault_free : (a : Rule) (values : List Text) → IsNumberRule a → values_fault a values ≡ [] → AreIn values
-  fault_free a values rule none =
-      let as_numbers : values_kinds a.ignore_case (vp.Signed (pos least) (pos most)) values ≡ [] = rw rule.parser at none in
-      values_in a.ignore_case values as_numbers
+  fault_free a values rule none = grind (arith, values_in)
 
   reads : (a : Rule) → IsNumberRule a → reading_by a ≡ reading.WithoutMinus
   reads a rule = rw rule.parser refl
 
   own_used : (a : Rule) (again : Bool) (values : List Text) (rows : List Row) → IsNumberRule a → use_fault again a values rows ≡ []
       → AreGood rows → AreGood (used a values rows)
-  own_used a again [] rows rule none good =
-      let first : range_kinds (unwrap_or_range a.range).start_inclusive (most_values a) 0 ≡ [] = none_first _ _ none in
-      let bad : range_kinds 1 1 0 ≡ [] = rw rule.range at first in
-      cc
-  own_used a again (v ∷ vs) rows rule none good =
-      let acted : action_fault (action_of a) again a (v ∷ vs) rows ≡ [] =
-      none_then (range_kinds (unwrap_or_range a.range).start_inclusive (most_values a) (length (v ∷ vs))) _ none in
-      let set : action_fault action.Set again a (v ∷ vs) rows ≡ [] = rw rule.action at acted in
-      let some : 0 < length (v ∷ vs) = omega arith in
-      let fine = fault_free a (v ∷ vs) rule (none_then _ _ set) in
-      rw rule.action
-      (values_good a.id (reading_by a) CommandLine (v ∷ vs) (without a.id rows) (λ own. (some, fine, reads a rule)) (without_good a.id rows good))
+  own_used a again values rows rule none good = grind (arith, none_first, none_then, fault_free, values_good, reads, without_good)
 
   used_good : (a : Rule) (again : Bool) (values : List Text) (rows : List Row) → IsOwn a → use_fault again a values rows ≡ []
       → AreGood rows → AreGood (used a values rows)
@@ -257,8 +216,7 @@ module _ (id : Text) (least most : ℕ) where
         go (Some p) n = named p (arg_by_id c p.0) refl n
 
     reacted_good : (a : Rule) (values : List Text) (h : Held) → IsOwn a → Keeps (react_fault c again a values h) h (reacted c a values h)
-    reacted_good a values h mine none good =
-        used_good a again values (settled c h).rows mine (none_then _ _ none) (settled_good h (none_first _ _ none) good)
+    reacted_good a values h mine none good = grind (arith, used_good, none_then, settled_good, none_first)
 
     option_good : (a : Rule) (v : Option Text) (h : Held) → IsOwn a → Keeps (option_fault c again a v h) h (option_met c a v h).0
     option_good a (Some v) h mine none good = reacted_good a (v ∷ []) h mine none good
@@ -271,10 +229,7 @@ module _ (id : Text) (least most : ℕ) where
 
     long_good : (o : Option Rule) (v : Option Text) (h : Held) → ((a : Rule) → o ≡ Some a → IsOwn a)
         → Keeps (long_fault c again o v h) h (long_met c o v h).0
-    long_good None v h mine none good = good
-    long_good (Some a) v h mine none good =
-        either (λ (r : Held × Outcome). AreGood r.0.rows) (takes_values a) _ _ _ _ none
-        (λ n. option_good a v h (mine a refl) n good) (λ n. flag_good a v h (mine a refl) n good)
+    long_good o v h mine none good = grind (arith, either, option_good, flag_good)
 
     short_good : (o : Option Rule) (rest : Text) (h : Held) (after : Held → Held × Outcome) (fault : Held → Kinds)
         → ((a : Rule) → o ≡ Some a → IsOwn a) → ((x : Held) → Keeps (fault x) x (after x).0)
@@ -313,10 +268,7 @@ module _ (id : Text) (least most : ℕ) where
         go (Some a) = good
 
     after_good : (waiting : Waiting) (word : Text) (h : Held) (o : Outcome) → AreGood h.rows → AreGood (after_flag c waiting word h o).0.rows
-    after_good waiting word h done good = good
-    after_good waiting word h (waits name) good = good
-    after_good waiting word h plain good = plain_good waiting word h good
-    after_good waiting word h refused good = plain_good waiting word h good
+    after_good waiting word h o good = grind arith
 
     flag_word_good : (waiting : Waiting) (word : Text) (o : Option (Text × Option Text)) (h : Held)
         → Keeps (flag_word_fault c again o word h) h (long_or_other c waiting word o h).0
@@ -331,23 +283,18 @@ module _ (id : Text) (least most : ℕ) where
         go None n = plain_good waiting word h good
 
     positional_good : (a : Rule) (word : Text) (h : Held) → Keeps (positional_fault c again a h) h (positional_held c a word h)
-    positional_good a word h none good =
-        either (λ (x : Held). AreGood x.rows) (is_pending a h.pending && takes_several a) _ _ _ _ none (λ n. good) (λ n. settled_good h n good)
+    positional_good a word h none good = grind (arith, either, settled_good)
 
   -- ---- one word
 
   module _ (s : Shape) (names : Names) (own : AreOwn s.rules) where
     other_good : (o : Option Text) (waiting : Waiting) (position : ℕ) (word : Text) (h : Held)
         → Keeps (other_fault s o word h) h (subcommand_or_other s.rules o waiting position word h).0
-    other_good (Some name) waiting position word h none good = good
-    other_good None waiting position word h none good =
-        either (λ (r : Held × Step). AreGood r.0.rows) (bytes_eq word (45 ∷ 45 ∷ [])) _ _ _ _ none (λ n. good)
-        (λ n. flag_word_good s.rules s.args_override_self own waiting word (long_of word) h n good)
+    other_good o waiting position word h none good = grind (arith, either, flag_word_good)
 
     word_good : (b : Bool) (waiting : Waiting) (position : ℕ) (word : Text) (h : Held)
         → Keeps (word_fault s names b waiting word h) h (word_met s.rules names b waiting position word h).0
-    word_good true waiting position word h none good = good
-    word_good false waiting position word h none good = other_good (subcommand_met names waiting word) waiting position word h none good
+    word_good b waiting position word h none good = grind (arith, other_good)
 
     value_good : (o : Option Rule) (word : Text) (w : Walk) (h : Held)
         → Keeps (option_map_or (λ a. positional_fault s.rules s.args_override_self a h) o (stray_fault s)) h (to_positional s.rules o word w h).held
@@ -355,10 +302,7 @@ module _ (id : Text) (least most : ℕ) where
     value_good (Some a) word w h none good = positional_good s.rules s.args_override_self own a word h none good
 
     step_good : (word : Text) (w : Walk) (h : Held) (step : Step) → Keeps (step_fault s w.position h step) h (after_step s.rules word w h step).held
-    step_good word w h (next waiting) none good = good
-    step_good word w h (trailing position) none good = good
-    step_good word w h (subcommand name) none good = good
-    step_good word w h value none good = value_good (arg_by_index s.rules w.position) word w h none good
+    step_good word w h step none good = grind (arith, value_good)
 
     turn_good : (w : Walk) (word : Text) → Keeps (turn_fault s names w word) w.held (walked s.rules names w word).held
     unfolding walked

@@ -47,44 +47,33 @@ one_read k o r n read is = subst (IsRead k o) is read
 
 -- A number in a range is in each wider one.
 pub wider : (o : Option Text) (least most lower higher : ℕ) → lower ≤ least → most ≤ higher → IsNumberIn least most o → IsNumberIn lower higher o
-wider None least most lower higher low high fits = fits
-wider (Some t) least most lower higher low high fits = (fits.0, omega arith, omega arith)
+wider o least most lower higher low high fits = grind arith
 
 -- The same of an answer as it is.
 pub number_some : (k : ℕ) (o : Option Text) (r : Option ℕ) → IsRead k o r → IfSome r (λ n. option_map number_in o ≡ Some n)
-number_some k o (Some n) read = read
-number_some k o None read = tt
+number_some k o r read = grind arith
 
 pub number_none : (k : ℕ) (o : Option Text) (r : Option ℕ) (least most : ℕ) → most < 2 ^ k → IsRead k o r → IfNone r (IsNumberIn least most o → ⊥)
-number_none k o None least most fits read = read least most fits
-number_none k o (Some n) least most fits read = tt
+number_none k o r least most fits read = grind arith
 
 -- The number that was read is in each range in which the text has it.
 pub read_in : (o : Option Text) (n least most : ℕ) → option_map number_in o ≡ Some n → IsNumberIn least most o → (least ≤ n) × (n ≤ most)
-read_in None n least most is fits = absurd fits
-read_in (Some t) n least most is fits =
-    let same : number_in t ≡ n = cc in
-    (subst (λ m. least ≤ m) same fits.1, subst (λ m. m ≤ most) same fits.2)
+read_in o n least most is fits = grind arith
 
 pub ruleset ranges = (read_in, wider)
 
 -- ---- what a type makes of a number
 
 pub none_if : {X : Type 0} (r : Option X) (P : Type 0) → (P → IsSome r) → IfNone r (P → ⊥)
-none_if None P h = λ p.
-    let bad : false ≡ true = h p in
-    cc
-none_if (Some x) P h = tt
+none_if r P h = grind arith
 
 pub none_if_zero : {X : Type 0} (r : Option X) (n : ℕ) (get : X → ℕ) (P : Type 0) → MatchOption r (n ≡ 0) (λ x. get x ≡ n) → (P → 1 ≤ n) → IfNone r (P → ⊥)
-none_if_zero None n get P zero some = λ p. let h : 1 ≤ n = some p in absurd (omega (arith, h, zero))
-none_if_zero (Some x) n get P zero some = tt
+none_if_zero r n get P zero some = grind arith
 
 -- ---- texts
 
 pub text_or : (r : Option (Bor Text)) (other : Bor Text) → (unwrap_or r other).now ≡ unwrap_or (option_map (λ s. s.now) r) other.now
-text_or None other = refl
-text_or (Some s) other = refl
+text_or r other = grind arith
 
 flag_from : (o : Option Text) (r : Option Bool) → (o ≡ None → r ≡ None) → ((t : Text) → o ≡ Some t → ReadsOne {E = ParseBoolError} ParsesBool t r)
     → (unwrap_or r false ≡ true) ↔ (o ≡ Some (codes "true"))

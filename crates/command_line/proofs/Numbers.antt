@@ -9,7 +9,7 @@ use Rattle.std.specs.Str.{bytes_eq}
 use Rattle.std.proofs.lemmas.Slice.Eq.{bytes_eq-Decides}
 use Rattle.clap.specs.Words.{App, Row, Rule, Shape, Text, fault_of, one_of, read_as, subcommand_of}
 use Rattle.clap.specs.Walk.{Held, answers_to, finished, has_row, is_empty}
-use Rattle.clap.specs.Walk.{nothing_held, reading_by, row_text, rows_after, settled, stop_after}
+use Rattle.clap.specs.Walk.{nothing_held, row_text, rows_after, settled, stop_after}
 use Rattle.clap.specs.Walk.{walk, walk_from, with_default, with_values, default_rows}
 use Rattle.clap.specs.Simple.{argument_words, built, entered, label_of, names_of, rows_at}
 use Rattle.clap.specs.Faults.{built_fault, check_fault, defaults_fault, entered_fault, level_fault, settle_fault, walk_fault}
@@ -34,16 +34,13 @@ module _ (id : Text) (least most : ℕ) where
   HasDefault (a ∷ more) = ((bytes_eq a.id id ≡ true) × (is_empty a.defaults ≡ false)) ⊎ HasDefault more
 
   or_left : (a b : Bool) → a ≡ true → (a || b) ≡ true
-  or_left true b e = refl
-  or_left false b e = cc
+  or_left a b e = grind arith
 
   or_right : (a b : Bool) → b ≡ true → (a || b) ≡ true
-  or_right true b e = refl
-  or_right false b e = e
+  or_right a b e = grind arith
 
   or_more : (b x y : Bool) → (x ≡ true → y ≡ true) → (b || x) ≡ true → (b || y) ≡ true
-  or_more true x y f e = refl
-  or_more false x y f e = f e
+  or_more b x y f e = grind arith
 
   -- A default adds a row and takes none away.
   row_stays : (name : Text) (how : Reading) (texts : List Text) (rows : List Row) → has_row id rows ≡ true
@@ -55,12 +52,10 @@ module _ (id : Text) (least most : ℕ) where
 
   default_stays : (name : Text) (how : Reading) (texts : List Text) (rows : List Row) → has_row id rows ≡ true
       → has_row id (default_rows name how texts rows) ≡ true
-  default_stays name how [] rows there = there
-  default_stays name how (v ∷ vs) rows there = row_stays name how (v ∷ vs) rows there
+  default_stays name how texts rows there = grind (arith, there, row_stays)
 
   stays : (a : Rule) (rows : List Row) → has_row id rows ≡ true → has_row id (with_default rows a) ≡ true
-  stays a rows there = by_cases (λ rows. has_row id rows ≡ true) (has_row a.id rows) _ _ (λ e. there)
-      (λ e. default_stays a.id (reading_by a) a.defaults rows there)
+  stays a rows there = grind (arith, there, by_cases, default_stays)
 
   all_stay : (c : List Rule) (rows : List Row) → has_row id rows ≡ true → has_row id (fold with_default rows c) ≡ true
   all_stay [] rows there = there
@@ -76,13 +71,10 @@ module _ (id : Text) (least most : ℕ) where
 
   added : (name : Text) (how : Reading) (texts : List Text) (rows : List Row) → name ≡ id → is_empty texts ≡ false
       → has_row id (default_rows name how texts rows) ≡ true
-  added name how [] rows is some = cc
-  added name how (v ∷ vs) rows is some = row_added name how (v ∷ vs) rows is
+  added name how texts rows is some = grind (arith, row_added)
 
   default_added : (a : Rule) (rows : List Row) → a.id ≡ id → is_empty a.defaults ≡ false → has_row id (with_default rows a) ≡ true
-  default_added a rows is some =
-      by_cases (λ rows. has_row id rows ≡ true) (has_row a.id rows) _ _ (λ e. subst (λ (t : Text). has_row t rows ≡ true) is e)
-      (λ e. added a.id (reading_by a) a.defaults rows is some)
+  default_added a rows is some = grind (arith, by_cases, added)
 
   default_there : (c : List Rule) (rows : List Row) → HasDefault c → has_row id (fold with_default rows c) ≡ true
   default_there [] rows has = absurd has
@@ -102,13 +94,10 @@ module _ (id : Text) (least most : ℕ) where
       go (Some r) e = refl
 
   neither : (b d : Bool) → (b || d) ≡ false → (b ≡ false) × (d ≡ false)
-  neither true d none = cc
-  neither false d none = (refl, none)
+  neither b d none = grind arith
 
   given_if_needed : (b g : Bool) → b ≡ true → (b && not g) ≡ false → g ≡ true
-  given_if_needed true true e n = refl
-  given_if_needed true false e n = cc
-  given_if_needed false g e n = cc
+  given_if_needed b g e n = grind arith
 
   needed_there : (c : List Rule) (rows : List Row) → IsNeeded c → list_any (λ a. a.required && not (is_given a.id rows)) c ≡ false
       → is_some (find (λ r. bytes_eq r.id id) rows) ≡ true
@@ -146,14 +135,10 @@ module _ (id : Text) (least most : ℕ) where
           first_in r (met.0 met.1)
 
   none_wanted : (x y z : Bool) → check_kinds x y z ≡ [] → z ≡ false
-  none_wanted true y z h = cc
-  none_wanted false true z h = cc
-  none_wanted false false true h = cc
-  none_wanted false false false h = refl
+  none_wanted x y z h = grind arith
 
   not_both : (b c : Bool) → (not (b && false) && c) ≡ false → c ≡ false
-  not_both true c h = h
-  not_both false c h = h
+  not_both b c h = grind arith
 
   -- Of a command that was parsed without a mistake the number is there, and in its range.
   pub number_there : (s : Shape) (words : List Text) → AreOwn id least most s.rules → HasDefault s.rules ⊎ IsNeeded s.rules
@@ -237,9 +222,7 @@ entered_has a (Some p) have none = go (find (λ s. answers_to p.0 (label_of s)) 
 
 built_has : (a : App) (words : List Text) → Each IsRuledShape a.subs → built_fault a nothing_held words ≡ []
     → IfSome (entered a (stop_after a.top.rules (names_of a) words)) (λ met. HasNumbersOf met.0 met.1)
-built_has a words have none =
-    entered_has a (stop_after a.top.rules (names_of a) words) have
-    (none_first _ _ (none_then (walk_fault a.top (names_of a) (walk_from nothing_held) words) _ none))
+built_has a words have none = grind (arith, entered_has, none_first, none_then)
 
 -- The values at which a command of the program was met have its numbers, each in its range.
 pub numbers_met : (words : List Text) (name : Text) (rows : List Row) → fault_of program_app words ≡ [] → subcommand_of program_app words ≡ Some (name, rows)

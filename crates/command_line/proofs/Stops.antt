@@ -6,19 +6,18 @@ use Rattle.std.specs.Prelude.{find, fold}
 use Rattle.std.specs.Str.{bytes_eq}
 use Rattle.std.proofs.lemmas.Slice.Eq.{bytes_eq-Decides}
 use Rattle.clap.specs.Words.{App, Row, Rule, Shape, Text, fault_of, subcommand_of}
-use Rattle.clap.specs.Walk.{Held, Names, Outcome, Step, Waiting, Walk, after_flag, arg_by_long}
-use Rattle.clap.specs.Walk.{bundle, long_met, short_or_plain, after_step, answers_to, arg_by_index}
-use Rattle.clap.specs.Walk.{done, idle, long_or_other, next, nothing_held, option, plain}
-use Rattle.clap.specs.Walk.{plain_word, positional, refused, stop_after, subcommand, subcommand_met}
-use Rattle.clap.specs.Walk.{subcommand_or_other, to_positional, trailing, value, waits, walk_from}
+use Rattle.clap.specs.Walk.{Held, Names, Outcome, Step, Waiting, Walk, after_flag}
+use Rattle.clap.specs.Walk.{short_or_plain, after_step, answers_to}
+use Rattle.clap.specs.Walk.{long_or_other, nothing_held}
+use Rattle.clap.specs.Walk.{plain_word, stop_after, subcommand, subcommand_met}
+use Rattle.clap.specs.Walk.{subcommand_or_other, to_positional, value, walk_from}
 use Rattle.clap.specs.Walk.{walked, walked_from, word_met}
 use Rattle.clap.specs.Simple.{argument_words, built, entered, label_of, names_of, rows_at}
 use Rattle.clap.specs.Faults.{other_fault, step_fault, turn_fault, walk_fault, word_fault}
 use Rattle.clap.specs.Kinds.{or_else}
 use Rattle.clap.specs.declared.error.ErrorKind.{ErrorKind}
-use Rattle.clap.specs.Lexer.{long_of, short_of}
 use Rattle.std.specs.List.{list_any}
-use Rattle.command_line.proofs.Found.{by_cases, none_first, none_then}
+use Rattle.command_line.proofs.Found.{none_first, none_then}
 use Rattle.command_line.proofs.Lists.{Each, found}
 use Rattle.command_line.specs.Meanings.{IsCommand, IsCommandAt}
 use Rattle.command_line.specs.Private.Names.{IsUnlisted}
@@ -37,56 +36,37 @@ NoHelp None = Unit {0}
 NoHelp (Some p) = bytes_eq p.0 (codes "help") ≡ false
 
 plain_other : (c : List Rule) (waiting : Waiting) (word : Text) (h : Held) → IsOther (plain_word c waiting word h).1
-plain_other c idle word h = tt
-plain_other c (option id) word h = tt
-plain_other c positional word h = tt
+plain_other c waiting word h = search rules
 
 after_other : (c : List Rule) (waiting : Waiting) (word : Text) (h : Held) (o : Outcome) → IsOther (after_flag c waiting word h o).1
-after_other c waiting word h done = tt
-after_other c waiting word h (waits id) = tt
-after_other c waiting word h plain = plain_other c waiting word h
-after_other c waiting word h refused = plain_other c waiting word h
+after_other c waiting word h o = search rules
 
 short_other : (c : List Rule) (waiting : Waiting) (word : Text) (o : Option Text) (h : Held) → IsOther (short_or_plain c waiting word o h).1
-short_other c waiting word (Some flags) h = after_other c waiting word (bundle c flags h).0 (bundle c flags h).1
-short_other c waiting word None h = plain_other c waiting word h
+short_other c waiting word o h = search rules
 
 long_other : (c : List Rule) (waiting : Waiting) (word : Text) (o : Option (Text × Option Text)) (h : Held) → IsOther (long_or_other c waiting word o h).1
-long_other c waiting word (Some p) h = after_other c waiting word (long_met c (arg_by_long c p.0) p.1 h).0 (long_met c (arg_by_long c p.0) p.1 h).1
-long_other c waiting word None h = short_other c waiting word (short_of word) h
+long_other c waiting word o h = search rules
 
 no_name : (c : List Rule) (waiting : Waiting) (position : ℕ) (word : Text) (h : Held) → IsOther (subcommand_or_other c None waiting position word h).1
-no_name c waiting position word h =
-    by_cases (λ (met : Held × Step). IsOther met.1) (bytes_eq word (45 ∷ 45 ∷ [])) _ _ (λ e. tt) (λ e. long_other c waiting word (long_of word) h)
+no_name c waiting position word h = search rules
 
 -- ---- one word
 
 at_positional : (c : List Rule) (o : Option Rule) (word : Text) (w : Walk) (h : Held) → NoHelp w.stopped → NoHelp (to_positional c o word w h).stopped
-at_positional c None word w h clear = clear
-at_positional c (Some a) word w h clear = tt
+at_positional c o word w h clear = search rules
 
 no_help_after : (c : List Rule) (word : Text) (w : Walk) (h : Held) (step : Step) → NoHelp w.stopped → IsOther step
     → NoHelp (after_step c word w h step).stopped
-no_help_after c word w h (next waiting) clear other = clear
-no_help_after c word w h (trailing position) clear other = clear
-no_help_after c word w h (subcommand name) clear other = absurd other
-no_help_after c word w h value clear other = at_positional c (arg_by_index c w.position) word w h clear
+no_help_after c word w h step clear other = search rules
 
 name_is_other : (b d : Bool) (k l : ErrorKind) → d ≡ false → (if b && not d then k ∷ l ∷ [] else []) ≡ [] → b ≡ false
-name_is_other false d k l off none = refl
-name_is_other true false k l off none = cc
-name_is_other true true k l off none = cc
+name_is_other b d k l off none = search rules
 
 by_name : (s : Shape) (w : Walk) (word : Text) (t : Bool) (m : Option Text) → s.disable_help_subcommand ≡ false → NoHelp w.stopped
     → (if t then [] else other_fault s m word w.held) ≡ []
     → NoHelp (after_step s.rules word w (if t then (w.held, value) else subcommand_or_other s.rules m w.waiting w.position word w.held).0
     (if t then (w.held, value) else subcommand_or_other s.rules m w.waiting w.position word w.held).1).stopped
-by_name s w word true m off clear none = no_help_after s.rules word w w.held value clear tt
-by_name s w word false None off clear none =
-    no_help_after s.rules word w (subcommand_or_other s.rules None w.waiting w.position word w.held).0
-    (subcommand_or_other s.rules None w.waiting w.position word w.held).1 clear
-    (no_name s.rules w.waiting w.position word w.held)
-by_name s w word false (Some name) off clear none = name_is_other (bytes_eq name (codes "help")) s.disable_help_subcommand _ _ off none
+by_name s w word t m off clear none = search rules
 
 one_word : (s : Shape) (names : Names) (w : Walk) (word : Text) → s.disable_help_subcommand ≡ false → NoHelp w.stopped
     → turn_fault s names w word ≡ [] → NoHelp (walked s.rules names w word).stopped

@@ -1,6 +1,5 @@
 -- What is judged is genuine, or bad by its first frame that is not sound.
-use Rattle.std.proofs.Common.{◌≡◌, ℕ, ◌+◌, ◌<◌, ◌≤◌, List, Some, ap, arith, ◌⊎◌, inl, inr}
-use Rattle.vcs_machine.specs.Pictures.{Rows}
+use Rattle.std.proofs.Common.{◌≡◌, ℕ, ◌+◌, ◌<◌, ◌≤◌, Some, arith, ◌⊎◌}
 use Rattle.vcs_machine.specs.declared.fields.StateFields.{StateFields}
 use Rattle.movie_file.specs.Movie.{MovieData}
 use Rattle.movie_file.specs.Judgement.{AllSound, FaultsAt, IsFalseAt}
@@ -29,26 +28,16 @@ IsGenuineOrBad m keep start from len v = (AllSound m start from len × (v ≡ Ge
 
 pub judged_cases : (m : MovieData) (keep : Keep) (start : StateFields) (from len : ℕ) (v : Verdict) → IsJudged m keep start from len v
     → IsGenuineOrBad m keep start from len v
-judged_cases m keep start from len (Genuine kept) (sound, is) = inl (sound, ap (λ (x : List Rows). Genuine x) is)
-judged_cases m keep start from len (FalseCheckpoint number frame) (k, less, at, sound, bad) = inr (k, less, sound, (at, bad))
-judged_cases m keep start from len (Fault frame kind) (k, less, at, sound, bad) = inr (k, less, sound, (at, bad))
+judged_cases m keep start from len v h = grind arith
 
 pub IsJudged-bad : (m : MovieData) (keep : Keep) (start : StateFields) (from len : ℕ) (v : Verdict) → IsBad m start from len v
     → IsJudged m keep start from len v
-IsJudged-bad m keep start from len (Genuine kept) (k, less, sound, bad) = absurd bad
-IsJudged-bad m keep start from len (FalseCheckpoint number frame) (k, less, sound, (at, bad)) = (k, less, at, sound, bad)
-IsJudged-bad m keep start from len (Fault frame kind) (k, less, sound, (at, bad)) = (k, less, at, sound, bad)
+IsJudged-bad m keep start from len v h = grind arith
 
 -- From where a run stands a bad frame is a later one of the whole run.
 module _ (m : MovieData) (s : StateFields) (a i : ℕ) (t : StateFields) (is : run m s a i ≡ Some t) where
   IsBadAt-shift : (k : ℕ) (v : Verdict) → IsBadAt m t (a + i) k v → IsBadAt m s a (i + k) v
-  IsBadAt-shift k (Genuine kept) bad = bad
-  IsBadAt-shift k (FalseCheckpoint number frame) (at, (state, n, c, ran, num, got, here, ne)) =
-      let more : i + k + 1 ≡ i + (k + 1) = omega arith in
-      (omega arith, (state, n, c, rw (more, run-shift m s a i t is (k + 1)) ran, num, got, omega arith, ne))
-  IsBadAt-shift k (Fault frame kind) (at, (state, left, ran, faults)) =
-      let there : a + (i + k) ≡ a + i + k = omega arith in
-      (omega arith, (state, left, rw (run-shift m s a i t is k) ran, rw there faults))
+  IsBadAt-shift k v bad = grind (arith, run-shift)
 
   pub IsBad-shift : (len more : ℕ) (v : Verdict) → i + len ≤ more → AllSound m s a i → IsBad m t (a + i) len v → IsBad m s a more v
   IsBad-shift len more v le sound (k, less, before, bad) =

@@ -1,5 +1,5 @@
 -- Which checkpoint is the next.
-use Rattle.std.proofs.Common.{◌≡◌, ◌≢◌, ◌⊎◌, inl, inr, ℕ, ◌+◌, ◌<◌, ◌≤◌, Some, length, slice_get}
+use Rattle.std.proofs.Common.{◌≡◌, ◌≢◌, ◌⊎◌, ℕ, ◌+◌, ◌<◌, ◌≤◌, Some, length, slice_get}
 use Rattle.std.proofs.Common.{arith}
 use Rattle.std.proofs.lemmas.Bool.{cases_lt}
 use Rattle.std.proofs.lemmas.Option.{slice_get_within}
@@ -23,30 +23,15 @@ module _ (m : MovieData) (movie : IsMovie m) where
   -- Two checkpoints are one, or stand in the order of their frames.
   pub in_order : (i j : ℕ) (c d : Checkpoint) → slice_get m.checkpoints i ≡ Some c → slice_get m.checkpoints j ≡ Some d
       → ((i < j) × (c.frame < d.frame)) ⊎ (((i ≡ j) × (c ≡ d)) ⊎ ((j < i) × (d.frame < c.frame)))
-  in_order i j c d at there =
-      elim (cases_lt i j) [
-        | inl less ↦ inl (less, frames_rise i j c d less at there)
-        | inr ge ↦ elim (cases_lt j i) [
-          | inl less ↦ inr (inr (less, frames_rise j i d c less there at))
-          | inr le ↦ (let same : i ≡ j = omega arith in inr (inl (same, same_at m.checkpoints i j c d same at there)))
-        ]
-      ]
+  in_order i j c d at there = grind (arith, cases_lt, frames_rise, same_at)
 
   -- None stands before the first frame.
   pub IsNext-start : IsNext m 0 (0 + 1)
-  IsNext-start = record {
-    within = omega arith;
-    before = λ j c here less. absurd (omega arith);
-    after = λ j c here le. let h = frame_in_range j c here in omega (arith, h.0);
-  }
+  IsNext-start = grind (arith, frame_in_range)
 
   -- After the frame of a checkpoint its successor is the next one.
   pub IsNext-after : (i : ℕ) (c : Checkpoint) → slice_get m.checkpoints i ≡ Some c → IsNext m (i + 1) (c.frame + 1)
-  IsNext-after i c at = record {
-    within = omega (arith, slice_get_within m.checkpoints i c at);
-    before = λ j d here less. grind (arith, in_order i j c d at here);
-    after = λ j d here le. grind (arith, in_order i j c d at here);
-  }
+  IsNext-after i c at = grind (arith, slice_get_within, in_order)
 
 pub ruleset at_start = IsNext-start
 
@@ -54,14 +39,7 @@ module _ (m : MovieData) (movie : IsMovie m) (next frame : ℕ) (state : StateFi
     (c : Checkpoint) (here : slice_get m.checkpoints next ≡ Some c) where
   -- The next one stands after a later frame.
   pub IsClaim-later : c.frame ≢ frame → IsClaim m next frame state (Holds next)
-  IsClaim-later other = (
-    record {
-      within = is.within;
-      before = λ j d at less. let h = is.before j d at less in omega arith;
-      after = λ j d at le. grind (arith, in_order m movie next j c d here at, is.after next c here);
-    },
-    λ j d at e. grind (arith, in_order m movie next j c d here at, is.after next c here, is.before j d at),
-  )
+  IsClaim-later other = grind (arith, in_order)
 
   -- The next one stands after this frame, and is true.
   pub IsClaim-true : c.frame ≡ frame → c.state ≡ state → IsClaim m next frame state (Holds (next + 1))

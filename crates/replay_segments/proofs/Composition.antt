@@ -81,7 +81,4 @@ module _ (job : Job) (is : IsJob job) (i : ℕ) (less : i < segments_of job) (ke
 
 -- Where all segments passed, the movie is genuine.
 pub IsVerdict-genuine : (job : Job) (n : ℕ) (kept : List Rows) → n ≡ segments_of job → IsPrefix job n kept → IsVerdict job.movie job.keep (Genuine kept)
-IsVerdict-genuine job n kept is prefix =
-    let whole : from_of job.movie job.cuts n ≡ length job.movie.inputs =
-    rw is (from_of-next job.movie job.cuts (length job.cuts) ∙ end_of-last job.movie job.cuts (length job.cuts) (omega arith)) in
-    subst (λ (k : ℕ). IsJudged job.movie job.keep job.movie.start 0 k (Genuine kept)) whole prefix.judged
+IsVerdict-genuine job n kept is prefix = grind (arith, from_of-next, end_of-last)

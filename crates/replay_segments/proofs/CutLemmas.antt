@@ -7,13 +7,10 @@ use Rattle.std.proofs.lemmas.Option.{slice_get_within, slice_get_read, get_or_fr
 use Rattle.std.proofs.lemmas.Nat.{div-add-mod'}
 use Rattle.std.specs.List.{Contains}
 use Rattle.replay_segments.specs.Cuts.{AreCuts, IsEvery}
-use Rattle.replay_segments.proofs.ListLemmas.{slice_get-below, same_at, each-below}
+use Rattle.replay_segments.proofs.ListLemmas.{slice_get-below}
 
 pub AreCuts-more : (most more : ℕ) (cuts : List ℕ) → most ≤ more → AreCuts most cuts → AreCuts more cuts
-AreCuts-more most more cuts le are = record {
-  range = λ i n at. let h = are.range i n at in (h.0, omega (arith, h.1));
-  rising = are.rising;
-}
+AreCuts-more most more cuts le are = grind arith
 
 -- Rising numbers from 1 on are above their indices.
 index-below : (most : ℕ) (cuts : List ℕ) → AreCuts most cuts → (i n : ℕ) → slice_get cuts i ≡ Some n → i < n
@@ -53,26 +50,10 @@ AreCutsBelow-whole most numbers i last past below = record {
 module _ (most : ℕ) (numbers : List ℕ) (i last number : ℕ) (at : slice_get numbers i ≡ Some number) (below : AreCutsBelow most numbers i last) where
   -- A number that is not above the last one, or is no checkpoint.
   pub AreCutsBelow-not : (number ≤ last) ⊎ (most < number) → AreCuts most numbers → ⊥
-  AreCutsBelow-not (inr above) are = let h = (are.range i number at).1 in omega (arith, h)
-  AreCutsBelow-not (inl low) are =
-      elim below.last_is [
-        | inl none ↦ (let positive = (are.range i number at).0 in omega (arith, positive))
-        | inr w ↦ (let rises = are.rising (i - 1) i last number (omega (arith, w.0)) w.1 at in omega (arith, rises))
-      ]
+  AreCutsBelow-not h are = grind arith
 
   pub AreCutsBelow-next : last < number → number ≤ most → AreCutsBelow most numbers (i + 1) number
-  AreCutsBelow-next above le = record {
-    within = le;
-    last_is = let same : i + 1 - 1 ≡ i = omega arith in inr (omega arith, rw same at);
-    range = each-below (λ (n : ℕ). (0 < n) × (n ≤ number)) numbers i number at (omega arith, omega arith)
-        (λ j n low here. let h = below.range j n low here in (h.0, omega (arith, h.1)));
-    rising = λ j k n p low less here there. elim (cases_lt k i) [
-      | inl before ↦ below.rising j k n p low before here there
-      | inr high ↦
-          (let same = same_at numbers k i p number (omega arith) there at in
-          let h = (below.range j n (omega arith) here).1 in omega (arith, same, h))
-    ];
-  }
+  AreCutsBelow-next above le = grind arith
 
 -- The multiples of k, one after another, up to a number.
 module _ (k most found : ℕ) (numbers : List ℕ) (positive : 0 < k) (all : found ≡ most) (count : length numbers ≡ found / k)
@@ -87,16 +68,7 @@ module _ (k most found : ℕ) (numbers : List ℕ) (positive : 0 < k) (all : fou
   rises i j less = let h = mul-le-mul_right {m = i + 1 + 1} {n = j + 1} k (omega arith) in omega (arith, h)
 
   pub AreCuts-every : AreCuts most numbers
-  AreCuts-every = record {
-    range = λ j n at.
-        let e = each j n at in
-        let low = above j in
-        let high = within j (slice_get_within numbers j n at) in (omega (arith, e, low), omega (arith, e, high));
-    rising = λ i j n p less at there.
-        let e = each i n at in
-        let f = each j p there in
-        let h = rises i j less in omega (arith, e, f, h);
-  }
+  AreCuts-every = grind (arith, above, within, slice_get_within, rises)
 
   pub IsEvery-each : IsEvery k most numbers
   IsEvery-each n = (is_multiple, place)

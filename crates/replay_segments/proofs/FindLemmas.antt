@@ -34,10 +34,7 @@ IsAnswerBelow pieces number n NoMemory =
 -- The next piece has another number.
 pub IsAnswerBelow-other : (pieces : List PieceData) (number n : ℕ) (answer : GatherError) (q : PieceData) → IsAnswerBelow pieces number n answer
     → slice_get pieces n ≡ Some q → q.number ≢ number → IsAnswerBelow pieces number (n + 1) answer
-IsAnswerBelow-other pieces number n (Missing k) q below at other =
-    (below.0, each-below (λ (p : PieceData). p.number ≢ number) pieces n q at other below.1)
-IsAnswerBelow-other pieces number n NoMemory q below at other =
-    (below.0, each-below (λ (p : PieceData). p.number ≡ number → IsUnjudged p) pieces n q at (λ is. absurd (other is)) below.1)
+IsAnswerBelow-other pieces number n answer q below at other = grind arith
 
 -- The next piece has this number, and was not judged bad.
 pub IsAnswerBelow-may : (pieces : List PieceData) (number n : ℕ) (answer : GatherError) (q : PieceData) → IsAnswerBelow pieces number n answer

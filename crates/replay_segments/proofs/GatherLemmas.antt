@@ -1,6 +1,6 @@
 -- What pieces answer, by the first number without a piece that passed.
 use Rattle.std.proofs.Common.{◌≡◌, ℕ, zero, suc, ◌<◌, ◌↔◌, List, [], ◌++◌, Result, Ok, Err, IfOk}
-use Rattle.std.proofs.Common.{refl, arith, ap, ◌∙◌, subst, sym, add-one, ◌⊎◌, inl, inr, IsTrue}
+use Rattle.std.proofs.Common.{refl, arith, ap, ◌∙◌, subst, sym, add-one, ◌⊎◌, inl, IsTrue}
 use Rattle.std.proofs.Common.{IsFalse}
 use Rattle.std.proofs.lemmas.Bool.{cases_lt}
 use Rattle.vcs_machine.specs.Pictures.{Rows}
@@ -8,10 +8,8 @@ use Rattle.replay_segments.specs.declared.gathering.GatherError.{GatherError}
 use Rattle.replay_segments.specs.declared.gathering.GatherError.TheVariants.{Missing, NoMemory}
 use Rattle.replay_segments.specs.declared.outcome.Outcome.{Outcome}
 use Rattle.replay_segments.specs.declared.outcome.Outcome.TheVariants.{Judged}
-use Rattle.replay_segments.specs.declared.outcome.Outcome.TheVariants.{NoMemory as NoMemoryOutcome}
 use Rattle.replay_segments.specs.declared.verdict.Verdict.{Verdict}
-use Rattle.replay_segments.specs.declared.verdict.Verdict.TheVariants.{Genuine, FalseCheckpoint}
-use Rattle.replay_segments.specs.declared.verdict.Verdict.TheVariants.{Fault}
+use Rattle.replay_segments.specs.declared.verdict.Verdict.TheVariants.{Genuine}
 use Rattle.replay_segments.specs.Private.Finding.{ArePassedBelow, IsFirstUnpassed, IsAnswer}
 use Rattle.replay_segments.specs.Gathering.{NamesAll, HasPassed, PassedBelow, IsMissing, AllRefused}
 use Rattle.replay_segments.specs.Gathering.{IsFirstMissing, IsFirstRefused, picture_count}
@@ -23,10 +21,7 @@ use Rattle.replay_segments.proofs.FindLemmas.{PassedBelow-found}
 use Rattle.replay_segments.proofs.TakeLemmas.{of_job}
 
 passed_pictures : (o : Outcome) → IsTrue (passed o) → (kept : List Rows) × (o ≡ Judged (Genuine kept))
-passed_pictures (Judged (Genuine kept)) good = (kept, refl)
-passed_pictures (Judged (FalseCheckpoint number frame)) good = absurd cc
-passed_pictures (Judged (Fault frame kind)) good = absurd cc
-passed_pictures NoMemoryOutcome good = absurd cc
+passed_pictures o good = grind arith
 
 -- Segments that passed are a genuine beginning.
 prefix_of : (job : Job) (pieces : List PieceData) → NamesAll job pieces → (number : ℕ) → ArePassedBelow pieces number
@@ -57,11 +52,7 @@ module _ (pieces : List PieceData) (n number : ℕ) (first : IsFirstUnpassed pie
   passed_below = PassedBelow-found pieces number first.below
 
   same_first : (k : ℕ) → (HasPassed pieces k → ⊥) → PassedBelow pieces k → k ≡ number
-  same_first k none below =
-      elim (cases_lt k number) [
-        | inl less ↦ absurd (none (passed_below k less))
-        | inr ge ↦ elim (cases_lt number k) [ inl less ↦ absurd (first.none (below number less)) | inr le ↦ omega arith ]
-      ]
+  same_first k none below = grind (arith, cases_lt, passed_below)
 
   missing_is : (k : ℕ) → IsFirstMissing pieces n k → k ≡ number
   missing_is k (less, missing, below) = same_first k (missing_none pieces k missing) below

@@ -4,7 +4,7 @@ use Rattle.std.proofs.lemmas.Bool.{cases_lt}
 use Rattle.vcs_machine.specs.declared.fields.StateFields.{StateFields}
 use Rattle.movie_file.specs.Movie.{MovieData, IsMovie}
 use Rattle.movie_file.specs.Judgement.{IsSound}
-use Rattle.movie_file.proofs.RunLemmas.{sound_no_fault, false_no_fault, sound_no_false, same_number}
+use Rattle.movie_file.proofs.RunLemmas.{false_no_fault, same_number}
 use Rattle.movie_file.proofs.RunLemmas.{same_kind}
 use Rattle.replay_plan.specs.declared.keep.Keep.{Keep}
 use Rattle.replay_segments.specs.declared.verdict.Verdict.{Verdict}
@@ -16,9 +16,7 @@ use Rattle.replay_segments.proofs.BadFrames.{IsBadAt, IsGenuineOrBad, judged_cas
 module _ (m : MovieData) (start : StateFields) (from : ℕ) where
   -- No frame is both sound and bad.
   sound_no_bad : (k : ℕ) (v : Verdict) → IsSound m start from k → IsBadAt m start from k v → ⊥
-  sound_no_bad k (Genuine kept) sound bad = bad
-  sound_no_bad k (FalseCheckpoint number frame) sound bad = sound_no_false m start from k number sound bad.1
-  sound_no_bad k (Fault frame kind) sound bad = sound_no_fault m start from k kind sound bad.1
+  sound_no_bad k v sound bad = grind arith
 
   -- A frame is bad in one way.
   bad_once : (k : ℕ) (v w : Verdict) → IsMovie m → IsBadAt m start from k v → IsBadAt m start from k w → v ≡ w

@@ -47,17 +47,7 @@ claim_of_sound m k j c movie sound here le =
 -- The run can be replayed from the checkpoint before the first false one.
 pub IsResumable-false : (m : MovieData) (number frame : ℕ) → IsMovie m → HasVerdict m (FalseCheckpoint number frame)
     → IsResumable m (number - 1) frame
-IsResumable-false m number frame movie (keep, (k, less, at, sound, (state, j, c, ran, num, here, after, ne))) =
-    let e : frame ≡ k + 1 = omega arith in
-    let within = slice_get_within m.checkpoints j c here in
-    record {
-      within = omega arith;
-      last = omega arith;
-      ends = rw (e, ran) refl;
-      claim = λ d some there.
-          let rises = frames_rise m movie (number - 1 - 1) j d c (omega arith) there here in
-          (omega arith, claim_of_sound m k (number - 1 - 1) d movie sound there (omega arith));
-    }
+IsResumable-false m number frame movie (keep, (k, less, at, sound, (state, j, c, ran, num, here, after, ne))) = grind (arith, slice_get_within, frames_rise, claim_of_sound)
 
 -- From a checkpoint of the run to the frame.
 pub run-resumed : (m : MovieData) (from frame : ℕ) (state : StateFields) → from ≤ frame → run m m.start 0 from ≡ Some state
@@ -72,13 +62,4 @@ run-resumed m from frame state le is =
 pub IsResumable-fault : (m : MovieData) (frame next : ℕ) (kind : FaultKind) → IsMovie m → HasVerdict m (Fault frame kind) → next ≤ length m.checkpoints
     → ((j : ℕ) (c : Checkpoint) → j < next → slice_get m.checkpoints j ≡ Some c → c.frame < frame)
     → IsResumable m next (frame - 1)
-IsResumable-fault m frame next kind movie (keep, (k, less, at, sound, (state, left, ran, fails))) within before =
-    let e : frame - 1 ≡ k = omega arith in
-    record {
-      within = within;
-      last = omega arith;
-      ends = rw (e, ran) refl;
-      claim = λ c some here.
-          let early = before (next - 1) c (omega arith) here in
-          (omega arith, claim_of_sound m k (next - 1) c movie sound here (omega arith));
-    }
+IsResumable-fault m frame next kind movie (keep, (k, less, at, sound, (state, left, ran, fails))) within before = grind (arith, claim_of_sound)

@@ -1,7 +1,7 @@
 -- Where segments begin and end.
 use Rattle.std.proofs.Common.{◌≡◌, ℕ, zero, suc, ◌+◌, ◌-◌, ◌<◌, ◌≤◌, List, length, Some}
 use Rattle.std.proofs.Common.{true, max, slice_get, refl, arith, ◌∙◌, subst}
-use Rattle.std.proofs.Common.{add-one, inl, inr}
+use Rattle.std.proofs.Common.{add-one}
 use Rattle.std.proofs.lemmas.Bool.{cases_lt}
 use Rattle.std.proofs.lemmas.Bool.Decides.{nat_tests}
 use Rattle.std.proofs.lemmas.Option.{slice_get_past}
@@ -61,11 +61,7 @@ module _ (m : MovieData) (cuts : List ℕ) (movie : IsMovie m) (fits : Fits cuts
       (cut.0, claim.0, record { cut = cut.1; positive = range.0; checkpoint = claim.1 })
 
   pub end_of-within : (i : ℕ) → end_of m cuts i ≤ length m.inputs
-  end_of-within i =
-      elim (cases_lt i (length cuts)) [
-        | inl low ↦ (let (n, c, at) = at_cut i low in rw (end_of-cut m cuts i n c at) (checkpoint_within m (n - 1) c movie at.checkpoint))
-        | inr past ↦ rw (end_of-last m cuts i past) (omega arith)
-      ]
+  end_of-within i = grind (arith, cases_lt, at_cut, end_of-cut, checkpoint_within, end_of-last)
 
   -- A segment that ends at a cut has a frame.
   pub from_of-below : (i : ℕ) → i < length cuts → from_of m cuts i < end_of m cuts i
@@ -79,12 +75,7 @@ module _ (m : MovieData) (cuts : List ℕ) (movie : IsMovie m) (fits : Fits cuts
       rw (end_of-cut m cuts i n c was, end_of-cut m cuts (suc i) n' c' at) (frames_rise m movie (n - 1) (n' - 1) c c' later was.checkpoint at.checkpoint)
 
   from_of-le : (i : ℕ) → from_of m cuts i ≤ end_of m cuts i
-  from_of-le zero = omega arith
-  from_of-le (suc i) =
-      elim (cases_lt (suc i) (length cuts)) [
-        | inl low ↦ (let h = from_of-below (suc i) low in omega (arith, h))
-        | inr past ↦ rw (end_of-last m cuts (suc i) past) (end_of-within i)
-      ]
+  from_of-le i = grind (arith, cases_lt, from_of-below, end_of-last, end_of-within)
 
 -- A replay from a cut to the end of the segment that begins there.
 pub record IsStretch (m : MovieData) (cuts : List ℕ) (i n : ℕ) (c : Checkpoint) (end : ℕ) : Type 0 where
@@ -110,6 +101,4 @@ kept-one keep from len some = (max keep.first (from + 1), omega arith, omega ari
 
 pub HasKept-cut : (job : Job) (i n : ℕ) (c : Checkpoint) (len : ℕ) → AtCut job.movie job.cuts i n c → c.frame + len ≡ end_of job.movie job.cuts (i + 1)
     → 0 < kept_count job.keep c.frame len → HasKept job (i + 1)
-HasKept-cut job i n c len at ends some =
-    let (frame, low, high, is) = kept-one job.keep c.frame len some in
-    (frame, rw (from_of-after job.movie job.cuts i n c at) low, rw (← ends) high, is)
+HasKept-cut job i n c len at ends some = grind (arith, kept-one, from_of-after)

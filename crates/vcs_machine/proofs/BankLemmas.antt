@@ -18,10 +18,7 @@ abbrev pub part : List ℕ → ℕ → List ℕ
 part cart bank = take (4096 * bank + 4096 - 4096 * bank) (drop (4096 * bank) cart)
 
 pub part-length : (cart : List ℕ) (bank : ℕ) → has_banks (length cart) ≡ true → bank < 2 → length (part cart bank) ≡ 4096
-part-length cart bank banked small =
-    let n : length cart ≡ 8192 = eqb-true _ _ banked in
-    let room : 4096 * bank + 4096 - 4096 * bank ≡ 4096 = omega arith in
-    simp (length-take, length-drop) (omega arith)
+part-length cart bank banked small = grind (arith, eqb-true, length-take, length-drop)
 
 pub part-shown : (cart : List ℕ) (bank : ℕ) → has_banks (length cart) ≡ true → bank < 2 → (address : ℕ)
     → slice_index (part cart bank) (bit_and address 4095) ≡ cart_byte cart bank address

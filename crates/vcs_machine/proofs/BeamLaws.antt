@@ -36,16 +36,14 @@ iterate-clocked-count (suc n) s = let one = clocked-count s in let more = iterat
 
 -- A write leaves the beam.
 fields_after-clock : (t : TiaFields) (fire0 fire1 : Bool) (r : Register) (v : ℕ) → (fields_after t fire0 fire1 r v).clock ≡ t.clock
-fields_after-clock t fire0 fire1 Vsync v = refl
-fields_after-clock t fire0 fire1 _ v = refl
+fields_after-clock t fire0 fire1 r v = grind arith
 
 module _ {S : Type 0} (drawn : S → ℕ → ℕ → ℕ → S) where
   abbrev clock_of : Console S → ℕ
   clock_of c = c.tia.fields.clock
 
   read_at-clock : (c : Console S) (place : Place) → clock_of (read_at c place) ≡ clock_of c
-  read_at-clock c (Cart address) = refl
-  read_at-clock c other = refl
+  read_at-clock c place = grind arith
 
   written_at-clock : (c : Console S) (place : Place) (v : ℕ) → clock_of (written_at c place v) ≡ clock_of c
   unfolding tia_after_write
@@ -83,8 +81,7 @@ module _ {S : Type 0} (drawn : S → ℕ → ℕ → ℕ → S) where
   -- A wait ends where a scanline begins.
   pub after_wait-line : (c : Console S) → c.awaits_line ≡ true → c.tia.fields.clock < 228
       → c.tia.fields.clock % 3 ≡ 0 → (after_wait drawn c).tia.fields.clock ≡ 0
-  after_wait-line c awaits_line inside aligned =
-      rw awaits_line (iterate-clocked-clock (3 * cycles_to_line_start (clock_of c)) c.tia inside ∙ (omega arith))
+  after_wait-line c awaits_line inside aligned = grind (arith, iterate-clocked-clock)
 
   -- A frame that began at this cycle of its scanline, on its way: so far it took so many cycles, by
   -- which the beam has moved.
@@ -97,16 +94,7 @@ module _ {S : Type 0} (drawn : S → ℕ → ℕ → ℕ → S) where
   after_wait-way : (line_cycle cycles : ℕ) (r : Registers) (c : Console S) → line_cycle < 76 → cycles ≤ 24326
       → clock_of c ≡ (3 * line_cycle + 3 * cycles) % 228
       → OnItsWay line_cycle (record { registers = r; bus = after_wait drawn c; cycles = cycles + wait_cycles c })
-  after_wait-way line_cycle cycles r c small short at =
-      let inside : clock_of c < 228 = omega arith in
-      elim (cases_Bool c.awaits_line) [
-        | inl waits ↦ rw waits (record {
-          beam = iterate-clocked-clock (3 * cycles_to_line_start (clock_of c)) c.tia inside ∙ (omega arith);
-          most = omega arith;
-          room = omega arith;
-        })
-        | inr not ↦ rw not (record { beam = at ∙ (omega arith); most = omega arith; room = omega arith })
-      ]
+  after_wait-way line_cycle cycles r c small short at = grind (arith, cases_Bool, iterate-clocked-clock)
 
   way-goes_on : (line_cycle : ℕ) → line_cycle < 76 → (m next : Machine (Console S)) → OnItsWay line_cycle m → m.cycles < overlong_cycles
       → turn (console_rules drawn) m ≡ Went next → OnItsWay line_cycle next

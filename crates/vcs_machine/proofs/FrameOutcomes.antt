@@ -41,8 +41,7 @@ module _ {S : Type 0} (drawn : S → ℕ → ℕ → ℕ → S) (cart : List ℕ
 
 outcome-halted : (line_cycle : ℕ) (kind : FaultKind) (m : Machine (Console (List Pixel)))
     → outcome_of line_cycle (stop_with kind m) ≡ Failed kind (state_left m)
-outcome-halted line_cycle (BadOpcode opcode at) m = refl
-outcome-halted line_cycle kind m = refl
+outcome-halted line_cycle kind m = grind arith
 
 pub failed : (cart : List ℕ) (s after : StateFields) (i : InputData) (kind : FaultKind) (cycles : ℕ) → Halts cart s i kind after cycles
     → frame_of cart s i ≡ Failed kind after
@@ -50,8 +49,7 @@ unfolding frame_of
 failed cart s after i kind cycles h = rw (h.1, outcome-halted, h.2) refl
 
 pub machine_at-halted : {B : Type 0} (kind : FaultKind) (m : Machine B) → machine_at (stop_with kind m) ≡ m
-machine_at-halted (BadOpcode opcode at) m = refl
-machine_at-halted kind m = refl
+machine_at-halted kind m = grind arith
 
 -- However a frame stops, and whatever its pixels go to, its beam has moved by its cycles.
 module _ {S : Type 0} (drawn : S → ℕ → ℕ → ℕ → S) (cart : List ℕ) (s : StateFields) (i : InputData) (sink : S) (lawful : IsTrue (is_state s)) where

@@ -67,9 +67,7 @@ read-buttons n s r h k =
 -- The registers of collisions see nothing else.
 pub read-pairs : (n : ℕ) (s t : TiaState) (r : ℕ) → s.fields ≡ t.fields → r % 16 < 8
     → tia_read (iterate after_clock n s) r ≡ tia_read (iterate after_clock n t) r
-read-pairs n s t r e h =
-    let same = ap (λ (f : TiaFields). f.collisions) (iterate-clocked-numbers n s t e) in
-    grind (arith, nat_tests)
+read-pairs n s t r e h = grind (arith, iterate-clocked-numbers)
 
 -- ---- writes
 -- A write that changes nothing after any clocks changes nothing in a console.

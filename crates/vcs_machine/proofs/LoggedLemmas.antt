@@ -35,12 +35,7 @@ pulls-length s n (suc more) = ap suc (pulls-length s (n + 1) more)
 
 few_by : (how : Use) (operand : Operand) (r : Registers) (cycles : ℕ) → least_of how ≤ 7
     → length (accesses_by_use how operand r cycles) ≤ 8
-few_by (Pushes first rest) operand r cycles h = let same = pushes-length first r 0 rest in omega (arith, same, h)
-few_by (Pulls count) operand r cycles h = let same = pulls-length r.s 1 count in omega (arith, same, h)
-few_by Reads Register r cycles h = omega arith
-few_by (Stores what) Register r cycles h = omega arith
-few_by Modifies Register r cycles h = omega arith
-few_by how operand r cycles h = omega arith
+few_by how operand r cycles h = grind (arith, pushes-length, pulls-length)
 
 -- ---- what is listed
 module _ {S : Type 0} (m : Meaning S) where

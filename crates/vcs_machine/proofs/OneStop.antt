@@ -156,13 +156,7 @@ stop_of-keeps rules Fact keeps = stop_of-shown rules Fact (λ stop. Fact (machin
 module _ {B : Type 0} (rules : Rules B) where
   pub reaches-suc : (start here next : Machine B) (n : ℕ) → Reaches rules start n here → (0 < n → is_over rules here ≡ false)
       → turn rules here ≡ Went next → Reaches rules start (suc n) next
-  reaches-suc start here next n r going went = record {
-    reached = rw r.reached went;
-    least = λ k less some m e. elim (cases_eq k n) [
-      | inl is ↦ (let reached = rw (← is) at r.reached in let at : here ≡ m = cc in rw (← at) (going (omega arith)))
-      | inr other ↦ r.least k (omega arith) some m e
-    ];
-  }
+  reaches-suc start here next n r going went = grind arith
 
   -- So many turns led here, and the frame's end has not come.
   record Underway (start here : Machine B) : Type 0 where

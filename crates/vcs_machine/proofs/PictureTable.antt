@@ -20,11 +20,7 @@ record IsTable (n : ℕ) (rows : Rows) (colour : ℕ → ℕ → ℕ) : Type 0 w
 -- One pixel.
 with_pixel-table : (n : ℕ) (rows : Rows) (colour : ℕ → ℕ → ℕ) (p : Pixel) → IsTable n rows colour
     → IsTable n (with_pixel rows p.line p.x p.colour) (λ line x. if (p.line == line) && (p.x == x) then p.colour else colour line x)
-with_pixel-table n rows colour p table = record {
-  count = grind (arith, nat_tests, common_steps, table.count);
-  widths = λ line below. grind (arith, nat_tests, common_steps, table.widths line below, table.count);
-  colours = λ line x below lx. grind (arith, nat_tests, common_steps, table.colours line x below lx, table.widths line below, table.count);
-}
+with_pixel-table n rows colour p table = grind (arith, common_steps)
 
 -- All pixels.
 painted-table : (n : ℕ) (rows : Rows) (colour : ℕ → ℕ → ℕ) (ps : List Pixel) → IsTable n rows colour

@@ -39,8 +39,7 @@ use Rattle.vcs_machine.proofs.OneStop.{stops-later}
 
 -- ---- the status after a load
 taken-told : (branch : Branch) (byte p : ℕ) → p < 256 → is_taken (operation_of branch) (with_nz byte p) ≡ goes_on branch byte
-taken-told IfNotZero byte p h = grind (arith, nat_tests)
-taken-told branch byte p h = grind (arith, nat_tests)
+taken-told branch byte p h = grind arith
 
 load-again : (byte before p : ℕ) → p < 256 → with_nz byte (with_nz before p) ≡ with_nz byte p
 load-again byte before p h = grind (arith, nat_tests)
@@ -54,15 +53,13 @@ passed-add drawn c a b = rw (riot-add a b c.riot, tia-later a b c.tia, sink-late
 
 -- ---- the two instructions of a round
 branches : (branch : Branch) → IsBranch (operation_of branch)
-branches IfNotZero = record { used = refl; plain = refl; goes = λ _ _ _. refl }
-branches branch = record { used = refl; plain = refl; goes = λ _ _ _. refl }
+branches branch = grind arith
 
 loads : IsReader Lda
 loads = record { used = refl; straight = refl; plain = refl; same = λ _ _ _ _. refl }
 
 opcode_row : (branch : Branch) → row_of (opcode_of branch) ≡ Some (row_with (operation_of branch) Relative 2 false)
-opcode_row IfNotZero = refl
-opcode_row branch = refl
+opcode_row branch = grind arith
 
 back_by_five : (base : ℕ) → 5 ≤ base → base < 65536 → modulo (pos base +ℤ signed 0xFB) 65536 ≡ base - 5
 back_by_five base h k = grind (arith, ints)
@@ -161,17 +158,7 @@ module _ {S : Type 0} (drawn : S → ℕ → ℕ → ℕ → S) where
   -- A load after a load forgets what the first one gave.
   after_again : (register a b : ℕ) (m : Machine (Console S)) → has_bit register 2 ≡ true → m.registers.p < 256
       → after_load drawn register b (after_load drawn register a m) ≡ after_load drawn register (a + b) m
-  after_again register a b m timer byte =
-      let sum : m.cycles + a + b ≡ m.cycles + (a + b) = omega arith in
-      rw (
-        value-again b register (after_cycles a m.bus.riot) timer,
-        read-again b register (after_cycles a m.bus.riot) timer,
-        riot-add a b m.bus.riot,
-        load-again (riot_read (after_cycles (a + b) m.bus.riot) register) (riot_read (after_cycles a m.bus.riot) register) m.registers.p byte,
-        ← tia-later a b m.bus.tia,
-        ← sink-later drawn a b m.bus.tia m.bus.sink,
-        sum,
-      ) refl
+  after_again register a b m timer byte = grind (arith, value-again, read-again, riot-add, load-again, tia-later, sink-later)
 
   -- The machine after rounds that are passed at once: the frame stops as it would have stopped.
   pub rounds : (poll : Poll) (m : Machine (Console S)) → IsAtBranch poll m → (count : ℕ) → 0 < count → GoOn poll m.bus.riot count
@@ -194,8 +181,7 @@ module _ {S : Type 0} (drawn : S → ℕ → ℕ → ℕ → S) where
 -- ---- how many rounds surely go on
 goes_on-between : (branch : Branch) (byte later : ℕ) → byte < 256 → goes_on branch byte ≡ true
     → least_of branch ≤ later → later ≤ byte → goes_on branch later ≡ true
-goes_on-between IfNotZero byte later small e least most = grind (arith, nat_tests)
-goes_on-between branch byte later small e least most = grind (arith, nat_tests)
+goes_on-between branch byte later small e least most = grind arith
 
 pub going : (poll : Poll) (riot : RiotState) → has_bit poll.register 2 ≡ true → 0 < poll.cycles → 0 < riot.timer.interval
     → riot_read riot poll.register < 256 → goes_on poll.branch (riot_read riot poll.register) ≡ true

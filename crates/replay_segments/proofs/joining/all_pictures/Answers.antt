@@ -1,21 +1,11 @@
-use Rattle.std.proofs.Common.{◌≡◌, ◌≢◌, ◌∙◌, sym, arith, ◌+◌, ◌++◌, List, length, ap, subst, inl}
-use Rattle.std.proofs.Common.{inr, vec_len}
-use Rattle.std.proofs.lemmas.Bool.{cases_lt}
+use Rattle.std.proofs.Common.{◌≡◌, ◌≢◌, ◌∙◌, sym, arith, ◌+◌, ◌++◌, List, length, ap, subst}
+use Rattle.std.proofs.Common.{vec_len}
 use Rattle.vcs_machine.specs.Pictures.{Rows}
-use Rattle.replay_segments.specs.Gathering.{picture_count}
 use Rattle.replay_segments.proofs.Composition.{IsPrefix, IsPrefix-next, IsVerdict-genuine}
 use Rattle.replay_segments.proofs.joining.all_pictures.Goals as goal
 
-pub returns-in_default-with_capacity-clause-refused : goal.returns-in_default-with_capacity-clause-refused
-returns-in_default-with_capacity-clause-refused c =
-    let room : c.in-Some.room ≡ picture_count c.args.pieces.items = c.in-Some.ensures.some ∙ ap picture_count c.as_slice.ensures.value in
-    elim (cases_lt 0 c.in-Some.room) [
-      | inl w ↦ omega (arith, room)
-      | inr w ↦ let none : c.in-Some.room ≡ 0 = omega arith in let no = c.in_default-with_capacity.ensures.succeeds none in absurd cc
-    ]
-
 pub take_passed-requires : goal.take_passed-requires
-take_passed-requires c = c.loop-number.invariant.left c.loop-number.number (omega arith) c.loop-number-test.true
+take_passed-requires c = grind arith
 
 pub loop-number-preserved : goal.loop-number-preserved
 loop-number-preserved c =

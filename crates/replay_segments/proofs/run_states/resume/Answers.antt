@@ -11,13 +11,7 @@ state_after-requires-2-clause-range c =
     omega (arith, claim.0, c.requires.last)
 
 pub state_after-requires-2-clause-ends : goal.state_after-requires-2-clause-ends
-state_after-requires-2-clause-ends c =
-    let claim = c.requires.claim c.checkpoint-checkpoint.result.now (omega arith) c.checkpoint-checkpoint.ensures in
-    rw (← run-resumed c.args.movie.now c.checkpoint-checkpoint.result.now.frame c.args.frame c.checkpoint-checkpoint.result.now.state claim.0 claim.1)
-    c.requires.ends
+state_after-requires-2-clause-ends c = grind (arith, run-resumed)
 
 pub returns : goal.returns
-returns c =
-    let claim = c.requires.claim c.checkpoint-checkpoint.result.now (omega arith) c.checkpoint-checkpoint.ensures in
-    rw (run-resumed c.args.movie.now c.checkpoint-checkpoint.result.now.frame c.args.frame c.checkpoint-checkpoint.result.now.state claim.0 claim.1)
-    c.state_after-2.ensures
+returns c = grind (arith, run-resumed)

@@ -1,8 +1,7 @@
-use Rattle.std.proofs.Common.{arith, rules}
+use Rattle.std.proofs.Common.{arith}
 use Rattle.std.proofs.Output.{has_written_of_eq}
 use Rattle.std.proofs.lemmas.Fmt.{hex_byte}
-use Rattle.std.specs.Prelude.{true}
 use Rattle.vcs_machine.proofs.hexadecimal.HexByteDisplay.fmt.Goals as goal
 
 pub returns-clause-writes : goal.returns-clause-writes
-returns-clause-writes g c = λ plain ok. has_written_of_eq _ _ _ _ _ (hex_byte true c.args.self.now.0 (omega arith)) (search rules)
+returns-clause-writes g c = grind (arith, has_written_of_eq, hex_byte)
