@@ -47,7 +47,8 @@ claim_of_sound m k j c movie sound here le =
 -- The run can be replayed from the checkpoint before the first false one.
 pub IsResumable-false : (m : MovieData) (number frame : ℕ) → IsMovie m → HasVerdict m (FalseCheckpoint number frame)
     → IsResumable m (number - 1) frame
-IsResumable-false m number frame movie (keep, (k, less, at, sound, (state, j, c, ran, num, here, after, ne))) = grind (arith, slice_get_within, frames_rise, claim_of_sound)
+IsResumable-false m number frame movie (keep, (k, less, at, sound, (state, j, c, ran, num, here, after, ne))) =
+    grind (arith, slice_get_within, frames_rise, claim_of_sound)
 
 -- From a checkpoint of the run to the frame.
 pub run-resumed : (m : MovieData) (from frame : ℕ) (state : StateFields) → from ≤ frame → run m m.start 0 from ≡ Some state
@@ -62,4 +63,5 @@ run-resumed m from frame state le is =
 pub IsResumable-fault : (m : MovieData) (frame next : ℕ) (kind : FaultKind) → IsMovie m → HasVerdict m (Fault frame kind) → next ≤ length m.checkpoints
     → ((j : ℕ) (c : Checkpoint) → j < next → slice_get m.checkpoints j ≡ Some c → c.frame < frame)
     → IsResumable m next (frame - 1)
-IsResumable-fault m frame next kind movie (keep, (k, less, at, sound, (state, left, ran, fails))) within before = grind (arith, claim_of_sound)
+IsResumable-fault m frame next kind movie (keep, (k, less, at, sound, (state, left, ran, fails))) within before =
+    grind (arith, claim_of_sound)
