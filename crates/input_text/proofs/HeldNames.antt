@@ -1,17 +1,15 @@
 -- The names that are held in an input, and the input of names.
-use Rattle.std.proofs.Common.{◌≡◌, ℕ, ◌+◌, ◌%◌, ◌^◌, ◌<◌, Bool, true, false, cond, List, []}
-use Rattle.std.proofs.Common.{◌∷◌, bit_and, lit<, sym, refl, ap, ◌∙◌, subst, arith, Some}
-use Rattle.std.specs.Prelude.{not, ◌&&◌, ◌||◌, nat_eq, nat_lt, fold, bit_xor, sum_by}
+use Rattle.std.proofs.Common.{◌≡◌, ℕ, ◌+◌, ◌%◌, ◌^◌, Bool, true, false, cond, List, []}
+use Rattle.std.proofs.Common.{◌∷◌, bit_and, lit<, sym, refl, ap, ◌∙◌, arith, Some}
+use Rattle.std.specs.Prelude.{◌&&◌, ◌||◌, nat_eq, nat_lt, fold, bit_xor, sum_by}
 use Rattle.std.specs.Int.{bit_at}
 use Rattle.std.specs.List.{list_all, list_any, position_or_len}
 use Rattle.std.specs.Str.{bytes_eq}
-use Rattle.std.specs.Cmp.Lexicographic.{bytes_decides}
-use Rattle.std.proofs.lemmas.Bool.{agree_below_at, and_from, and_parts, cond_both, eqb-true}
-use Rattle.std.proofs.lemmas.Bool.{eq-eqb, lt-ltb, ltb-true, not-true}
+use Rattle.std.proofs.lemmas.Bool.{agree_below, agree_below_at, cond_both, eqb-true}
+use Rattle.std.proofs.lemmas.Bool.{not-true}
 use Rattle.std.proofs.lemmas.Bool.Decides.{nat_tests}
 use Rattle.std.proofs.lemmas.List.Sums.{AllPass-from_list_all}
 use Rattle.std.proofs.lemmas.Map.Views.{any-filter_same}
-use Rattle.std.proofs.lemmas.Nat.{and_xor_apart, xor_lt}
 use Rattle.std.proofs.lemmas.Nat.Bits.{bit_at_xor, bit_at-lt}
 use Rattle.std.proofs.Math.Bool.{and-true, or-false, or_assoc}
 use Rattle.vcs_machine.specs.Inputs.{InputData}
@@ -42,10 +40,7 @@ word_is_named Up0 = refl
 word_is_named _ = refl
 
 same_name : (name other : Name) → is_its_word name other ≡ true → other ≡ name
-same_name name other e =
-    let words : word_of other ≡ word_of name = (bytes_decides (word_of other) (word_of name)).0 e in
-    let named : Some other ≡ Some name = sym (word_is_named other) ∙ ap name_of words ∙ word_is_named name in
-    cc
+same_name name other e = grind arith
 
 abbrev is_same_port : Port → Port → Bool
 is_same_port Swcha Swcha = true
@@ -55,10 +50,7 @@ is_same_port _ _ = false
 
 turned_bit : (p q : Port) (c : InputData) (mask n : ℕ) → bit_at (port_byte p (with_byte q (bit_xor (port_byte q c) mask) c)) n
     ≡ (bit_at (port_byte p c) n + cond (is_same_port p q) (bit_at mask n) 0) % 2
-turned_bit Swcha Swcha c mask n = bit_at_xor c.swcha mask n
-turned_bit Swchb Swchb c mask n = bit_at_xor c.swchb mask n
-turned_bit Buttons Buttons c mask n = bit_at_xor c.buttons mask n
-turned_bit p q c mask n = omega (arith, bit_at-lt (port_byte p c) n)
+turned_bit p q c mask n = grind (arith, bit_at_xor, bit_at-lt)
 
 -- the bit of another name in the place of a name's
 abbrev bit_there : Name → Name → ℕ
@@ -66,30 +58,16 @@ bit_there name other =
     cond (is_same_port (bit_of_name name).port (bit_of_name other).port) (bit_at (2 ^ (bit_of_name other).bit) (bit_of_name name).bit) 0
 
 one_bit : (name other : Name) → bit_there name other ≡ cond (is_its_word name other) 1 0
-one_bit name other =
-    eqb-true _ _ (every_name (λ n. nat_eq (bit_there name n) (cond (is_its_word name n) 1 0))
-    (every_name (λ m. list_all (λ n. nat_eq (bit_there m n) (cond (is_its_word m n) 1 0)) names) refl name) other)
-
-or_known : (a b : Bool) → (b ≡ true → a ≡ true) → a ≡ (a || b)
-or_known true b f = refl
-or_known false true f = f refl
-or_known false false f = refl
-
-turned_over : (x i own : ℕ) (s : Bool) → x < 2 → i < 2 → own ≡ cond s 1 0 → (s ≡ true → not (nat_eq x i) ≡ false)
-    → not (nat_eq ((x + own) % 2) i) ≡ (not (nat_eq x i) || s)
-turned_over x i own s h k e f = grind (arith, nat_tests)
+one_bit name other = grind arith
 
 hold_more : (c : InputData) (other name : Name) → is_held (hold c other) name ≡ (is_held c name || is_its_word name other)
 hold_more c other name =
     let port : Port = (bit_of_name name).port in
     let bit : ℕ = (bit_of_name name).bit in
-    cond_both (is_held c other) c _ (λ (d : InputData). is_held d name ≡ (is_held c name || is_its_word name other))
-    (λ held. or_known _ _ (λ s. subst (λ (n : Name). is_held c n ≡ true) (same_name name other s) held))
-    (λ free. ap (λ (x : ℕ). not (nat_eq x (bit_at (port_byte port idle) bit)))
-    (turned_bit port (bit_of_name other).port c (2 ^ (bit_of_name other).bit) bit)
-    ∙ turned_over (bit_at (port_byte port c) bit) (bit_at (port_byte port idle) bit) (bit_there name other) (is_its_word name other)
-    (bit_at-lt (port_byte port c) bit) (bit_at-lt (port_byte port idle) bit) (one_bit name other)
-    (λ s. subst (λ (n : Name). is_held c n ≡ false) (same_name name other s) free))
+    let turned = turned_bit port (bit_of_name other).port c (2 ^ (bit_of_name other).bit) bit in
+    let own = one_bit name other in
+    let same = same_name name other in
+    grind (arith, nat_tests, bit_at-lt (port_byte port c) bit, bit_at-lt (port_byte port idle) bit)
 
 held_from : (c : InputData) (held : List Name) (name : Name)
     → is_held (fold hold c held) name ≡ (is_held c name || list_any (is_its_word name) held)
@@ -99,9 +77,7 @@ held_from c (other ∷ held) name =
     ∙ or_assoc (is_held c name) (is_its_word name other) (list_any (is_its_word name) held)
 
 pub held_found : (held : List Name) (name : Name) → is_held (input_with held) name ≡ list_any (is_its_word name) held
-held_found held name =
-    held_from idle held name
-    ∙ ap (λ (b : Bool). b || list_any (is_its_word name) held) (not-true _ (every_name (λ n. not (is_held idle n)) refl name))
+held_found held name = grind (arith, held_from, not-true, every_name)
 
 -- the names that are held in the input of those that are held in an input
 names_held : (c : InputData) (name : Name) → is_held (input_with (names_in c)) name ≡ is_held c name
@@ -122,54 +98,48 @@ input_by held = record { swcha = byte_with Swcha held; swchb = byte_with Swchb h
 abbrev at_port : Port → ℕ → Name → Bool
 at_port port n = is_held (with_byte port n idle)
 
--- an input is that of the names that are held in it: a test of each byte
-input_known : (c : InputData) → IsInputOfBytes c → input_by (is_held c) ≡ c
-input_known c lawful =
-    let parts = and_parts (nat_eq (bit_and c.swchb 52) 52) (nat_lt c.buttons 4) lawful.input in
-    let a : byte_with Swcha (is_held c) ≡ c.swcha = eqb-true _ _
-    (agree_below_at (λ n. nat_eq (byte_with Swcha (at_port Swcha n)) n) (λ n. true) 256 c.swcha refl lawful.swcha) in
-    let b : nat_eq (bit_and c.swchb 52) 52 ≡ (nat_eq (bit_and c.swchb 52) 52 && nat_eq (byte_with Swchb (is_held c)) c.swchb) =
-    agree_below_at (λ n. nat_eq (bit_and n 52) 52) (λ n. nat_eq (bit_and n 52) 52 && nat_eq (byte_with Swchb (at_port Swchb n)) n)
-    256 c.swchb refl lawful.swchb in
-    let swchb : byte_with Swchb (is_held c) ≡ c.swchb = eqb-true _ _ (and_parts _ _ (sym b ∙ parts.0)).1 in
-    let d : byte_with Buttons (is_held c) ≡ c.buttons = eqb-true _ _
-    (agree_below_at (λ n. nat_eq (byte_with Buttons (at_port Buttons n)) n) (λ n. true) 4 c.buttons refl (ltb-true _ _ parts.1)) in
-    rw (a, swchb, d) refl
+-- which bytes a port of a movie's input has
+abbrev has_byte : Port → ℕ → Bool
+has_byte Swcha byte = nat_lt byte 256
+has_byte Swchb byte = nat_lt byte 256 && nat_eq (bit_and byte 52) 52
+has_byte Buttons byte = nat_lt byte 4
 
--- masks that turn over no bit that is the same in each input
-abbrev may_turn : Port → ℕ → Bool
-may_turn Swcha mask = nat_lt mask 256
-may_turn Swchb mask = nat_lt mask 256 && nat_eq (bit_and mask 52) 0
-may_turn Buttons mask = nat_lt mask 4
+abbrev HasBytes : InputData → Type 0
+HasBytes c = (port : Port) → has_byte port (port_byte port c) ≡ true
 
-turned_lawful : (port : Port) (mask : ℕ) (c : InputData) → may_turn port mask ≡ true → IsInputOfBytes c
-    → IsInputOfBytes (with_byte port (bit_xor (port_byte port c) mask) c)
-turned_lawful Swcha mask c e so = record { swcha = xor_lt 8 c.swcha mask so.swcha (ltb-true _ _ e); swchb = so.swchb; input = so.input }
-turned_lawful Swchb mask c e so =
-    let may = and_parts (nat_lt mask 256) (nat_eq (bit_and mask 52) 0) e in
-    let parts = and_parts (nat_eq (bit_and c.swchb 52) 52) (nat_lt c.buttons 4) so.input in
-    record {
-      swcha = so.swcha;
-      swchb = xor_lt 8 c.swchb mask so.swchb (ltb-true _ _ may.0);
-      input = and_from _ _ (eq-eqb _ _ (and_xor_apart 52 c.swchb mask (eqb-true _ _ may.1) ∙ eqb-true _ _ parts.0)) parts.1;
-    }
-turned_lawful Buttons mask c e so =
-    let parts = and_parts (nat_eq (bit_and c.swchb 52) 52) (nat_lt c.buttons 4) so.input in
-    record {
-      swcha = so.swcha;
-      swchb = so.swchb;
-      input = and_from _ _ parts.0 (lt-ltb _ _ (xor_lt 2 c.buttons mask (ltb-true _ _ parts.1) (ltb-true _ _ e)));
-    }
+has_bytes : (c : InputData) → IsInputOfBytes c → HasBytes c
+has_bytes c so port = grind arith
 
-held_lawful : (c : InputData) (held : List Name) → IsInputOfBytes c → IsInputOfBytes (fold hold c held)
-held_lawful c [] so = so
-held_lawful c (name ∷ held) so =
-    held_lawful (hold c name) held (cond_both (is_held c name) c _ IsInputOfBytes (λ _. so)
-    (λ _. turned_lawful (bit_of_name name).port (2 ^ (bit_of_name name).bit) c
-    (every_name (λ n. may_turn (bit_of_name n).port (2 ^ (bit_of_name n).bit)) refl name) so))
+-- what is true of each byte that a port has, by a test of all of them
+every_byte : (port : Port) (test : ℕ → Bool) → agree_below (has_byte port) (λ b. has_byte port b && test b) 256 ≡ true
+    → (byte : ℕ) → has_byte port byte ≡ true → test byte ≡ true
+every_byte Swcha test all byte e = grind (arith, nat_tests, agree_below_at (has_byte Swcha) (λ b. has_byte Swcha b && test b) 256 byte all)
+every_byte port test all byte e = grind (arith, nat_tests, agree_below_at (has_byte port) (λ b. has_byte port b && test b) 256 byte all)
+
+byte_known : (port : Port) (c : InputData) → has_byte port (port_byte port c) ≡ true → byte_with port (is_held c) ≡ port_byte port c
+byte_known Swcha c e = eqb-true _ _ (every_byte Swcha (λ b. nat_eq (byte_with Swcha (at_port Swcha b)) b) refl c.swcha e)
+byte_known port c e = eqb-true _ _ (every_byte port (λ b. nat_eq (byte_with port (at_port port b)) b) refl (port_byte port c) e)
+
+-- an input is that of the names that are held in it
+input_known : (c : InputData) → HasBytes c → input_by (is_held c) ≡ c
+input_known c so = rw (byte_known Swcha c (so Swcha), byte_known Swchb c (so Swchb), byte_known Buttons c (so Buttons)) refl
+
+byte_turned : (name : Name) (byte : ℕ) → has_byte (bit_of_name name).port byte ≡ true
+    → has_byte (bit_of_name name).port (bit_xor byte (2 ^ (bit_of_name name).bit)) ≡ true
+byte_turned Up0 byte e = every_byte Swcha (λ b. has_byte Swcha (bit_xor b 16)) refl byte e
+byte_turned name byte e = every_byte (bit_of_name name).port (λ b. has_byte (bit_of_name name).port (bit_xor b (2 ^ (bit_of_name name).bit))) refl byte e
+
+byte_written : (p q : Port) (byte : ℕ) (c : InputData) → has_byte q byte ≡ true → HasBytes c → has_byte p (port_byte p (with_byte q byte c)) ≡ true
+byte_written p q byte c e so = grind arith
+
+held_bytes : (c : InputData) (held : List Name) → HasBytes c → HasBytes (fold hold c held)
+held_bytes c [] so = so
+held_bytes c (name ∷ held) so =
+    held_bytes (hold c name) held (cond_both (is_held c name) c _ HasBytes (λ _. so)
+    (λ _ p. byte_written p (bit_of_name name).port _ c (byte_turned name (port_byte (bit_of_name name).port c) (so (bit_of_name name).port)) so))
 
 pub holding_held : (c : InputData) → IsInputOfBytes c → input_with (names_in c) ≡ c
 holding_held c lawful =
     let same : is_held (input_with (names_in c)) ≡ is_held c = λ i. λ name. names_held c name i in
-    let idle_lawful : IsInputOfBytes idle = record { swcha = lit< tt; swchb = lit< tt; input = refl } in
-    sym (input_known (input_with (names_in c)) (held_lawful idle (names_in c) idle_lawful)) ∙ ap input_by same ∙ input_known c lawful
+    let at_rest : HasBytes idle = has_bytes idle (record { swcha = lit< tt; swchb = lit< tt; input = refl }) in
+    sym (input_known (input_with (names_in c)) (held_bytes idle (names_in c) at_rest)) ∙ ap input_by same ∙ input_known c (has_bytes c lawful)

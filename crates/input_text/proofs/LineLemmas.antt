@@ -2,9 +2,9 @@
 use Rattle.std.proofs.Common.{◌≡◌, ℕ, ◌+◌, ◌-◌, ◌<◌, suc, Bool, true, false, cond, List, [], ◌∷◌, length}
 use Rattle.std.proofs.Common.{take, drop, Option, refl, ap, ◌∙◌, sym, arith, tests}
 use Rattle.std.proofs.Common.{◌≤◌}
-use Rattle.std.specs.Prelude.{not, filter, nat_eq, unwrap_or}
+use Rattle.std.specs.Prelude.{not, ◌&&◌, filter, nat_eq, unwrap_or}
 use Rattle.std.specs.List.{position, position_or_len, slice_split, onto_first}
-use Rattle.std.proofs.lemmas.Bool.{ne_eqb}
+use Rattle.std.proofs.lemmas.Bool.{and_parts}
 use Rattle.std.proofs.lemmas.List.{length-drop}
 use Rattle.std.proofs.lemmas.List.Sums.{prefix_len-le-length}
 use Rattle.std.proofs.Math.Seq.{take-length}
@@ -40,16 +40,12 @@ parts_left [] = refl
 parts_left (b ∷ bytes) = refl
 
 end_found : (p : ℕ → Bool) (xs : List ℕ) → unwrap_or (position p xs) (length xs) ≡ position_or_len p xs
-end_found p xs =
-    let within : position_or_len p xs ≤ length xs = prefix_len-le-length (λ x. not (p x)) xs in
-    grind (arith, tests)
+end_found p xs = grind (arith, prefix_len-le-length)
 
 -- a list, cut where a part ends
 pub parts_at : (p : ℕ → Bool) (xs front back : List ℕ) (n : ℕ) (r : Option ℕ) → r ≡ position p xs → n ≡ unwrap_or r (length xs)
     → front ≡ take n xs → back ≡ drop n xs → slice_split p xs ≡ front ∷ parts_after p back
-parts_at p xs front back n r found place f b =
-    let end : n ≡ position_or_len p xs = place ∙ ap (λ (o : Option ℕ). unwrap_or o (length xs)) found ∙ end_found p xs in
-    rw (f, b, end) (first_part p xs)
+parts_at p xs front back n r found place f b = grind (arith, end_found, first_part)
 
 pub last_part : (p : ℕ → Bool) (xs : List ℕ) → length xs < 1 → parts_after p xs ≡ []
 last_part p [] h = refl
@@ -69,5 +65,6 @@ pub words_at : (bytes front back : List ℕ) (n : ℕ) (r : Option ℕ) → r �
 words_at bytes front back n r found place f b =
     ap (filter is_part) (parts_at is_blank bytes front back n r found place f b) ∙ rw (parts_left back) refl
 
-pub part_kept : (part : List ℕ) (parts : List (List ℕ)) → 0 < length part → filter is_part (part ∷ parts) ≡ part ∷ filter is_part parts
-part_kept part parts h = rw (ne_eqb (length part) 0 (λ e. omega arith)) refl
+pub part_kept : (tests : Bool) (part : List ℕ) (parts : List (List ℕ)) → (tests && is_part part) ≡ true
+    → filter is_part (part ∷ parts) ≡ part ∷ filter is_part parts
+part_kept tests part parts e = rw (and_parts tests (is_part part) e).1 refl

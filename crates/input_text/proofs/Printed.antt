@@ -4,34 +4,30 @@ use Rattle.std.proofs.Common.{length, get_or, take, drop, replicate, Some, None,
 use Rattle.std.proofs.Common.{subst, arith, add-one, append_assoc, length-drop, drop-cons}
 use Rattle.std.specs.Prelude.{slice_get, filter}
 use Rattle.std.specs.List.{flat_map}
-use Rattle.std.proofs.lemmas.List.{append-nil}
+use Rattle.std.proofs.lemmas.List.{append-nil, length-take, length-replicate}
 use Rattle.vcs_machine.specs.Inputs.{InputData}
 use Rattle.input_text.specs.declared.stretch.Stretch.{Stretch}
 use Rattle.input_text.specs.declared.name.Name.{Name}
 use Rattle.input_text.specs.declared.name.Name.TheVariants.{Up0}
-use Rattle.input_text.specs.Names.{names, is_held}
+use Rattle.input_text.specs.Names.{bit_of_name, names, is_held}
 use Rattle.input_text.specs.Stretches.{BeginWith, AreStretches, IsPrinted, line_of, name_after_space}
 
 -- what is left of a line, from a place of the table of names on
 abbrev pub left_of_line : InputData → ℕ → List ℕ
 left_of_line input place = flat_map name_after_space (filter (is_held input) (drop place names)) ++ 10 ∷ []
 
-one_name : (input : InputData) (name : Name) (others : List Name)
-    → flat_map name_after_space (filter (is_held input) (name ∷ others)) ++ 10 ∷ []
-    ≡ cond (is_held input name) (name_after_space name) [] ++ (flat_map name_after_space (filter (is_held input) others) ++ 10 ∷ [])
-one_name input name others =
-    let left : List Name = filter (is_held input) others in
-    elim (is_held input name) as (λ b. flat_map name_after_space (cond b (name ∷ left) left) ++ 10 ∷ []
-    ≡ cond b (name_after_space name) [] ++ (flat_map name_after_space left ++ 10 ∷ [])) [
-      | true ↦ append_assoc (name_after_space name) (flat_map name_after_space left) (10 ∷ [])
+-- a text and what is left of a line, at the next place
+pub next_name : (text : List ℕ) (input : InputData) (place : ℕ) (name : Name) → place < length names → name ≡ get_or names place Up0
+    → text ++ left_of_line input place
+    ≡ cond (is_held input name) ((text ++ 32 ∷ []) ++ (bit_of_name name).word) text ++ left_of_line input (place + 1)
+next_name text input place name h e =
+    let left : drop place names ≡ name ∷ drop (place + 1) names = rw (e, add-one) (drop-cons names place Up0 h) in
+    let others : List Name = filter (is_held input) (drop (place + 1) names) in
+    rw left (elim (is_held input name) as (λ b. text ++ (flat_map name_after_space (cond b (name ∷ others) others) ++ 10 ∷ [])
+    ≡ cond b ((text ++ 32 ∷ []) ++ (bit_of_name name).word) text ++ (flat_map name_after_space others ++ 10 ∷ [])) [
+      | true ↦ simp append_assoc
       | false ↦ refl
-    ]
-
-pub next_name : (input : InputData) (place : ℕ) → place < length names → left_of_line input place
-    ≡ cond (is_held input (get_or names place Up0)) (name_after_space (get_or names place Up0)) [] ++ left_of_line input (place + 1)
-next_name input place h =
-    let left : drop place names ≡ get_or names place Up0 ∷ drop (place + 1) names = rw add-one (drop-cons names place Up0 h) in
-    rw left (one_name input (get_or names place Up0) (drop (place + 1) names))
+    ])
 
 -- the text has what comes before the rest: with the lines of the rest it is that of all inputs
 pub record PrintedUpTo (inputs rest : List InputData) (text : List ℕ) : Type 0 where
@@ -70,27 +66,15 @@ input_at (i ∷ inputs) (suc n) (suc k) input e h =
     let others : take n inputs ≡ replicate n input = cc in input_at inputs n k input others (omega arith)
 
 same_first : (inputs : List InputData) (s t : Stretch) → BeginWith s inputs → BeginWith t inputs → s ≡ t
-same_first inputs s t p q =
-    let a : slice_get inputs 0 ≡ Some s.input = input_at inputs s.count 0 s.input p.equal (omega (arith, p.some)) in
-    let b : slice_get inputs 0 ≡ Some t.input = input_at inputs t.count 0 t.input q.equal (omega (arith, q.some)) in
-    let input : s.input ≡ t.input = cc in
-    let no_less : s.count < t.count → ⊥ = λ h. p.longest (input_at inputs t.count s.count t.input q.equal h
-    ∙ ap (λ (i : InputData). Some i) (sym input)) in
-    let no_more : t.count < s.count → ⊥ = λ h. q.longest (input_at inputs s.count t.count s.input p.equal h
-    ∙ ap (λ (i : InputData). Some i) input) in
-    let count : s.count ≡ t.count = omega arith in
-    rw (count, input) refl
+same_first inputs s t p q = grind (arith, input_at)
 
-none_begins : (inputs : List InputData) (s : Stretch) → inputs ≡ [] → BeginWith s inputs → ⊥
-none_begins inputs s e p =
-    let first : slice_get inputs 0 ≡ Some s.input = input_at inputs s.count 0 s.input p.equal (omega (arith, p.some)) in
-    let none : slice_get inputs 0 ≡ None = ap (λ (is : List InputData). slice_get is 0) e in
-    cc
+none_begins : (s : Stretch) → BeginWith s [] → ⊥
+none_begins s p = omega (arith, p.some, ap length p.equal, length-take {A = InputData} s.count [], length-replicate s.count s.input)
 
 same_stretches : (inputs : List InputData) (ss ts : List Stretch) → AreStretches inputs ss → AreStretches inputs ts → ss ≡ ts
 same_stretches inputs [] [] p q = refl
-same_stretches inputs [] (t ∷ ts) p q = absurd (none_begins inputs t p q.0)
-same_stretches inputs (s ∷ ss) [] p q = absurd (none_begins inputs s q p.0)
+same_stretches inputs [] (t ∷ ts) p q = absurd (none_begins t (rw p at q.0))
+same_stretches inputs (s ∷ ss) [] p q = absurd (none_begins s (rw q at p.0))
 same_stretches inputs (s ∷ ss) (t ∷ ts) p q =
     let first = same_first inputs s t p.0 q.0 in
     let rest : AreStretches (drop t.count inputs) ss = subst (λ (u : Stretch). AreStretches (drop u.count inputs) ss) first p.1 in

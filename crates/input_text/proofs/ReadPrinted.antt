@@ -9,10 +9,10 @@ use Rattle.std.proofs.lemmas.List.{length-replicate, length-take, take-append-dr
 use Rattle.std.proofs.lemmas.List.Splits.{slice_split_at}
 use Rattle.vcs_machine.specs.Inputs.{InputData}
 use Rattle.input_text.specs.declared.stretch.Stretch.{Stretch}
-use Rattle.input_text.specs.Names.{names_in, input_with, IsInputOfBytes}
+use Rattle.input_text.specs.Names.{names_in, IsInputOfBytes}
 use Rattle.input_text.specs.Stretches.{BeginWith, AreStretches, IsPrinted, line_of}
-use Rattle.input_text.specs.Texts.{is_readable, frames_of, input_of, inputs_of, inputs_in}
-use Rattle.input_text.specs.Words.{lines_of, words_of}
+use Rattle.input_text.specs.Texts.{is_readable, inputs_of, inputs_in}
+use Rattle.input_text.specs.Words.{lines_of}
 use Rattle.input_text.proofs.GoodLines.{can_be_read, frames_in, length-inputs, said}
 use Rattle.input_text.proofs.HeldNames.{holding_held}
 use Rattle.input_text.proofs.Printed.{input_at}
@@ -48,12 +48,7 @@ line_readable : (s : Stretch) → IsPrintable s → can_be_read (line_text s) �
 line_readable s so = ap is_readable (words_of-line s so.small) ∙ and_from _ _ (decimal_is_count s.count so.some so.small) (names_readable (names_in s.input))
 
 inputs_of-line : (s : Stretch) → IsPrintable s → inputs_of (line_text s) ≡ replicate s.count s.input
-inputs_of-line s so =
-    let words = words_of-line s so.small in
-    let frames : frames_of (words_of (line_text s)) ≡ s.count = ap frames_of words ∙ number_of-decimal s.count so.small in
-    let input : input_of (words_of (line_text s)) ≡ s.input = ap input_of words ∙ ap input_with (names_named (names_in s.input))
-    ∙ holding_held s.input so.lawful in
-    rw (frames, input) refl
+inputs_of-line s so = grind (arith, words_of-line, line_text, number_of-decimal, names_named, holding_held)
 
 -- a text whose lines can be read, and say these inputs
 record Says (text : List ℕ) (inputs : List InputData) : Type 0 where
@@ -77,8 +72,4 @@ says inputs (s ∷ stretches) lawful few parts =
 
 pub read_printed : (inputs : List InputData) (text : List ℕ) → AllByRecursion IsInputOfBytes inputs → length inputs ≤ 262143 → IsPrinted inputs text
     → inputs_in text ≡ Ok inputs
-read_printed inputs text lawful few so =
-    let lines : Says text inputs = rw so.text_is (says inputs so.stretches lawful few so.inputs_are) in
-    let total : frames_in (lines_of text) ≡ length inputs = sym (length-inputs (lines_of text)) ∙ ap length lines.inputs_are in
-    said text (and_from _ _ lines.readable (le-leb (frames_in (lines_of text)) 262143 (omega arith)))
-    ∙ ap (λ (is : List InputData). Ok is) lines.inputs_are
+read_printed inputs text lawful few so = grind (arith, says, frames_in, length-inputs, said, and_from, le-leb)

@@ -1,6 +1,7 @@
 //! The lines of a text and the words of a line.
 ghost use Rattle.std.specs.Prelude.{◌≡◌, ◌<◌, ◌==◌, [], ◌∷◌, length, drop, position};
 ghost use Rattle.std.specs.Prelude.{IfSome, MatchOption};
+ghost use Rattle.std.specs.Option.{option_map_or};
 ghost use Rattle.input_text.specs.Words.{lines_of, without_comment, is_blank, words_in};
 
 /// The place of the first byte of a value.
@@ -27,8 +28,8 @@ fn index_of_blank(bytes: &[u8]) -> Option<usize>
 /// The first line, without its line feed, and what follows that, or `None` after the last line.
 #[tactic(auto, using(crate::proofs::LineLemmas::cut_parts))]
 pub(crate) fn first_line(text: &[u8]) -> (&[u8], Option<&[u8]>)
-    ensures lines { MatchOption result.1 (lines_of text.now ≡ result.0.now ∷ [])
-        (λ after. lines_of text.now ≡ result.0.now ∷ lines_of after.now) }
+    ensures lines { lines_of text.now
+        ≡ result.0.now ∷ option_map_or (λ after. lines_of after.now) result.1 [] }
     ensures shorter { IfSome result.1 (λ after. length after.now < length text.now) }
 {
     let (line, rest) = text.split_at(index_of(b'\n', text).unwrap_or(text.len()));

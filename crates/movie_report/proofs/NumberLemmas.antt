@@ -3,10 +3,11 @@ use Rattle.std.proofs.Common.{◌≡◌, ℕ, ◌+◌, ◌-◌, ◌<◌, ◌≤�
 use Rattle.std.proofs.Math.ListN.{get_or-map}
 use Rattle.std.specs.Prelude.{◌++◌, map, slice_index_or}
 use Rattle.std.proofs.lemmas.List.{get_or_append_left, get_or-append_right}
-use Rattle.std.proofs.lemmas.List.FromFn.{length-map-range_with_len, get_or-map-range_with_len}
-use Rattle.std.proofs.Math.ListN.{length-append}
-use Rattle.movie_report.specs.declared.numbers.TheConstants.{COUNT, MEMORY, OF_PROCESSOR, OF_RIOT, OF_TIA, OTHERS, OTHERS_AT}
-use Rattle.movie_report.specs.Numbers.{names_of, state_names, memory_name, memory_names}
+use Rattle.std.proofs.lemmas.List.FromFn.{get_or-map-range_with_len}
+use Rattle.movie_report.specs.declared.numbers.TheConstants.{COUNT, MEMORY, OF_PROCESSOR, OF_RIOT, OF_TIA, OTHERS_AT}
+use Rattle.movie_file.specs.Format.{state_length}
+use Rattle.std.specs.List.{sum_by}
+use Rattle.movie_report.specs.Numbers.{NumberData, names_of, state_names, memory_name, memory_names}
 use Rattle.movie_report.specs.Numbers.{other_names, processor_names}
 use Rattle.riot_map.specs.RiotFields.{riot_numbers}
 use Rattle.tia_core.specs.Numbers.{tia_numbers}
@@ -16,14 +17,19 @@ use Rattle.movie_report.specs.Private.Places.{data_of, state_number_at, no_place
 
 length-memory_names : length memory_names ≡ MEMORY
 unfolding memory_names
-length-memory_names = length-map-range_with_len memory_name 0x80 MEMORY
-
-length-after : length (memory_names ++ other_names) ≡ MEMORY + OTHERS
-length-after = length-append memory_names other_names ∙ ap (λ (n : ℕ). n + length other_names) length-memory_names
+length-memory_names = refl
 
 pub length-numbers : length state_names ≡ COUNT
-unfolding state_names
-length-numbers = length-append processor_names (memory_names ++ other_names) ∙ ap (λ (n : ℕ). length processor_names + n) length-after
+unfolding state_names memory_names
+length-numbers = refl
+
+-- How many bytes numbers have.
+abbrev pub bytes_in : List NumberData → ℕ
+bytes_in names = sum_by (λ n. n.length) names
+
+pub bytes_in-numbers : bytes_in state_names ≡ state_length
+unfolding state_names memory_names
+bytes_in-numbers = refl
 
 pub number_at-processor : (place : ℕ) → place < OF_PROCESSOR → state_number_at place ≡ slice_index_or processor_names place no_place
 unfolding state_number_at state_names
@@ -58,3 +64,6 @@ other-tia place high low =
     let within : place - OF_RIOT < OF_TIA = omega arith in
     get_or-append_right (names_of riot_numbers) (names_of tia_numbers ++ names_of bank_numbers) OF_RIOT place no_place refl high
     ∙ get_or_append_left (names_of tia_numbers) (names_of bank_numbers) no_place (place - OF_RIOT) within
+
+-- Rows of the tables in the code.
+pub ruleset rows = (data-get_or, other-tia)

@@ -1,11 +1,13 @@
 -- The signs of segments.
-use Rattle.std.proofs.Common.{◌≡◌, ℕ, zero, suc, ◌+◌, ◌-◌, ◌*◌, ◌≤◌, List, [], ◌∷◌, ◌++◌, length, refl}
-use Rattle.std.proofs.Common.{slice_get, take, drop, arith, length-append, length-drop, add-one, ap}
-use Rattle.std.proofs.Common.{append-nil, ◌∙◌, sym, inl, inr, map, min}
-use Rattle.std.specs.Prelude.{IfSome, codes}
+use Rattle.std.proofs.Common.{◌≡◌, ℕ, ◌+◌, ◌-◌, List, [], ◌∷◌, ◌++◌, length}
+use Rattle.std.proofs.Common.{slice_get, take, drop, arith, length-append, length-drop, ap}
+use Rattle.std.proofs.Common.{append-nil, ◌∙◌, sym, min}
+use Rattle.std.specs.Prelude.{IfSome, Some, nat_eq}
 use Rattle.std.specs.List.{flat_map, range_with_len}
-use Rattle.std.proofs.lemmas.Bool.{cases_lt}
-use Rattle.std.proofs.lemmas.List.{take_all}
+use Rattle.std.proofs.lemmas.Bool.{cond_both, eqb-true}
+use Rattle.std.proofs.lemmas.List.{take_min}
+use Rattle.std.proofs.lemmas.List.FromFn.{map-range_with_len_more}
+use Rattle.std.proofs.lemmas.List.Folds.{flat_map-map}
 use Rattle.std.proofs.lemmas.List.Concat.{flat_map-append}
 use Rattle.movie_file.specs.Movie.{MovieData}
 use Rattle.replay_plan.specs.declared.keep.Keep.{Keep}
@@ -13,9 +15,9 @@ use Rattle.replay_segments.specs.Pieces.{IsOutcome, IsPiece, PieceData, job_of}
 use Rattle.replay_segments.specs.Segments.{IsSegment}
 use Rattle.replay_segments.specs.declared.outcome.Outcome.TheVariants.{Judged}
 use Rattle.replay_segments.specs.declared.verdict.Verdict.{Verdict}
-use Rattle.movie_report.specs.Segments.{HasSign, character_of, sign_of, signs_line}
+use Rattle.movie_report.specs.Segments.{HasSign, sign_of}
 use Rattle.movie_report.specs.declared.segments.Sign.{Sign}
-use Rattle.movie_report.proofs.ListLemmas.{range_more}
+use Rattle.movie_report.proofs.ListLemmas.{slice_get-push}
 
 -- A piece has the sign of its segment.
 pub HasSign-piece : (m : MovieData) (cuts : List ℕ) (keep : Keep) (p : PieceData) (i : ℕ) (verdict : Verdict) (sign : Sign) → IsPiece p → p.number ≡ i
@@ -30,56 +32,24 @@ pub record AreSignsBefore (m : MovieData) (cuts : List ℕ) (number : ℕ) (sign
   pub count : length signs ≡ number
   pub each : (i : ℕ) → IfSome (slice_get signs i) (HasSign m cuts i)
 
-pub AreSignsBefore-start : (m : MovieData) (cuts : List ℕ) → AreSignsBefore m cuts 0 []
-AreSignsBefore-start m cuts = record { count = refl; each = λ i. tt }
-
-module _ (m : MovieData) (cuts : List ℕ) where
-  each-more : (signs : List Sign) (from : ℕ) (sign : Sign) → ((i : ℕ) → IfSome (slice_get signs i) (HasSign m cuts (from + i)))
-      → HasSign m cuts (from + length signs) sign → (i : ℕ) → IfSome (slice_get (signs ++ sign ∷ []) i) (HasSign m cuts (from + i))
-  each-more [] from sign each has zero = has
-  each-more [] from sign each has (suc i) = tt
-  each-more (s ∷ signs) from sign each has zero = each zero
-  each-more (s ∷ signs) from sign each has (suc i) =
-      let later : (k : ℕ) → from + suc k ≡ suc from + k = λ (k : ℕ). omega arith in
-      rw later (each-more signs (suc from) sign (λ (k : ℕ). rw later at (each (suc k))) (rw later at has) i)
-
-  pub AreSignsBefore-next : (number : ℕ) (signs : List Sign) (sign : Sign) → AreSignsBefore m cuts number signs → HasSign m cuts number sign
-      → AreSignsBefore m cuts (number + 1) (signs ++ sign ∷ [])
-  AreSignsBefore-next number signs sign is has = record {
-    count = omega (arith, length-append signs (sign ∷ []), is.count);
-    each =
-        let plain : (i : ℕ) → 0 + i ≡ i = λ (i : ℕ). omega arith in
-        let here : HasSign m cuts (0 + length signs) sign = rw (plain (length signs), is.count) has in
-        λ (i : ℕ). rw plain at (each-more signs 0 sign (λ (k : ℕ). rw plain (is.each k)) here i);
-  }
+pub AreSignsBefore-next : (m : MovieData) (cuts : List ℕ) (number : ℕ) (signs : List Sign) (sign : Sign) → AreSignsBefore m cuts number signs
+    → HasSign m cuts number sign → AreSignsBefore m cuts (number + 1) (signs ++ sign ∷ [])
+AreSignsBefore-next m cuts number signs sign is has = record {
+  count = omega (arith, length-append signs (sign ∷ []), is.count);
+  each = λ (i : ℕ). rw (slice_get-push signs sign i) (cond_both (nat_eq i (length signs)) (Some sign) (slice_get signs i) (λ o. IfSome o (HasSign m cuts i))
+      (λ e. rw (eqb-true i (length signs) e, is.count) has) (λ _. is.each i));
+}
 
 -- The signs of a line, of which the last one may have fewer than 64.
-take-line : (signs : List Sign) (from to : ℕ) → to ≡ min (length signs) (from + 64) → take (to - from) (drop from signs) ≡ take 64 (drop from signs)
-take-line signs from to end =
-    elim (cases_lt to (from + 64)) [
-      | inl short ↦
-          let all : length (drop from signs) ≤ to - from = omega (arith, length-drop from signs) in
-          let fits : length (drop from signs) ≤ 64 = omega (arith, length-drop from signs) in
-          take_all (to - from) (drop from signs) all ∙ sym (take_all 64 (drop from signs) fits)
-      | inr whole ↦ let same : to - from ≡ 64 = omega arith in rw same refl
-    ]
+pub line_of_signs : (signs : List Sign) (from to : ℕ) → to ≡ min (length signs) (from + 64) → take (to - from) (drop from signs) ≡ take 64 (drop from signs)
+line_of_signs signs from to end =
+    let same : to - from ≡ min 64 (length (drop from signs)) = omega (arith, length-drop from signs) in rw same (take_min 64 (drop from signs))
 
 -- One line more.
-flat_map_more : (f : ℕ → List ℕ) (k : ℕ) → flat_map f (range_with_len 0 (k + 1)) ≡ flat_map f (range_with_len 0 k) ++ f k
-flat_map_more f k =
-    let plain : 0 + k ≡ k = omega arith in
-    ap (λ n. flat_map f (range_with_len 0 n)) (add-one k) ∙ ap (flat_map f) (range_more 0 k) ∙ flat_map-append f (range_with_len 0 k) ((0 + k) ∷ [])
-    ∙ ap (λ last. flat_map f (range_with_len 0 k) ++ last) (append-nil (f (0 + k)) ∙ ap f plain)
+pub one_line_more : (f : ℕ → List ℕ) (k : ℕ) → flat_map f (range_with_len 0 (k + 1)) ≡ flat_map f (range_with_len 0 k) ++ f k
+one_line_more f k =
+    sym (flat_map-map f (λ (i : ℕ). i) (range_with_len 0 (k + 1)))
+    ∙ ap (flat_map f) (map-range_with_len_more (λ (i : ℕ). i) 0 k k (omega arith)) ∙ simp (flat_map-append, flat_map-map, append-nil)
 
-pub lines-next : (signs : List Sign) (k from to : ℕ) (old characters line new : List ℕ) → from ≡ 64 * k → to ≡ min (length signs) (from + 64)
-    → old ≡ flat_map (signs_line signs) (range_with_len 0 k) → characters ≡ map character_of (take (to - from) (drop from signs))
-    → line ≡ codes "segments: " ++ (characters ++ 10 ∷ []) → new ≡ old ++ line → new ≡ flat_map (signs_line signs) (range_with_len 0 (k + 1))
-lines-next signs k from to old characters line new begin end old_is characters_is line_is new_is =
-    let cut = take-line signs from to end in
-    let all : characters ≡ map character_of (take 64 (drop (64 * k) signs)) =
-    characters_is ∙ ap (map character_of) (cut ∙ ap (λ n. take 64 (drop n signs)) begin) in
-    let same : line ≡ signs_line signs k = line_is ∙ ap (λ text. codes "segments: " ++ (text ++ 10 ∷ [])) all in
-    new_is
-    ∙ ap (λ text. text ++ line) old_is
-    ∙ ap (λ text. flat_map (signs_line signs) (range_with_len 0 k) ++ text) same
-    ∙ sym (flat_map_more (signs_line signs) k)
+-- Signs, line by line.
+pub ruleset signs_in_lines = (line_of_signs, one_line_more)

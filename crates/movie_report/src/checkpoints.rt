@@ -8,6 +8,7 @@ use replay_plan::Notation;
 use std::alloc::{AllocError, Global};
 
 /// The largest number of frames from the start or a checkpoint to the next checkpoint.
+#[tactic(auto, using(crate::proofs::ListLemmas::what_is_left))]
 fn largest_gap(movie: &Movie) -> u32
     ensures { result ≡ largest (gaps_from 0 movie.now.checkpoints) }
 {

@@ -81,6 +81,7 @@ impl Comparison {
 }
 
 /// What is said of the numbers in which two records differ, in the order of a record.
+#[tactic(auto, using(crate::proofs::DifferenceLemmas::number_by_number))]
 fn pairs(
     alloc: Global,
     notation: Notation,

@@ -65,6 +65,7 @@ fn start_facts(alloc: Global, notation: Notation, movie: &Movie) -> Result<Strin
 }
 
 /// The last frame of a movie in which anything is held, or 0.
+#[tactic(auto, using(crate::proofs::ListLemmas::what_is_left))]
 fn last_held_frame(movie: &Movie) -> u32
     ensures { result ≡ last_held 0 0 movie.now.inputs }
 {

@@ -9,11 +9,13 @@ use movie_file::{BANK_NUMBERS, PROCESSOR_NUMBERS, RIOT_NUMBERS, RecordNumber, TI
 use std::fmt;
 use vcs_machine::HexByte;
 
-/// The numbers of the processor, of the RIOT after its memory, and of the TIA.
+/// How many numbers the processor has.
 const OF_PROCESSOR: usize = PROCESSOR_NUMBERS.len();
 
+/// How many numbers the RIOT has after its memory.
 const OF_RIOT: usize = RIOT_NUMBERS.len();
 
+/// How many numbers the TIA has.
 const OF_TIA: usize = TIA_NUMBERS.len();
 
 /// The bytes of memory, whose first has address 80 (hexadecimal).
@@ -29,6 +31,7 @@ const OTHERS: usize = OF_RIOT + OF_TIA + BANK_NUMBERS.len();
 pub(crate) const COUNT: usize = OTHERS_AT + OTHERS;
 
 /// A number of the processor.
+#[tactic(auto, using(crate::proofs::NumberLemmas::rows))]
 fn processor_number(place: usize) -> RecordNumber
     requires { place < OF_PROCESSOR }
     ensures { data_of result ≡ slice_index_or processor_names place no_place }
@@ -45,6 +48,7 @@ fn tia_number(place: usize) -> RecordNumber
 }
 
 /// A number after the memory, counted from the first of them.
+#[tactic(auto, using(crate::proofs::NumberLemmas::rows))]
 fn other_number(place: usize) -> RecordNumber
     requires { place < OTHERS }
     ensures { data_of result ≡ slice_index_or other_names place no_place }

@@ -98,6 +98,7 @@ fn characters(alloc: Global, signs: &[Sign]) -> Result<String, AllocError>
 }
 
 /// Lines of signs.
+#[tactic(auto, using(crate::proofs::SignLemmas::signs_in_lines))]
 fn lines(alloc: Global, signs: &[Sign]) -> Result<String, AllocError>
     ensures { IfOk result (λ text. string_bytes text ≡ signs_text Notation.Lines signs.now) }
 {

@@ -1,5 +1,5 @@
 -- Hands of a crew, and one more.
-use Rattle.std.proofs.Common.{◌≡◌, ℕ, ◌+◌, ◌*◌, ◌<◌, ◌≤◌, ◌||◌, List, [], ◌∷◌, ◌++◌, length}
+use Rattle.std.proofs.Common.{◌≡◌, ℕ, ◌+◌, ◌*◌, ◌<◌, ◌≤◌, List, [], ◌∷◌, ◌++◌, length}
 use Rattle.std.proofs.Common.{length-append, refl, ap, sym, subst, ◌∙◌, arith, Some, vec_len}
 use Rattle.std.proofs.Common.{vec_capacity}
 use Rattle.std.proofs.lemmas.List.Elements.{All-pop}
@@ -12,7 +12,6 @@ use Rattle.verify_pool.specs.Crew.{IsReady, AreReady, IsWorked, first_room, shar
 use Rattle.segment_desk.specs.Desk.{with_handed_in}
 use Rattle.segment_desk.specs.Kept.{IsKnown}
 use Rattle.segment_desk.specs.Views.{DeskView, IsOf}
-use Rattle.segment_desk.specs.declared.part.Part.{Part}
 use Rattle.verify_pool.proofs.ExactLemmas.{exact_handed}
 use Rattle.std.proofs.lemmas.List.Sums.{sum_by-append}
 
@@ -31,20 +30,15 @@ ready-pop desk all rest last is some ready =
     let first : desk.segments * length all ≤ first_room rest = rw (← first_room-append rest last some, ← is) ready.first in
     record { some = some; each = each.0; first = omega (arith, first, ap (λ n. desk.segments * n) whole) }
 
-pub ready-last : (desk : DeskView) (all rest : List Hand) (last : Hand) → all ≡ rest ++ last ∷ [] → AreReady desk all → IsReady desk last
-ready-last desk all rest last is ready = (All-pop (IsReady desk) all rest (Some last) is ready.each).1
-
 pub worked_united : (desk : DeskView) (job : Job) (a b : ℕ) (first second hand : Hand) → IsOf desk hand.ticket → IsKnown hand.ticket.part
     → hand.ticket.part ≡ with_handed_in first.ticket.part second.ticket.part → hand.pieces.items ≡ first.pieces.items ++ second.pieces.items
     → IsWorked desk job a first → IsWorked desk job b second → IsWorked desk job (a + b) hand
 worked_united desk job a b first second hand own known part items one two = record {
   own = own;
   known = known;
-  ended = ap (λ (v : Part). v.ended) part ∙ ap (λ e. e || second.ticket.part.ended) one.ended;
-  share_is = omega (arith, ap (λ (v : Part). v.share) part, one.share_is, two.share_is);
-  exact =
-      exact_handed job first.pieces.items second.pieces.items hand.pieces.items first.ticket.part second.ticket.part hand.ticket.part items part
-      one.exact two.exact;
+  ended = rw (part, one.ended) refl;
+  share_is = rw part (omega (arith, one.share_is, two.share_is));
+  exact = exact_handed job _ _ _ _ _ _ items part one.exact two.exact;
 }
 
 -- What a worker promised, at the values that the promise was made of.
@@ -53,14 +47,7 @@ pub promised : (m : MovieData) (cuts : List ℕ) (keep : Keep) (desk : DeskView)
     → (hand : Hand)
     → IsWorked p.desk.value (job_of p.movie.value p.cuts.value p.keep) p.hand.value.ticket.part.share hand × (vec_len hand.pieces ≤ p.desk.value.segments)
     → IsWorked desk (job_of m cuts keep) given.ticket.part.share hand × (vec_len hand.pieces ≤ desk.segments)
-promised m cuts keep desk given p of_movie of_cuts of_keep of_desk of_hand hand kept =
-    let P : MovieData → List ℕ → Keep → DeskView → Hand → Type 0 =
-    λ m c k d h. IsWorked d (job_of m c k) h.ticket.part.share hand × (vec_len hand.pieces ≤ d.segments) in
-    let one : P m p.cuts.value p.keep p.desk.value p.hand.value = subst (λ (x : MovieData). P x p.cuts.value p.keep p.desk.value p.hand.value) of_movie kept in
-    let two : P m cuts p.keep p.desk.value p.hand.value = subst (λ (x : List ℕ). P m x p.keep p.desk.value p.hand.value) of_cuts one in
-    let three : P m cuts keep p.desk.value p.hand.value = subst (λ (x : Keep). P m cuts x p.desk.value p.hand.value) of_keep two in
-    let four : P m cuts keep desk p.hand.value = subst (λ (x : DeskView). P m cuts keep x p.hand.value) of_desk three in
-    subst (λ (x : Hand). P m cuts keep desk x) of_hand four
+promised m cuts keep desk given p of_movie of_cuts of_keep of_desk of_hand hand kept = rw (of_movie, of_cuts, of_keep, of_desk, of_hand) at kept
 
 module _ (desk : DeskView) (all rest : List Hand) (last : Hand) (is : all ≡ rest ++ last ∷ []) (some : 0 < length rest) where
   more : desk.segments * length all ≡ desk.segments * length rest + desk.segments
@@ -71,13 +58,6 @@ module _ (desk : DeskView) (all rest : List Hand) (last : Hand) (is : all ≡ re
       → others ≤ desk.segments → theirs + others ≤ room
   pieces_fit theirs others room ready le few one =
       let first : desk.segments * length all ≤ first_room rest = rw (← first_room-append rest last some, ← is) ready.first in omega (arith, first, more)
-
-  pub pieces_few : (theirs others len : ℕ) → theirs ≤ desk.segments * length rest → others ≤ desk.segments → len ≡ theirs + others
-      → len ≤ desk.segments * length all
-  pieces_few theirs others len few one sum = omega (arith, more)
-
-  pub room_stays : (room after : ℕ) → first_room rest ≤ room → room ≤ after → first_room all ≤ after
-  room_stays room after le more_room = rw (is, first_room-append rest last some) (omega arith)
 
   pub worked_all : (job : Job) (hand : Hand) → IsWorked desk job (shares rest + last.ticket.part.share) hand → IsWorked desk job (shares all) hand
   worked_all job hand worked = subst (λ n. IsWorked desk job n hand) (sym (ap shares is ∙ shares-append rest last)) worked

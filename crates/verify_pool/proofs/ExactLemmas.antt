@@ -1,12 +1,10 @@
 -- What the steps of a worker do to its pieces, beside its ticket's part.
-use Rattle.std.proofs.Common.{◌≡◌, ℕ, ◌+◌, ◌-◌, ◌<◌, ◌≤◌, if◌then◌else◌, nat_lt, List, [], ◌∷◌}
+use Rattle.std.proofs.Common.{◌≡◌, ℕ, ◌+◌, ◌<◌, ◌≤◌, if◌then◌else◌, nat_lt, List, [], ◌∷◌}
 use Rattle.std.proofs.Common.{◌++◌, refl, sym, ap, ◌∙◌, subst, arith, lt_of_not-le, Option, Some}
 use Rattle.std.proofs.Common.{None, Bool, true, false}
 use Rattle.std.proofs.lemmas.List.{map-append}
 use Rattle.std.proofs.lemmas.List.Elements.{All-push, All-append}
 use Rattle.std.proofs.lemmas.Grind.{flat_map-append}
-use mathlib.Core.Logic.{dite}
-use native.Mathlib.Decide.{dec_le}
 use Rattle.replay_segments.specs.declared.outcome.Outcome.TheVariants.{NoMemory}
 use Rattle.replay_segments.specs.Pieces.{PieceData, Job, passed, HasKept}
 use Rattle.segment_desk.specs.declared.part.Part.{Part}
@@ -47,7 +45,7 @@ replay_keeps f same false k old new is = ap f is.1 ∙ same is.0 k old
 module _ (job : Job) (pieces : List PieceData) (v : Part) (k : ℕ) (exact : IsExact job v pieces) (known : IsKnown v)
     (above : (j : ℕ) → 0 < times j v.drawn → j < k) where
   undrawn : times k v.drawn ≡ 0
-  undrawn = dite (dec_le (times k v.drawn) 0) (λ h. omega arith) (λ h. let some_drawn = lt_of_not-le h in absurd (omega (arith, above k some_drawn)))
+  undrawn = grind (arith, above k)
 
   -- Where a smaller number is bad it gets no piece.
   pub exact_over : (x : ℕ) (w : Part) → x < k → w ≡ look_at x (with_drawn k v) → IsExact job w pieces
@@ -99,35 +97,28 @@ module _ (job : Job) (pieces : List PieceData) (v : Part) (k : ℕ) (exact : IsE
       }
 
 pub exact_end : (job : Job) (pieces : List PieceData) (v w : Part) → w ≡ at_end v → IsExact job v pieces → IsExact job w pieces
-exact_end job pieces v w is e =
-    subst (λ (u : Part). IsExact job u pieces) (sym is) (record { names = e.names; pieces_of = e.pieces_of; reports_of = e.reports_of; memory = e.memory })
+exact_end job pieces v w is e = rw is (record { names = e.names; pieces_of = e.pieces_of; reports_of = e.reports_of; memory = e.memory })
 
 -- Who has drawn nothing has nothing reported or passed over.
 pub exact_start : (job : Job) (pieces : List PieceData) (v : Part) → pieces ≡ [] → v.drawn ≡ [] → IsKnown v → IsExact job v pieces
-exact_start job pieces v empty none known = let undrawn : (k : ℕ) → times k v.drawn ≡ 0 = λ k. ap (times k) none in
-    subst (λ (ps : List PieceData). IsExact job v ps) (sym empty) (record {
-      names = λ k d lt. absurd (omega arith);
-      pieces_of = λ k. omega (arith, known.passes k, undrawn k);
-      reports_of = λ k. omega (arith, known.reports k, undrawn k);
-      memory = λ k d lt. absurd (omega arith);
-    })
+exact_start job pieces v empty none known = rw empty (record {
+  names = λ k d lt. absurd (omega arith);
+  pieces_of = λ k. omega (arith, known.passes k, ap (times k) none);
+  reports_of = λ k. omega (arith, known.reports k, ap (times k) none);
+  memory = λ k d lt. absurd (omega arith);
+})
 
 pub exact_handed : (job : Job) (ps qs rs : List PieceData) (v u w : Part) → rs ≡ ps ++ qs → w ≡ with_handed_in v u → IsExact job v ps
     → IsExact job u qs → IsExact job w rs
-exact_handed job ps qs rs v u w items is a b =
-    subst (λ (xs : List PieceData). IsExact job w xs) (sym items) (subst (λ (x : Part). IsExact job x (ps ++ qs)) (sym is) (record {
-      names = All-append (λ (q : PieceData). q.job ≡ job) ps qs a.names b.names;
-      pieces_of = λ k. omega
-          (arith, a.pieces_of k, b.pieces_of k, times-numbers k ps qs, times-append k v.passed_over u.passed_over, times-append k v.drawn u.drawn);
-      reports_of = λ k. omega (arith, a.reports_of k, b.reports_of k, times-bad k ps qs, times-append k v.reported u.reported);
-      memory = All-append WantsMemoryForPictures ps qs a.memory b.memory;
-    }))
+exact_handed job ps qs rs v u w items is a b = rw (items, is) (record {
+  names = All-append (λ (q : PieceData). q.job ≡ job) ps qs a.names b.names;
+  pieces_of = λ k. omega
+      (arith, a.pieces_of k, b.pieces_of k, times-numbers k ps qs, times-append k v.passed_over u.passed_over, times-append k v.drawn u.drawn);
+  reports_of = λ k. omega (arith, a.reports_of k, b.reports_of k, times-bad k ps qs, times-append k v.reported u.reported);
+  memory = All-append WantsMemoryForPictures ps qs a.memory b.memory;
+})
 
 -- How many draws are left.
-
-pub left_falls : (n : ℕ) (last : Option ℕ) (k : ℕ) → ((j : ℕ) → last ≡ Some j → j < k) → k < n → n - k < to_draw n last
-left_falls n None k above lt = omega arith
-left_falls n (Some j) k above lt = let h = above j refl in omega arith
 
 some_left : (n : ℕ) (last : Option ℕ) → ((k : ℕ) → last ≡ Some k → k < n) → 0 < to_draw n last
 some_left n None below = omega arith

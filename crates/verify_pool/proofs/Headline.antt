@@ -23,19 +23,20 @@ missing-none k (p ∷ ps) missing =
     omega (arith, times-numbers-cons k p ps, times-other k p.number (missing 0 p refl), missing-none k ps (λ i q at. missing (suc i) q at))
 
 bad_one : (k number : ℕ) (o : Outcome) → times k (if_bad number o) ≤ times k (number ∷ [])
-bad_one k number o = of (passed o)
-  where
-    of : (good : Bool) → times k (if good then [] else number ∷ []) ≤ times k (number ∷ [])
-    of true = omega arith
-    of false = omega arith
+bad_one k number o =
+    elim (passed o) as (λ good. times k (if good then [] else number ∷ []) ≤ times k (number ∷ [])) [ true ↦ omega arith | false ↦ omega arith ]
+
+-- A first piece adds no more to the bad numbers than to the numbers.
+more_bad : (k : ℕ) (p : PieceData) (ps : List PieceData)
+    → times k (bad_numbers (p ∷ ps)) + times k (piece_numbers ps) ≤ times k (bad_numbers ps) + times k (piece_numbers (p ∷ ps))
+more_bad k p ps = omega (arith, bad_one k p.number p.outcome, times-numbers-cons k p ps, times-append k (if_bad p.number p.outcome) (bad_numbers ps))
 
 passed_one : (k number : ℕ) (o : Outcome) → IsTrue (passed o) → times k (if_bad number o) ≡ 0
 passed_one k number o good = ap (λ (b : Bool). times k (if b then [] else number ∷ [])) good
 
 bad-le : (k : ℕ) (ps : List PieceData) → times k (bad_numbers ps) ≤ times k (piece_numbers ps)
 bad-le k [] = omega arith
-bad-le k (p ∷ ps) =
-    omega (arith, bad-le k ps, bad_one k p.number p.outcome, times-numbers-cons k p ps, times-append k (if_bad p.number p.outcome) (bad_numbers ps))
+bad-le k (p ∷ ps) = omega (arith, bad-le k ps, more_bad k p ps)
 
 -- A number with a piece that passed has fewer bad pieces than pieces.
 passed-less : (k : ℕ) (ps : List PieceData) (i : ℕ) (p : PieceData) → slice_get ps i ≡ Some p → p.number ≡ k → IsTrue (passed p.outcome)
@@ -46,14 +47,7 @@ passed-less k (q ∷ ps) zero p at is good = let same : q ≡ p = cc in
     let none : times k (if_bad q.number q.outcome) ≡ 0 =
     ap (λ (x : PieceData). times k (if_bad x.number x.outcome)) same ∙ passed_one k p.number p.outcome good in
     omega (arith, bad-le k ps, here, none, times-numbers-cons k q ps, times-append k (if_bad q.number q.outcome) (bad_numbers ps))
-passed-less k (q ∷ ps) (suc i) p at is good =
-    omega (
-      arith,
-      passed-less k ps i p at is good,
-      bad_one k q.number q.outcome,
-      times-numbers-cons k q ps,
-      times-append k (if_bad q.number q.outcome) (bad_numbers ps),
-    )
+passed-less k (q ∷ ps) (suc i) p at is good = omega (arith, passed-less k ps i p at is good, more_bad k q ps)
 
 -- No piece is missing whose segment would have to be known.
 pub none_missing : (desk : DeskView) (job : Job) (hand : Hand) (k : ℕ) → IsWorked desk job desk.workers hand

@@ -1,18 +1,17 @@
-use Rattle.std.proofs.Common.{◌≡◌, ◌+◌, ◌-◌, arith}
-use Rattle.movie_report.proofs.CheckpointLemmas.{IsLargestUpTo-next, later}
+use Rattle.std.proofs.Common.{length, arith}
+use Rattle.movie_report.proofs.CheckpointLemmas.{next_checkpoint}
+use Rattle.movie_report.proofs.ListLemmas.{drop_at}
 use Rattle.movie_report.proofs.checkpoints.largest_gap.Goals as goal
 
 pub overflow_sub-frame : goal.overflow_sub-frame
 overflow_sub-frame c =
-    let same : c.loop-index.index + 1 - 1 ≡ c.loop-index.index = omega arith in
-    let less =
-    later c.args.movie.now c.loop-index.index c.loop-index.last c.loop-index.gap c.loop-index.invariant c.checkpoint.result.now
-    (rw same at c.checkpoint.ensures) in
-    omega (arith, less)
+    let m = c.args.movie.now in
+    omega (arith, (next_checkpoint (length m.cart) _ (length m.inputs) m.checkpoints _ _ c.loop-index.invariant.left c.checkpoint.ensures).0)
 
 pub loop-index-preserved : goal.loop-index-preserved
 loop-index-preserved c =
-    let same : c.loop-index.index + 1 - 1 ≡ c.loop-index.index = omega arith in
-    rw c.max-gap.ensures
-    (IsLargestUpTo-next c.args.movie.now c.loop-index.index c.loop-index.last c.loop-index.gap
-    c.loop-index.invariant c.checkpoint.result.now (rw same at c.checkpoint.ensures))
+    let m = c.args.movie.now in
+    record {
+      gaps = rw c.max-gap.ensures (rw (drop_at _ _ _ c.checkpoint.ensures) at c.loop-index.invariant.gaps);
+      left = (next_checkpoint (length m.cart) _ (length m.inputs) m.checkpoints _ _ c.loop-index.invariant.left c.checkpoint.ensures).1;
+    }
