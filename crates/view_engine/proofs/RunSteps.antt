@@ -1,14 +1,11 @@
 -- The one unbroken run of a movie, a frame further.
-use Rattle.std.proofs.Common.{◌≡◌, ℕ, zero, suc, ◌+◌, ◌-◌, ◌<◌, ◌≤◌, length, drop, Option, Some}
-use Rattle.std.proofs.Common.{None, refl, sym, ap, subst, ◌∙◌, arith, add-zero, ◌⊎◌, inl, inr}
-use Rattle.std.proofs.Common.{IsSome}
+use Rattle.std.proofs.Common.{◌≡◌, ℕ, zero, suc, ◌+◌, ◌-◌, ◌<◌, ◌≤◌, List, length, get_or, drop, Option, Some}
+use Rattle.std.proofs.Common.{None, refl, sym, ap, ◌∙◌, arith, add-one, add-zero, ◌⊎◌, inl, inr}
 use Rattle.std.specs.Prelude.{slice_get, min}
-use Rattle.std.proofs.lemmas.Bool.{cases_lt}
 use Rattle.std.proofs.lemmas.Option.{slice_get-get_or}
 use Rattle.std.proofs.lemmas.List.{length-take, length-drop, get_or-take, get_or-drop}
 use Rattle.vcs_machine.specs.Inputs.{InputData}
 use Rattle.vcs_machine.specs.Outcomes.{FrameOutcome, Played, Failed, FailsAs, frame_of}
-use Rattle.vcs_machine.specs.Pictures.{Rows}
 use Rattle.vcs_machine.specs.declared.fault.FaultKind.{FaultKind}
 use Rattle.vcs_machine.specs.declared.fault.FrameError.{FrameError}
 use Rattle.vcs_machine.specs.declared.fault.FrameError.TheVariants.{Fault, NoMemory}
@@ -17,24 +14,19 @@ use Rattle.movie_file.specs.Judgement.{FaultsAt}
 use Rattle.movie_file.specs.Movie.{MovieData}
 use Rattle.movie_file.specs.Run.{run}
 use Rattle.movie_file.proofs.RunLemmas.{run-fault, run-next, faults-here}
-use Rattle.replay_segments.proofs.RunStateLemmas.{IsSome-run-below}
 use Rattle.view_engine.specs.Private.Stops.{PicturesFail}
 use Rattle.view_engine.specs.Stretches.{Ends, FaultsWithin, inputs_asked, frames_asked}
 
 -- ---- one frame
 
-module _ (m : MovieData) (k : ℕ) (state : StateFields) (input : InputData)
-    (ran : run m m.start 0 k ≡ Some state) (at : slice_get m.inputs k ≡ Some input) where
-  pub run_on : (new : StateFields) (rows : Rows) → frame_of m.cart state input ≡ Played new rows → run m m.start 0 (k + 1) ≡ Some new
-  run_on = run-next m m.start 0 k k state input ran (omega arith) at
-
-  pub faults_here : (kind : FaultKind) (left : StateFields) → frame_of m.cart state input ≡ Failed kind left → FaultsAt m m.start 0 k kind
-  faults_here = faults-here m m.start 0 k k state input ran (omega arith) at
-
-  -- why it has no picture
-  pub pictures_fail : (error : FrameError) (left : StateFields) → FailsAs (frame_of m.cart state input) error left → PicturesFail m k error
-  pictures_fail (Fault kind) left fails = faults_here kind left fails
-  pictures_fail NoMemory left fails = tt
+-- why a frame has no picture
+pub pictures_fail : (m : MovieData) (k : ℕ) (cart : List ℕ) (state left : StateFields) (input : InputData) (error : FrameError)
+    → run m m.start 0 k ≡ Some state → slice_get m.inputs (k + 1 - 1) ≡ Some input → cart ≡ m.cart → FailsAs (frame_of cart state input) error left
+    → PicturesFail m k error
+pictures_fail m k cart state left input (Fault kind) ran at same fails =
+    let here : k + 1 - 1 ≡ k = omega arith in
+    faults-here m m.start 0 k k state input ran (omega arith) (rw here at at) kind left (rw same at fails)
+pictures_fail m k cart state left input NoMemory ran at same fails = tt
 
 -- ---- it ends, or faults
 
@@ -45,47 +37,40 @@ pub ends_or_faults : (m : MovieData) (n : ℕ) → n ≤ length m.inputs → End
 ends_or_faults m zero le = inl (m.start, refl)
 ends_or_faults m (suc n) le = elim (ends_or_faults m n (omega arith)) [
   | inr faults ↦ inr (faults.0, faults.1, faults_sooner m n (suc n) faults.0 faults.1 (omega arith) faults.2)
-  | inl ended ↦ input_at (slice_get m.inputs n) refl ended.0 ended.1
+  | inl ended ↦ play ended.0 ended.1 (frame_of m.cart ended.0 input) refl
 ]
   where
-    play : (input : InputData) (state : StateFields) → slice_get m.inputs n ≡ Some input → run m m.start 0 n ≡ Some state
-        → (outcome : FrameOutcome) → frame_of m.cart state input ≡ outcome
-        → Ends m (suc n) ⊎ ((frame : ℕ) × (kind : FaultKind) × FaultsWithin m (suc n) frame kind)
-    play input state at ran (Played new rows) e =
-        let next : n + 1 ≡ suc n = omega arith in
-        inl (new, subst (λ (x : ℕ). run m m.start 0 x ≡ Some new) next (run_on m n state input ran at new rows e))
-    play input state at ran (Failed kind left) e = inr (n + 1, kind, (n, omega arith, refl, faults_here m n state input ran at kind left e))
+    input : InputData
+    input = get_or m.inputs n (record { swcha = 0; swchb = 0; buttons = 0 })
 
-    input_at : (input : Option InputData) → slice_get m.inputs n ≡ input → (state : StateFields) → run m m.start 0 n ≡ Some state
+    there : slice_get m.inputs n ≡ Some input
+    there = slice_get-get_or m.inputs n _ (omega arith)
+
+    play : (state : StateFields) → run m m.start 0 n ≡ Some state → (outcome : FrameOutcome) → frame_of m.cart state input ≡ outcome
         → Ends m (suc n) ⊎ ((frame : ℕ) × (kind : FaultKind) × FaultsWithin m (suc n) frame kind)
-    input_at (Some input) at state ran = play input state at ran (frame_of m.cart state input) refl
-    input_at None at state ran = absurd (past (cases_lt n (length m.inputs)))
-      where
-        past : (n < length m.inputs) ⊎ (length m.inputs ≤ n) → ⊥
-        past (inl less) = let found = slice_get-get_or m.inputs n (record { swcha = 0; swchb = 0; buttons = 0 }) less in cc
-        past (inr more) = omega arith
+    play state ran (Played new rows) e = inl (new, rw add-one at (run-next m m.start 0 n n state input ran (omega arith) there new rows e))
+    play state ran (Failed kind left) e =
+        inr (n + 1, kind, (n, omega arith, refl, faults-here m m.start 0 n n state input ran (omega arith) there kind left e))
 
 -- ---- what ended before
 
-is_some_state : (o : Option StateFields) (state : StateFields) → o ≡ Some state → IsSome o
-is_some_state o state e = rw e refl
-
-state_of : (o : Option StateFields) → IsSome o → (state : StateFields) × (o ≡ Some state)
-state_of (Some state) is = (state, refl)
-state_of None is = absurd cc
-
-pub Ends-below : (m : MovieData) (k n : ℕ) → k ≤ n → Ends m n → Ends m k
-Ends-below m k n le ended = state_of (run m m.start 0 k) (IsSome-run-below m m.start 0 k n le (is_some_state (run m m.start 0 n) ended.0 ended.1))
-
 -- after a fault there is no state
-no_run : (m : MovieData) (k d : ℕ) → run m m.start 0 k ≡ None → run m m.start 0 (k + d) ≡ None
-no_run m k zero none = rw add-zero none
-no_run m k (suc d) none = let more : k + suc d ≡ suc (k + d) = omega arith in rw (more, no_run m k d none) refl
+no_run : (m : MovieData) (k x : ℕ) → k ≤ x → run m m.start 0 k ≡ None → run m m.start 0 x ≡ None
+no_run m k x le none = let all : k + (x - k) ≡ x = omega arith in rw all at (later (x - k))
+  where
+    later : (d : ℕ) → run m m.start 0 (k + d) ≡ None
+    later zero = rw add-zero none
+    later (suc d) = let more : k + suc d ≡ suc (k + d) = omega arith in rw (more, later d) refl
 
 pub none_after : (m : MovieData) (f x : ℕ) (kind : FaultKind) → FaultsAt m m.start 0 f kind → f < x → run m m.start 0 x ≡ None
-none_after m f x kind fault less =
-    let more : f + 1 + (x - (f + 1)) ≡ x = omega arith in
-    subst (λ (n : ℕ). run m m.start 0 n ≡ None) more (no_run m (f + 1) (x - (f + 1)) (run-fault m m.start 0 f kind fault))
+none_after m f x kind fault less = no_run m (f + 1) x (omega arith) (run-fault m m.start 0 f kind fault)
+
+pub Ends-below : (m : MovieData) (k n : ℕ) → k ≤ n → Ends m n → Ends m k
+Ends-below m k n le (last, ran) = by (run m m.start 0 k) refl
+  where
+    by : (o : Option StateFields) → run m m.start 0 k ≡ o → Ends m k
+    by (Some state) is = (state, is)
+    by None is = absurd (let none = no_run m k n le is in cc)
 
 -- ---- the frames that are asked for
 

@@ -28,6 +28,7 @@ use vcs_machine::State;
 
 /// Writes the lines of the frames that follow frame `from`, each as soon as it is played. It takes
 /// the memory of one frame at a time.
+#[tactic(auto, using(crate::proofs::StandingCheckpoints::none_before))]
 fn write_frames<L: Write>(
     alloc: Global,
     movie: &Movie,

@@ -27,6 +27,7 @@ use vcs_engine::{Line, RunError, Status, read_all};
 use vcs_machine::{FrameError, Picture, State, frame};
 
 /// Plays frame `before` + 1 of the run, with its picture.
+#[tactic(auto, using(crate::proofs::RunSteps::pictures_fail))]
 fn picture_of(
     alloc: Global,
     movie: &Movie,

@@ -21,6 +21,7 @@ use vcs_engine::Line;
 use vcs_machine::{FrameError, HexByte, Picture, State, TimedFrame, timed_frame};
 
 /// How many checkpoints stand before a frame, of which the first `from` surely do.
+#[tactic(auto, using(crate::proofs::StandingCheckpoints::one_more_before))]
 pub(crate) fn checkpoints_before(movie: &Movie, from: u16, frame: u32) -> u16
     requires { StandBefore movie.now from frame }
     ensures { IsNext movie.now result frame }
@@ -36,6 +37,7 @@ pub(crate) fn checkpoints_before(movie: &Movie, from: u16, frame: u32) -> u16
 
 /// What a line says of the checkpoint after its frame, if one stands there. `next` is the index of the
 /// first that is not before the frame.
+#[tactic(auto, using(crate::proofs::StandingCheckpoints::what_is_told))]
 fn told_checkpoint(
     alloc: Global,
     movie: &Movie,
@@ -131,6 +133,7 @@ fn line_of(
 
 /// Plays frame `before` + 1 of the run; the answer is its line, with its end. `next` is the index of
 /// the first checkpoint that is not before the frame.
+#[tactic(auto, using(crate::proofs::RunSteps::pictures_fail))]
 pub(crate) fn played_line(
     alloc: Global,
     movie: &Movie,

@@ -8,6 +8,7 @@ ghost use Rattle.view_engine.specs.Cuts.{ClaimsEvery, IsCutOf};
 /// A law: a cut is genuine, whatever its movie claims, and its run is the movie's run from its
 /// first frame on. Of the same frames there is one cut, and that of all frames of a genuine movie,
 /// with the distances that its claims have, has its claims.
+#[tactic(auto, using(crate::proofs::CutMovies::cut_run, crate::proofs::CutMovies::old_claims, crate::proofs::CutMovies::one_cut))]
 pub const fn law_of_cuts()
     ensures run { (m c : MovieData) (first count every k : ℕ) → IsCutOf m first count every c
         → k ≤ length c.inputs → run c c.start 0 k ≡ run m m.start 0 (first - 1 + k) }

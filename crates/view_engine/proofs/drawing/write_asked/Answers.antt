@@ -1,35 +1,30 @@
-use Rattle.std.proofs.Common.{◌≡◌, ◌-◌, ◌<◌, ap, refl, arith}
+use Rattle.std.proofs.Common.{◌-◌}
 use Rattle.std.specs.NonZero.{non_zero_u32_get}
 use Rattle.std.proofs.lemmas.Result.{err_from_is_err_and}
 use Rattle.view_engine.specs.Private.Stops.{picture_of_frame}
 use Rattle.view_engine.proofs.RunFrames.{no_picture}
-use Rattle.view_engine.proofs.WrittenFrames.{asked_before, asked_none, asked_stop}
+use Rattle.view_engine.proofs.WrittenFrames.{last_is, none_asked, stops_before}
 use Rattle.view_engine.proofs.drawing.write_asked.Goals as goal
 
 pub returns-then-frames-eq0-clause-ends : goal.returns-then-frames-eq0-clause-ends
 returns-then-frames-eq0-clause-ends g c =
-    asked_none c.args.movie.now (non_zero_u32_get c.args.first) c.args.count (non_zero_u32_get c.args.first - 1) c.frames_asked-frames.result
-    refl c.frames_asked-frames.ensures.value c.if-frames-eq0.true
+    none_asked c.args.movie.now (non_zero_u32_get c.args.first) c.args.count _ c.frames_asked-frames.ensures.value c.if-frames-eq0.true
 
 pub returns-in_err-start-clause-err : goal.returns-in_err-start-clause-err
 returns-in_err-start-clause-err g c =
-    let m = c.args.movie.now in
-    let first = non_zero_u32_get c.args.first in
-    let from_is : c.get-from.result - 1 ≡ first - 1 = ap (λ n. n - 1) c.get-from.ensures.value in
-    let some : 0 < c.frames_asked-frames.result = omega arith in
+    let first = c.get-from.ensures.value in
+    let frames = c.frames_asked-frames.ensures.value in
+    let last = last_is c.args.movie.now _ c.args.count _ _ first frames c.if-frames-eq0.false in
     let p = err_from_is_err_and c.from_residual.result c.from_residual.ensures.1 in
-    rw (p.1, p.2)
-    (asked_before m first c.args.count (c.get-from.result - 1) c.frames_asked-frames.result from_is c.frames_asked-frames.ensures.value some
-    (picture_of_frame m) (no_picture m)
-    c.in_err-start.field-0.0.frame c.in_err-start.field-0.0.kind (g.P.Write.contents c.args.pictures.now) c.in_err-start.ensures.err)
+    let stops = stops_before c.args.movie.now (picture_of_frame c.args.movie.now)
+    (no_picture c.args.movie.now) (c.get-from.result - 1) c.frames_asked-frames.result
+    _ _ (g.P.Write.contents c.args.pictures.now) c.in_err-start.ensures.err in
+    rw (p.1, p.2) (rw (last, first, frames) at stops)
 
 pub returns-in_err-write_frames-clause-err : goal.returns-in_err-write_frames-clause-err
 returns-in_err-write_frames-clause-err g c =
-    let m = c.args.movie.now in
-    let from_is : c.get-from.result - 1 ≡ non_zero_u32_get c.args.first - 1 = ap (λ n. n - 1) c.get-from.ensures.value in
-    let some : 0 < c.frames_asked-frames.result = omega arith in
+    let first = c.get-from.ensures.value in
+    let frames = c.frames_asked-frames.ensures.value in
+    let last = last_is c.args.movie.now _ c.args.count _ _ first frames c.if-frames-eq0.false in
     let p = err_from_is_err_and c.from_residual-in_err-write_frames.result c.from_residual-in_err-write_frames.ensures.1 in
-    rw (p.1, p.2)
-    (asked_stop m (non_zero_u32_get c.args.first) c.args.count (c.get-from.result - 1) c.frames_asked-frames.result
-    from_is c.frames_asked-frames.ensures.value some (picture_of_frame m) (g.P.Write.contents c.args.pictures.now)
-    (g.P.Write.contents c.write_frames.new.pictures) c.in_err-write_frames.field-0.0 c.in_err-write_frames.ensures.err)
+    rw (p.1, p.2) (rw (last, first, frames) at c.in_err-write_frames.ensures.err)
