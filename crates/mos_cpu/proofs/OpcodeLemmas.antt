@@ -1,11 +1,13 @@
 -- The table of instructions.
-use Rattle.std.proofs.Common.{◌≡◌, ◌≢◌, ℕ, Bool, true, false, Option, Some, None, List, [], ◌∷◌}
-use Rattle.std.proofs.Common.{refl, rules, arith}
+use Rattle.std.proofs.Common.{◌≡◌, ◌≢◌, ℕ, zero, suc, ◌+◌, ◌*◌, ◌/◌, ◌%◌, ◌<◌, Bool, true, false, Option, Some, None, List, [], ◌∷◌}
+use Rattle.std.proofs.Common.{refl, inl, inr, rules, arith}
 use Rattle.std.specs.Prelude.{not, ◌==◌, ◌&&◌, ◌||◌, nat_le, IfSome, if◌then◌else◌}
+use Rattle.std.specs.Prelude.{option_map, slice_get}
 use Rattle.std.specs.List.{list_all}
-use Rattle.std.proofs.lemmas.Bool.{eqb-true, and_parts}
+use Rattle.std.proofs.lemmas.Bool.{cases_lt, eqb-true, and_parts}
 use Rattle.std.proofs.lemmas.Bool.Decides.{nat_tests}
 use Rattle.mos_cpu.specs.Accesses.{use_of}
+use Rattle.mos_cpu.specs.OpcodeMatrix.{operations_in_order, modes_in_order}
 use Rattle.mos_cpu.specs.Opcodes.{Entry, entries, row_at, row_in, row_of}
 use Rattle.mos_cpu.specs.Operands.{takes_vector}
 use Rattle.mos_cpu.specs.Timing.{least_of, most_cycles, IsTimed}
@@ -65,3 +67,39 @@ pub row_of-told : (opcode : ℕ) → IfSome (row_of opcode) (λ row. has_low opc
 row_of-told opcode =
     row_in-passes (λ opcode row. has_low opcode ≡ true → needs_low row ≡ true) (λ opcode row. not (has_low opcode) || needs_low row)
     (λ opcode row e low. rw low at e) entries opcode refl
+
+-- ---- the opcodes that are 1 modulo 4
+-- What a function gives below a number.
+abbrev values_below : {A : Type 0} → (ℕ → A) → ℕ → List A
+values_below f zero = []
+values_below f (suc n) = f n ∷ values_below f n
+
+values_below-at : {A : Type 0} (f g : ℕ → A) (n k : ℕ) → values_below f n ≡ values_below g n → k < n → f k ≡ g k
+values_below-at f g zero k e lt = absurd (omega arith)
+values_below-at f g (suc n) k e lt =
+    elim (cases_lt k n) [
+      | inl below ↦ values_below-at f g n k (cc) below
+      | inr same ↦ (let last : k ≡ n = omega arith in rw last (cc))
+    ]
+
+-- The opcode of each quarter but that of 89.
+abbrev but_89 : {A : Type 0} → (ℕ → Option A) → ℕ → Option A
+but_89 f quarter = if quarter == 34 then None else f (4 * quarter + 1)
+
+regular : {A : Type 0} (f g : ℕ → Option A) → values_below (but_89 f) 64 ≡ values_below (but_89 g) 64
+    → (opcode : ℕ) → opcode < 256 → opcode % 4 ≡ 1 → opcode ≢ 0x89 → f opcode ≡ g opcode
+regular f g e opcode small one other =
+    let same = values_below-at (but_89 f) (but_89 g) 64 (opcode / 4) e (omega arith) in
+    let quarter : (opcode / 4 == 34) ≡ false = grind (arith, nat_tests) in
+    let whole : 4 * (opcode / 4) + 1 ≡ opcode = omega arith in
+    rw (quarter, whole) at same
+
+pub regular-operation : (opcode : ℕ) → opcode < 256 → opcode % 4 ≡ 1 → opcode ≢ 0x89
+    → option_map (λ row. row.operation) (row_of opcode) ≡ slice_get operations_in_order (opcode / 32)
+regular-operation =
+    regular (λ opcode. option_map (λ row. row.operation) (row_of opcode)) (λ opcode. slice_get operations_in_order (opcode / 32)) refl
+
+pub regular-mode : (opcode : ℕ) → opcode < 256 → opcode % 4 ≡ 1 → opcode ≢ 0x89
+    → option_map (λ row. row.mode) (row_of opcode) ≡ slice_get modes_in_order (opcode / 4 % 8)
+regular-mode =
+    regular (λ opcode. option_map (λ row. row.mode) (row_of opcode)) (λ opcode. slice_get modes_in_order (opcode / 4 % 8)) refl

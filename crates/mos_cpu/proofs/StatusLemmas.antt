@@ -1,11 +1,11 @@
 -- The bits of the status, as the code tests and makes them.
-use Rattle.std.proofs.Common.{◌≡◌, ℕ, ◌+◌, ◌-◌, ◌*◌, ◌/◌, ◌%◌, ◌<◌, Bool, true, false, nat_eq, refl}
-use Rattle.std.proofs.Common.{rules, bit_and, bit_or}
-use Rattle.std.proofs.Math.Nat.{sub-zero}
+use Rattle.std.proofs.Common.{◌≡◌, ◌≢◌, ℕ, ◌+◌, ◌-◌, ◌*◌, ◌/◌, ◌%◌, ◌<◌, Bool, true, false, nat_eq, refl}
+use Rattle.std.proofs.Common.{rules, arith, bit_and, bit_or}
 use Rattle.std.specs.Prelude.{not}
+use Rattle.std.proofs.lemmas.Bool.Decides.{nat_tests}
 use Rattle.std.proofs.lemmas.Bool.{agree_below, agree_below_at, eqb-true}
 use Rattle.std.proofs.lemmas.Grind.{common_steps}
-use Rattle.mos_cpu.specs.Status.{flag_weight, has_flag, put_flag}
+use Rattle.mos_cpu.specs.Status.{flag_weight, has_flag, put_flag, pushed_of}
 use Rattle.mos_cpu.specs.declared.status.Flag.{Flag}
 use Rattle.mos_cpu.specs.declared.status.Flag.TheVariants.{Carry}
 
@@ -46,12 +46,9 @@ pub ruleset puts = (or_weight, and_not_weight, put_flag-status)
 pub and_one : (p : ℕ) → bit_and p 1 ≡ p % 2
 and_one p = search (rules, common_steps)
 
--- Bits 5 and 4 set in a status, which has neither.
-set_48 : (p : ℕ) → p < 256 → bit_or (p - p / 16 % 4 * 16) 48 ≡ p - p / 16 % 4 * 16 + 48
-set_48 = at_byte _ _ refl
-
-pub or_48 : (p : ℕ) → p < 256 → p / 16 % 4 ≡ 0 → bit_or p 48 ≡ p + 48
-or_48 p h status = simp (status, sub-zero) at (set_48 p h)
+-- Bits 5 and 4 set in a byte.
+pub or_48 : (p : ℕ) → p < 256 → bit_or p 48 ≡ p % 16 + 48 + p / 64 * 64
+or_48 = at_byte _ _ refl
 
 -- Bits 5 and 4 dropped from a byte.
 pub and_207 : (b : ℕ) → b < 256 → bit_and b 207 ≡ b % 16 + b / 64 * 64
@@ -62,3 +59,16 @@ and_207-status = at_byte _ _ refl
 
 -- A pulled status.
 pub ruleset pulls = (and_207, and_207-status)
+
+-- A flag that was put is as it was put, and each other flag is as it was.
+pub put_flag-given : (flag : Flag) (on : Bool) (p : ℕ) → has_flag flag (put_flag flag on p) ≡ on
+put_flag-given Carry on p = grind (arith, nat_tests)
+put_flag-given flag on p = grind (arith, nat_tests)
+
+pub put_flag-others : (flag other : Flag) (on : Bool) (p : ℕ) → flag ≢ other → has_flag other (put_flag flag on p) ≡ has_flag other p
+put_flag-others Carry Carry on p differ = absurd (differ refl)
+put_flag-others flag other on p differ = grind (arith, nat_tests)
+
+-- The flags of a pushed status.
+pub pushed_of-flags : (flag : Flag) (p : ℕ) → has_flag flag (pushed_of p) ≡ has_flag flag p
+pushed_of-flags flag p = grind (arith, nat_tests)

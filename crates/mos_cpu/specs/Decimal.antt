@@ -8,6 +8,10 @@ use Rattle.mos_cpu.specs.Sums.{sum_of, binary_adc_of, less_borrow, binary_sbc_of
 use Rattle.mos_cpu.specs.declared.arithmetic.Alu.{Alu}
 use Rattle.mos_cpu.specs.declared.status.Flag.TheVariants.{Carry, Zero, Decimal, Overflow, Negative}
 
+-- The byte of a number of two decimal digits: its tens in the high digit, its ones in the low one.
+abbrev pub decimal_byte : ℕ → ℕ
+decimal_byte n = n / 10 * 16 + n % 10
+
 -- The low digit of a byte, and its high digit as a multiple of 16.
 abbrev pub low_digit : ℕ → ℕ
 low_digit n = n % 16

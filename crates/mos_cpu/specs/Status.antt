@@ -29,9 +29,9 @@ carry_of p = p % 2
 abbrev pub with_nz : ℕ → ℕ → ℕ
 with_nz value p = put_flag Negative (has_flag Negative value) (put_flag Zero (value == 0) p)
 
--- The status as PHP and BRK push it: with bits 5 and 4 set.
+-- The status as PHP and BRK push it: with bits 5 and 4 set, whatever they were.
 abbrev pub pushed_of : ℕ → ℕ
-pushed_of p = p + 48
+pushed_of p = p % 16 + 48 + p / 64 * 64
 
 -- A byte as PLP and RTI pull it: without bits 5 and 4.
 abbrev pub pulled_of : ℕ → ℕ

@@ -67,7 +67,6 @@ pub const fn with_sign(p: u8, value: u8) -> u8
 #[tactic(auto, using(crate::proofs::StatusLemmas::or_48))]
 #[inline(always)]
 pub const fn pushed_status(p: u8) -> u8
-    requires { IsStatus p }
     ensures { result ≡ pushed_of p }
 {
     p | 0x30
