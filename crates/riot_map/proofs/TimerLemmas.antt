@@ -121,7 +121,7 @@ pub record ShowsAtLeast (bound : ℕ) (t u : Countdown) : Type 0 where
 pub less_one-suc : (j : ℕ) → nat_abs (pos (suc j) -ℤ pos 1) ≡ j
 less_one-suc j = omega (arith, ints)
 
-shown-pos : (j i : ℕ) (b : Bool) → intim (timer (pos (suc j)) i b) ≡ j / i
+pub shown-pos : (j i : ℕ) (b : Bool) → intim (timer (pos (suc j)) i b) ≡ j / i
 unfolding intim
 shown-pos j i b = rw (running-pos (suc j) (omega arith), less_one-suc j) refl
 

@@ -1,4 +1,5 @@
--- Cartridges, as lists of bytes.
+-- Cartridges, as lists of bytes. Two banks are those of the F8 scheme: Kevin Horton, "Mostly
+-- Inclusive Atari 2600 Mapper / Selected Hardware Document", F8.
 use Rattle.std.specs.Prelude.{ℕ, List, length, slice_index, ◌+◌, ◌*◌, ◌%◌, Bool, ◌==◌, ◌&&◌, ◌||◌}
 use Rattle.std.specs.Prelude.{if◌then◌else◌}
 
@@ -8,19 +9,22 @@ abbrev pub is_cart_length : ℕ → Bool
 is_cart_length n = (n == 2048) || (n == 4096) || (n == 8192)
 
 -- A cartridge of so many bytes has two banks. They are switched as Atari's 8K cartridges switch
--- them, which is called F8 after the addresses that do it.
+-- them, which is called F8 after the addresses that do it. That each cartridge of so many bytes is
+-- one of these is this project's own.
 abbrev pub has_banks : ℕ → Bool
 has_banks n = n == 8192
 
 -- The byte at an address while a bank is selected, 0 or 1: a bank has 4096 bytes. Without banks the
--- cartridge fills its part of the address space again and again.
+-- cartridge fills its part of the address space again and again, since the lines above its length
+-- don't reach it.
 abbrev pub cart_byte : List ℕ → ℕ → ℕ → ℕ
 cart_byte cart bank address =
     if has_banks (length cart) then slice_index cart (4096 * bank + address % 4096)
     else slice_index cart (address % length cart)
 
--- The bank after a data access, read or write: of two banks the first is selected at 1FF8 and the
--- second at 1FF9, on the 13 address lines.
+-- The bank after an access: of two banks the first is selected at 1FF8 and the second at 1FF9, on
+-- the 13 address lines. That a data access alone selects, read or write, and not the fetch of an
+-- instruction's byte, is this project's own.
 abbrev pub bank_after : List ℕ → ℕ → ℕ → ℕ
 bank_after cart bank address =
     if has_banks (length cart) && (address % 8192 == 0x1FF8) then 0

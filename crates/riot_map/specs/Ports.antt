@@ -1,5 +1,6 @@
--- What a read of a port gives, each bit by itself. From the Stella Programmer's Guide (SWCHA,
--- SWACNT, SWCHB, SWBCNT); that an output of 1 on port A doesn't hide its pin is this project's own.
+-- What a read of a port gives, each bit by itself. MOS MCS6532 data sheet (peripheral registers,
+-- data direction registers); Stella Programmer's Guide (SWCHA, SWACNT, SWCHB, SWBCNT). That an
+-- output of 1 on port A doesn't hide its pin is this project's own.
 use Rattle.std.specs.Prelude.{ℕ, ◌<◌, Bool, false, not, ◌&&◌, if◌then◌else◌}
 use Rattle.riot_map.specs.Bits.{has_bit, byte_of_bits}
 use Rattle.riot_map.specs.declared.port.Port.{Port}

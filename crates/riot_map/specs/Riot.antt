@@ -1,4 +1,6 @@
--- A RIOT as contracts see it, and what its calls do to it.
+-- A RIOT as contracts see it, and what its calls do to it. The registers, by the lines A0 to A4,
+-- are those of the MOS MCS6532 data sheet (addressing) and of the Stella Programmer's Guide (SWCHA
+-- to SWBCNT, INTIM, TIM1T to T1024T).
 use Rattle.std.specs.Prelude.{ℕ, List, length, replicate, slice_set, All, pos, ◌≡◌, ◌<◌, ◌%◌, Bool}
 use Rattle.std.specs.Prelude.{false, ◌==◌, if◌then◌else◌}
 use Rattle.std.specs.Fn.{iterate}
@@ -73,13 +75,15 @@ with_ram i value r = record r { ram = slice_set r.ram i value }
 abbrev pub is_timer : ℕ → Bool
 is_timer register = has_bit register 2
 
--- A1 and A0 select SWCHA, SWACNT, SWCHB and SWBCNT; a direction register reads itself
+-- A1 and A0 select SWCHA, SWACNT, SWCHB and SWBCNT; a direction register reads itself. That A4 and
+-- A3 don't count here is this project's own.
 abbrev pub port_read : RiotState → ℕ → ℕ
 port_read r register =
     if register == 0 then port_a_byte r.port_a else if register == 1 then r.port_a.direction
     else if register == 2 then port_b_byte r.port_b else r.port_b.direction
 
--- INTIM if A0 is 0, else the flag in bit 7. That the other bits are 0 is this project's own.
+-- INTIM if A0 is 0, else the flag in bit 7. That the other bits are 0 is this project's own: bit 6
+-- of a chip is the flag of an edge on PA7, which the machine leaves out.
 abbrev pub timer_read : Countdown → ℕ → ℕ
 timer_read t register = if has_bit register 0 then (if t.flag then 128 else 0) else intim t
 
@@ -87,7 +91,7 @@ timer_read t register = if has_bit register 0 then (if t.flag then 128 else 0) e
 unfoldable pub riot_read : RiotState → ℕ → ℕ
 riot_read r register = if is_timer register then timer_read r.timer register else port_read r (register % 4)
 
--- a read of INTIM clears the flag
+-- a read of INTIM clears the flag (MCS6532: interrupt flag register)
 unfoldable pub after_timer_read : RiotState → ℕ → RiotState
 after_timer_read r register = if has_bit register 0 then r else record r { timer = with_clear_flag r.timer }
 

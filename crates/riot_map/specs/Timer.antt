@@ -1,6 +1,7 @@
 -- The timer: one whole number that falls by one each cycle, an interval and a flag. Registers and
--- intervals are the Stella Programmer's Guide's (TIM1T, TIM8T, TIM64T, T1024T, INTIM); the phase,
--- that is in which cycle each value changes, is this project's own.
+-- intervals are those of the MOS MCS6532 data sheet (interval timer) and of the Stella Programmer's
+-- Guide (TIM1T, TIM8T, TIM64T, T1024T, INTIM). This project's own: the phase, that is in which
+-- cycle each value changes, and that a read past zero doesn't bring the interval back.
 use Rattle.std.specs.Prelude.{ℕ, ℤ, pos, negsuc, ◌≡◌, ◌≤ℤ◌, ◌+ℤ◌, ◌-ℤ◌, nat_abs, int_le, ◌+◌, ◌-◌, ◌*◌}
 use Rattle.std.specs.Prelude.{◌/◌, ◌%◌, Bool, false, ◌||◌, ◌==◌, if◌then◌else◌}
 use Rattle.std.specs.Ordering.{int_eq}

@@ -1,9 +1,10 @@
 //! Laws about the definitions.
-ghost use Rattle.std.specs.Prelude.{◌≡◌, ℕ, ◌<◌, true};
+ghost use Rattle.std.specs.Prelude.{◌≡◌, ℕ, ◌+◌, ◌-◌, ◌*◌, ◌/◌, ◌%◌, ◌<◌, ◌≤◌, true};
 ghost use Rattle.riot_map.specs.Riot.{RiotState, IsRiot, riot_of, fields_of, with_pins};
 ghost use Rattle.riot_map.specs.Riot.{after_cycles, after_read, after_write, with_ram};
-ghost use Rattle.riot_map.specs.Riot.{riot_at_power_on};
+ghost use Rattle.riot_map.specs.Riot.{riot_at_power_on, riot_read};
 ghost use Rattle.riot_map.specs.RiotFields.{is_riot, AreInRange};
+ghost use Rattle.riot_map.specs.Timer.{after_cycle, interval_of};
 ghost use Rattle.riot_map.specs.declared.fields.RiotFields.{RiotFields};
 
 /// Lawful numbers come back from the RIOT that they make.
@@ -28,4 +29,31 @@ pub fn law_of_lawful_riots()
     ensures write { (r : RiotState) (register value : ℕ) → value < 256 → IsRiot r → IsRiot (after_write r register value) }
     ensures ram { (r : RiotState) (i value : ℕ) → value < 256 → IsRiot r → IsRiot (with_ram i value r) }
     ensures pins { (r : RiotState) (a b : ℕ) → IsRiot r → IsRiot (with_pins a b r) }
+{}
+
+/// So many cycles are as many single ones, one after another, and one is a step of the timer.
+pub fn law_of_riot_cycles()
+    ensures none { (r : RiotState) → after_cycles 0 r ≡ r }
+    ensures one { (r : RiotState) → after_cycles 1 r ≡ record r { timer = after_cycle r.timer } }
+    ensures parts { (m n : ℕ) (r : RiotState) → after_cycles (m + n) r ≡ after_cycles n (after_cycles m r) }
+{}
+
+/// What INTIM (register 04) and the flag (register 05) give after a write of `n` that starts the
+/// timer: to TIM1T, TIM8T, TIM64T or T1024T, the registers from 14 (hexadecimal) on.
+///
+/// For `n` intervals, counted from the cycle after the write, INTIM shows n - 1 and falls by one
+/// with each interval, so that it holds 0 for the last of them. Then it shows 255, and falls by one
+/// with each cycle, modulo 256. The flag is clear up to then, and set from then on. A read of INTIM
+/// clears it, and it stays clear until the next write. No read changes what INTIM shows later.
+pub fn law_of_the_timer()
+    ensures before_zero { (r : RiotState) (code n t : ℕ) → code < 4 → 0 < t → t ≤ n * interval_of code
+        → let after = after_cycles t (after_write r (0x14 + code) n) in
+        (riot_read after 4 ≡ n - 1 - (t - 1) / interval_of code) × (riot_read after 5 ≡ 0) }
+    ensures past_zero { (r : RiotState) (code n t : ℕ) → code < 4
+        → let after = after_cycles (n * interval_of code + 1 + t) (after_write r (0x14 + code) n) in
+        (riot_read after 4 ≡ 255 - t % 256) × (riot_read after 5 ≡ 128) }
+    ensures cleared { (r : RiotState) (code n t u : ℕ) → code < 4
+        → let after = after_cycles (n * interval_of code + 1 + t) (after_write r (0x14 + code) n) in
+        riot_read (after_cycles u (after_read after 4)) 5 ≡ 0 }
+    ensures reads { (r : RiotState) (register t : ℕ) → riot_read (after_cycles t (after_read r register)) 4 ≡ riot_read (after_cycles t r) 4 }
 {}

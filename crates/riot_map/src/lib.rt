@@ -19,6 +19,8 @@ mod timer;
 pub use address_map::place;
 pub use cart::{BANK_LENGTH, BadCartSize, Cart};
 pub use fields::RiotFields;
-pub use laws::{law_of_lawful_riots, law_of_numbers, law_of_riots};
+pub use laws::{
+    law_of_lawful_riots, law_of_numbers, law_of_riot_cycles, law_of_riots, law_of_the_timer,
+};
 pub use places::Place;
 pub use riot::Riot;
