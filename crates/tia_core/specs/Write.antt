@@ -1,5 +1,6 @@
--- What a write does, register by register.
--- Stella Programmer's Guide: the sections on each register.
+-- What a write does, register by register. Stella Programmer's Guide: the sections on each
+-- register. This project's own rules are marked below; those of the positions stand in Position,
+-- those of the buttons in Latch.
 use Rattle.std.specs.Prelude.{ℕ, ◌&&◌, not, nat_lt, Bool, if◌then◌else◌}
 use Rattle.tia_core.specs.Bits.{has_bit}
 use Rattle.tia_core.specs.Latch.{latches_after_vblank}
@@ -23,6 +24,7 @@ use Rattle.tia_core.specs.declared.effect.Effect.TheVariants.{Nothing, Sync, Fra
 -- the numbers of a TIA after a write of this register, with the two buttons pressed or not
 abbrev pub fields_after : TiaFields → Bool → Bool → Register → ℕ → TiaFields
 fields_after t fire0 fire1 Vsync v = record t { vsync = register_bits Vsync v }
+-- D7, which grounds the paddles' inputs on a console, does nothing: this project's own
 fields_after t fire0 fire1 Vblank v = record t {
   vblank = register_bits Vblank v;
   latches = latches_after_vblank t.latches fire0 fire1 (register_bits Vblank v);
@@ -39,6 +41,8 @@ fields_after t fire0 fire1 Refp1 v = record t { refp1 = register_bits Refp1 v }
 fields_after t fire0 fire1 Pf0 v = record t { pf0 = register_bits Pf0 v }
 fields_after t fire0 fire1 Pf1 v = record t { pf1 = register_bits Pf1 v }
 fields_after t fire0 fire1 Pf2 v = record t { pf2 = register_bits Pf2 v }
+-- this project's own: a strobe in the blank puts a player at pixel 3, a missile or the ball at 2,
+-- and one after it 5 and 4 pixels to the right of the beam
 fields_after t fire0 fire1 Resp0 v = record t { position_p0 = strobed_position 3 5 t.clock }
 fields_after t fire0 fire1 Resp1 v = record t { position_p1 = strobed_position 3 5 t.clock }
 fields_after t fire0 fire1 Resm0 v = record t { position_m0 = strobed_position 2 4 t.clock }
@@ -66,6 +70,7 @@ fields_after t fire0 fire1 Resmp1 v = record t {
   resmp1 = register_bits Resmp1 v;
   position_m1 = released_position t.resmp1 v t.nusiz1 t.position_p1 t.position_m1;
 }
+-- all objects move at once, and a strobe in the blank alone sets the comb: this project's own
 fields_after t fire0 fire1 Hmove v = record t {
   position_p0 = moved_position t.hmp0 t.position_p0;
   position_p1 = moved_position t.hmp1 t.position_p1;
@@ -83,7 +88,8 @@ fields_after t fire0 fire1 Ignored v = t
 unfoldable pub tia_after_write : TiaState → ℕ → ℕ → TiaState
 tia_after_write s number v = record s { fields = fields_after s.fields s.fire0 s.fire1 (register_of number) v }
 
--- what a write asks of its caller: to wait after WSYNC, to end the frame if VSYNC's bit 1 falls
+-- what a write asks of its caller: to wait after WSYNC, to end the frame if VSYNC's bit 1 falls.
+-- That a frame ends there is this project's own.
 abbrev pub effect_after : TiaFields → Register → ℕ → Effect
 effect_after t Wsync v = Sync
 effect_after t Vsync v = if has_bit t.vsync 1 && not (has_bit v 1) then FrameEnd else Nothing

@@ -6,7 +6,7 @@ ghost use Rattle.std.specs.List.{range_with_len};
 ghost use Rattle.std.specs.List.Sorted.{IsStrictlyIncreasing};
 ghost use Rattle.tia_core.specs.Beam.{beam_of, beam_of_pixel, is_visible};
 ghost use Rattle.tia_core.specs.Bits.{has_bit};
-ghost use Rattle.tia_core.specs.Clock.{after_clock, pixels};
+ghost use Rattle.tia_core.specs.Clock.{after_clock, pixels, sink_after_pixels};
 ghost use Rattle.tia_core.specs.Collision.{pairs_of, collision_bytes};
 ghost use Rattle.tia_core.specs.Coverage.{player_covers, missile_covers, ball_covers};
 ghost use Rattle.tia_core.specs.Read.{register_byte};
@@ -24,8 +24,17 @@ pub fn law_of_clocks()
     ensures pixels { (m n : ℕ) (s : TiaState) → pixels (m + n) s ≡ pixels m s ++ pixels n (iterate after_clock m s) }
 {}
 
-/// The beam goes on by a clock each time, from line to line, and lines are counted modulo 65,536.
+/// What a sink gets of clocks in two parts is what it gets of them one after another.
+pub fn law_of_sinks<S>()
+    ensures { (drawn : S → ℕ → ℕ → ℕ → S) (sink : S) (m n : ℕ) (s : TiaState)
+        → sink_after_pixels drawn sink (pixels (m + n) s)
+        ≡ sink_after_pixels drawn (sink_after_pixels drawn sink (pixels m s)) (pixels n (iterate after_clock m s)) }
+{}
+
+/// The beam of lawful numbers is at one of the 228 clocks of a line. It goes on by a clock each
+/// time, from line to line, and lines are counted modulo 65,536.
 pub fn law_of_the_beam()
+    ensures range { (t : TiaFields) → IsTrue (is_tia t) → t.clock < 228 }
     ensures clock { (n : ℕ) (s : TiaState) → IsTrue (is_tia s.fields) → (iterate after_clock n s).fields.clock ≡ (s.fields.clock + n) % 228 }
     ensures line { (n : ℕ) (s : TiaState) → IsTrue (is_tia s.fields) → s.line < 2 ^ 16
         → (iterate after_clock n s).line ≡ (s.line + (s.fields.clock + n) / 228) % 2 ^ 16 }
