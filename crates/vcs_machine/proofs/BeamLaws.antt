@@ -1,5 +1,5 @@
 -- The beam over instructions, waits and frames: three colour clocks a cycle.
-use Rattle.std.proofs.Common.{◌≡◌, inl, inr, ℕ, zero, suc, ◌+◌, ◌*◌, ◌%◌, ◌<◌, ◌≤◌}
+use Rattle.std.proofs.Common.{◌≡◌, ℕ, zero, suc, ◌+◌, ◌*◌, ◌%◌, ◌<◌, ◌≤◌}
 use Rattle.std.proofs.Common.{Bool, true, refl, ap, ◌∙◌, arith}
 use Rattle.std.specs.Fn.{iterate}
 use Rattle.std.proofs.lemmas.Bool.{cases_Bool}
@@ -11,16 +11,15 @@ use Rattle.mos_cpu.proofs.StepLaws.{step_of-most, step_of-clock, step_of-kept}
 use Rattle.mos_cpu.proofs.StepLaws.{count_modulo-adds}
 use Rattle.riot_map.specs.Place.{place_of}
 use Rattle.riot_map.specs.declared.places.Place.{Place}
-use Rattle.riot_map.specs.declared.places.Place.TheVariants.{Cart, Tia}
+use Rattle.riot_map.specs.declared.places.Place.TheVariants.{Tia}
 use Rattle.tia_core.specs.Clock.{after_clock}
 use Rattle.tia_core.specs.TiaState.{TiaState}
 use Rattle.tia_core.specs.Write.{fields_after, tia_after_write}
 use Rattle.tia_core.specs.declared.fields.TiaFields.{TiaFields}
 use Rattle.tia_core.specs.declared.register.Register.{Register}
-use Rattle.tia_core.specs.declared.register.Register.TheVariants.{Vsync}
 use Rattle.tia_core.proofs.ClockLemmas.{iterate-clocked-clock}
 use Rattle.vcs_machine.specs.Consoles.{Console, meaning_of, read_at, written_at, after_wait}
-use Rattle.vcs_machine.specs.Consoles.{cycles_to_line_start, wait_cycles, console_rules}
+use Rattle.vcs_machine.specs.Consoles.{wait_cycles, console_rules}
 use Rattle.vcs_machine.specs.Frame.{Machine, Went, machine_at, turn}
 use Rattle.vcs_machine.specs.Frame.{turns, overlong_cycles, stop_of}
 use Rattle.vcs_machine.proofs.KeptFacts.{turns-kept}
@@ -35,17 +34,17 @@ iterate-clocked-count zero s = omega arith
 iterate-clocked-count (suc n) s = let one = clocked-count s in let more = iterate-clocked-count n (after_clock s) in omega arith
 
 -- A write leaves the beam.
-fields_after-clock : (t : TiaFields) (fire0 fire1 : Bool) (r : Register) (v : ℕ) → (fields_after t fire0 fire1 r v).clock ≡ t.clock
+pub fields_after-clock : (t : TiaFields) (fire0 fire1 : Bool) (r : Register) (v : ℕ) → (fields_after t fire0 fire1 r v).clock ≡ t.clock
 fields_after-clock t fire0 fire1 r v = grind arith
 
 module _ {S : Type 0} (drawn : S → ℕ → ℕ → ℕ → S) where
   abbrev clock_of : Console S → ℕ
   clock_of c = c.tia.fields.clock
 
-  read_at-clock : (c : Console S) (place : Place) → clock_of (read_at c place) ≡ clock_of c
+  pub read_at-clock : (c : Console S) (place : Place) → clock_of (read_at c place) ≡ clock_of c
   read_at-clock c place = grind arith
 
-  written_at-clock : (c : Console S) (place : Place) (v : ℕ) → clock_of (written_at c place v) ≡ clock_of c
+  pub written_at-clock : (c : Console S) (place : Place) (v : ℕ) → clock_of (written_at c place v) ≡ clock_of c
   unfolding tia_after_write
   written_at-clock c (Tia register) v = fields_after-clock c.tia.fields c.tia.fire0 c.tia.fire1 _ v
   written_at-clock c other v = refl

@@ -14,7 +14,6 @@ use Rattle.vcs_machine.specs.Outcomes.{Halts, PlaysOn, cycles_of}
 use Rattle.vcs_machine.specs.Pictures.{Rows, picture_of, rows_of}
 use Rattle.vcs_machine.specs.States.{is_state, line_cycle_of}
 use Rattle.vcs_machine.specs.declared.fault.FaultKind.{FaultKind}
-use Rattle.vcs_machine.specs.declared.fault.FaultKind.TheVariants.{BadOpcode}
 use Rattle.vcs_machine.specs.declared.fault.Halt.{Halt}
 use Rattle.vcs_machine.specs.declared.fields.StateFields.{StateFields}
 use Rattle.vcs_machine.proofs.BeamLaws.{OnItsWay, way-stops}

@@ -2,13 +2,16 @@ pub mod AlongBuses
 pub mod BankLaws
 pub mod BankLemmas
 pub mod BeamLaws
+pub mod CycleLaws
 pub mod FrameOutcomes
 pub mod KeptFacts
 pub mod LagLemmas
 pub mod LoggedLemmas
 pub mod OneStop
 pub mod PictureTable
+pub mod PixelLaws
 pub mod PollLemmas
 pub mod RowLemmas
 pub mod SinkLemmas
 pub mod StateLemmas
+pub mod TimedFacts

@@ -4,13 +4,13 @@ use Rattle.std.proofs.Common.{Result, Ok, Err, true, refl, sym, ap, ◌∙◌, a
 use Rattle.std.specs.Prelude.{IfOk, fold, nat_lt}
 use Rattle.std.proofs.lemmas.Bool.Decides.{nat_tests}
 use Rattle.std.proofs.lemmas.List.{length-append}
-use Rattle.mos_cpu.specs.Accesses.{StoredByte, Use, Reads, Stores, Modifies, Pushes, Pulls}
+use Rattle.mos_cpu.specs.Accesses.{StoredByte, Use}
 use Rattle.mos_cpu.specs.Accesses.{accesses_by as accesses_by_use, accesses_of, instruction_cycles}
 use Rattle.mos_cpu.specs.Accesses.{pulls, pushes, use_of}
 use Rattle.mos_cpu.specs.Buses.{Meaning, Respects}
 use Rattle.mos_cpu.specs.Execution.{Progress, after_access, after_transfer, at_start, map_step, step_by}
 use Rattle.mos_cpu.specs.Execution.{step_of}
-use Rattle.mos_cpu.specs.Operands.{Operand, Register, Instruction, instruction_at}
+use Rattle.mos_cpu.specs.Operands.{Operand, Instruction, instruction_at}
 use Rattle.mos_cpu.specs.Registers.{Registers}
 use Rattle.mos_cpu.specs.Timing.{IsTimed, least_of}
 use Rattle.mos_cpu.specs.declared.access.Access.{Access}

@@ -32,7 +32,6 @@ use Rattle.vcs_machine.specs.Frame.{Failed, Machine, Went, overlong_cycles, stop
 use Rattle.vcs_machine.specs.Private.Polls.{IsPoll, GoOn, after_load, goes_on, least_of, loaded_at, opcode_of}
 use Rattle.vcs_machine.specs.Private.Polls.{operation_of}
 use Rattle.vcs_machine.specs.declared.polls.Branch.{Branch}
-use Rattle.vcs_machine.specs.declared.polls.Branch.TheVariants.{IfNotZero}
 use Rattle.vcs_machine.specs.declared.polls.Poll.{Poll}
 use Rattle.vcs_machine.proofs.LagLemmas.{riot-add, sink-later, tia-later}
 use Rattle.vcs_machine.proofs.OneStop.{stops-later}

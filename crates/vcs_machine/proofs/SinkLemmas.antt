@@ -23,7 +23,7 @@ use Rattle.vcs_machine.specs.Consoles.{with_pixel_logged}
 use Rattle.vcs_machine.specs.Private.Along.{Follows, machine_along, stop_along, drawn_on}
 
 -- A list takes pixels at its end.
-painted-logged : (log ps : List Pixel) → sink_after_pixels with_pixel_logged log ps ≡ log ++ ps
+pub painted-logged : (log ps : List Pixel) → sink_after_pixels with_pixel_logged log ps ≡ log ++ ps
 painted-logged log [] = sym (append-nil log)
 painted-logged log (p ∷ ps) = painted-logged (log ++ p ∷ []) ps ∙ append_assoc log (p ∷ []) ps
 

@@ -1,4 +1,5 @@
 pub mod Consoles
+pub mod Cycles
 pub mod Faults
 pub mod Frame
 pub mod Inputs

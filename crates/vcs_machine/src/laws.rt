@@ -1,11 +1,17 @@
 //! Laws about the definitions of a frame.
 ghost use Rattle.std.specs.Prelude.{◌≡◌, ◌↔◌, ℕ, ◌+◌, ◌*◌, ◌%◌, ◌<◌, ◌≤◌, List, [], length, IsTrue};
-ghost use Rattle.std.specs.Prelude.{true, false};
+ghost use Rattle.std.specs.Prelude.{true, false, map, filter, All, IfOk};
+ghost use Rattle.std.specs.Fn.{iterate};
+ghost use Rattle.std.specs.List.{range_with_len};
+ghost use Rattle.mos_cpu.specs.Buses.{IsClock};
 ghost use Rattle.mos_cpu.specs.Execution.{step_of};
+ghost use Rattle.mos_cpu.specs.Operands.{instruction_at};
 ghost use Rattle.riot_map.specs.Cart.{has_banks};
+ghost use Rattle.tia_core.specs.Beam.{beam_of_pixel, is_visible};
 ghost use Rattle.tia_core.specs.Clock.{Pixel};
 ghost use Rattle.vcs_machine.specs.Consoles.{Console, console_rules, with_pixel_logged, meaning_of};
-ghost use Rattle.vcs_machine.specs.Consoles.{after_wait, wait_cycles};
+ghost use Rattle.vcs_machine.specs.Consoles.{after_wait, passed, wait_cycles};
+ghost use Rattle.vcs_machine.specs.Cycles.{MeetsBeam, after_one_cycle, beam_place, place_after};
 ghost use Rattle.vcs_machine.specs.Faults.{stop_with};
 ghost use Rattle.vcs_machine.specs.Frame.{Rules, Machine, Stop, Ended, machine_at, StopsAs};
 ghost use Rattle.vcs_machine.specs.Frame.{most_frame_cycles, stop_of, turn, turns, Went};
@@ -25,6 +31,25 @@ pub const fn law_of_one_stop<B>()
         → StopsAs rules start stop → stop ≡ stop_of rules start }
     ensures found { (rules : Rules B) (start : Machine B) (stop : Stop B) → start.cycles ≡ 0
         → stop ≡ stop_of rules start → StopsAs rules start stop }
+{}
+
+/// A law: so many cycles that pass are as many times one cycle, which is a step of the RIOT's timer
+/// and three colour clocks of the TIA, each with its pixel.
+pub const fn law_of_passed_cycles<S>()
+    ensures { (drawn : S → ℕ → ℕ → ℕ → S) (c : Console S) (n : ℕ) → passed drawn c n ≡ iterate (after_one_cycle drawn) n c }
+{}
+
+/// A law: the beam's place is a clock of the console, with three colour clocks a cycle, in a frame
+/// those of all its cycles so far. So a data access in the k-th cycle of an instruction meets the
+/// beam where k cycles more have brought it: after the three clocks of its own cycle.
+pub const fn law_of_the_beam<S>()
+    ensures clock { (drawn : S → ℕ → ℕ → ℕ → S) → IsClock (meaning_of drawn) place_after beam_place }
+    ensures frame { (drawn : S → ℕ → ℕ → ℕ → S) (cart : List ℕ) (s : StateFields) (i : InputData) (sink : S) (count : ℕ) (m : Machine (Console S))
+        → IsTrue (is_state s) → turns (console_rules drawn) count (machine_of cart s i sink) ≡ Went m
+        → beam_place m.bus ≡ place_after 0 (line_cycle_of s + m.cycles) }
+    ensures accesses { (drawn : S → ℕ → ℕ → ℕ → S) (cart : List ℕ) (s : StateFields) (i : InputData) (sink : S) (count : ℕ) (m : Machine (Console S))
+        → IsTrue (is_state s) → turns (console_rules drawn) count (machine_of cart s i sink) ≡ Went m → m.cycles ≤ most_frame_cycles
+        → IfOk (instruction_at (meaning_of drawn) m.bus m.registers) (MeetsBeam drawn m.registers m.bus (line_cycle_of s + m.cycles)) }
 {}
 
 /// A law: an instruction waits at most 75 cycles, and then the beam stands where a scanline begins.
@@ -57,6 +82,18 @@ pub const fn law_of_frame_lengths()
     ensures line_cycle { (cart : List ℕ) (s : StateFields) (i : InputData) → IsTrue (is_state s)
         → let here = machine_at (stop_of (console_rules with_pixel_logged) (machine_of cart s i [])) in
         line_cycle_of (state_left here) ≡ (line_cycle_of s + here.cycles) % 76 }
+{}
+
+/// A law: however a frame stops, it has put one pixel for each visible clock since it began, in
+/// order, and so no pixel twice. None lies below the rows that are counted for its cycles, or to
+/// the right of them.
+pub const fn law_of_frame_pixels()
+    ensures places { (cart : List ℕ) (s : StateFields) (i : InputData) → IsTrue (is_state s)
+        → let here = machine_at (stop_of (console_rules with_pixel_logged) (machine_of cart s i [])) in
+        map beam_of_pixel here.bus.sink ≡ filter is_visible (range_with_len (3 * line_cycle_of s) (3 * here.cycles)) }
+    ensures inside { (cart : List ℕ) (s : StateFields) (i : InputData) → IsTrue (is_state s)
+        → let here = machine_at (stop_of (console_rules with_pixel_logged) (machine_of cart s i [])) in
+        All (λ p. (p.line < rows_of (line_cycle_of s) here.cycles) × (p.x < 160)) here.bus.sink }
 {}
 
 /// A law: on a cartridge without banks a frame leaves the bank as it was.
