@@ -171,25 +171,47 @@ fn kept_pictures_follow_the_line(rt: HostRuntime) -> Result<(), Fail> {
     );
     expect_equal(&rt, status, Ok(Status::Done));
     assert!(rt; pictures.as_slice() == wanted.as_slice());
-    for left in [0, 500, 985] {
-        let mut line = Vec::new(rt.alloc());
-        let mut writer = FailingWriter {
-            taken: Vec::new(rt.alloc()),
-            left,
-        };
-        let status = run(
-            &rt,
-            rt.alloc(),
-            &mut bytes.as_slice(),
-            &plan(),
-            &mut line,
-            &mut writer,
-            &NoGate,
-        );
+    Ok(())
+}
+
+/// What a run answers whose pictures' writer takes so many bytes, its line, and what that writer
+/// took.
+fn run_into_pictures<T: Threads + Wait + Sync + AllocGlobal>(
+    rt: &T,
+    bytes: &[u8],
+    left: u64,
+) -> (Result<Status, RunError>, Vec<u8>, Vec<u8>) {
+    let mut line = Vec::new(rt.alloc());
+    let mut pictures = FailingWriter {
+        taken: Vec::new(rt.alloc()),
+        left,
+    };
+    let status = run(
+        rt,
+        rt.alloc(),
+        &mut &*bytes,
+        &plan(),
+        &mut line,
+        &mut pictures,
+        &NoGate,
+    );
+    (status, line, pictures.taken)
+}
+
+#[test]
+fn failed_write_leaves_the_line_and_a_prefix_of_the_pictures(rt: HostRuntime) -> Result<(), Fail> {
+    let bytes = two_frames(rt.alloc())?;
+    let wanted = two_black_pictures(rt.alloc())?;
+    for left in 0..986usize {
+        let (status, line, pictures) = run_into_pictures(&rt, &bytes, left as u64);
         expect_equal(&rt, status, Err(RunError::WriteFault));
         assert!(rt; line.as_slice() == b"genuine: 2 frames, 1 checkpoints\n".as_slice());
-        assert!(rt; Some(writer.taken.as_slice()) == wanted.get(..left as usize));
+        expect_equal(&rt, pictures.len(), left);
+        assert!(rt; wanted.starts_with(&pictures));
     }
+    let (status, _line, pictures) = run_into_pictures(&rt, &bytes, 986);
+    expect_equal(&rt, status, Ok(Status::Done));
+    assert!(rt; pictures == wanted);
     Ok(())
 }
 
