@@ -13,5 +13,6 @@ pub mod PixelLaws
 pub mod PollLemmas
 pub mod RowLemmas
 pub mod SinkLemmas
+pub mod StateLaws
 pub mod StateLemmas
 pub mod TimedFacts

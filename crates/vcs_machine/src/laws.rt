@@ -96,6 +96,11 @@ pub const fn law_of_frame_pixels()
         All (λ p. (p.line < rows_of (line_cycle_of s) here.cycles) × (p.x < 160)) here.bus.sink }
 {}
 
+/// A law: a frame that begins at a lawful state leaves a lawful one, whatever is on its cartridge.
+pub const fn law_of_lawful_states()
+    ensures { (cart : List ℕ) (s : StateFields) (i : InputData) → IsTrue (is_state s) → IsTrue (is_state (left_by (frame_of cart s i))) }
+{}
+
 /// A law: on a cartridge without banks a frame leaves the bank as it was.
 pub const fn law_of_banks()
     ensures { (cart : List ℕ) (s : StateFields) (i : InputData) → has_banks (length cart) ≡ false
