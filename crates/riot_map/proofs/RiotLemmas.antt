@@ -7,7 +7,7 @@ use Rattle.std.proofs.lemmas.List.Elements.{All-set, All-replicate}
 use Rattle.riot_map.specs.Timer.{Countdown, IsTimer, after_cycle, timer_of_write, interval_of}
 use Rattle.riot_map.specs.Riot.{RiotState, IsRiot, riot_at_power_on, with_pins, with_ram, after_cycles, after_timer_read, after_read, after_write, is_timer}
 use Rattle.riot_map.specs.Riot.{riot_read}
-use Rattle.riot_map.proofs.RiotNumbers.{interval-back, interval-positive}
+use Rattle.riot_map.proofs.RiotNumbers.{is_interval-of, interval-positive}
 use Rattle.riot_map.proofs.TimerLemmas.{clear-again, intim-again}
 
 -- one cycle
@@ -24,7 +24,7 @@ pub IsTimer-started : (code value : ℕ) → value < 256 → IsTimer (timer_of_w
 unfolding timer_of_write
 IsTimer-started code value h =
     let room = mul-le-mul_right {m = value + 1} {n = 256} (interval_of code) (omega arith) in
-    record { interval = interval-back code; least = omega (arith, ints); most = omega (arith, ints, interval-positive code, room) }
+    record { interval = is_interval-of code; least = omega (arith, ints); most = omega (arith, ints, interval-positive code, room) }
 
 kept-if : (b : Bool) (r s : RiotState) → IsRiot r → IsRiot s → IsRiot (if b then r else s)
 kept-if true r s h k = h

@@ -4,7 +4,8 @@ use Rattle.riot_map.proofs.TimerLemmas.{timer, shown-parts, part-parts, past-par
 use Rattle.riot_map.specs.Private.Parts.{ArePartsLawful}
 use Rattle.riot_map.specs.Riot.{RiotState, IsRiot, riot_of, fields_of, with_pins}
 use Rattle.riot_map.specs.RiotFields.{is_riot, timer_of, AreInRange}
-use Rattle.riot_map.specs.Timer.{Countdown, IsTimer, intim, part_left, interval_code, count_of, interval_of, is_running}
+use Rattle.riot_map.specs.Timer.{Countdown, IsTimer, intim, part_left, interval_code, count_of}
+use Rattle.riot_map.specs.Timer.{interval_of, is_interval, is_running}
 use Rattle.riot_map.specs.declared.fields.RiotFields.{RiotFields}
 use Rattle.std.proofs.Common.{rules, arith, not, ◌==◌, if◌then◌else◌, mul-le-mul_right, div-lt_iff_lt-mul, ◌≡◌, ℕ, zero, suc, ◌*◌, ◌<◌, ◌≤◌}
 use Rattle.std.proofs.Common.{Bool, true, false, refl}
@@ -13,8 +14,11 @@ use Rattle.std.proofs.lemmas.Int.{ints}
 use Rattle.std.proofs.lemmas.Nat.{div-add-mod'}
 use Rattle.std.specs.Prelude.{ℤ, pos, negsuc, ◌≤ℤ◌}
 
-pub interval-back : (code : ℕ) → interval_of (interval_code (interval_of code)) ≡ interval_of code
-interval-back code = grind (arith, nat_tests)
+pub is_interval-of : (code : ℕ) → is_interval (interval_of code) ≡ true
+is_interval-of code = grind (arith, nat_tests)
+
+interval-back : (i : ℕ) → is_interval i ≡ true → interval_of (interval_code i) ≡ i
+interval-back i h = grind (arith, nat_tests)
 
 pub interval-positive : (code : ℕ) → 0 < interval_of code
 interval-positive code = grind (arith, nat_tests)
@@ -41,7 +45,7 @@ shows_parts-at (pos (suc n)) i b h l m =
 
 shows_parts : (t : Countdown) → IsTimer t → ShowsParts t
 shows_parts t h =
-    let positive : 0 < t.interval = rw h.interval at (interval-positive (interval_code t.interval)) in
+    let positive : 0 < t.interval = rw (interval-back t.interval h.interval) at (interval-positive (interval_code t.interval)) in
     shows_parts-at t.count t.interval t.flag positive h.least h.most
 
 past_again : (b : Bool) → ((if b then 0 else 1) == 1) ≡ not b
@@ -57,20 +61,20 @@ code-small i = grind (arith, nat_tests)
 pub riot_of-fields_of : (r : RiotState) → IsRiot r → riot_of (fields_of r) ≡ with_pins 255 255 r
 unfolding riot_of fields_of timer_of
 riot_of-fields_of r h =
-    rw (h.timer.interval, past_again (is_running r.timer), (shows_parts r.timer h.timer).1, flag_again r.timer.flag) refl
+    rw (interval-back r.timer.interval h.timer.interval, past_again (is_running r.timer), (shows_parts r.timer h.timer).1, flag_again r.timer.flag) refl
 
 pub is_riot-fields_of : (r : RiotState) → IsRiot r → is_riot (fields_of r) ≡ true
 unfolding fields_of is_riot
 is_riot-fields_of r h =
     let l = (shows_parts r.timer h.timer).0 in
-    grind (arith, nat_tests, h.timer.interval, code-small r.timer.interval, l.some, l.most, l.past)
+    grind (arith, nat_tests, interval-back r.timer.interval h.timer.interval, code-small r.timer.interval, l.some, l.most, l.past)
 
 pub AreInRange-fields_of : (r : RiotState) → IsRiot r → AreInRange (fields_of r)
 unfolding fields_of
 AreInRange-fields_of r h = search (rules, (shows_parts r.timer h.timer).0.byte)
 
 -- lawful numbers make a RIOT
-IsTimer-parts : (v q i : ℕ) (past b : Bool) → ArePartsLawful v q i past → interval_of (interval_code i) ≡ i → IsTimer (timer (count_of v q i past) i b)
+IsTimer-parts : (v q i : ℕ) (past b : Bool) → ArePartsLawful v q i past → is_interval i ≡ true → IsTimer (timer (count_of v q i past) i b)
 IsTimer-parts v q i true b l e = record { interval = e; least = omega (arith, ints); most = omega (arith, ints) }
 IsTimer-parts v q i false b l e =
     let few : v * i ≤ 255 * i = mul-le-mul_right {m = v} {n = 255} i (omega arith) in
@@ -79,7 +83,7 @@ IsTimer-parts v q i false b l e =
 pub IsRiot-riot_of : (f : RiotFields) → AreInRange f → is_riot f ≡ true → IsRiot (riot_of f)
 unfolding riot_of timer_of
 IsRiot-riot_of f k h =
-    let timer = IsTimer-parts f.timer f.part _ (f.past_zero == 1) (f.flag == 1) (lawful_parts f k.timer h) (interval-back f.interval) in
+    let timer = IsTimer-parts f.timer f.part _ (f.past_zero == 1) (f.flag == 1) (lawful_parts f k.timer h) (is_interval-of f.interval) in
     search (rules, timer)
 
 -- lawful numbers come back from the RIOT that they make

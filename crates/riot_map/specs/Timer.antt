@@ -3,7 +3,7 @@
 -- Guide (TIM1T, TIM8T, TIM64T, T1024T, INTIM). This project's own: the phase, that is in which
 -- cycle each value changes, and that a read past zero doesn't bring the interval back.
 use Rattle.std.specs.Prelude.{ℕ, ℤ, pos, negsuc, ◌≡◌, ◌≤ℤ◌, ◌+ℤ◌, ◌-ℤ◌, nat_abs, int_le, ◌+◌, ◌-◌, ◌*◌}
-use Rattle.std.specs.Prelude.{◌/◌, ◌%◌, Bool, false, ◌||◌, ◌==◌, if◌then◌else◌}
+use Rattle.std.specs.Prelude.{◌/◌, ◌%◌, Bool, true, false, ◌||◌, ◌==◌, if◌then◌else◌}
 use Rattle.std.specs.Ordering.{int_eq}
 
 pub record Countdown : Type 0 where
@@ -46,6 +46,10 @@ timer_of_write interval n = record { count = pos (n * interval + 1); interval = 
 abbrev pub with_clear_flag : Countdown → Countdown
 with_clear_flag t = record t { flag = false }
 
+-- the intervals: those of TIM1T, TIM8T, TIM64T and T1024T
+abbrev pub is_interval : ℕ → Bool
+is_interval n = (n == 1) || (n == 8) || (n == 64) || (n == 1024)
+
 -- the intervals by their codes, 0 to 3
 abbrev pub interval_of : ℕ → ℕ
 interval_of code = if code == 0 then 1 else if code == 1 then 8 else if code == 2 then 64 else 1024
@@ -60,6 +64,6 @@ count_of value part interval past_zero = if past_zero then pos value -ℤ pos 25
 
 -- what a timer can be: one of the four intervals, and r from -255 to 256 of them
 pub record IsTimer (t : Countdown) : Type 0 where
-  pub interval : interval_of (interval_code t.interval) ≡ t.interval
+  pub interval : is_interval t.interval ≡ true
   pub least : negsuc 254 ≤ℤ t.count
   pub most : t.count ≤ℤ pos (256 * t.interval)

@@ -1,15 +1,14 @@
 -- Pairs of objects over a stretch of a line, and what bounds them.
 use Rattle.std.proofs.Common.{◌≡◌, ℕ, zero, suc, ◌+◌, ◌*◌, ◌^◌, ◌==◌, ◌<◌, ◌≤◌, ◌&&◌, ◌||◌, not}
 use Rattle.std.proofs.Common.{Bool, true, false, if◌then◌else◌, List, [], ◌∷◌, length, bit_or}
-use Rattle.std.proofs.Common.{slice_index_or, nat_lt, ◌-◌, refl, sym, ap, ◌∙◌, arith}
+use Rattle.std.proofs.Common.{slice_index_or, nat_lt, refl, sym, ap, ◌∙◌, arith}
 use Rattle.std.specs.Int.Bits.{or_zero_r}
 use Rattle.std.specs.Simd.Lanes.{zip2}
 use Rattle.std.proofs.lemmas.Bool.{agree_below, agree_below_at, and_parts, eqb-true, ltb-true}
 use Rattle.std.proofs.lemmas.Bool.Decides.{nat_tests}
 use Rattle.std.proofs.lemmas.Nat.{or_block}
 use Rattle.std.proofs.lemmas.Nat.Bits.{bit_at_or, same_from_bits}
-use Rattle.tia_core.specs.Bits.{has_bit}
-use Rattle.tia_core.specs.Collision.{number_from, pairs_list, pairs_of}
+use Rattle.tia_core.specs.Collision.{collision_byte, met_byte, number_from, pairs_list, pairs_of}
 use Rattle.tia_core.specs.Objects.{objects_at}
 use Rattle.tia_core.specs.Private.Stretches.{has_two, union_of, set_number, stretch_pairs, IsBound}
 use Rattle.tia_core.specs.declared.fields.TiaFields.{TiaFields}
@@ -44,11 +43,13 @@ pub pairs_of-lt : (o : Objects) → pairs_of o < 2 ^ 15
 unfolding both pairs_of
 pairs_of-lt o = ltb-true _ _ (at_set (λ s. nat_lt (pairs_of s) 32768) refl o)
 
-pub pairs_of-bit : (o : Objects) (k : ℕ) → k < 15 → has_bit (pairs_of o) k ≡ slice_index_or (pairs_list o) (14 - k) false
+-- a collision register gives those of its pairs that meet
+pub collision_byte-met : (o : Objects) (register : ℕ) → register < 8 → collision_byte (pairs_of o) register ≡ met_byte o register
 unfolding both pairs_of
-pairs_of-bit o k h =
-    let agree : Objects → Bool = λ s. agree_below (has_bit (pairs_of s)) (λ i. slice_index_or (pairs_list s) (14 - i) false) 15 in
-    agree_below_at (has_bit (pairs_of o)) (λ i. slice_index_or (pairs_list o) (14 - i) false) 15 k (at_set agree refl o) h
+collision_byte-met o register h =
+    let same : Objects → ℕ → Bool = λ s i. collision_byte (pairs_of s) i == met_byte s i in
+    let agree : Objects → Bool = λ s. agree_below (same s) (λ i. true) 8 in
+    eqb-true _ _ (agree_below_at (same o) (λ i. true) 8 register (at_set agree refl o) h)
 
 -- where no two objects are there, no pair is
 pub no-two : (o : Objects) → has_two o.player0 o.player1 o.missile0 o.missile1 o.ball o.playfield ≡ false → pairs_of o ≡ 0

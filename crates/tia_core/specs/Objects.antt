@@ -7,6 +7,24 @@ use Rattle.tia_core.specs.Playfield.{playfield_bit, playfield_index}
 use Rattle.tia_core.specs.declared.fields.TiaFields.{TiaFields}
 use Rattle.tia_core.specs.declared.objects.Objects.{Objects}
 
+-- the six objects: two players, two missiles, the ball and the playfield
+pub data Object : Type 0 where
+  P0 : Object
+  P1 : Object
+  M0 : Object
+  M1 : Object
+  BL : Object
+  PF : Object
+
+-- whether an object is in a set
+abbrev pub is_in : Object → Objects → Bool
+is_in P0 o = o.player0
+is_in P1 o = o.player1
+is_in M0 o = o.missile0
+is_in M1 o = o.missile1
+is_in BL o = o.ball
+is_in PF o = o.playfield
+
 -- what is shown of graphics, or of the ball's enable: the old value if bit 0 of its delay
 -- register is set
 abbrev pub value_by_delay : ℕ → ℕ → ℕ → ℕ
@@ -35,9 +53,8 @@ objects_at t x = record {
   playfield = playfield_bit t.pf0 t.pf1 t.pf2 (playfield_index (has_bit t.ctrlpf 0) x);
 }
 
--- whether the object with this number is in a set: 0 to 5 are player 0, player 1, missile 0,
--- missile 1, the ball and the playfield
-abbrev pub has_object : ℕ → Objects → Bool
-has_object n o =
-    if n == 0 then o.player0 else if n == 1 then o.player1 else if n == 2 then o.missile0
-    else if n == 3 then o.missile1 else if n == 4 then o.ball else o.playfield
+-- the object with this number, 0 to 5
+abbrev pub object_of : ℕ → Object
+object_of n =
+    if n == 0 then P0 else if n == 1 then P1 else if n == 2 then M0
+    else if n == 3 then M1 else if n == 4 then BL else PF

@@ -7,7 +7,7 @@ ghost use Rattle.std.specs.List.Sorted.{IsStrictlyIncreasing};
 ghost use Rattle.tia_core.specs.Beam.{beam_of, beam_of_pixel, is_visible};
 ghost use Rattle.tia_core.specs.Bits.{has_bit};
 ghost use Rattle.tia_core.specs.Clock.{after_clock, pixels, sink_after_pixels};
-ghost use Rattle.tia_core.specs.Collision.{pairs_of, collision_bytes};
+ghost use Rattle.tia_core.specs.Collision.{pairs_of, met_byte};
 ghost use Rattle.tia_core.specs.Coverage.{player_covers, missile_covers, ball_covers};
 ghost use Rattle.tia_core.specs.Read.{register_byte};
 ghost use Rattle.tia_core.specs.TiaState.{TiaState, is_tia, at_frame_start};
@@ -77,11 +77,11 @@ pub fn law_of_frame_ends()
         → (effect_after t r v ≡ Effect.FrameEnd) ↔ ((has_bit t.vsync 1 ≡ true) × (has_bit (fields_after t fire0 fire1 r v).vsync 1 ≡ false)) }
 {}
 
-/// After a pixel that these objects cover, with the collisions cleared before, the registers 0 to 7
-/// give the pairs that met.
+/// After a pixel that these objects cover, with the collisions cleared before, each of the
+/// registers 0 to 7 gives those of its pairs that met.
 pub fn law_of_collision_registers()
-    ensures { (t : TiaFields) (fire0 fire1 : Bool) (o : Objects)
-        → map (register_byte (record t { collisions = pairs_of o }) fire0 fire1) (0 ∷ 1 ∷ 2 ∷ 3 ∷ 4 ∷ 5 ∷ 6 ∷ 7 ∷ []) ≡ collision_bytes o }
+    ensures { (t : TiaFields) (fire0 fire1 : Bool) (o : Objects) (register : ℕ) → register < 8
+        → register_byte (record t { collisions = pairs_of o }) fire0 fire1 register ≡ met_byte o register }
 {}
 
 /// Coverage goes round the line: an object that is moved by k pixels covers the pixels k further,

@@ -3,7 +3,7 @@ ghost use Rattle.std.specs.Prelude.{◌≡◌, ◌<◌, ◌≤◌, ◌-◌, ◌+
 ghost use Rattle.tia_core.specs.Clock.{sink_after_pixels};
 ghost use Rattle.tia_core.specs.Collision.{number_from, pairs_of};
 ghost use Rattle.tia_core.specs.Mask.{covers};
-ghost use Rattle.tia_core.specs.Objects.{ball_at, has_object, missile_at, objects_at};
+ghost use Rattle.tia_core.specs.Objects.{ball_at, is_in, missile_at, object_of, objects_at};
 ghost use Rattle.tia_core.specs.Private.Stretches.{bl, with_stale, m0, m1, no_objects, objects_in};
 ghost use Rattle.tia_core.specs.Private.Stretches.{p0, p1, pf, stretch_pairs, stretch_pixels};
 ghost use Rattle.tia_core.specs.Private.Stretches.{AreShown, IsBound, IsMaskOf, MasksFit};
@@ -281,7 +281,7 @@ fn edge_after(x: u8) -> u8
 pub fn mask_of(tia: &TiaFields, object: u8) -> Mask
     requires lawful { IsLawfulTia tia.now }
     requires range { object < 6 }
-    ensures { (x : ℕ) → x < 160 → covers result x ≡ has_object object (objects_at tia.now x) }
+    ensures { (x : ℕ) → x < 160 → covers result x ≡ is_in (object_of object) (objects_at tia.now x) }
 {
     let mut masks = Masks::stale(tia);
     masks.renew(tia);
