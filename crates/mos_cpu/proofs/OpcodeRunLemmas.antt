@@ -63,18 +63,18 @@ module _ {S : Type 0} (m : Meaning S) (r : Registers) (s : S) where
         bus = m.passed (m.after_read reached t.address) 0;
       })
   step_of-read o mode cycles crossing t n reads here target e =
-      rw (step_of-known _ _ here reads.plain target.named, reads.used, reads.straight, ← target.next, e, reads.same) (search rules)
+      rw (step_of-known _ _ here reads.plain target.named, reads.used, ← target.next, e, reads.same) (search rules)
 
   pub step_of-value : (o : Operation) (low : ℕ) → IsReader o → IsRow m s r o Immediate 2 false → IsLow m s r low
       → IsStepOf m r s 2 (effect o (Value low) (with_pc r ((r.pc + 2) % 65536)) []) (m.passed s 2)
   step_of-value o low reads here e =
-      rw (step_of-known _ (Value low) here reads.plain (rw e refl), reads.used, reads.straight) refl
+      rw (step_of-known _ (Value low) here reads.plain (rw e refl), reads.used) refl
 
   pub step_of-store : (o : Operation) (what : StoredByte) (mode : Mode) (cycles : ℕ) (t : Target) → IsStorer o what
       → IsRow m s r o mode cycles false → IsTarget m s r mode t
       → IsStepOf m r s cycles (with_pc r t.next) (m.passed (m.after_write (m.passed s cycles) t.address (stored_byte what r)) 0)
   step_of-store o what mode cycles t stores here target =
-      rw (step_of-known _ _ here stores.plain target.named, stores.used, stores.straight, ← target.next, stores.idle) (search rules)
+      rw (step_of-known _ _ here stores.plain target.named, stores.used, ← target.next, stores.idle) (search rules)
 
   pub step_of-change : (o : Operation) (mode : Mode) (reading : ℕ) (t : Target) → IsChanger o
       → IsRow m s r o mode (reading + 2) false → IsTarget m s r mode t
@@ -85,16 +85,16 @@ module _ {S : Type 0} (m : Meaning S) (r : Registers) (s : S) where
       IsStepOf m r s (reading + 2) (with_p (with_pc r t.next) outcome.p)
       (m.passed (m.after_write (m.passed written_back 1) t.address outcome.value) 0))
   step_of-change o mode reading t changes here target =
-      rw (step_of-known _ _ here changes.plain target.named, changes.used, changes.straight, ← target.next, changes.in_memory) (search rules)
+      rw (step_of-known _ _ here changes.plain target.named, changes.used, ← target.next, changes.in_memory) (search rules)
 
   pub step_of-change_a : (o : Operation) → IsChanger o → IsRow m s r o Accumulator 2 false
       → IsStepOf m r s 2 (with_a (with_pc r ((r.pc + 1) % 65536)) (changed_of o r.a r.p)) (m.passed s 2)
   step_of-change_a o changes here =
-      rw (step_of-known _ Register here changes.plain refl, changes.used, changes.straight, changes.in_a) refl
+      rw (step_of-known _ Register here changes.plain refl, changes.used, changes.in_a) refl
 
   pub step_of-implied : (o : Operation) → IsImplied o → IsRow m s r o Implied 2 false
       → IsStepOf m r s 2 (effect o Register (with_pc r ((r.pc + 1) % 65536)) []) (m.passed s 2)
-  step_of-implied o implied here = rw (step_of-known _ Register here implied.plain refl, implied.used, implied.straight) refl
+  step_of-implied o implied here = rw (step_of-known _ Register here implied.plain refl, implied.used) refl
 
   pub step_of-taken : (o : Operation) (low : ℕ) (t : Target) (cycles : ℕ)
       → cycles ≡ 3 + (if t.crossed then 1 else 0) → IsBranch o → IsRow m s r o Relative 2 false
@@ -104,12 +104,12 @@ module _ {S : Type 0} (m : Meaning S) (r : Registers) (s : S) where
   step_of-taken o low t cycles sum goes here e place taken =
       let known = step_of-known _ (Place t.address t.crossed) here goes.plain (rw (e, ← place) refl) in
       let sum : 2 + (1 + (if t.crossed then 1 else 0)) ≡ cycles = omega arith in
-      rw (known, goes.used, goes.goes, taken, sum, sub-zero cycles) refl
+      rw (known, goes.goes, taken, goes.untouched, sum, sub-zero cycles) refl
 
   pub step_of-straight : (o : Operation) (low : ℕ) → IsBranch o → IsRow m s r o Relative 2 false → IsLow m s r low
       → is_taken o r.p ≡ false → IsStepOf m r s 2 (with_pc r ((r.pc + 2) % 65536)) (m.passed s 2)
   step_of-straight o low goes here e straight =
-      rw (step_of-known _ (branch_target ((r.pc + 2) % 65536) low) here goes.plain (rw e refl), goes.used, goes.goes, straight) refl
+      rw (step_of-known _ (branch_target ((r.pc + 2) % 65536) low) here goes.plain (rw e refl), goes.goes, straight, goes.untouched) refl
 
   -- An instruction whose opcode is none of the table is a fault.
   pub decoded-unknown : (opcode : ℕ) → m.peeked s r.pc ≡ Some opcode → ◌≡◌ {A = Option Row} None (row_of opcode)

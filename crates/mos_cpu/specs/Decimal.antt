@@ -37,8 +37,8 @@ signed_sum_of a m p = signed (high_digit a) +ℤ signed (high_digit m) +ℤ pos 
 abbrev pub corrected_of : ℕ → ℕ
 corrected_of sum = if nat_le 160 sum then sum + 96 else sum
 
--- The decimal sum with carry. N and V are of the signed sum before the correction, Z is of the
--- binary sum.
+-- The decimal sum with carry. This project's own: N and V are of the signed sum before the
+-- correction, Z is of the binary sum.
 abbrev pub decimal_adc_of : ℕ → ℕ → ℕ → Alu
 decimal_adc_of a m p =
     let sum = corrected_of (decimal_sum_of a m p) in
@@ -71,7 +71,8 @@ abbrev pub decimal_difference : ℕ → ℕ → ℕ → ℕ
 decimal_difference a m p =
     modulo (high_with_borrow (pos (high_digit a) -ℤ pos (high_digit m) +ℤ low_difference_of a m p)) 256
 
--- The difference with borrow. All its flags are those of the binary difference.
+-- The difference with borrow. All its flags are those of the binary difference, of which N, V and Z
+-- are this project's own.
 abbrev pub sbc_of : ℕ → ℕ → ℕ → Alu
 sbc_of a m p =
     let binary = binary_sbc_of a m p in

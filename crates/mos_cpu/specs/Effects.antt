@@ -1,6 +1,6 @@
 -- What an instruction does to the registers, by the MOS MCS6500 programming manual.
 use Rattle.std.specs.Prelude.{ℕ, ◌+◌, ◌*◌, ◌%◌, true, false, if◌then◌else◌, List, slice_index}
-use Rattle.mos_cpu.specs.Accesses.{is_taken}
+use Rattle.mos_cpu.specs.Accesses.{Use, Modifies, use_of, is_taken}
 use Rattle.mos_cpu.specs.Arithmetic.{load_of, and_of, ora_of, eor_of, compare_of, bit_of, asl_of}
 use Rattle.mos_cpu.specs.Arithmetic.{lsr_of, rol_of, ror_of, inc_of, dec_of}
 use Rattle.mos_cpu.specs.Decimal.{adc_of, sbc_of}
@@ -10,26 +10,26 @@ use Rattle.mos_cpu.specs.Status.{put_flag, pulled_of}
 use Rattle.mos_cpu.specs.declared.arithmetic.Alu.{Alu}
 use Rattle.mos_cpu.specs.declared.status.Flag.TheVariants.{Carry, Interrupt, Decimal, Overflow}
 use Rattle.mos_cpu.specs.declared.operation.Operation.{Operation}
-use Rattle.mos_cpu.specs.declared.operation.Operation.TheVariants.{Adc, And, Asl, Bit, Brk, Clc}
-use Rattle.mos_cpu.specs.declared.operation.Operation.TheVariants.{Cld, Cli, Clv, Cmp, Cpx, Cpy}
-use Rattle.mos_cpu.specs.declared.operation.Operation.TheVariants.{Dec, Dex, Dey, Eor, Inc, Inx}
-use Rattle.mos_cpu.specs.declared.operation.Operation.TheVariants.{Iny, Jmp, Jsr, Lda, Ldx, Ldy}
-use Rattle.mos_cpu.specs.declared.operation.Operation.TheVariants.{Lsr, Ora, Pha, Php, Pla, Plp}
-use Rattle.mos_cpu.specs.declared.operation.Operation.TheVariants.{Rol, Ror, Rti, Rts, Sbc, Sec}
-use Rattle.mos_cpu.specs.declared.operation.Operation.TheVariants.{Sed, Sei, Tax, Tay, Tsx, Txa}
+use Rattle.mos_cpu.specs.declared.operation.Operation.TheVariants.{Adc, And, Asl, Bcc, Bcs, Beq}
+use Rattle.mos_cpu.specs.declared.operation.Operation.TheVariants.{Bit, Bmi, Bne, Bpl, Brk, Bvc}
+use Rattle.mos_cpu.specs.declared.operation.Operation.TheVariants.{Bvs, Clc, Cld, Cli, Clv, Cmp}
+use Rattle.mos_cpu.specs.declared.operation.Operation.TheVariants.{Cpx, Cpy, Dec, Dex, Dey, Eor}
+use Rattle.mos_cpu.specs.declared.operation.Operation.TheVariants.{Inc, Inx, Iny, Jmp, Jsr, Lda}
+use Rattle.mos_cpu.specs.declared.operation.Operation.TheVariants.{Ldx, Ldy, Lsr, Nop, Ora, Pha}
+use Rattle.mos_cpu.specs.declared.operation.Operation.TheVariants.{Php, Pla, Plp, Rol, Ror, Rti}
+use Rattle.mos_cpu.specs.declared.operation.Operation.TheVariants.{Rts, Sbc, Sec, Sed, Sei, Sta}
+use Rattle.mos_cpu.specs.declared.operation.Operation.TheVariants.{Stx, Sty, Tax, Tay, Tsx, Txa}
 use Rattle.mos_cpu.specs.declared.operation.Operation.TheVariants.{Txs, Tya}
 use Rattle.mos_cpu.specs.declared.access.Source.{Source}
 use Rattle.mos_cpu.specs.declared.access.Source.TheVariants.{Byte, Loaded, Changed}
 
--- What an operation that changes its operand makes of it.
+-- What an operation that changes its operand makes of it. No access asks this of another operation.
+abbrev pub changed_by : Use → ℕ → ℕ → Alu
+changed_by (Modifies change) m p = change m p
+changed_by other m p = load_of m p
+
 abbrev pub changed_of : Operation → ℕ → ℕ → Alu
-changed_of Asl m p = asl_of m p
-changed_of Lsr m p = lsr_of m p
-changed_of Rol m p = rol_of m p
-changed_of Ror m p = ror_of m p
-changed_of Inc m p = inc_of m p
-changed_of Dec m p = dec_of m p
-changed_of other m p = load_of m p
+changed_of operation m p = changed_by (use_of operation) m p
 
 -- What an access writes, after the bytes that were read.
 abbrev pub written_byte : Operation → ℕ → List ℕ → Source → ℕ
@@ -80,6 +80,11 @@ abbrev pub with_result : Operand → Registers → Alu → Registers
 with_result Register r o = with_a r o
 with_result other r o = with_p r o.p
 
+-- After a branch: at its target if it is taken.
+abbrev pub after_branch : Operation → Operand → Registers → Registers
+after_branch operation operand r =
+    if is_taken operation r.p then with_pc r (target_of operand) else r
+
 -- What an operation whose operand has the value m does to the registers, which have the next
 -- instruction's address.
 abbrev pub effect_on : ℕ → Operation → Operand → Registers → List ℕ → Registers
@@ -129,8 +134,19 @@ effect_on m Inx operand r bytes = with_x r (inc_of r.x r.p)
 effect_on m Iny operand r bytes = with_y r (inc_of r.y r.p)
 effect_on m Dex operand r bytes = with_x r (dec_of r.x r.p)
 effect_on m Dey operand r bytes = with_y r (dec_of r.y r.p)
--- of the rest NOP and the stores change no register, and a branch that is taken goes to its target
-effect_on m other operand r bytes = if is_taken other r.p then with_pc r (target_of operand) else r
+effect_on m Bpl operand r bytes = after_branch Bpl operand r
+effect_on m Bmi operand r bytes = after_branch Bmi operand r
+effect_on m Bvc operand r bytes = after_branch Bvc operand r
+effect_on m Bvs operand r bytes = after_branch Bvs operand r
+effect_on m Bcc operand r bytes = after_branch Bcc operand r
+effect_on m Bcs operand r bytes = after_branch Bcs operand r
+effect_on m Bne operand r bytes = after_branch Bne operand r
+effect_on m Beq operand r bytes = after_branch Beq operand r
+-- the stores and NOP change no register
+effect_on m Sta operand r bytes = r
+effect_on m Stx operand r bytes = r
+effect_on m Sty operand r bytes = r
+effect_on m Nop operand r bytes = r
 
 -- What an operation does to the registers, which have the next instruction's address.
 abbrev pub effect : Operation → Operand → Registers → List ℕ → Registers

@@ -1,7 +1,6 @@
--- When things happen within an instruction. What is said here follows from the table and the
--- accesses.
-use Rattle.std.specs.Prelude.{ℕ, ◌≡◌, ◌≤◌, ◌+◌, ◌-◌, map, is_some, if◌then◌else◌, List, [], ◌∷◌}
-use Rattle.std.specs.Prelude.{length}
+-- When things happen within an instruction. The words are this project's own; what they say follows
+-- from the table and the accesses.
+use Rattle.std.specs.Prelude.{ℕ, ◌≡◌, ◌≤◌, ◌+◌, map, is_some, if◌then◌else◌, List, [], ◌∷◌}
 use Rattle.mos_cpu.specs.Accesses.{Use, Modifies, Pushes, Pulls, use_of, branch_test, accesses_of}
 use Rattle.mos_cpu.specs.Accesses.{instruction_cycles}
 use Rattle.mos_cpu.specs.Buses.{Meaning, IsClock}
@@ -12,11 +11,16 @@ use Rattle.mos_cpu.specs.declared.operation.Operation.{Operation}
 use Rattle.mos_cpu.specs.Operands.{Instruction}
 use Rattle.mos_cpu.specs.declared.access.Access.{Access}
 
+-- The last of some cycles, or one before them.
+abbrev pub last_of : ℕ → List ℕ → ℕ
+last_of before [] = before
+last_of before (cycle ∷ rest) = last_of cycle rest
+
 -- The fewest cycles that have room for some accesses.
 abbrev pub least_of : Use → ℕ
-least_of Modifies = 2
-least_of (Pushes first held) = first + length held - 1
-least_of (Pulls count) = 3 + count
+least_of (Modifies change) = 2
+least_of (Pushes held) = last_of 0 (map (λ h. h.0) held)
+least_of (Pulls pulled) = last_of 0 pulled
 least_of other = 0
 
 -- The most cycles that an instruction of a row takes.

@@ -28,7 +28,7 @@ pub struct Bcc;
 impl Conditional for Bcc {
     ghost operation = { Operation.Bcc };
 
-    ghost goes = { record { used = refl; plain = refl; goes = λ _ _ _. refl } };
+    ghost goes = { record { untouched = λ _ _ _. refl; plain = refl; goes = λ _ _ _. refl } };
 
     #[inline(always)]
     fn is_taken(p: u8) -> bool {
@@ -41,7 +41,7 @@ pub struct Bcs;
 impl Conditional for Bcs {
     ghost operation = { Operation.Bcs };
 
-    ghost goes = { record { used = refl; plain = refl; goes = λ _ _ _. refl } };
+    ghost goes = { record { untouched = λ _ _ _. refl; plain = refl; goes = λ _ _ _. refl } };
 
     #[inline(always)]
     fn is_taken(p: u8) -> bool {
@@ -54,7 +54,7 @@ pub struct Beq;
 impl Conditional for Beq {
     ghost operation = { Operation.Beq };
 
-    ghost goes = { record { used = refl; plain = refl; goes = λ _ _ _. refl } };
+    ghost goes = { record { untouched = λ _ _ _. refl; plain = refl; goes = λ _ _ _. refl } };
 
     #[inline(always)]
     fn is_taken(p: u8) -> bool {
@@ -67,7 +67,7 @@ pub struct Bmi;
 impl Conditional for Bmi {
     ghost operation = { Operation.Bmi };
 
-    ghost goes = { record { used = refl; plain = refl; goes = λ _ _ _. refl } };
+    ghost goes = { record { untouched = λ _ _ _. refl; plain = refl; goes = λ _ _ _. refl } };
 
     #[inline(always)]
     fn is_taken(p: u8) -> bool {
@@ -80,7 +80,7 @@ pub struct Bne;
 impl Conditional for Bne {
     ghost operation = { Operation.Bne };
 
-    ghost goes = { record { used = refl; plain = refl; goes = λ _ _ _. refl } };
+    ghost goes = { record { untouched = λ _ _ _. refl; plain = refl; goes = λ _ _ _. refl } };
 
     #[inline(always)]
     fn is_taken(p: u8) -> bool {
@@ -93,7 +93,7 @@ pub struct Bpl;
 impl Conditional for Bpl {
     ghost operation = { Operation.Bpl };
 
-    ghost goes = { record { used = refl; plain = refl; goes = λ _ _ _. refl } };
+    ghost goes = { record { untouched = λ _ _ _. refl; plain = refl; goes = λ _ _ _. refl } };
 
     #[inline(always)]
     fn is_taken(p: u8) -> bool {
@@ -106,7 +106,7 @@ pub struct Bvc;
 impl Conditional for Bvc {
     ghost operation = { Operation.Bvc };
 
-    ghost goes = { record { used = refl; plain = refl; goes = λ _ _ _. refl } };
+    ghost goes = { record { untouched = λ _ _ _. refl; plain = refl; goes = λ _ _ _. refl } };
 
     #[inline(always)]
     fn is_taken(p: u8) -> bool {
@@ -119,7 +119,7 @@ pub struct Bvs;
 impl Conditional for Bvs {
     ghost operation = { Operation.Bvs };
 
-    ghost goes = { record { used = refl; plain = refl; goes = λ _ _ _. refl } };
+    ghost goes = { record { untouched = λ _ _ _. refl; plain = refl; goes = λ _ _ _. refl } };
 
     #[inline(always)]
     fn is_taken(p: u8) -> bool {

@@ -30,7 +30,7 @@ pub struct Asl;
 impl Changer for Asl {
     ghost operation = { Operation.Asl };
 
-    ghost changes = { record { used = refl; straight = refl; plain = refl; in_memory = λ _ _ _ _. refl; in_a = λ _ _. refl } };
+    ghost changes = { record { used = refl; plain = refl; in_memory = λ _ _ _ _. refl; in_a = λ _ _. refl } };
 
     #[inline(always)]
     fn change(m: u8, p: u8) -> Alu {
@@ -43,7 +43,7 @@ pub struct Dec;
 impl Changer for Dec {
     ghost operation = { Operation.Dec };
 
-    ghost changes = { record { used = refl; straight = refl; plain = refl; in_memory = λ _ _ _ _. refl; in_a = λ _ _. refl } };
+    ghost changes = { record { used = refl; plain = refl; in_memory = λ _ _ _ _. refl; in_a = λ _ _. refl } };
 
     #[inline(always)]
     fn change(m: u8, p: u8) -> Alu {
@@ -56,7 +56,7 @@ pub struct Inc;
 impl Changer for Inc {
     ghost operation = { Operation.Inc };
 
-    ghost changes = { record { used = refl; straight = refl; plain = refl; in_memory = λ _ _ _ _. refl; in_a = λ _ _. refl } };
+    ghost changes = { record { used = refl; plain = refl; in_memory = λ _ _ _ _. refl; in_a = λ _ _. refl } };
 
     #[inline(always)]
     fn change(m: u8, p: u8) -> Alu {
@@ -69,7 +69,7 @@ pub struct Lsr;
 impl Changer for Lsr {
     ghost operation = { Operation.Lsr };
 
-    ghost changes = { record { used = refl; straight = refl; plain = refl; in_memory = λ _ _ _ _. refl; in_a = λ _ _. refl } };
+    ghost changes = { record { used = refl; plain = refl; in_memory = λ _ _ _ _. refl; in_a = λ _ _. refl } };
 
     #[inline(always)]
     fn change(m: u8, p: u8) -> Alu {
@@ -82,7 +82,7 @@ pub struct Rol;
 impl Changer for Rol {
     ghost operation = { Operation.Rol };
 
-    ghost changes = { record { used = refl; straight = refl; plain = refl; in_memory = λ _ _ _ _. refl; in_a = λ _ _. refl } };
+    ghost changes = { record { used = refl; plain = refl; in_memory = λ _ _ _ _. refl; in_a = λ _ _. refl } };
 
     #[inline(always)]
     fn change(m: u8, p: u8) -> Alu {
@@ -95,7 +95,7 @@ pub struct Ror;
 impl Changer for Ror {
     ghost operation = { Operation.Ror };
 
-    ghost changes = { record { used = refl; straight = refl; plain = refl; in_memory = λ _ _ _ _. refl; in_a = λ _ _. refl } };
+    ghost changes = { record { used = refl; plain = refl; in_memory = λ _ _ _ _. refl; in_a = λ _ _. refl } };
 
     #[inline(always)]
     fn change(m: u8, p: u8) -> Alu {

@@ -29,7 +29,7 @@ pub struct Clc;
 impl ImpliedOperation for Clc {
     ghost operation = { Operation.Clc };
 
-    ghost implied = { record { used = refl; straight = refl; plain = refl } };
+    ghost implied = { record { used = refl; plain = refl } };
 
     #[inline(always)]
     fn act(cpu: &mut Cpu) {
@@ -42,7 +42,7 @@ pub struct Cld;
 impl ImpliedOperation for Cld {
     ghost operation = { Operation.Cld };
 
-    ghost implied = { record { used = refl; straight = refl; plain = refl } };
+    ghost implied = { record { used = refl; plain = refl } };
 
     #[inline(always)]
     fn act(cpu: &mut Cpu) {
@@ -55,7 +55,7 @@ pub struct Cli;
 impl ImpliedOperation for Cli {
     ghost operation = { Operation.Cli };
 
-    ghost implied = { record { used = refl; straight = refl; plain = refl } };
+    ghost implied = { record { used = refl; plain = refl } };
 
     #[inline(always)]
     fn act(cpu: &mut Cpu) {
@@ -68,7 +68,7 @@ pub struct Clv;
 impl ImpliedOperation for Clv {
     ghost operation = { Operation.Clv };
 
-    ghost implied = { record { used = refl; straight = refl; plain = refl } };
+    ghost implied = { record { used = refl; plain = refl } };
 
     #[inline(always)]
     fn act(cpu: &mut Cpu) {
@@ -81,7 +81,7 @@ pub struct Dex;
 impl ImpliedOperation for Dex {
     ghost operation = { Operation.Dex };
 
-    ghost implied = { record { used = refl; straight = refl; plain = refl } };
+    ghost implied = { record { used = refl; plain = refl } };
 
     #[inline(always)]
     fn act(cpu: &mut Cpu) {
@@ -94,7 +94,7 @@ pub struct Dey;
 impl ImpliedOperation for Dey {
     ghost operation = { Operation.Dey };
 
-    ghost implied = { record { used = refl; straight = refl; plain = refl } };
+    ghost implied = { record { used = refl; plain = refl } };
 
     #[inline(always)]
     fn act(cpu: &mut Cpu) {
@@ -107,7 +107,7 @@ pub struct Inx;
 impl ImpliedOperation for Inx {
     ghost operation = { Operation.Inx };
 
-    ghost implied = { record { used = refl; straight = refl; plain = refl } };
+    ghost implied = { record { used = refl; plain = refl } };
 
     #[inline(always)]
     fn act(cpu: &mut Cpu) {
@@ -120,7 +120,7 @@ pub struct Iny;
 impl ImpliedOperation for Iny {
     ghost operation = { Operation.Iny };
 
-    ghost implied = { record { used = refl; straight = refl; plain = refl } };
+    ghost implied = { record { used = refl; plain = refl } };
 
     #[inline(always)]
     fn act(cpu: &mut Cpu) {
@@ -133,7 +133,7 @@ pub struct Nop;
 impl ImpliedOperation for Nop {
     ghost operation = { Operation.Nop };
 
-    ghost implied = { record { used = refl; straight = refl; plain = refl } };
+    ghost implied = { record { used = refl; plain = refl } };
 
     #[inline(always)]
     fn act(cpu: &mut Cpu) {}
@@ -144,7 +144,7 @@ pub struct Sec;
 impl ImpliedOperation for Sec {
     ghost operation = { Operation.Sec };
 
-    ghost implied = { record { used = refl; straight = refl; plain = refl } };
+    ghost implied = { record { used = refl; plain = refl } };
 
     #[inline(always)]
     fn act(cpu: &mut Cpu) {
@@ -157,7 +157,7 @@ pub struct Sed;
 impl ImpliedOperation for Sed {
     ghost operation = { Operation.Sed };
 
-    ghost implied = { record { used = refl; straight = refl; plain = refl } };
+    ghost implied = { record { used = refl; plain = refl } };
 
     #[inline(always)]
     fn act(cpu: &mut Cpu) {
@@ -170,7 +170,7 @@ pub struct Sei;
 impl ImpliedOperation for Sei {
     ghost operation = { Operation.Sei };
 
-    ghost implied = { record { used = refl; straight = refl; plain = refl } };
+    ghost implied = { record { used = refl; plain = refl } };
 
     #[inline(always)]
     fn act(cpu: &mut Cpu) {
@@ -183,7 +183,7 @@ pub struct Tax;
 impl ImpliedOperation for Tax {
     ghost operation = { Operation.Tax };
 
-    ghost implied = { record { used = refl; straight = refl; plain = refl } };
+    ghost implied = { record { used = refl; plain = refl } };
 
     #[inline(always)]
     fn act(cpu: &mut Cpu) {
@@ -196,7 +196,7 @@ pub struct Tay;
 impl ImpliedOperation for Tay {
     ghost operation = { Operation.Tay };
 
-    ghost implied = { record { used = refl; straight = refl; plain = refl } };
+    ghost implied = { record { used = refl; plain = refl } };
 
     #[inline(always)]
     fn act(cpu: &mut Cpu) {
@@ -209,7 +209,7 @@ pub struct Tsx;
 impl ImpliedOperation for Tsx {
     ghost operation = { Operation.Tsx };
 
-    ghost implied = { record { used = refl; straight = refl; plain = refl } };
+    ghost implied = { record { used = refl; plain = refl } };
 
     #[inline(always)]
     fn act(cpu: &mut Cpu) {
@@ -222,7 +222,7 @@ pub struct Txa;
 impl ImpliedOperation for Txa {
     ghost operation = { Operation.Txa };
 
-    ghost implied = { record { used = refl; straight = refl; plain = refl } };
+    ghost implied = { record { used = refl; plain = refl } };
 
     #[inline(always)]
     fn act(cpu: &mut Cpu) {
@@ -235,7 +235,7 @@ pub struct Txs;
 impl ImpliedOperation for Txs {
     ghost operation = { Operation.Txs };
 
-    ghost implied = { record { used = refl; straight = refl; plain = refl } };
+    ghost implied = { record { used = refl; plain = refl } };
 
     #[inline(always)]
     fn act(cpu: &mut Cpu) {
@@ -248,7 +248,7 @@ pub struct Tya;
 impl ImpliedOperation for Tya {
     ghost operation = { Operation.Tya };
 
-    ghost implied = { record { used = refl; straight = refl; plain = refl } };
+    ghost implied = { record { used = refl; plain = refl } };
 
     #[inline(always)]
     fn act(cpu: &mut Cpu) {

@@ -31,7 +31,7 @@ pub struct Adc;
 impl Reader for Adc {
     ghost operation = { Operation.Adc };
 
-    ghost reads = { record { used = refl; straight = refl; plain = refl; same = λ _ _ _ _. refl } };
+    ghost reads = { record { used = refl; plain = refl; same = λ _ _ _ _. refl } };
 
     #[inline(always)]
     fn take(cpu: &mut Cpu, m: u8) {
@@ -44,7 +44,7 @@ pub struct And;
 impl Reader for And {
     ghost operation = { Operation.And };
 
-    ghost reads = { record { used = refl; straight = refl; plain = refl; same = λ _ _ _ _. refl } };
+    ghost reads = { record { used = refl; plain = refl; same = λ _ _ _ _. refl } };
 
     #[inline(always)]
     fn take(cpu: &mut Cpu, m: u8) {
@@ -57,7 +57,7 @@ pub struct Bit;
 impl Reader for Bit {
     ghost operation = { Operation.Bit };
 
-    ghost reads = { record { used = refl; straight = refl; plain = refl; same = λ _ _ _ _. refl } };
+    ghost reads = { record { used = refl; plain = refl; same = λ _ _ _ _. refl } };
 
     #[inline(always)]
     fn take(cpu: &mut Cpu, m: u8) {
@@ -70,7 +70,7 @@ pub struct Cmp;
 impl Reader for Cmp {
     ghost operation = { Operation.Cmp };
 
-    ghost reads = { record { used = refl; straight = refl; plain = refl; same = λ _ _ _ _. refl } };
+    ghost reads = { record { used = refl; plain = refl; same = λ _ _ _ _. refl } };
 
     #[inline(always)]
     fn take(cpu: &mut Cpu, m: u8) {
@@ -83,7 +83,7 @@ pub struct Cpx;
 impl Reader for Cpx {
     ghost operation = { Operation.Cpx };
 
-    ghost reads = { record { used = refl; straight = refl; plain = refl; same = λ _ _ _ _. refl } };
+    ghost reads = { record { used = refl; plain = refl; same = λ _ _ _ _. refl } };
 
     #[inline(always)]
     fn take(cpu: &mut Cpu, m: u8) {
@@ -96,7 +96,7 @@ pub struct Cpy;
 impl Reader for Cpy {
     ghost operation = { Operation.Cpy };
 
-    ghost reads = { record { used = refl; straight = refl; plain = refl; same = λ _ _ _ _. refl } };
+    ghost reads = { record { used = refl; plain = refl; same = λ _ _ _ _. refl } };
 
     #[inline(always)]
     fn take(cpu: &mut Cpu, m: u8) {
@@ -109,7 +109,7 @@ pub struct Eor;
 impl Reader for Eor {
     ghost operation = { Operation.Eor };
 
-    ghost reads = { record { used = refl; straight = refl; plain = refl; same = λ _ _ _ _. refl } };
+    ghost reads = { record { used = refl; plain = refl; same = λ _ _ _ _. refl } };
 
     #[inline(always)]
     fn take(cpu: &mut Cpu, m: u8) {
@@ -122,7 +122,7 @@ pub struct Lda;
 impl Reader for Lda {
     ghost operation = { Operation.Lda };
 
-    ghost reads = { record { used = refl; straight = refl; plain = refl; same = λ _ _ _ _. refl } };
+    ghost reads = { record { used = refl; plain = refl; same = λ _ _ _ _. refl } };
 
     #[inline(always)]
     fn take(cpu: &mut Cpu, m: u8) {
@@ -135,7 +135,7 @@ pub struct Ldx;
 impl Reader for Ldx {
     ghost operation = { Operation.Ldx };
 
-    ghost reads = { record { used = refl; straight = refl; plain = refl; same = λ _ _ _ _. refl } };
+    ghost reads = { record { used = refl; plain = refl; same = λ _ _ _ _. refl } };
 
     #[inline(always)]
     fn take(cpu: &mut Cpu, m: u8) {
@@ -148,7 +148,7 @@ pub struct Ldy;
 impl Reader for Ldy {
     ghost operation = { Operation.Ldy };
 
-    ghost reads = { record { used = refl; straight = refl; plain = refl; same = λ _ _ _ _. refl } };
+    ghost reads = { record { used = refl; plain = refl; same = λ _ _ _ _. refl } };
 
     #[inline(always)]
     fn take(cpu: &mut Cpu, m: u8) {
@@ -161,7 +161,7 @@ pub struct Ora;
 impl Reader for Ora {
     ghost operation = { Operation.Ora };
 
-    ghost reads = { record { used = refl; straight = refl; plain = refl; same = λ _ _ _ _. refl } };
+    ghost reads = { record { used = refl; plain = refl; same = λ _ _ _ _. refl } };
 
     #[inline(always)]
     fn take(cpu: &mut Cpu, m: u8) {
@@ -174,7 +174,7 @@ pub struct Sbc;
 impl Reader for Sbc {
     ghost operation = { Operation.Sbc };
 
-    ghost reads = { record { used = refl; straight = refl; plain = refl; same = λ _ _ _ _. refl } };
+    ghost reads = { record { used = refl; plain = refl; same = λ _ _ _ _. refl } };
 
     #[inline(always)]
     fn take(cpu: &mut Cpu, m: u8) {

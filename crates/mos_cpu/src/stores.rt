@@ -33,7 +33,7 @@ impl Storer for Sta {
 
     ghost what = { RegisterA };
 
-    ghost stores = { record { used = refl; straight = refl; plain = refl; idle = λ _ _ _. refl } };
+    ghost stores = { record { used = refl; plain = refl; idle = λ _ _ _. refl } };
 
     #[inline(always)]
     fn value(cpu: &Cpu) -> u8 {
@@ -48,7 +48,7 @@ impl Storer for Stx {
 
     ghost what = { RegisterX };
 
-    ghost stores = { record { used = refl; straight = refl; plain = refl; idle = λ _ _ _. refl } };
+    ghost stores = { record { used = refl; plain = refl; idle = λ _ _ _. refl } };
 
     #[inline(always)]
     fn value(cpu: &Cpu) -> u8 {
@@ -63,7 +63,7 @@ impl Storer for Sty {
 
     ghost what = { RegisterY };
 
-    ghost stores = { record { used = refl; straight = refl; plain = refl; idle = λ _ _ _. refl } };
+    ghost stores = { record { used = refl; plain = refl; idle = λ _ _ _. refl } };
 
     #[inline(always)]
     fn value(cpu: &Cpu) -> u8 {

@@ -1,41 +1,25 @@
 -- A bus that lists data accesses lists those of an instruction, with their bytes.
-use Rattle.std.proofs.Common.{◌≡◌, ℕ, zero, suc, ◌+◌, ◌<◌, ◌≤◌, List, [], ◌∷◌, ◌++◌, length}
+use Rattle.std.proofs.Common.{◌≡◌, ℕ, ◌+◌, ◌<◌, ◌≤◌, List, [], ◌∷◌, ◌++◌, length}
 use Rattle.std.proofs.Common.{Result, Ok, Err, true, refl, sym, ap, ◌∙◌, arith, append_assoc, append-nil}
-use Rattle.std.specs.Prelude.{IfOk, fold, nat_lt}
+use Rattle.std.specs.Prelude.{fold, nat_lt}
 use Rattle.std.proofs.lemmas.Bool.Decides.{nat_tests}
 use Rattle.std.proofs.lemmas.List.{length-append}
-use Rattle.mos_cpu.specs.Accesses.{StoredByte, Use}
-use Rattle.mos_cpu.specs.Accesses.{accesses_by as accesses_by_use, accesses_of, instruction_cycles}
-use Rattle.mos_cpu.specs.Accesses.{pulls, pushes, use_of}
+use Rattle.mos_cpu.specs.Accesses.{accesses_of, instruction_cycles}
 use Rattle.mos_cpu.specs.Buses.{Meaning, Respects}
 use Rattle.mos_cpu.specs.Execution.{Progress, after_access, after_transfer, at_start, map_step, step_by}
 use Rattle.mos_cpu.specs.Execution.{step_of}
-use Rattle.mos_cpu.specs.Operands.{Operand, Instruction, instruction_at}
+use Rattle.mos_cpu.specs.Operands.{Instruction, instruction_at}
 use Rattle.mos_cpu.specs.Registers.{Registers}
-use Rattle.mos_cpu.specs.Timing.{IsTimed, least_of}
 use Rattle.mos_cpu.specs.declared.access.Access.{Access}
 use Rattle.mos_cpu.specs.declared.access.Transfer.{Transfer}
 use Rattle.mos_cpu.specs.declared.access.Transfer.TheVariants.{Read}
 use Rattle.mos_cpu.specs.declared.fault.CpuFault.{CpuFault}
 use Rattle.mos_cpu.specs.declared.operation.Operation.{Operation}
+use Rattle.mos_cpu.proofs.AccessLemmas.{accesses_of-most}
 use Rattle.mos_cpu.proofs.AlongMaps.{decoded-along, step_of-along}
-use Rattle.mos_cpu.proofs.StepLaws.{cycles_of-timed, decoded-timed}
 use Rattle.vcs_machine.specs.Instructions.{accesses_by, data_accesses, with_byte, with_bytes}
 use Rattle.vcs_machine.specs.Private.Logged.{Logged, logging}
 use Rattle.vcs_machine.specs.declared.executed.DataAccess.{DataAccess}
-
--- ---- an instruction has at most eight accesses
-pushes-length : (first : ℕ) (r : Registers) (n : ℕ) (held : List StoredByte) → length (pushes first r n held) ≡ length held
-pushes-length first r n [] = refl
-pushes-length first r n (what ∷ rest) = ap suc (pushes-length first r (n + 1) rest)
-
-pulls-length : (s n count : ℕ) → length (pulls s n count) ≡ count
-pulls-length s n zero = refl
-pulls-length s n (suc more) = ap suc (pulls-length s (n + 1) more)
-
-few_by : (how : Use) (operand : Operand) (r : Registers) (cycles : ℕ) → least_of how ≤ 7
-    → length (accesses_by_use how operand r cycles) ≤ 8
-few_by how operand r cycles h = grind (arith, pushes-length, pulls-length)
 
 -- ---- what is listed
 module _ {S : Type 0} (m : Meaning S) where
@@ -79,14 +63,13 @@ module _ {S : Type 0} (m : Meaning S) where
     peeked_zero = λ l at. refl;
   }
 
-  by_instruction : (r : Registers) (s : S) (d : Result Instruction CpuFault) → IfOk d (λ i. IsTimed i.row)
+  by_instruction : (r : Registers) (s : S) (d : Result Instruction CpuFault)
       → (step_by (logging m) r (unlisted s) d).bus.accesses ≡ accesses_by m r s d
   unfolding logging
-  by_instruction r s (Err fault) timed = refl
-  by_instruction r s (Ok i) timed =
+  by_instruction r s (Err fault) = refl
+  by_instruction r s (Ok i) =
       all i.row.operation r.p (at_start (unlisted s)) (accesses_of i r (instruction_cycles i r.p))
-      (let timing = cycles_of-timed i r.p timed in
-      let few = few_by (use_of i.row.operation) i.operand r (instruction_cycles i r.p) (omega (arith, timing.2, timing.1)) in omega (arith, few))
+      (omega (arith, accesses_of-most i r (instruction_cycles i r.p)))
 
   -- The list after an instruction, if it was empty before.
   pub logged-accesses : (r : Registers) (s : S) → (step_of (logging m) r (unlisted s)).bus.accesses ≡ data_accesses m r s
@@ -94,7 +77,7 @@ module _ {S : Type 0} (m : Meaning S) where
   logged-accesses r s =
       ap (λ (d : Result Instruction CpuFault). (step_by (logging m) r (unlisted s) d).bus.accesses)
       (sym (decoded-along (logging m) m (λ l. l.bus) logging-respects r (unlisted s)))
-      ∙ by_instruction r s (instruction_at m s r) (decoded-timed m s r)
+      ∙ by_instruction r s (instruction_at m s r)
 
   -- What an instruction answers and leaves on the bus below.
   pub logged-below : (r : Registers) (l : Logged S) → step_of m r l.bus ≡ map_step (λ l. l.bus) (step_of (logging m) r l)

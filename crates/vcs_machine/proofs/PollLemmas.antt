@@ -55,7 +55,7 @@ branches : (branch : Branch) → IsBranch (operation_of branch)
 branches branch = grind arith
 
 loads : IsReader Lda
-loads = record { used = refl; straight = refl; plain = refl; same = λ _ _ _ _. refl }
+loads = record { used = refl; plain = refl; same = λ _ _ _ _. refl }
 
 opcode_row : (branch : Branch) → row_of (opcode_of branch) ≡ Some (row_with (operation_of branch) Relative 2 false)
 opcode_row branch = grind arith

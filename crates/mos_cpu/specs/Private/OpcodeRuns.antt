@@ -1,9 +1,9 @@
 -- What the runs of opcodes stand on: an opcode's row and operand, each known by itself, and how an
--- operation uses its operand. These are helpers of proofs: no public contract names them.
+-- operation uses its operand. This project's own, for proofs alone: no public contract names them.
 use Rattle.std.specs.Prelude.{ℕ, ◌≡◌, ◌+◌, ◌%◌, Bool, false, not, ◌==◌, ◌||◌, if◌then◌else◌, List}
 use Rattle.std.specs.Prelude.{[], Option, Some, None, Result, Ok, Err, IsErr, slice_index}
 use Rattle.mos_cpu.specs.Accesses.{StoredByte, Nothing, Reads, Stores, Modifies, use_of}
-use Rattle.mos_cpu.specs.Accesses.{branch_test, is_taken}
+use Rattle.mos_cpu.specs.Accesses.{accesses_by, is_taken}
 use Rattle.mos_cpu.specs.Buses.{Meaning}
 use Rattle.mos_cpu.specs.Effects.{changed_of, target_of, with_a, with_p, with_pc, effect}
 use Rattle.mos_cpu.specs.Execution.{step_of}
@@ -79,7 +79,6 @@ IsOpcodeRun m r s None after bus = IsUndone m r s after bus
 -- instruction.
 pub record IsReader (o : Operation) : Type 0 where
   pub used : use_of o ≡ Reads
-  pub straight : branch_test o ≡ None
   pub plain : takes_vector o ≡ false
   pub same : (address : ℕ) (crossed : Bool) (r : Registers) (bytes : List ℕ)
       → effect o (Place address crossed) r bytes ≡ effect o (Value (slice_index bytes 0)) r []
@@ -87,14 +86,12 @@ pub record IsReader (o : Operation) : Type 0 where
 -- An operation that stores, and does nothing else.
 pub record IsStorer (o : Operation) (what : StoredByte) : Type 0 where
   pub used : use_of o ≡ Stores what
-  pub straight : branch_test o ≡ None
   pub plain : takes_vector o ≡ false
   pub idle : (operand : Operand) (r : Registers) (bytes : List ℕ) → effect o operand r bytes ≡ r
 
 -- An operation that changes its operand, in memory or in A.
 pub record IsChanger (o : Operation) : Type 0 where
-  pub used : use_of o ≡ Modifies
-  pub straight : branch_test o ≡ None
+  pub used : use_of o ≡ Modifies (changed_of o)
   pub plain : takes_vector o ≡ false
   pub in_memory : (address : ℕ) (crossed : Bool) (r : Registers) (bytes : List ℕ)
       → effect o (Place address crossed) r bytes ≡ with_p r (changed_of o (slice_index bytes 0) r.p).p
@@ -102,7 +99,7 @@ pub record IsChanger (o : Operation) : Type 0 where
 
 -- An operation that goes elsewhere if its test is met.
 pub record IsBranch (o : Operation) : Type 0 where
-  pub used : use_of o ≡ Nothing
+  pub untouched : (operand : Operand) (r : Registers) (cycles : ℕ) → accesses_by (use_of o) operand r cycles ≡ []
   pub plain : takes_vector o ≡ false
   pub goes : (operand : Operand) (r : Registers) (bytes : List ℕ)
       → effect o operand r bytes ≡ (if is_taken o r.p then with_pc r (target_of operand) else r)
@@ -110,5 +107,4 @@ pub record IsBranch (o : Operation) : Type 0 where
 -- An operation that touches no memory.
 pub record IsImplied (o : Operation) : Type 0 where
   pub used : use_of o ≡ Nothing
-  pub straight : branch_test o ≡ None
   pub plain : takes_vector o ≡ false
