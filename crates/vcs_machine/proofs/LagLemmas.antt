@@ -1,6 +1,6 @@
 -- Devices that are behind.
 use Rattle.std.proofs.Common.{◌≡◌, ℕ, zero, suc, ◌+◌, ◌-◌, ◌*◌, ◌/◌, ◌%◌, ◌==◌, ◌<◌, ◌≤◌}
-use Rattle.std.proofs.Common.{refl, sym, ap, arith, inl, inr}
+use Rattle.std.proofs.Common.{refl, sym, ap, arith, inl, inr, nat_lt, true}
 use Rattle.std.specs.Fn.{iterate}
 use Rattle.std.proofs.Math.Bool.{or-false}
 use Rattle.std.proofs.lemmas.Bool.{cases_Bool}
@@ -8,6 +8,7 @@ use Rattle.std.proofs.lemmas.Bool.Decides.{nat_tests}
 use Rattle.riot_map.specs.Riot.{RiotState, after_cycles}
 use Rattle.riot_map.specs.Timer.{Countdown, after_cycle}
 use Rattle.tia_core.specs.Clock.{after_clock, pixels, sink_after_pixels}
+use Rattle.tia_core.specs.Collision.{collision_byte}
 use Rattle.tia_core.specs.Read.{tia_read}
 use Rattle.tia_core.specs.TiaState.{TiaState}
 use Rattle.tia_core.specs.Write.{effect_of, tia_after_write}
@@ -66,7 +67,9 @@ read-buttons n s r h k =
 -- The registers of collisions see nothing else.
 pub read-pairs : (n : ℕ) (s t : TiaState) (r : ℕ) → s.fields ≡ t.fields → r % 16 < 8
     → tia_read (iterate after_clock n s) r ≡ tia_read (iterate after_clock n t) r
-read-pairs n s t r e h = grind (arith, iterate-clocked-numbers)
+read-pairs n s t r e h =
+    let is_pairs : nat_lt (r % 16) 8 ≡ true = grind (arith, nat_tests) in
+    rw is_pairs (ap (λ (f : TiaFields). collision_byte f.collisions (r % 16)) (iterate-clocked-numbers n s t e))
 
 -- ---- writes
 -- A write that changes nothing after any clocks changes nothing in a console.
