@@ -1,9 +1,6 @@
--- Numbers by their bits; bit 0 is the lowest. This project's own.
-use Rattle.std.specs.Prelude.{ℕ, ◌+◌, ◌/◌, ◌%◌, ◌^◌, Bool, ◌==◌, if◌then◌else◌}
-
--- bit k of a number is 1
-abbrev pub has_bit : ℕ → ℕ → Bool
-has_bit n k = n / 2 ^ k % 2 == 1
+-- Bytes of single bits; bit 0 is the lowest. This project's own.
+use Rattle.std.specs.Prelude.{ℕ, ◌+◌, ◌^◌, Bool, if◌then◌else◌}
+pub use Rattle.record_table.specs.Bits.{has_bit}
 
 -- what bit k adds to a number
 abbrev pub bit_weight : Bool → ℕ → ℕ
