@@ -17,7 +17,7 @@ use Rattle.std.specs.Prelude.{ℤ, pos, negsuc, ◌≤ℤ◌}
 pub is_interval-of : (code : ℕ) → is_interval (interval_of code) ≡ true
 is_interval-of code = grind (arith, nat_tests)
 
-interval-back : (i : ℕ) → is_interval i ≡ true → interval_of (interval_code i) ≡ i
+pub interval-back : (i : ℕ) → is_interval i ≡ true → interval_of (interval_code i) ≡ i
 interval-back i h = grind (arith, nat_tests)
 
 pub interval-positive : (code : ℕ) → 0 < interval_of code

@@ -21,11 +21,11 @@ use Rattle.riot_map.specs.Cart.{bank_after}
 use Rattle.riot_map.specs.Place.{place_of}
 use Rattle.riot_map.specs.Riot.{RiotState, after_cycles, after_read, after_timer_read, after_write, fields_of, riot_of}
 use Rattle.riot_map.specs.RiotFields.{is_riot, timer_of}
-use Rattle.riot_map.specs.Timer.{Countdown, after_cycle, interval_code, interval_of, is_running, part_left}
+use Rattle.riot_map.specs.Timer.{Countdown, after_cycle, interval_code, is_interval, is_running, part_left}
 use Rattle.riot_map.specs.Timer.{timer_of_write}
 use Rattle.riot_map.specs.declared.places.Place.{Place}
 use Rattle.riot_map.specs.declared.places.Place.TheVariants.{Cart, Io, Ram, Tia}
-use Rattle.riot_map.proofs.RiotNumbers.{interval-back, interval-positive}
+use Rattle.riot_map.proofs.RiotNumbers.{interval-back, interval-positive, is_interval-of}
 use Rattle.tia_core.specs.Clock.{Pixel}
 use Rattle.tia_core.specs.Private.Lawful.{IsLawfulTia}
 use Rattle.tia_core.specs.TiaState.{tia_of, with_fire}
@@ -98,7 +98,7 @@ step_of-status m r s h = by (instruction_at m s r)
 
 -- ---- the timer
 abbrev HasInterval : Countdown → Type 0
-HasInterval t = interval_of (interval_code t.interval) ≡ t.interval
+HasInterval t = is_interval t.interval ≡ true
 
 ticked-interval : (n : ℕ) (t : Countdown) → (iterate after_cycle n t).interval ≡ t.interval
 unfolding after_cycle
@@ -115,7 +115,7 @@ read-interval r register h = grind (arith, nat_tests, h)
 
 write-interval : (r : RiotState) (register v : ℕ) → HasInterval r.timer → HasInterval (after_write r register v).timer
 unfolding after_write timer_of_write
-write-interval r register v h = grind (arith, nat_tests, h, interval-back (register % 4))
+write-interval r register v h = grind (arith, nat_tests, h, is_interval-of (register % 4))
 
 code-small : (interval : ℕ) → interval_code interval < 4
 code-small interval = grind (arith, nat_tests)
@@ -123,14 +123,14 @@ code-small interval = grind (arith, nat_tests)
 part_left-range : (t : Countdown) → HasInterval t → (1 ≤ part_left t) × (part_left t ≤ t.interval) × (is_running t ≡ false → part_left t ≡ 1)
 unfolding part_left
 part_left-range t h =
-    let positive : 0 < t.interval = rw h at (interval-positive (interval_code t.interval)) in
+    let positive : 0 < t.interval = rw (interval-back t.interval h) at (interval-positive (interval_code t.interval)) in
     (grind (arith, nat_tests), grind (arith, nat_tests), λ stopped. rw stopped refl)
 
 riot-lawful : (r : RiotState) → HasInterval r.timer → IsTrue (is_riot (fields_of r))
 unfolding fields_of is_riot
 riot-lawful r h =
     let part = part_left-range r.timer h in
-    grind (arith, nat_tests, h, code-small r.timer.interval, part.0, part.1, part.2)
+    grind (arith, nat_tests, interval-back r.timer.interval h, code-small r.timer.interval, part.0, part.1, part.2)
 
 -- ---- the console
 record IsLawfulConsole {S : Type 0} (c : Console S) : Type 0 where
@@ -184,7 +184,7 @@ module _ {S : Type 0} (drawn : S → ℕ → ℕ → ℕ → S) where
       record {
         status = parts.status;
         console = record {
-          timer = interval-back s.riot.interval;
+          timer = is_interval-of s.riot.interval;
           tia = frame_begun-lawful (with_fire (tia_of s.tia) (is_pressed 0 i) (is_pressed 1 i)) (lawful_of s.tia parts.tia);
           bank = parts.bank;
         };
