@@ -1,5 +1,5 @@
 -- The console as its processor's bus: the address map, the RIOT and the TIA of the Stella
--- Programmer's Guide, joined.
+-- Programmer's Guide, joined. Where a rule is this project's own, its comment says so.
 use Rattle.std.specs.Prelude.{ℕ, ◌-◌, ◌*◌, ◌/◌, ◌%◌, ◌||◌, Bool, true, false, if◌then◌else◌, Option}
 use Rattle.std.specs.Prelude.{Some, None, List, [], ◌∷◌, ◌++◌, slice_index}
 use Rattle.std.specs.Fn.{iterate}
@@ -46,20 +46,22 @@ module _ {S : Type 0} where
   value_at c (Ram index) = slice_index c.riot.ram index
   value_at c (Io register) = riot_read_of c.riot register
 
-  -- A read may select a bank, and changes a port or the timer at most. It still sees the bank
-  -- before it.
+  -- A read may select a bank, and one of the timer may clear its flag. That a read still sees the
+  -- bank before it is this project's own.
   abbrev pub read_at : Console S → Place → Console S
   read_at c (Cart address) = record c { bank = bank_after c.cart c.bank address }
   read_at c (Io register) = record c { riot = after_read c.riot register }
   read_at c other = c
 
-  -- An instruction's byte: no register of the TIA or the RIOT gives one. It selects no bank.
+  -- An instruction's byte. That no register of the TIA or the RIOT gives one, and that it selects
+  -- no bank, is this project's own.
   abbrev pub peeked_at : Console S → Place → Option ℕ
   peeked_at c (Cart address) = Some (cart_byte c.cart c.bank address)
   peeked_at c (Ram index) = Some (slice_index c.riot.ram index)
   peeked_at c other = None
 
-  -- A write of a register of the TIA may ask for a wait, or end the frame.
+  -- A write of a register of the TIA may ask for a wait, or end the frame. That one ends a frame is
+  -- this project's own.
   abbrev pub after_tia_write : Console S → ℕ → ℕ → Console S
   after_tia_write c register v =
       let effect = effect_of c.tia register v in
@@ -76,7 +78,8 @@ module _ {S : Type 0} where
   written_at c (Ram index) v = record c { riot = with_ram index v c.riot }
   written_at c (Io register) v = record c { riot = after_write c.riot register v }
 
-  -- Cycles that pass: each is three colour clocks and one step of the timer.
+  -- Cycles that pass: each is three colour clocks and one step of the timer, as a law says. The
+  -- Stella Programmer's Guide has both.
   abbrev pub passed : (S → ℕ → ℕ → ℕ → S) → Console S → ℕ → Console S
   passed drawn c n = record c {
     riot = after_cycles n c.riot;
@@ -84,7 +87,8 @@ module _ {S : Type 0} where
     sink = sink_after_pixels drawn c.sink (pixels (3 * n) c.tia);
   }
 
-  -- What a console does as a bus, where `drawn` is what its sink says of one pixel.
+  -- What a console does as a bus, where `drawn` is what its sink says of one pixel. A pointer byte
+  -- in page zero is what a read would give, also of a register: this project's own.
   unfoldable pub meaning_of : (S → ℕ → ℕ → ℕ → S) → Meaning (Console S)
   meaning_of drawn = record {
     passed = passed drawn;
@@ -106,7 +110,7 @@ wait_cycles c = if c.awaits_line then cycles_to_line_start c.tia.fields.clock el
 abbrev pub after_wait : {S : Type 0} → (S → ℕ → ℕ → ℕ → S) → Console S → Console S
 after_wait drawn c = if c.awaits_line then record (passed drawn c (cycles_to_line_start c.tia.fields.clock)) { awaits_line = false } else c
 
--- A frame's rules on a console.
+-- A frame's rules on a console: this project's own.
 unfoldable pub console_rules : {S : Type 0} → (S → ℕ → ℕ → ℕ → S) → Rules (Console S)
 console_rules drawn = record { meaning = meaning_of drawn; after_wait = after_wait drawn; wait = wait_cycles; ended = λ c. c.ended }
 

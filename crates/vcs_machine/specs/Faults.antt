@@ -1,4 +1,4 @@
--- Why a frame did not end, where, and how it is shown.
+-- Why a frame did not end, where, and how it is shown. This project's own.
 use Rattle.std.specs.Prelude.{ℕ, List, [], ◌∷◌, ◌++◌, ◌/◌, ◌%◌, codes, true}
 use Rattle.std.specs.Fmt.{digit_glyph}
 use Rattle.mos_cpu.specs.declared.fault.CpuFault.{CpuFault}

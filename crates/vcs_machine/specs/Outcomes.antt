@@ -1,4 +1,5 @@
--- What one frame does to a state. This project's own: the Stella Programmer's Guide has no frames.
+-- What one frame does to a state. All of this is this project's own: the Stella Programmer's Guide
+-- leaves it to a program where a frame begins and ends.
 use Rattle.std.specs.Prelude.{ℕ, ◌≡◌, false, List, []}
 use Rattle.riot_map.specs.Riot.{riot_of, fields_of, with_pins}
 use Rattle.tia_core.specs.TiaState.{tia_of as tia_state_of, with_fire, at_frame_start}
@@ -26,7 +27,8 @@ left_by (Played s rows) = s
 left_by (Failed kind s) = s
 
 -- The console of a state at a frame's start: the pins and the buttons are those of the input, then
--- a pressed button sets its latch if VBLANK has bit 6, and the line is 0.
+-- a pressed button sets its latch if VBLANK has bit 6, and the line is 0. Only the latch is the
+-- Guide's.
 abbrev pub console_of : {S : Type 0} → List ℕ → StateFields → InputData → S → Console S
 console_of cart s i sink =
     record {

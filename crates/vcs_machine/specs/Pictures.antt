@@ -1,4 +1,4 @@
--- The picture of a frame: the colour last put at each place, else 0.
+-- The picture of a frame: the colour last put at each place, else 0. This project's own.
 use Rattle.std.specs.Prelude.{ℕ, ◌+◌, ◌/◌, ◌==◌, ◌&&◌, nat_lt, if◌then◌else◌, List, [], ◌∷◌, length}
 use Rattle.std.specs.Prelude.{map, replicate, slice_set, slice_index_or}
 use Rattle.std.specs.List.{range_with_len}
@@ -18,8 +18,7 @@ unfoldable pub picture_of : ℕ → List Pixel → Rows
 picture_of rows pixels =
     map (λ line. map (λ x. colour_after 0 pixels line x) (range_with_len 0 160)) (range_with_len 0 rows)
 
--- The rows of a frame that began at this cycle of its scanline and took so many cycles: this
--- project's own rule.
+-- The rows of a frame that began at this cycle of its scanline and took so many cycles.
 abbrev pub rows_of : ℕ → ℕ → ℕ
 rows_of line_cycle cycles = (line_cycle + cycles + 75) / 76
 

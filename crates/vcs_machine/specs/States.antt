@@ -23,9 +23,9 @@ is_state f =
 abbrev pub line_cycle_of : StateFields → ℕ
 line_cycle_of f = f.tia.clock / 3
 
--- A console that was just switched on. PC comes from the reset vector, in the second bank if
--- there are two; the rest is this project's own: S is FF, I is set, and all else of the processor
--- is 0.
+-- A console that was just switched on. PC comes from the reset vector, by the MOS MCS6500
+-- programming manual. The rest is this project's own: of two banks the second is selected, S is FF,
+-- I is set, and all else of the processor is 0.
 abbrev pub state_at_power_on : List ℕ → StateFields
 state_at_power_on cart = record {
   cpu = record {
