@@ -19,7 +19,7 @@ pub(crate) struct Instruction {
     bytes: ArrayVec<(u16, u8), 8>,
     after: Cpu,
     cycles: u8,
-    writes: ArrayVec<Event, 8>,
+    accesses: ArrayVec<Event, 8>,
 }
 
 impl Instruction {
@@ -29,7 +29,7 @@ impl Instruction {
         let before = parts.next()?;
         let bytes = parts.next()?;
         let after = parts.next()?;
-        let writes = parts.next()?;
+        let accesses = parts.next()?;
         let mut words = after.split_whitespace();
         let after = registers(&mut words)?;
         let cycles = words.next()?.parse().ok()?;
@@ -40,24 +40,20 @@ impl Instruction {
             bytes: named_bytes(bytes)?,
             after,
             cycles,
-            writes: timed_writes(writes)?,
+            accesses: timed_accesses(accesses)?,
         })
     }
 
-    /// Whether the processor leaves the same registers in as many cycles, and makes the same writes
-    /// in theirs.
+    /// Whether the processor leaves the same registers in as many cycles, and makes the same data
+    /// accesses in theirs.
     pub(crate) fn is_met(&self) -> bool {
         let mut bus = self.bus();
         let mut cpu = self.before;
         let answer = step(&mut cpu, &mut bus);
-        let writes = bus
-            .events
-            .iter()
-            .filter(|event| matches!(event, Event::Write(..)));
         answer == Ok(self.cycles)
             && bus.clock == self.cycles as u32
             && cpu == self.after
-            && writes.eq(self.writes.iter())
+            && bus.events.as_slice() == self.accesses.as_slice()
     }
 
     /// A memory that holds its bytes.
@@ -107,14 +103,22 @@ fn named_bytes(text: &str) -> Option<ArrayVec<(u16, u8), 8>> {
     Some(bytes)
 }
 
-/// The writes of words as `4:00FF=2A`: the cycle, counted from 1, and what is written where.
-fn timed_writes(text: &str) -> Option<ArrayVec<Event, 8>> {
-    let mut writes = ArrayVec::new();
-    for word in text.split_whitespace() {
-        let (cycle, rest) = word.split_once(':')?;
+/// The data access of a word, with its cycle counted from 1: `3:00FF` is a read, and `4:00FF=2A` a
+/// write.
+fn timed_access(word: &str) -> Option<Event> {
+    let (cycle, rest) = word.split_once(':')?;
+    let cycle = cycle.parse().ok()?;
+    if rest.contains('=') {
         let (address, value) = named_byte(rest)?;
-        let write = Event::Write(cycle.parse().ok()?, address, value);
-        writes.try_push(write).ok()?;
+        return Some(Event::Write(cycle, address, value));
     }
-    Some(writes)
+    Some(Event::Read(cycle, u16::from_str_radix(rest, 16).ok()?))
+}
+
+fn timed_accesses(text: &str) -> Option<ArrayVec<Event, 8>> {
+    let mut accesses = ArrayVec::new();
+    for word in text.split_whitespace() {
+        accesses.try_push(timed_access(word)?).ok()?;
+    }
+    Some(accesses)
 }

@@ -5,8 +5,8 @@
 //!
 //! Each line of `instructions.txt` is one instruction, in four parts with ` | ` between them: the
 //! opcode and the registers before, the bytes that it uses, the registers and cycles after, and its
-//! writes with their cycles. Numbers are hexadecimal but for cycles. `tia.txt` and `riot.txt` say
-//! themselves how their cases are written. Lines that begin with `#` are none.
+//! data accesses with their cycles. Numbers are hexadecimal but for cycles. `tia.txt` and
+//! `riot.txt` say themselves how their cases are written. Lines that begin with `#` are none.
 #![tactic(auto)]
 
 mod case;
