@@ -8,7 +8,13 @@ use vcs_machine::{FaultKind, FrameError, Input, Picture, State, StateFields, fra
 
 /// A cartridge of 2048 bytes that begins at F000: some bytes at its start, some at an offset, and 0
 /// elsewhere.
-fn cart_of(rt: &impl Abort, alloc: Global, start: &[u8], offset: usize, more: &[u8]) -> Cart {
+pub(crate) fn cart_of(
+    rt: &impl Abort,
+    alloc: Global,
+    start: &[u8],
+    offset: usize,
+    more: &[u8],
+) -> Cart {
     let mut bytes = Vec::with_capacity(alloc, 2048).expect(rt, "memory for a cartridge");
     for i in 0..2048usize {
         let byte = if i < start.len() {
@@ -62,7 +68,7 @@ fn endless_frames(rt: &impl Abort, alloc: Global) -> Cart {
 }
 
 /// The state of these numbers.
-fn lawful(rt: &impl Abort, fields: StateFields) -> State {
+pub(crate) fn lawful(rt: &impl Abort, fields: StateFields) -> State {
     State::from_fields(fields).expect(rt, "lawful numbers")
 }
 
@@ -72,7 +78,12 @@ fn idle(rt: &impl Abort, buttons: u8) -> Input {
 }
 
 /// The fault of one frame, if it has one.
-fn fault_of(rt: &impl Abort, alloc: Global, cart: &Cart, state: &mut State) -> Option<FaultKind> {
+pub(crate) fn fault_of(
+    rt: &impl Abort,
+    alloc: Global,
+    cart: &Cart,
+    state: &mut State,
+) -> Option<FaultKind> {
     match frame(alloc, cart, state, idle(rt, 0), false) {
         Err(FrameError::Fault(kind)) => Some(kind),
         _ => None,
@@ -80,7 +91,7 @@ fn fault_of(rt: &impl Abort, alloc: Global, cart: &Cart, state: &mut State) -> O
 }
 
 /// The picture of a frame that ends.
-fn picture_of(
+pub(crate) fn picture_of(
     rt: &impl Abort,
     alloc: Global,
     cart: &Cart,
