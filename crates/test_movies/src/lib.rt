@@ -7,4 +7,6 @@ mod expectation;
 #[cfg(test)]
 mod movies;
 #[cfg(test)]
+mod refusals;
+#[cfg(test)]
 mod texts;

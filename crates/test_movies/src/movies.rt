@@ -34,7 +34,7 @@ fn state_at_power_on() -> [u8; 187] {
 }
 
 /// The record after the first frame, of 13 cycles.
-fn state_after_frame_1() -> [u8; 187] {
+pub(crate) fn state_after_frame_1() -> [u8; 187] {
     let mut record = state_at_power_on();
     record[4] = 0x06;
     record[6] = 0x0A;
@@ -55,7 +55,7 @@ fn state_after_frame_2() -> [u8; 187] {
 }
 
 /// A record of version 1 with the bank that it leaves out.
-fn with_bank(record: &[u8; 187], bank: u8) -> [u8; 188] {
+pub(crate) fn with_bank(record: &[u8; 187], bank: u8) -> [u8; 188] {
     let mut whole = [0; 188];
     whole[..187].copy_from_slice(record);
     whole[187] = bank;
@@ -113,7 +113,7 @@ fn cart(alloc: Global, program: &[u8]) -> Result<Cart, Fail> {
 }
 
 /// A movie of two frames with a checkpoint after the first: 2,446 bytes.
-fn file(alloc: Global) -> Result<Vec<u8>, Fail> {
+pub(crate) fn file(alloc: Global) -> Result<Vec<u8>, Fail> {
     let mut bytes = Vec::new(alloc);
     bytes.extend_from_slice(b"A26M")?;
     bytes.extend_from_slice(&[0x00, 0x01, 0x08, 0x00, 0, 0, 0, 2, 0, 1])?;
@@ -151,7 +151,12 @@ fn file_of(alloc: Global, movie: &Movie) -> Result<Vec<u8>, Fail> {
 }
 
 /// A copy of a file with other bytes from a place on.
-fn with_bytes_at(alloc: Global, bytes: &[u8], at: u16, new: &[u8]) -> Result<Vec<u8>, Fail> {
+pub(crate) fn with_bytes_at(
+    alloc: Global,
+    bytes: &[u8],
+    at: u16,
+    new: &[u8],
+) -> Result<Vec<u8>, Fail> {
     let at = at as usize;
     let mut copy = Vec::new(alloc);
     copy.extend_from_slice(bytes.get(..at).ok_or("a place in the file")?)?;
@@ -161,7 +166,7 @@ fn with_bytes_at(alloc: Global, bytes: &[u8], at: u16, new: &[u8]) -> Result<Vec
 }
 
 /// The refusal of a file.
-fn refusal(alloc: Global, bytes: &[u8]) -> Option<MovieError> {
+pub(crate) fn refusal(alloc: Global, bytes: &[u8]) -> Option<MovieError> {
     read_movie(alloc, bytes).err()
 }
 

@@ -43,6 +43,7 @@ const TEXTS: &[(&str, &[(usize, [u8; 3])])] = &[
     ),
     ("3\tfire0\tright0\n", &[(3, [0x7F, 0x3F, 0x01])]),
     (" 3 right0  right0 right0", &[(3, [0x7F, 0x3F, 0x00])]),
+    ("1 up0 up0", &[(1, [0xEF, 0x3F, 0x00])]),
     ("007 reset#comment", &[(7, [0xFF, 0x3E, 0x00])]),
     ("1 up0\n1 up0", &[(2, [0xEF, 0x3F, 0x00])]),
     (

@@ -15,11 +15,17 @@ mod expectation;
 #[cfg(test)]
 mod gates;
 #[cfg(test)]
+mod lines;
+#[cfg(test)]
 mod looking;
 #[cfg(test)]
 mod making;
 #[cfg(test)]
 mod movies;
+#[cfg(test)]
+mod numbering;
+#[cfg(test)]
+mod pixmaps;
 #[cfg(test)]
 mod reports;
 #[cfg(test)]
