@@ -5,13 +5,13 @@ use Rattle.mos_cpu.specs.Registers.{Registers}
 use Rattle.mos_cpu.specs.Execution.{Step, step_of}
 use Rattle.mos_cpu.specs.declared.fault.CpuFault.{CpuFault}
 use Rattle.mos_cpu.proofs.AlongMaps.{step_of-along}
-use Rattle.vcs_machine.specs.Frame.{Rules, Machine, Turn, Failed, Went, turn, turn_by, stop_of}
+use Rattle.vcs_machine.specs.Frame.{Rules, Machine, Turn, Faulty, Went, turn, turn_by, stop_of}
 use Rattle.vcs_machine.specs.Private.Along.{Follows, machine_along, stop_along}
-use Rattle.vcs_machine.proofs.OneStop.{stop_of-shown, stops-ended, stops-failed, stops-later, stops-long}
+use Rattle.vcs_machine.proofs.OneStop.{stop_of-shown, stops-ended, stops-faulty, stops-later, stops-long}
 
 module _ {B C : Type 0} (b : Rules B) (c : Rules C) (h : B → C) (follows : Follows b c h) where
   abbrev turn_along : Turn B → Turn C
-  turn_along (Failed fault) = Failed fault
+  turn_along (Faulty fault) = Faulty fault
   turn_along (Went m) = Went (machine_along h m)
 
   turn_by-along : (cycles : ℕ) (r : Registers) (bus : B) (answer : Result ℕ CpuFault)
@@ -34,7 +34,7 @@ module _ {B C : Type 0} (b : Rules B) (c : Rules C) (h : B → C) (follows : Fol
       (λ stop. stop_of c (machine_along h start) ≡ stop_along h stop)
       (record {
         long = λ m same long. same ∙ stops-long c (machine_along h m) long;
-        failed = λ m fault same short e. same ∙ stops-failed c (machine_along h m) fault short (turn-along m _ e);
+        faulty = λ m fault same short e. same ∙ stops-faulty c (machine_along h m) fault short (turn-along m _ e);
         ended = λ m next same short e over.
             same ∙ stops-ended c (machine_along h m) (machine_along h next) short (turn-along m _ e) (follows.ended next.bus ∙ over);
         goes_on = λ m next same short e unended.

@@ -26,7 +26,7 @@ use Rattle.tia_core.specs.Write.{tia_after_write}
 use Rattle.vcs_machine.specs.Consoles.{Console, after_wait, console_rules, meaning_of, passed, read_at}
 use Rattle.vcs_machine.specs.Consoles.{wait_cycles, written_at}
 use Rattle.vcs_machine.specs.Cycles.{MeetsBeam, after_one_cycle, beam_place, place_after}
-use Rattle.vcs_machine.specs.Frame.{Failed, Machine, Turn, Went, turn, turn_after, turns}
+use Rattle.vcs_machine.specs.Frame.{Faulty, Machine, Turn, Went, turn, turn_after, turns}
 use Rattle.vcs_machine.specs.Inputs.{InputData}
 use Rattle.vcs_machine.specs.Outcomes.{machine_of}
 use Rattle.vcs_machine.specs.States.{is_state, line_cycle_of}
@@ -104,7 +104,7 @@ module _ {S : Type 0} (drawn : S → ℕ → ℕ → ℕ → S) where
   turns-place start (suc n) first m at e = by (turns (console_rules drawn) n first) (λ k same. turns-place start n first k at same) e
     where
       by : (t : Turn (Console S)) → ((k : Machine (Console S)) → t ≡ Went k → IsAt start k) → turn_after (console_rules drawn) t ≡ Went m → IsAt start m
-      by (Failed fault) before after = absurd (cc)
+      by (Faulty fault) before after = absurd (cc)
       by (Went k) before after = turn-place start k m (before k refl) after
 
   -- ---- each access

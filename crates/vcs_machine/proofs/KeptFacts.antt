@@ -5,7 +5,7 @@ use Rattle.mos_cpu.specs.Buses.{IsInvariant}
 use Rattle.mos_cpu.specs.Execution.{step_of}
 use Rattle.mos_cpu.proofs.StepLaws.{step_of-kept}
 use Rattle.vcs_machine.specs.Consoles.{Console, after_wait, console_rules, meaning_of}
-use Rattle.vcs_machine.specs.Frame.{Failed, Machine, Turn, Went, turn, turn_after, turns}
+use Rattle.vcs_machine.specs.Frame.{Faulty, Machine, Turn, Went, turn, turn_after, turns}
 use Rattle.vcs_machine.proofs.OneStop.{turn-parts}
 
 module _ {S : Type 0} (drawn : S → ℕ → ℕ → ℕ → S) (Fact : Console S → Type 0) (kept : IsInvariant (meaning_of drawn) Fact)
@@ -26,5 +26,5 @@ module _ {S : Type 0} (drawn : S → ℕ → ℕ → ℕ → S) (Fact : Console 
   turns-kept (suc n) start m fact e = by (turns (console_rules drawn) n start) (λ k same. turns-kept n start k fact same) e
     where
       by : (t : Turn (Console S)) → ((k : Machine (Console S)) → t ≡ Went k → Fact k.bus) → turn_after (console_rules drawn) t ≡ Went m → Fact m.bus
-      by (Failed fault) before after = absurd (cc)
+      by (Faulty fault) before after = absurd (cc)
       by (Went k) before after = turn-kept k m (before k refl) after

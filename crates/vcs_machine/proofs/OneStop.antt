@@ -7,7 +7,7 @@ use Rattle.std.proofs.lemmas.Bool.Decides.{nat_tests}
 use Rattle.mos_cpu.proofs.StepLaws.{step_of-least}
 use Rattle.mos_cpu.specs.Execution.{step_of}
 use Rattle.mos_cpu.specs.declared.fault.CpuFault.{CpuFault}
-use Rattle.vcs_machine.specs.Frame.{Rules, Machine, Turn, Failed, Went, turn, turn_after, turn_by, turns}
+use Rattle.vcs_machine.specs.Frame.{Rules, Machine, Turn, Faulty, Went, turn, turn_after, turn_by, turns}
 use Rattle.vcs_machine.specs.Frame.{is_over, Reaches, Faults, Stop, Ended}
 use Rattle.vcs_machine.specs.Frame.{Overlong, Faulted, machine_at, StopsAs, stop_after, stop_within}
 use Rattle.vcs_machine.specs.Frame.{stop_of, most_turns, overlong_cycles}
@@ -47,7 +47,7 @@ module _ {B : Type 0} (rules : Rules B) where
       by_turn : (t : Turn B) → turn rules m ≡ t
           → ((m : Machine B) → overlong_cycles ≤ m.cycles + 2 * tries → stop_within rules (suc tries) m ≡ stop_within rules tries m)
           → stop_after rules (stop_within rules (suc tries)) m t ≡ stop_after rules (stop_within rules tries) m t
-      by_turn (Failed fault) e later = refl
+      by_turn (Faulty fault) e later = refl
       by_turn (Went next) e later = let more = turn-least m next e in rw (later next (omega arith)) refl
 
   stop_of-turn : (m : Machine B)
@@ -61,8 +61,8 @@ module _ {B : Type 0} (rules : Rules B) where
   stops-turn : (m : Machine B) → m.cycles < overlong_cycles → stop_of rules m ≡ stop_after rules (stop_of rules) m (turn rules m)
   stops-turn m short = let no : nat_le overlong_cycles m.cycles ≡ false = grind (arith, nat_tests) in rw (stop_of-turn m, no) refl
 
-  pub stops-failed : (m : Machine B) (fault : CpuFault) → m.cycles < overlong_cycles → turn rules m ≡ Failed fault → stop_of rules m ≡ Faulted fault m
-  stops-failed m fault short e = rw (stops-turn m short, e) refl
+  pub stops-faulty : (m : Machine B) (fault : CpuFault) → m.cycles < overlong_cycles → turn rules m ≡ Faulty fault → stop_of rules m ≡ Faulted fault m
+  stops-faulty m fault short e = rw (stops-turn m short, e) refl
 
   pub stops-ended : (m next : Machine B) → m.cycles < overlong_cycles → turn rules m ≡ Went next → rules.ended next.bus ≡ true → stop_of rules m ≡ Ended next
   stops-ended m next short e over = rw (stops-turn m short, e, over) refl
@@ -89,7 +89,7 @@ module _ {B : Type 0} (rules : Rules B) where
     where
       by : (t : Turn B) → turns rules (suc n) start ≡ t → turn_after rules t ≡ Went here
           → ((m : Machine B) → 0 < suc n → Reaches rules start (suc n) m → CameBy start m) → CameBy start here
-      by (Failed fault) e went came = absurd (cc)
+      by (Faulty fault) e went came = absurd (cc)
       by (Went m) e went came =
           let going = not_over m (r.least (suc n) (omega arith) (omega arith) m e) in
           let b = came m (omega arith) (record { reached = e; least = λ k less. r.least k (omega arith) }) in
@@ -104,20 +104,20 @@ module _ {B : Type 0} (rules : Rules B) where
   stops_as-only start (Faulted fault here) fresh p = sym (by_count p.count p.reaches p.going)
     where
       by_count : (n : ℕ) → Reaches rules start n here → (0 < n → is_over rules here ≡ false) → stop_of rules start ≡ Faulted fault here
-      by_count zero r going = let at : start ≡ here = (let reached = r.reached in cc) in rw at (stops-failed here fault (rw at at fresh_short) p.fails)
+      by_count zero r going = let at : start ≡ here = (let reached = r.reached in cc) in rw at (stops-faulty here fault (rw at at fresh_short) p.fails)
         where
           fresh_short : start.cycles < overlong_cycles
           fresh_short = omega arith
       by_count (suc n) r going =
           let b = came_by start fresh (suc n) here (omega arith) r in
           let on = not_over here (going (omega arith)) in
-          b.same ∙ stops-later b.before here b.short b.went on.0 ∙ stops-failed here fault on.1 p.fails
+          b.same ∙ stops-later b.before here b.short b.went on.0 ∙ stops-faulty here fault on.1 p.fails
 
 -- ---- what holds where a frame stops
 -- A goal is shown of each way to stop, from a fact that each turn keeps before it.
 pub record Shows {B : Type 0} (rules : Rules B) (Fact : Machine B → Type 0) (Goal : Stop B → Type 0) : Type 0 where
   pub long : (m : Machine B) → Fact m → overlong_cycles ≤ m.cycles → Goal (Overlong m)
-  pub failed : (m : Machine B) (fault : CpuFault) → Fact m → m.cycles < overlong_cycles → turn rules m ≡ Failed fault → Goal (Faulted fault m)
+  pub faulty : (m : Machine B) (fault : CpuFault) → Fact m → m.cycles < overlong_cycles → turn rules m ≡ Faulty fault → Goal (Faulted fault m)
   pub ended : (m next : Machine B) → Fact m → m.cycles < overlong_cycles → turn rules m ≡ Went next → rules.ended next.bus ≡ true → Goal (Ended next)
   pub goes_on : (m next : Machine B) → Fact m → m.cycles < overlong_cycles → turn rules m ≡ Went next → rules.ended next.bus ≡ false → Fact next
 
@@ -131,7 +131,7 @@ module _ {B : Type 0} (rules : Rules B) (Fact : Machine B → Type 0) (Goal : St
     where
       by_turn : (t : Turn B) → turn rules m ≡ t → m.cycles < overlong_cycles
           → ((m : Machine B) → overlong_cycles ≤ m.cycles + 2 * tries → Fact m → Goal (stop_of rules m)) → Goal (stop_of rules m)
-      by_turn (Failed fault) e short later = rw (stops-failed rules m fault short e) (shows.failed m fault fact short e)
+      by_turn (Faulty fault) e short later = rw (stops-faulty rules m fault short e) (shows.faulty m fault fact short e)
       by_turn (Went next) e short later = elim (cases_Bool (rules.ended next.bus)) [
         | inl over ↦ rw (stops-ended rules m next short e over) (shows.ended m next fact short e over)
         | inr unended ↦ (let more = turn-least rules m next e in
@@ -147,7 +147,7 @@ pub stop_of-keeps : {B : Type 0} (rules : Rules B) (Fact : Machine B → Type 0)
     → (m : Machine B) → Fact m → Fact (machine_at (stop_of rules m))
 stop_of-keeps rules Fact keeps = stop_of-shown rules Fact (λ stop. Fact (machine_at stop)) (record {
   long = λ m fact long. fact;
-  failed = λ m fault fact short e. fact;
+  faulty = λ m fault fact short e. fact;
   ended = λ m next fact short e over. keeps m next fact short e;
   goes_on = λ m next fact short e unended. keeps m next fact short e;
 })
@@ -171,7 +171,7 @@ module _ {B : Type 0} (rules : Rules B) where
   way_shown : (start : Machine B) → Shows rules (Underway start) (StopsAs rules start)
   way_shown start = record {
     long = λ m u long. record { count = u.count; some = u.begun long; reaches = u.reaches; unended = u.unended (u.begun long); long = long };
-    failed = λ m fault u short e. record { count = u.count; reaches = u.reaches; going = going start m u short; fails = e };
+    faulty = λ m fault u short e. record { count = u.count; reaches = u.reaches; going = going start m u short; fails = e };
     ended = λ m next u short e over.
         record { count = suc u.count; some = omega arith; reaches = reaches-suc start m next u.count u.reaches (going start m u short) e; ended = over };
     goes_on = λ m next u short e unended. record {
@@ -190,15 +190,15 @@ module _ {B : Type 0} (rules : Rules B) where
     begun = λ long. absurd (omega arith);
   }))
 
-  -- ---- no turn that went follows one that failed
-  failed-on : (start : Machine B) (n : ℕ) (fault : CpuFault) → turns rules n start ≡ Failed fault → (k : ℕ) → turns rules (k + n) start ≡ Failed fault
-  failed-on start n fault e zero = rw zero-add e
-  failed-on start n fault e (suc k) = rw suc-add (rw (failed-on start n fault e k) refl)
+  -- ---- no turn that went follows a faulty one
+  faulty-on : (start : Machine B) (n : ℕ) (fault : CpuFault) → turns rules n start ≡ Faulty fault → (k : ℕ) → turns rules (k + n) start ≡ Faulty fault
+  faulty-on start n fault e zero = rw zero-add e
+  faulty-on start n fault e (suc k) = rw suc-add (rw (faulty-on start n fault e k) refl)
 
   pub none-after : (start a here : Machine B) (fault : CpuFault) (f : Faults rules start here fault) (m : ℕ) → turns rules m start ≡ Went a → f.count < m → ⊥
   none-after start a here fault f m reached gt =
-      let last : turns rules (suc f.count) start ≡ Failed fault = rw f.reaches.reached f.fails in
-      let failed = failed-on start (suc f.count) fault last (m - suc f.count) in
+      let last : turns rules (suc f.count) start ≡ Faulty fault = rw f.reaches.reached f.fails in
+      let faulty = faulty-on start (suc f.count) fault last (m - suc f.count) in
       let at : m - suc f.count + suc f.count ≡ m = omega arith in
-      let same : turns rules m start ≡ Failed fault = rw at at failed in
+      let same : turns rules m start ≡ Faulty fault = rw at at faulty in
       absurd (cc)

@@ -28,7 +28,7 @@ use Rattle.riot_map.proofs.RiotLemmas.{read-again, value-again}
 use Rattle.riot_map.proofs.TimerLemmas.{ShowsAtLeast, shown-above}
 use Rattle.vcs_machine.specs.Consoles.{Console, after_wait, console_rules, meaning_of, passed, read_at}
 use Rattle.vcs_machine.specs.Consoles.{wait_cycles}
-use Rattle.vcs_machine.specs.Frame.{Failed, Machine, Went, overlong_cycles, stop_of, turn}
+use Rattle.vcs_machine.specs.Frame.{Faulty, Machine, Went, overlong_cycles, stop_of, turn}
 use Rattle.vcs_machine.specs.Private.Polls.{IsPoll, GoOn, after_load, goes_on, least_of, loaded_at, opcode_of}
 use Rattle.vcs_machine.specs.Private.Polls.{operation_of}
 use Rattle.vcs_machine.specs.declared.polls.Branch.{Branch}
@@ -125,10 +125,10 @@ module _ {S : Type 0} (drawn : S → ℕ → ℕ → ℕ → S) where
   unfolding turn console_rules
   quiet_turn m n r bus answer registers left quiet = rw (← answer, ← registers, ← left, quiet, add-zero) refl
 
-  pub failed_turn : (m : Machine (Console S)) (fault : CpuFault) → Err fault ≡ (step_of (meaning_of drawn) m.registers m.bus).answer
-      → turn (console_rules drawn) m ≡ Failed fault
+  pub faulty_turn : (m : Machine (Console S)) (fault : CpuFault) → Err fault ≡ (step_of (meaning_of drawn) m.registers m.bus).answer
+      → turn (console_rules drawn) m ≡ Faulty fault
   unfolding turn console_rules
-  failed_turn m fault e = rw (← e) refl
+  faulty_turn m fault e = rw (← e) refl
 
   -- One round: its branch, then its load.
   round : (poll : Poll) (m : Machine (Console S)) → IsAtBranch poll m → m.cycles + poll.cycles ≤ overlong_cycles

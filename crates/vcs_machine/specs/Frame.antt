@@ -1,5 +1,6 @@
 -- A frame over any bus: instructions, each with its wait, until the least number of them at which
--- the frame stops. When a frame stops is this project's own rule.
+-- the frame stops. All of this is this project's own: when a frame stops, and that nothing is done
+-- between its instructions but to wait.
 use Rattle.std.specs.Prelude.{◌≡◌, ℕ, zero, suc, ◌+◌, ◌<◌, ◌≤◌, ◌||◌, nat_le, Bool, true, false}
 use Rattle.std.specs.Prelude.{if◌then◌else◌, Result, Ok, Err}
 use Rattle.mos_cpu.specs.Buses.{Meaning}
@@ -23,10 +24,10 @@ pub record Machine (B : Type 0) : Type 0 where
 
 -- What an instruction with its wait comes to.
 pub data Turn (B : Type 0) : Type 0 where
-  Failed : CpuFault → Turn B
+  Faulty : CpuFault → Turn B
   Went : Machine B → Turn B
 
--- Cycles after which a frame that has not ended is too long: 320 scanlines.
+-- Cycles after which a frame that has not ended is too long, this project's own: 320 scanlines.
 abbrev pub overlong_cycles : ℕ
 overlong_cycles = 24320
 
@@ -37,7 +38,7 @@ most_frame_cycles = 24401
 
 module _ {B : Type 0} (rules : Rules B) where
   abbrev pub turn_by : ℕ → Registers → B → Result ℕ CpuFault → Turn B
-  turn_by cycles r bus (Err fault) = Failed fault
+  turn_by cycles r bus (Err fault) = Faulty fault
   turn_by cycles r bus (Ok n) = Went (record { registers = r; bus = rules.after_wait bus; cycles = cycles + n + rules.wait bus })
 
   -- One instruction with its wait.
@@ -47,7 +48,7 @@ module _ {B : Type 0} (rules : Rules B) where
       turn_by m.cycles step.registers step.bus step.answer
 
   abbrev pub turn_after : Turn B → Turn B
-  turn_after (Failed fault) = Failed fault
+  turn_after (Faulty fault) = Faulty fault
   turn_after (Went m) = turn m
 
   -- So many of them, one after another.
@@ -84,7 +85,7 @@ pub record Faults {B : Type 0} (rules : Rules B) (start here : Machine B) (fault
   pub count : ℕ
   pub reaches : Reaches rules start count here
   pub going : 0 < count → is_over rules here ≡ false
-  pub fails : turn rules here ≡ Failed fault
+  pub fails : turn rules here ≡ Faulty fault
 
 -- How a frame stops, and where.
 pub data Stop (B : Type 0) : Type 0 where
@@ -112,7 +113,7 @@ most_turns = 12160
 
 module _ {B : Type 0} (rules : Rules B) where
   abbrev pub stop_after : (Machine B → Stop B) → Machine B → Turn B → Stop B
-  stop_after later m (Failed fault) = Faulted fault m
+  stop_after later m (Faulty fault) = Faulted fault m
   stop_after later m (Went next) = if rules.ended next.bus then Ended next else later next
 
   unfoldable pub stop_within : ℕ → Machine B → Stop B

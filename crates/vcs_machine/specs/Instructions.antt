@@ -14,7 +14,7 @@ use Rattle.mos_cpu.specs.declared.access.Transfer.TheVariants.{Read, Write}
 use Rattle.mos_cpu.specs.declared.fault.CpuFault.{CpuFault}
 use Rattle.mos_cpu.specs.declared.operation.Operation.{Operation}
 use Rattle.vcs_machine.specs.Consoles.{Console, console_rules, meaning_of}
-use Rattle.vcs_machine.specs.Frame.{Failed, Machine, Reaches, Rules, Stop, StopsAs, Turn, Went}
+use Rattle.vcs_machine.specs.Frame.{Faulty, Machine, Reaches, Rules, Stop, StopsAs, Turn, Went}
 use Rattle.vcs_machine.specs.Frame.{machine_at, turns}
 use Rattle.vcs_machine.specs.Inputs.{InputData}
 use Rattle.vcs_machine.specs.Outcomes.{machine_of}
@@ -79,7 +79,7 @@ executed_at drawn m =
 
 -- ---- one after another
 abbrev pub machine_in : {B : Type 0} → Turn B → List (Machine B)
-machine_in (Failed fault) = []
+machine_in (Faulty fault) = []
 machine_in (Went m) = m ∷ []
 
 module _ {B : Type 0} (rules : Rules B) where

@@ -2,7 +2,7 @@
 ghost use Rattle.std.specs.Prelude.{◌≡◌, ◌<◌, ◌≤◌, ◌+◌, IfOk, IfErr, OnOk, OnErr};
 ghost use Rattle.mos_cpu.specs.declared.fault.CpuFault.{CpuFault};
 ghost use Rattle.vcs_machine.specs.Faults.{kind_of};
-ghost use Rattle.vcs_machine.specs.Frame.{Failed, Went, is_over, overlong_cycles, turn};
+ghost use Rattle.vcs_machine.specs.Frame.{Faulty, Went, is_over, overlong_cycles, turn};
 ghost use Rattle.vcs_machine.specs.Instructions.{executed_at, undrawn_of, undrawn_rules};
 ghost use Rattle.vcs_machine.specs.Instructions.{with_pixel_lost};
 ghost use Rattle.vcs_machine.specs.Pictures.{rows_of};
@@ -92,7 +92,7 @@ impl<'a> Stepping<'a> {
         ensures went { OnOk result (turn undrawn_rules self.old ≡ Went self.new) }
         ensures executed { IfOk result (λ executed. executed ≡ executed_at with_pixel_lost self.old) }
         ensures later { OnOk result (self.old.cycles + 2 ≤ self.new.cycles) }
-        ensures fault { IfErr result (λ kind. (fault : CpuFault) × (kind ≡ kind_of fault) × (turn undrawn_rules self.old ≡ Failed fault)) }
+        ensures fault { IfErr result (λ kind. (fault : CpuFault) × (kind ≡ kind_of fault) × (turn undrawn_rules self.old ≡ Faulty fault)) }
         ensures same { OnErr result (self.new ≡ self.old) }
     {
         let cpu = self.cpu;

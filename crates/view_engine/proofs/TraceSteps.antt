@@ -12,7 +12,7 @@ use Rattle.mos_cpu.specs.declared.fault.CpuFault.TheVariants.{BadOpcode}
 use Rattle.vcs_machine.specs.Consoles.{console_rules}
 use Rattle.vcs_machine.specs.Faults.{kind_of, stop_with}
 use Rattle.vcs_machine.specs.Frame.{Ended, Faulted, Machine, Overlong, Reaches, Rules, Stop, StopsAs, Went}
-use Rattle.vcs_machine.specs.Frame.{Failed, is_over, stop_of, turn, turns}
+use Rattle.vcs_machine.specs.Frame.{Faulty, is_over, stop_of, turn, turns}
 use Rattle.vcs_machine.specs.Instructions.{StopsAfter, Undrawn, begun, executed_at, machine_in}
 use Rattle.vcs_machine.specs.Instructions.{undrawn_rules, with_pixel_lost}
 use Rattle.vcs_machine.proofs.OneStop.{none-after, reaches-suc, stops_as-found}
@@ -118,7 +118,7 @@ module _ {banks : Bool} {start here : Machine Undrawn} {a b : Option (List ℕ)}
           (suc w.count, next, reached, rw (lines_one banks start here w.count w.reaches.reached) (prefix_after a b c so_far _ w.written part))
 
     -- or a fault.
-    pub faulted_here : (fault : CpuFault) → turn R here ≡ Failed fault
+    pub faulted_here : (fault : CpuFault) → turn R here ≡ Faulty fault
         → (count : ℕ) × StopsAfter R start count (Faulted fault here) × Appends a b (lines_of banks (begun R start count))
     faulted_here fault fails =
         (w.count, (w.reaches, record { count = w.count; reaches = w.reaches; going = λ some. going; fails = fails }), w.written)

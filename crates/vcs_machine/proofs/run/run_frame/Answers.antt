@@ -4,8 +4,8 @@ use Rattle.mos_cpu.specs.declared.fault.CpuFault.TheVariants.{BadOpcode, FetchOu
 use Rattle.vcs_machine.specs.Consoles.{Console as ConsoleOf, after_wait, console_rules}
 use Rattle.vcs_machine.specs.Faults.{stop_with, kind_of}
 use Rattle.vcs_machine.specs.Frame.{Machine, Faulted}
-use Rattle.vcs_machine.proofs.OneStop.{stops-ended, stops-failed, stops-later, stops-long}
-use Rattle.vcs_machine.proofs.PollLemmas.{failed_turn, quiet_turn, waited_turn}
+use Rattle.vcs_machine.proofs.OneStop.{stops-ended, stops-faulty, stops-later, stops-long}
+use Rattle.vcs_machine.proofs.PollLemmas.{faulty_turn, quiet_turn, waited_turn}
 use Rattle.vcs_machine.proofs.run.run_frame.Goals as goal
 
 -- The stop of a processor's fault.
@@ -18,8 +18,8 @@ returns-in-Err-clause-err g c =
     let m : Machine (ConsoleOf g.row.S.Denot) = record { registers = c.loop-cycles.cpu; bus = c.loop-cycles.console; cycles = c.loop-cycles.cycles } in
     rw (c.from-kind.ensures, halted-kind_of, c.in-Err.ensures.fault_cpu, c.in-Err.ensures.fault_bus)
     (c.loop-cycles.invariant
-    ∙ stops-failed (console_rules g.S.Paint.drawn) m c.in-Err.fault c.loop-cycles-test.true
-    (failed_turn g.S.Paint.drawn m c.in-Err.fault c.in-Err.ensures.answer))
+    ∙ stops-faulty (console_rules g.S.Paint.drawn) m c.in-Err.fault c.loop-cycles-test.true
+    (faulty_turn g.S.Paint.drawn m c.in-Err.fault c.in-Err.ensures.answer))
 
 pub returns-clause-err : goal.returns-clause-err
 returns-clause-err g c = c.loop-cycles.invariant ∙ stops-long (console_rules g.S.Paint.drawn) _ c.loop-cycles-test.false

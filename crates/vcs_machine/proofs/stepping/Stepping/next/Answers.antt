@@ -7,7 +7,7 @@ use Rattle.vcs_machine.specs.Frame.{Machine}
 use Rattle.vcs_machine.specs.Instructions.{Undrawn, byte_at, data_accesses, with_pixel_lost}
 use Rattle.vcs_machine.specs.Private.Logged.{Logged, logging}
 use Rattle.vcs_machine.proofs.LoggedLemmas.{logged-accesses, logged-below}
-use Rattle.vcs_machine.proofs.PollLemmas.{failed_turn, waited_turn}
+use Rattle.vcs_machine.proofs.PollLemmas.{faulty_turn, waited_turn}
 use Rattle.vcs_machine.proofs.stepping.Stepping.next.Goals as goal
 
 abbrev M : Meaning Undrawn
@@ -18,7 +18,7 @@ returns-in-Err-clause-fault c =
     let l : Logged Undrawn = record { bus = c.beam-line.new.self; accesses = c.self.inside.bus.accesses.items } in
     let m : Machine Undrawn = record { registers = c.self.inside.cpu; bus = c.beam-line.new.self; cycles = c.self.inside.cycles } in
     let at : m ≡ c.args.self.now = cc in
-    (c.in-Err.fault, c.from.ensures, rw (← at) (failed_turn with_pixel_lost m c.in-Err.fault (rw (logged-below M m.registers l) c.in-Err.ensures.answer)))
+    (c.in-Err.fault, c.from.ensures, rw (← at) (faulty_turn with_pixel_lost m c.in-Err.fault (rw (logged-below M m.registers l) c.in-Err.ensures.answer)))
 
 pub returns : goal.returns
 returns c =
