@@ -25,7 +25,8 @@ use Rattle.movie_file.specs.declared.error.MakeError.TheVariants.{Fault, BadCoun
 use Rattle.movie_file.specs.Format.{most_frames, most_checkpoints}
 use Rattle.movie_file.specs.Judgement.{AllSound, IsGenuine}
 use Rattle.movie_file.specs.Making.{bare, counts_fit, version_made, Explains, IsMadeOf}
-use Rattle.movie_file.specs.Private.MakingSteps.{checkpoint_if, Claims, RunFails}
+use Rattle.movie_file.specs.ClaimedStates.{checkpoint_if, Claims}
+use Rattle.movie_file.specs.Private.MakingSteps.{RunFails}
 use Rattle.movie_file.specs.Movie.{MovieData, IsMovie, IsState, IsStateWith, AreCheckpoints}
 use Rattle.movie_file.specs.Record.{fits_bank}
 use Rattle.movie_file.specs.Run.{run, frame_after, state_after}

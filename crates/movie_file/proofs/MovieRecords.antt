@@ -10,7 +10,7 @@ use Rattle.std.proofs.lemmas.List.{take_more, take_at, take_all, length-take}
 use Rattle.riot_map.specs.Cart.{has_banks}
 use Rattle.vcs_machine.specs.declared.fields.StateFields.{StateFields}
 use Rattle.movie_file.specs.Format.{takes_cart, most_frames, record_length, state_length, whole_record}
-use Rattle.movie_file.specs.Private.RecordNumbers.{bank_place}
+use Rattle.movie_file.specs.RecordNumbers.{bank_place}
 use Rattle.movie_file.specs.Movie.{IsState, IsStateWith}
 use Rattle.movie_file.specs.Record.{record_of, recorded_state, movie_record, fits_bank}
 use Rattle.movie_file.specs.Record.{with_fitting_bank, movie_state_at}

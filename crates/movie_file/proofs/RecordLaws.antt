@@ -20,8 +20,8 @@ use Rattle.record_table.specs.Numbers.{bytes_of}
 use Rattle.mos_cpu.specs.Registers.{processor_numbers}
 use Rattle.tia_core.specs.Numbers.{tia_numbers}
 use Rattle.movie_file.specs.Record.{record_of, recorded_state, riot_bytes}
-use Rattle.movie_file.specs.Private.RecordNumbers.{fields_at, cpu_part, riot_part, tia_part, cpu_length, riot_length, tia_length, tia_place, bank_place}
-use Rattle.movie_file.specs.Private.RecordNumbers.{cpu_at, riot_at, tia_at}
+use Rattle.movie_file.specs.RecordNumbers.{fields_at, cpu_part, riot_part, tia_part, cpu_length, riot_length, tia_length, tia_place, bank_place}
+use Rattle.movie_file.specs.RecordNumbers.{cpu_at, riot_at, tia_at}
 use Rattle.movie_file.specs.Movie.{IsState}
 use Rattle.movie_file.proofs.ByteLemmas.{IsBytes, IsBytes-take, IsBytes-drop}
 use Rattle.movie_file.proofs.RecordParts.{cpu_back, riot_back, tia_back, cpu_again, riot_again}

@@ -12,7 +12,7 @@ use Rattle.mos_cpu.specs.Registers.{processor_numbers}
 use Rattle.riot_map.specs.RiotFields.{riot_numbers}
 use Rattle.tia_core.specs.Numbers.{tia_numbers}
 use Rattle.movie_file.specs.Record.{riot_bytes}
-use Rattle.movie_file.specs.Private.RecordNumbers.{cpu_at, riot_with, riot_at, tia_at, cpu_length, riot_length, tia_length}
+use Rattle.movie_file.specs.RecordNumbers.{cpu_at, riot_with, riot_at, tia_at, cpu_length, riot_length, tia_length}
 use Rattle.movie_file.proofs.ByteLemmas.{IsBytes, IsBytes-drop, cells, cells_whole, two_back}
 
 -- ---- written as they were read

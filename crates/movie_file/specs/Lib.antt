@@ -1,3 +1,4 @@
+pub mod ClaimedStates
 pub mod Conversion
 pub mod Format
 pub mod InputLists
@@ -8,5 +9,6 @@ pub mod MovieError
 pub mod Private
 pub mod Reading
 pub mod Record
+pub mod RecordNumbers
 pub mod Run
 pub mod Spelling

@@ -10,7 +10,7 @@ use Rattle.tia_core.specs.Numbers.{tia_numbers}
 use Rattle.vcs_machine.specs.States.{bank_numbers, is_state}
 use Rattle.vcs_machine.specs.declared.fields.StateFields.{StateFields}
 use Rattle.movie_file.specs.Format.{state_length, record_length, whole_record}
-use Rattle.movie_file.specs.Private.RecordNumbers.{fields_at}
+use Rattle.movie_file.specs.RecordNumbers.{fields_at}
 
 -- the 138 bytes of a RIOT: first its memory
 abbrev pub riot_bytes : RiotFields → List ℕ

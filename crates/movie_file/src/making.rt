@@ -6,7 +6,8 @@ ghost use Rattle.riot_map.specs.Cart.{is_cart_length};
 ghost use Rattle.vcs_machine.specs.States.{state_at_power_on};
 ghost use Rattle.movie_file.specs.Judgement.{IsGenuine};
 ghost use Rattle.movie_file.specs.Making.{Explains, IsMadeOf, bare, counts_fit, version_made};
-ghost use Rattle.movie_file.specs.Private.MakingSteps.{RunFails, checkpoint_if};
+ghost use Rattle.movie_file.specs.ClaimedStates.{checkpoint_if};
+ghost use Rattle.movie_file.specs.Private.MakingSteps.{RunFails};
 ghost use Rattle.movie_file.specs.Movie.{IsMovie, IsState};
 
 use crate::assembling::movie_of;

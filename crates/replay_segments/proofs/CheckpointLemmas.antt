@@ -7,7 +7,8 @@ use Rattle.vcs_machine.specs.declared.fields.StateFields.{StateFields}
 use Rattle.movie_file.specs.Movie.{MovieData, IsMovie}
 use Rattle.movie_file.specs.declared.checkpoint.Checkpoint.{Checkpoint}
 use Rattle.movie_file.proofs.CheckpointLemmas.{checkpoint_in_range, checkpoints_rise}
-use Rattle.replay_segments.specs.Private.Steps.{IsNext, IsClaim}
+use Rattle.replay_segments.specs.NextCheckpoint.{IsNext}
+use Rattle.replay_segments.specs.Private.Steps.{IsClaim}
 use Rattle.replay_segments.specs.declared.judge.Claim.TheVariants.{Holds}
 use Rattle.replay_segments.proofs.ListLemmas.{same_at}
 

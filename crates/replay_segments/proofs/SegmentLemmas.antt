@@ -13,7 +13,7 @@ use Rattle.replay_segments.specs.Cuts.{Fits}
 use Rattle.replay_plan.specs.Keeping.{is_kept, kept_count}
 use Rattle.replay_segments.specs.Pieces.{Job, HasKept}
 use Rattle.replay_segments.specs.Segments.{end_of, from_of, start_of, IsSegment}
-use Rattle.replay_segments.specs.Private.Steps.{IsNext}
+use Rattle.replay_segments.specs.NextCheckpoint.{IsNext}
 use Rattle.replay_segments.specs.Verdicts.{IsJudged}
 use Rattle.replay_segments.proofs.CheckpointLemmas.{frame_in_range, frames_rise, IsNext-after}
 use Rattle.replay_segments.proofs.ListLemmas.{slice_get-below}

@@ -1,6 +1,7 @@
 pub mod Cuts
 pub mod Gathering
 pub mod KeptPictures
+pub mod NextCheckpoint
 pub mod Pieces
 pub mod Private
 pub mod RunStates

@@ -2,7 +2,8 @@
 ghost use Rattle.std.specs.Prelude.{◌≡◌, ℕ, ◌+◌, ◌<◌, ◌≤◌, ◌^◌, length, IfOk, OnOk, OnErr, true};
 ghost use Rattle.std.specs.Prelude.{vec_len, vec_capacity, if◌then◌else◌};
 ghost use Rattle.replay_plan.specs.Keeping.{is_kept, kept_count};
-ghost use Rattle.replay_segments.specs.Private.Steps.{IsFrameStep, IsNext, IsClaim, IsAdvance};
+ghost use Rattle.replay_segments.specs.NextCheckpoint.{IsNext};
+ghost use Rattle.replay_segments.specs.Private.Steps.{IsFrameStep, IsClaim, IsAdvance};
 ghost use Rattle.replay_segments.specs.Verdicts.{IsJudged, IsVerdict};
 
 use crate::verdict::Verdict;

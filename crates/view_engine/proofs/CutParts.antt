@@ -8,7 +8,7 @@ use Rattle.vcs_machine.specs.Inputs.{InputData, is_input}
 use Rattle.vcs_machine.specs.declared.fields.StateFields.{StateFields}
 use Rattle.movie_file.specs.Making.{counts_fit, version_made}
 use Rattle.movie_file.specs.Movie.{MovieData, IsMovie, IsState}
-use Rattle.movie_file.specs.Private.MakingSteps.{Claims}
+use Rattle.movie_file.specs.ClaimedStates.{Claims}
 use Rattle.movie_file.specs.Run.{run}
 use Rattle.movie_file.specs.declared.checkpoint.Checkpoint.{Checkpoint}
 use Rattle.movie_file.proofs.InputLemmas.{AreInputs}

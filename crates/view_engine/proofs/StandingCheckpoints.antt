@@ -8,7 +8,7 @@ use Rattle.std.proofs.lemmas.Option.{slice_get-get_or, slice_get_within, slice_g
 use Rattle.vcs_machine.specs.declared.fields.StateFields.{StateFields}
 use Rattle.movie_file.specs.Movie.{MovieData, IsMovie}
 use Rattle.movie_file.specs.declared.checkpoint.Checkpoint.{Checkpoint}
-use Rattle.replay_segments.specs.Private.Steps.{IsNext}
+use Rattle.replay_segments.specs.NextCheckpoint.{IsNext}
 use Rattle.replay_segments.proofs.CheckpointLemmas.{in_order}
 use Rattle.view_engine.specs.FrameLines.{checkpoint_text, claim_text}
 use Rattle.view_engine.specs.Private.Describing.{StandBefore}

@@ -4,7 +4,7 @@ ghost use Rattle.std.specs.Prelude.{IsTrue, vec_capacity};
 ghost use Rattle.std.specs.NonZero.{non_zero_u32_get};
 ghost use Rattle.movie_file.specs.Making.{counts_fit};
 ghost use Rattle.movie_file.specs.Movie.{IsMovie, IsState};
-ghost use Rattle.movie_file.specs.Private.MakingSteps.{Claims};
+ghost use Rattle.movie_file.specs.ClaimedStates.{Claims};
 ghost use Rattle.movie_file.specs.Run.{run};
 ghost use Rattle.view_engine.specs.Cuts.{IsCutOf};
 ghost use Rattle.view_engine.specs.Private.CutErrors.{Explains};

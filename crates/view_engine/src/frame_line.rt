@@ -5,7 +5,7 @@ ghost use Rattle.std.specs.List.{flat_map};
 ghost use Rattle.vcs_machine.specs.Pictures.{Rows};
 ghost use Rattle.movie_file.specs.Run.{run};
 ghost use Rattle.picture_file.specs.PictureBytes.{picture_bytes};
-ghost use Rattle.replay_segments.specs.Private.Steps.{IsNext};
+ghost use Rattle.replay_segments.specs.NextCheckpoint.{IsNext};
 ghost use Rattle.view_engine.specs.FrameLines.{byte_text, checkpoint_text, digests_text};
 ghost use Rattle.view_engine.specs.FrameLines.{ended_line, frame_line};
 ghost use Rattle.view_engine.specs.Private.Describing.{StandBefore};

@@ -2,7 +2,7 @@
 ghost use Rattle.std.specs.Prelude.{◌≡◌, length, slice_index, Some, None, if◌then◌else◌};
 ghost use Rattle.record_table.specs.Numbers.{bytes_of};
 ghost use Rattle.mos_cpu.specs.Registers.{is_status, processor_numbers};
-ghost use Rattle.movie_file.specs.Private.RecordNumbers.{cpu_at};
+ghost use Rattle.movie_file.specs.RecordNumbers.{cpu_at};
 
 use super::number::{RecordNumber, number};
 use mos_cpu::Cpu;

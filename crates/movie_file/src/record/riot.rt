@@ -3,7 +3,7 @@ ghost use Rattle.std.specs.Prelude.{◌≡◌, length};
 ghost use Rattle.record_table.specs.Numbers.{bytes_of};
 ghost use Rattle.riot_map.specs.RiotFields.{riot_numbers};
 ghost use Rattle.movie_file.specs.Record.{riot_bytes};
-ghost use Rattle.movie_file.specs.Private.RecordNumbers.{riot_at, riot_with};
+ghost use Rattle.movie_file.specs.RecordNumbers.{riot_at, riot_with};
 
 use super::number::{RecordNumber, number};
 use riot_map::RiotFields;

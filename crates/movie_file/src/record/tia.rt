@@ -2,7 +2,7 @@
 ghost use Rattle.std.specs.Prelude.{◌≡◌, length, nat_lt, slice_index, Some, None, if◌then◌else◌};
 ghost use Rattle.record_table.specs.Numbers.{bytes_of};
 ghost use Rattle.tia_core.specs.Numbers.{tia_numbers};
-ghost use Rattle.movie_file.specs.Private.RecordNumbers.{tia_at};
+ghost use Rattle.movie_file.specs.RecordNumbers.{tia_at};
 
 use super::number::{RecordNumber, number};
 use tia_core::TiaFields;

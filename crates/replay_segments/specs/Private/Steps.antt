@@ -1,5 +1,5 @@
 -- What replaying a frame answers, and how far a replay has come. This project's own.
-use Rattle.std.specs.Prelude.{ℕ, ◌+◌, ◌<◌, ◌≤◌, ◌≡◌, ◌≢◌, List, length, Option, Some, None, Result}
+use Rattle.std.specs.Prelude.{ℕ, ◌+◌, ◌≡◌, ◌≢◌, List, Option, Some, None, Result}
 use Rattle.std.specs.Prelude.{Ok, Err, Bool, true, slice_get, [], ◌∷◌, ◌++◌, if◌then◌else◌}
 use Rattle.vcs_machine.specs.Outcomes.{Played, Failed}
 use Rattle.vcs_machine.specs.Pictures.{Rows}
@@ -12,6 +12,7 @@ use Rattle.movie_file.specs.Run.{frame_after, run}
 use Rattle.movie_file.specs.declared.checkpoint.Checkpoint.{Checkpoint}
 use Rattle.replay_plan.specs.Keeping.{is_kept}
 use Rattle.replay_segments.specs.KeptPictures.{pictures}
+use Rattle.replay_segments.specs.NextCheckpoint.{IsNext}
 use Rattle.replay_plan.specs.declared.keep.Keep.{Keep}
 use Rattle.replay_segments.specs.declared.judge.Claim.{Claim}
 use Rattle.replay_segments.specs.declared.judge.Claim.TheVariants.{Holds, False}
@@ -31,12 +32,6 @@ IsAdvance m keep before old olds new news (Ok _) =
 IsAdvance m keep before old olds new news (Err (Fault kind)) =
     (left : StateFields) × (frame_after m before old ≡ Some (Failed kind left))
 IsAdvance m keep before old olds new news (Err NoMemory) = is_kept keep (before + 1) ≡ true
-
--- The checkpoints before index `next` stand before a frame, and no other does.
-pub record IsNext (m : MovieData) (next frame : ℕ) : Type 0 where
-  pub within : next ≤ length m.checkpoints
-  pub before : (j : ℕ) (c : Checkpoint) → slice_get m.checkpoints j ≡ Some c → j < next → c.frame < frame
-  pub after : (j : ℕ) (c : Checkpoint) → slice_get m.checkpoints j ≡ Some c → next ≤ j → frame ≤ c.frame
 
 -- Each checkpoint after a frame claims this state.
 abbrev pub ClaimsHold : MovieData → ℕ → StateFields → Type 0

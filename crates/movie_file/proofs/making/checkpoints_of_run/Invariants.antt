@@ -5,7 +5,7 @@ use Rattle.vcs_machine.specs.Inputs.{is_input}
 use Rattle.vcs_machine.specs.States.{state_at_power_on}
 use Rattle.movie_file.specs.Judgement.{AllSound}
 use Rattle.movie_file.specs.Making.{bare}
-use Rattle.movie_file.specs.Private.MakingSteps.{Claims}
+use Rattle.movie_file.specs.ClaimedStates.{Claims}
 use Rattle.movie_file.specs.Run.{run}
 use Rattle.movie_file.proofs.making.checkpoints_of_run.Given as goal
 

@@ -1,5 +1,6 @@
 use Rattle.std.proofs.Common.{◌≡◌, ◌∙◌, ℕ, ◌+◌, refl, arith, subst}
-use Rattle.replay_segments.specs.Private.Steps.{IsNext, SoFar}
+use Rattle.replay_segments.specs.NextCheckpoint.{IsNext}
+use Rattle.replay_segments.specs.Private.Steps.{SoFar}
 use Rattle.replay_segments.proofs.RunLemmas.{SoFar-next, IsJudged-false}
 use Rattle.replay_segments.proofs.KeepLemmas.{kept_count-next, kept_count-zero}
 use Rattle.replay_segments.proofs.judge.judge_frames.Goals as goal

@@ -1,6 +1,7 @@
 use Rattle.std.proofs.Common.{◌≡◌, ◌+◌, ◌≤◌, vec_len, vec_capacity}
 use Rattle.replay_plan.specs.Keeping.{kept_count}
-use Rattle.replay_segments.specs.Private.Steps.{IsNext, SoFar}
+use Rattle.replay_segments.specs.NextCheckpoint.{IsNext}
+use Rattle.replay_segments.specs.Private.Steps.{SoFar}
 use Rattle.replay_segments.proofs.judge.judge_frames.Given as goal
 
 abbrev pub invariant-loop-k : goal.invariant-loop-k

@@ -1,4 +1,4 @@
-use Rattle.segment_desk.specs.Private.Draws.{left_of}
+use Rattle.verify_pool.specs.Private.Draws.{left_of}
 use Rattle.segment_desk.specs.Views.{IsOf}
 use Rattle.test_verdicts.proofs.desk.draw_all.Given as goal
 

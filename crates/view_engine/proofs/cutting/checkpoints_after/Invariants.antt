@@ -1,7 +1,7 @@
 use Rattle.std.proofs.Common.{◌≡◌, ◌≤◌, ◌+◌, ◌/◌, Some}
 use Rattle.std.specs.Prelude.{vec_capacity}
 use Rattle.movie_file.specs.Run.{run}
-use Rattle.movie_file.specs.Private.MakingSteps.{Claims}
+use Rattle.movie_file.specs.ClaimedStates.{Claims}
 use Rattle.view_engine.proofs.cutting.checkpoints_after.Given as goal
 
 abbrev pub invariant-loop-k : goal.invariant-loop-k

@@ -1,5 +1,5 @@
--- The numbers that the bytes of a record spell, part by part: how `recorded_state` is found, of which
--- `law_of_records` says the whole.
+-- The numbers that the bytes of a record spell, part by part. That a state's record spells its
+-- numbers is `law_of_records`. This project's own.
 use Rattle.std.specs.Prelude.{ℕ, List, [], ◌∷◌, ◌+◌, ◌*◌, take, drop, slice_index}
 use Rattle.std.specs.Int.{w16, from_be_bytes}
 use Rattle.record_table.specs.Numbers.{table_length}
