@@ -13,6 +13,7 @@ use Rattle.tia_core.specs.Read.{tia_read}
 use Rattle.tia_core.specs.TiaState.{TiaState}
 use Rattle.tia_core.specs.Write.{effect_of, tia_after_write}
 use Rattle.tia_core.specs.declared.effect.Effect.TheVariants.{Nothing}
+use Rattle.tia_core.specs.declared.fields.TiaFields.{TiaFields}
 use Rattle.vcs_machine.specs.Consoles.{Console, after_tia_write}
 use Rattle.tia_core.proofs.ClockLemmas.{iterate-add, painted-add, iterate-clocked-clock}
 use Rattle.tia_core.proofs.ClockLemmas.{iterate-clocked-others}
