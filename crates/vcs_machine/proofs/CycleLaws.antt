@@ -52,7 +52,7 @@ module _ {S : Type 0} (drawn : S → ℕ → ℕ → ℕ → S) where
       let e : 1 + n ≡ suc n = omega arith in
       rw e at (sym (passed-add drawn c 1 n)) ∙ passed-cycles n (passed drawn c 1) ∙ ap (iterate (after_one_cycle drawn) n) (passed-one c)
 
--- ---- the beam's place
+-- ---- the beam's place, among the 14,942,208 clocks of 65,536 lines
 -- One clock, wherever the beam is.
 clocked-place : (s : TiaState) → beam_of (after_clock s) % 14942208 ≡ (beam_of s % 14942208 + 1) % 14942208
 clocked-place s = grind (arith, nat_tests)

@@ -45,7 +45,8 @@ mapped-back P (p ∷ ps) h =
     All-cons (λ p. P (beam_of_pixel p)) p ps (All-head P (beam_of_pixel p) (map beam_of_pixel ps) h)
     (mapped-back P ps (All-tail P (beam_of_pixel p) (map beam_of_pixel ps) h))
 
--- ---- a console whose frame began at this place, after so many cycles
+-- ---- a console whose frame began at this place, after so many cycles: before lines are counted
+-- round, at the 14,942,208 clocks of 65,536 lines
 record IsLogged (start : ℕ) (c : Console (List Pixel)) (t : ℕ) : Type 0 where
   inside : c.tia.fields.clock < 228
   in_line : All (λ p. p.x < 160) c.sink

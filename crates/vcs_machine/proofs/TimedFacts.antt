@@ -1,4 +1,4 @@
--- A fact of a bus and of the cycles so far, which each call of the bus keeps, holds after each turn.
+-- A fact of a bus and of the cycles so far that each call of the bus keeps holds after each turn.
 use Rattle.std.proofs.Common.{◌≡◌, ℕ, ◌+◌, true, false, Bool, Ok, refl, arith}
 use Rattle.mos_cpu.specs.Buses.{IsClock, IsInvariant, Meaning, Respects}
 use Rattle.mos_cpu.specs.Execution.{step_of}
