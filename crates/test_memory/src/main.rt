@@ -23,6 +23,7 @@ mod order;
 mod segments;
 mod tracing;
 mod workers;
+mod wrong_movies;
 
 use failure::Failure;
 use growths::{REFUSED, grow};
@@ -32,6 +33,7 @@ use std::process::ExitCode;
 use std::sync::Wait;
 use std::thread::Threads;
 use vcs_engine::InputForm;
+use wrong_movies::WrongMovie;
 
 /// Tries a call about a movie or its segments; none has another name.
 fn outcome_of_movies(alloc: Global, call: &str) -> Option<Result<(), Failure>> {
@@ -50,6 +52,7 @@ fn outcome_of_movies(alloc: Global, call: &str) -> Option<Result<(), Failure>> {
         "replay" => segments::is_replayed(alloc),
         "gather" => segments::is_gathered(alloc, 2),
         "gather_without_pictures" => segments::is_gathered(alloc, 0),
+        "gather_two_of_a_segment" => segments::is_gathered_of_three(alloc),
         _ => return None,
     })
 }
@@ -63,10 +66,35 @@ fn outcome_of_workers<R: Threads + Wait + Sync>(
     Some(match call {
         "desk" => workers::has_desk(alloc),
         "crew" => workers::is_worked_on(rt, alloc),
-        "verify_by_two" => workers::is_judged_by_two(rt, alloc),
+        "verify_by_one" => workers::is_judged_by(rt, alloc, 1),
+        "verify_by_two" => workers::is_judged_by(rt, alloc, 2),
         "verify_by_eight" => workers::is_judged_by_eight(rt, alloc),
         "verify_with_gate" => workers::is_entered_before_replay(rt, alloc),
         "verify_600_pictures" => workers::is_judged_once(rt, alloc),
+        "verify_600_pictures_of_one_cut" => workers::is_judged_once_of_one_cut(rt, alloc),
+        _ => return None,
+    })
+}
+
+/// Tries a call about a movie that is not genuine; none has another name.
+fn outcome_of_wrong_movies<R: Threads + Wait + Sync>(
+    rt: &R,
+    alloc: Global,
+    call: &str,
+) -> Option<Result<(), Failure>> {
+    use WrongMovie::{FalseCounter, FalseMemory, Fault};
+    Some(match call {
+        "gather_false_memory" => segments::is_gathered_as_wrong(alloc, FalseMemory),
+        "gather_false_counter" => segments::is_gathered_as_wrong(alloc, FalseCounter),
+        "verify_false_memory_by_one" => workers::is_judged_as_wrong(rt, alloc, FalseMemory, 1),
+        "verify_false_memory_by_two" => workers::is_judged_as_wrong(rt, alloc, FalseMemory, 2),
+        "verify_false_memory_by_eight" => workers::is_judged_as_wrong(rt, alloc, FalseMemory, 8),
+        "verify_false_counter_by_one" => workers::is_judged_as_wrong(rt, alloc, FalseCounter, 1),
+        "verify_false_counter_by_two" => workers::is_judged_as_wrong(rt, alloc, FalseCounter, 2),
+        "verify_false_counter_by_eight" => workers::is_judged_as_wrong(rt, alloc, FalseCounter, 8),
+        "verify_fault_by_one" => workers::is_judged_as_wrong(rt, alloc, Fault, 1),
+        "verify_fault_by_two" => workers::is_judged_as_wrong(rt, alloc, Fault, 2),
+        "verify_fault_by_eight" => workers::is_judged_as_wrong(rt, alloc, Fault, 8),
         _ => return None,
     })
 }
@@ -112,6 +140,9 @@ fn outcome_of<R: Threads + Wait + Sync>(
     if let Some(outcome) = outcome_of_workers(rt, alloc, call) {
         return Some(outcome);
     }
+    if let Some(outcome) = outcome_of_wrong_movies(rt, alloc, call) {
+        return Some(outcome);
+    }
     outcome_of_commands(rt, alloc, call)
 }
 
@@ -139,7 +170,7 @@ fn answer<R: Threads + Wait + Sync + Print>(rt: &R, alloc: Global, line: &str) -
 }
 
 fn main(rt: HostRuntime) -> ExitCode {
-    let mut room = [0u8; 1024];
+    let mut room = [0u8; 2048];
     let Ok(length) = rt.stdin().read(&mut room) else {
         return ExitCode::FAILURE;
     };

@@ -8,7 +8,7 @@ use vcs_machine::Input;
 
 /// LDA #02, STA 80, STA VSYNC, LDA #00, STA VSYNC, JMP F000: a frame of 13 cycles, then frames of
 /// 16.
-const ENDLESS_FRAMES: [u8; 13] = [
+pub(crate) const ENDLESS_FRAMES: [u8; 13] = [
     0xA9, 2, 0x85, 0x80, 0x85, 0, 0xA9, 0, 0x85, 0, 0x4C, 0, 0xF0,
 ];
 
@@ -19,9 +19,29 @@ pub(crate) const LENGTH: usize = 2446;
 pub(crate) const CONVERTED_LENGTH: usize = 2448;
 
 /// Puts values from a place on.
-fn put<const N: usize>(bytes: &mut [u8; N], from: usize, values: &[u8]) {
+pub(crate) fn put<const N: usize>(bytes: &mut [u8; N], from: usize, values: &[u8]) {
     for (byte, value) in bytes.iter_mut().skip(from).zip(values) {
         *byte = *value;
+    }
+}
+
+/// Puts a movie up to its checkpoints: so many idle frames of a program from power-on, and how many
+/// checkpoints there are.
+pub(crate) fn put_start<const N: usize>(
+    bytes: &mut [u8; N],
+    program: &[u8],
+    frames: u8,
+    checkpoints: u8,
+) {
+    put(bytes, 0, b"A26M");
+    put(bytes, 4, &[0, 1, 8, 0, 0, 0, 0, frames, 0, checkpoints]);
+    put(bytes, 14, program);
+    put(bytes, 14 + 0x7FD, &[0xF0]);
+    // The start: S, P, PC, and the timer's part.
+    put(bytes, 2065, &[0xFF, 0x04, 0xF0]);
+    put(bytes, 2203, &[1, 3]);
+    for frame in 0..usize::from(frames) {
+        put(bytes, 2249 + 3 * frame, &[0xFF, 0x3F]);
     }
 }
 
@@ -29,19 +49,9 @@ fn put<const N: usize>(bytes: &mut [u8; N], from: usize, values: &[u8]) {
 /// no memory.
 pub(crate) fn two_frames() -> [u8; LENGTH] {
     let mut bytes = [0; LENGTH];
-    put(&mut bytes, 0, b"A26M");
-    put(&mut bytes, 4, &[0, 1, 8, 0, 0, 0, 0, 2, 0, 1]);
-    put(&mut bytes, 14, &ENDLESS_FRAMES);
-    put(&mut bytes, 14 + 0x7FD, &[0xF0]);
-    // The start: S, P, PC, and the timer's part.
-    put(&mut bytes, 2065, &[0xFF, 0x04, 0xF0]);
-    put(&mut bytes, 2203, &[1, 3]);
-    // The inputs of two frames, and the frame of the checkpoint.
-    put(
-        &mut bytes,
-        2249,
-        &[0xFF, 0x3F, 0, 0xFF, 0x3F, 0, 0, 0, 0, 1],
-    );
+    put_start(&mut bytes, &ENDLESS_FRAMES, 2, 1);
+    // The frame of the checkpoint.
+    put(&mut bytes, 2258, &[1]);
     // The claimed state: S, P, PC, A, the byte at 80, the timer, and the cycle of the line.
     put(&mut bytes, 2262, &[0xFF, 0x06, 0xF0, 0x0A, 2]);
     put(&mut bytes, 2398, &[0xF3, 0, 1, 3, 1, 1]);

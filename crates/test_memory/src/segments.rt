@@ -3,6 +3,7 @@ ghost use Rattle.replay_segments.specs.Cuts.{Fits};
 
 use crate::failure::{Failure, OUT_OF_MEMORY, right};
 use crate::movies::movie;
+use crate::wrong_movies::WrongMovie;
 use movie_file::Movie;
 use replay_plan::Keep;
 use replay_segments::{Cuts, Piece, Verdict, gather, replay, verify_one};
@@ -78,4 +79,35 @@ pub(crate) fn is_gathered(alloc: Global, pictures: u32) -> Result<(), Failure> {
     let pieces = replayed(alloc, &movie, &cuts, Keep::new(1, pictures)?)?;
     let verdict = gather(alloc, pieces, cuts.segments())?;
     is_genuine(&verdict, pictures as usize)
+}
+
+/// Pieces of a movie that is cut at its first checkpoint alone: those of the segments of these
+/// numbers, with the pictures of two frames.
+fn pieces_of(alloc: Global, movie: &Movie, numbers: &[u32]) -> Result<Vec<Piece>, Failure> {
+    let cuts = Cuts::new(movie, vec![in alloc; 1u16]?)?;
+    let keep = Keep::new(1, 2)?;
+    let mut pieces = Vec::with_capacity(alloc, numbers.len())?;
+    for number in numbers {
+        let number = *number % cuts.segments();
+        pieces.push(replay(alloc, movie, &cuts, keep, number))?;
+    }
+    Ok(pieces)
+}
+
+/// A movie whose first segment is bad. Where the second one's piece is without memory, the verdict
+/// is still that of the first.
+pub(crate) fn is_gathered_as_wrong(alloc: Global, wrong: WrongMovie) -> Result<(), Failure> {
+    let movie = wrong.movie(alloc)?;
+    let pieces = pieces_of(alloc, &movie, &[0, 1])?;
+    let verdict = gather(alloc, pieces, 2)?;
+    right(wrong.has(&verdict))
+}
+
+/// Two genuine segments, of which the second has two pieces. Where one of the two is without memory,
+/// the other one counts.
+pub(crate) fn is_gathered_of_three(alloc: Global) -> Result<(), Failure> {
+    let movie = movie(alloc)?;
+    let pieces = pieces_of(alloc, &movie, &[0, 1, 1])?;
+    let verdict = gather(alloc, pieces, 2)?;
+    is_genuine(&verdict, 2)
 }

@@ -5,6 +5,7 @@ use crate::failure::{Failure, OUT_OF_MEMORY, right};
 use crate::growths::TakesRefused;
 use crate::movies::{make, movie};
 use crate::segments::is_genuine;
+use crate::wrong_movies::WrongMovie;
 use movie_file::Movie;
 use replay_plan::{Keep, Workers};
 use replay_segments::{Cuts, Piece, gather};
@@ -67,29 +68,32 @@ pub(crate) fn is_worked_on<R: Threads + Wait + Sync>(rt: &R, alloc: Global) -> R
     are_both(alloc, hand.pieces)
 }
 
-/// The verdict with all pictures, with a cut at each checkpoint, and a gate.
+/// The verdict with all pictures, and a gate.
 fn judged_with<G: Gate + Sync, R: Threads + Wait + Sync>(
     rt: &R,
     alloc: Global,
     movie: &Movie,
+    cuts: &Cuts,
     workers: u8,
     gate: &G,
-) -> Result<(), Failure> {
+) -> Result<(), Failure>
+    requires fit { Fits cuts.now movie.now }
+{
     let workers = Workers::new(workers).ok_or(Failure::Wrong)?;
-    let cuts = Cuts::every(alloc, movie, NonZeroU16::MIN)?;
     let keep = Keep::new(1, 600)?;
-    let verdict = verify(rt, alloc, movie, &cuts, workers, keep, gate)?;
+    let verdict = verify(rt, alloc, movie, cuts, workers, keep, gate)?;
     is_genuine(&verdict, movie.frames() as usize)
 }
 
-/// The same with a gate that does nothing.
+/// The same with a cut at each checkpoint, and a gate that does nothing.
 fn judge<R: Threads + Wait + Sync>(
     rt: &R,
     alloc: Global,
     movie: &Movie,
     workers: u8,
 ) -> Result<(), Failure> {
-    judged_with(rt, alloc, movie, workers, &NoGate)
+    let cuts = Cuts::every(alloc, movie, NonZeroU16::MIN)?;
+    judged_with(rt, alloc, movie, &cuts, workers, &NoGate)
 }
 
 /// One worker, whose gate meets the refused growth unless that came before the first entry. So no
@@ -99,7 +103,9 @@ pub(crate) fn is_entered_before_replay<R: Threads + Wait + Sync>(
     alloc: Global,
 ) -> Result<(), Failure> {
     let gate = TakesRefused::new(alloc);
-    let outcome = judged_with(rt, alloc, &movie(alloc)?, 1, &gate);
+    let movie = movie(alloc)?;
+    let cuts = Cuts::every(alloc, &movie, NonZeroU16::MIN)?;
+    let outcome = judged_with(rt, alloc, &movie, &cuts, 1, &gate);
     if !gate.was_entered() {
         return outcome.and(Err(Failure::Wrong));
     }
@@ -111,12 +117,13 @@ pub(crate) fn is_entered_before_replay<R: Threads + Wait + Sync>(
     }
 }
 
-/// Two segments of a frame each.
-pub(crate) fn is_judged_by_two<R: Threads + Wait + Sync>(
+/// Two segments of a frame each, by so many workers.
+pub(crate) fn is_judged_by<R: Threads + Wait + Sync>(
     rt: &R,
     alloc: Global,
+    workers: u8,
 ) -> Result<(), Failure> {
-    judge(rt, alloc, &movie(alloc)?, 2)
+    judge(rt, alloc, &movie(alloc)?, workers)
 }
 
 /// Ten segments, of which each but the last has two frames.
@@ -134,4 +141,29 @@ pub(crate) fn is_judged_once<R: Threads + Wait + Sync>(
     alloc: Global,
 ) -> Result<(), Failure> {
     judge(rt, alloc, &make(alloc, 600, 300)?, 2)
+}
+
+/// The same frames without the cut after the last one.
+pub(crate) fn is_judged_once_of_one_cut<R: Threads + Wait + Sync>(
+    rt: &R,
+    alloc: Global,
+) -> Result<(), Failure> {
+    let movie = make(alloc, 600, 300)?;
+    let cuts = Cuts::new(&movie, vec![in alloc; 1u16]?)?;
+    judged_with(rt, alloc, &movie, &cuts, 2, &NoGate)
+}
+
+/// A movie that is not genuine, by so many workers, with a cut at each checkpoint and all pictures.
+pub(crate) fn is_judged_as_wrong<R: Threads + Wait + Sync>(
+    rt: &R,
+    alloc: Global,
+    wrong: WrongMovie,
+    workers: u8,
+) -> Result<(), Failure> {
+    let movie = wrong.movie(alloc)?;
+    let workers = Workers::new(workers).ok_or(Failure::Wrong)?;
+    let cuts = Cuts::every(alloc, &movie, NonZeroU16::MIN)?;
+    let keep = Keep::new(1, 600)?;
+    let verdict = verify(rt, alloc, &movie, &cuts, workers, keep, &NoGate)?;
+    right(wrong.has(&verdict))
 }
