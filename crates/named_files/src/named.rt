@@ -1,5 +1,6 @@
 //! Files and standard streams with their names.
-ghost use Rattle.std.specs.Prelude.{◌≡◌, ◌≢◌, ◌+◌, IfErr, IfOk, IfSome, IsSomeAnd, OnOk, None, Some};
+ghost use Rattle.std.specs.Prelude.{◌≡◌, ◌≢◌, ◌+◌, ◌-◌, ◌^◌, min, None, Some};
+ghost use Rattle.std.specs.Prelude.{IfErr, IfOk, IfSome, IsSomeAnd, OnOk};
 ghost use Rattle.std.specs.Io.{ReadsAtMost, WritesAtMost};
 ghost use Rattle.std.specs.Io.KnownBytes.{Keeps, ReadConsumes, WriteAppends};
 ghost use Rattle.named_files.specs.FileErrors.{IsAbout, reason_at_length};
@@ -48,6 +49,13 @@ impl<'a, S> Named<'a, S> {
         &self.stream
     }
 
+    /// How many bytes were read of it.
+    pub fn length(&self) -> u64
+        ensures { result ≡ self.now.length }
+    {
+        self.length
+    }
+
     /// The name and the reason, if it failed.
     pub fn file_error(&self) -> Option<FileError<'a>>
         ensures failed { IfSome self.now.reason (λ reason. IsSomeAnd result (IsAbout self.now.name.now reason)) }
@@ -80,6 +88,7 @@ impl<S: Read> Read for Named<'_, S> {
     fn read(&mut self, buf: &mut [u8]) -> io::Result<usize>
         ensures bound { ReadsAtMost result buf.new }
         ensures bytes { ReadConsumes (S.remaining self.old.stream) (S.remaining self.new.stream) result buf.new }
+        ensures length { IfOk result (λ n. self.new.length ≡ min (self.old.length + n) (2 ^ 64 - 1)) }
         ensures ok { IfOk result (λ n. self.new.reason ≡ reason_at_length (self.old.length + n) self.old.reason) }
         ensures err { IfErr result (λ error. self.new.reason ≡ Some (System error)) }
     {
