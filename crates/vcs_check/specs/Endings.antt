@@ -1,13 +1,16 @@
 -- How the program ends if no command came to a status. This project's own.
-use Rattle.std.specs.Prelude.{ℕ, None}
+use Rattle.std.specs.Prelude.{◌≡◌, ◌⊎◌, ℕ, None, Result, Ok, Err}
 use Rattle.std.specs.declared.io.ErrorKind.{ErrorKind}
 use Rattle.std.specs.declared.io.ErrorKind.TheVariants.{OutOfMemory}
 use Rattle.command_line.specs.declared.command.LineFault.{LineFault}
 use Rattle.command_line.specs.declared.command.LineFault.TheVariants as faults
+use Rattle.vcs_check.specs.declared.failure.Failure.{Failure}
 use Rattle.vcs_check.specs.declared.failure.Failure.TheVariants.{Run}
 use Rattle.vcs_check.specs.declared.ending.Ending.{Ending}
 use Rattle.vcs_check.specs.declared.ending.Ending.TheVariants.{Help, Usage, NotUtf8, Dash, Failed}
+use Rattle.vcs_engine.specs.Status.{status_code}
 use Rattle.vcs_engine.specs.declared.run_error.RunError.TheVariants.{NoMemory}
+use Rattle.vcs_engine.specs.declared.status.Status.{Status}
 
 -- The exit status: help is no error.
 abbrev pub exit_code : Ending → ℕ
@@ -16,6 +19,15 @@ exit_code (Usage text) = 4
 exit_code NotUtf8 = 4
 exit_code Dash = 4
 exit_code (Failed failure) = 5
+
+-- The exit status after an ending was printed: help that standard output doesn't take is an error.
+abbrev pub IsReported : Ending → ℕ → Type 0
+IsReported ending code = (code ≡ exit_code ending) ⊎ ((exit_code ending ≡ 0) × (code ≡ 5))
+
+-- That of a command, by its status or by its failure.
+abbrev pub code_of : Result Status Failure → ℕ
+code_of (Ok status) = status_code status
+code_of (Err failure) = exit_code (Failed failure)
 
 -- The arguments could not be read: out of memory, and else one of them is not UTF-8.
 abbrev pub of_kind : ErrorKind → Ending

@@ -1,5 +1,7 @@
 //! How the program ends if no command came to a status.
 ghost use Rattle.std.specs.Prelude.{◌≡◌};
+ghost use Rattle.std.specs.Process.{exit_status};
+ghost use Rattle.vcs_check.specs.Endings.{IsReported, exit_code};
 
 use crate::failure::Failure;
 use command_line::LineFault;
@@ -35,14 +37,14 @@ pub(crate) enum Ending<'a> {
 }
 
 /// The ending of help that standard output did not take, for this reason.
-fn help_not_written(error: io::Error) -> Ending<'static> {
+fn help_not_written(error: io::Error) -> Ending<'static>
+    ensures { exit_code result ≡ 5 }
+{
     let file_error = FileError::new(STANDARD_OUTPUT, Reason::System(error));
     Ending::Failed(Failure::Run(RunError::WriteFault, Some(file_error)))
 }
 
 impl Ending<'_> {
-    ghost use Rattle.vcs_check.specs.Endings.{exit_code};
-
     /// The program's exit status.
     fn code(&self) -> u8
         ensures { result ≡ exit_code self.now }
@@ -86,7 +88,9 @@ impl Ending<'_> {
         self,
         rt: &R,
         standard_error: &E,
-    ) -> ExitCode {
+    ) -> ExitCode
+        ensures { IsReported self.entry (exit_status result) }
+    {
         let ending = match self {
             Ending::Help { text } => match print!(rt; "{text}") {
                 Ok(()) => return ExitCode::SUCCESS,

@@ -2,7 +2,7 @@
 //! hold and how they were played.
 //!
 //! Status 0: done; 1: a false checkpoint; 2: a fault; 3: refused; 4: no command; 5: an error of
-//! files, memory or devices, which is printed on standard error. Without arguments it does what
+//! files, memory or threads, which is printed on standard error. Without arguments it does what
 //! `verify -` does.
 #![tactic(auto)]
 
@@ -16,7 +16,11 @@ mod remarks;
 
 ghost use Rattle.vcs_check.specs.Commands.{IsAnswered, KeepsQuiet, StartsThreads, Writes};
 ghost use Rattle.vcs_check.specs.Failures.{IsNoThread};
-ghost use Rattle.std.specs.Prelude.{IfErr};
+ghost use Rattle.vcs_check.specs.Endings.{code_of};
+ghost use Rattle.vcs_check.specs.declared.failure.Failure.{Failure};
+ghost use Rattle.vcs_engine.specs.declared.status.Status.{Status};
+ghost use Rattle.std.specs.Prelude.{◌≡◌, IfErr, Result};
+ghost use Rattle.std.specs.Process.{exit_status};
 
 use command_line::{Command, LineFault, parse_line};
 use ending::Ending;
@@ -30,7 +34,7 @@ use remarks::remark;
 use replay_plan::Plan;
 use std::alloc::Global;
 use std::env::{self, Args, Env};
-use std::io::{self, IsTerminal, Read, Write};
+use std::io::{self, Eprint, IsTerminal, Print, Read, Write};
 use std::process::ExitCode;
 use std::rt::Files;
 use std::sync::Wait;
@@ -122,6 +126,40 @@ fn answer_command<
     }
 }
 
+/// Does what a command asks for, tells a terminal what more there is to say, and answers the exit
+/// status.
+fn carry_out<
+    R: Files + Threads + Wait + Sync + AllocGlobal + Print + Eprint,
+    E: IsTerminal,
+    I: Read,
+    W: Write,
+    G: CountedGate + Sync,
+>(
+    rt: &R,
+    standard_error: &E,
+    input: &mut Named<'_, I>,
+    line: &mut Named<'_, W>,
+    command: &Command,
+    gate: &G,
+) -> ExitCode
+    ensures { (answer : Result Status Failure) × (exit_status result ≡ code_of answer)
+        × Writes (W.contents line.old.stream) (W.contents line.new.stream) (IsAnswered command.now (I.remaining input.old.stream) (I.remaining input.new.stream)) answer
+        × KeepsQuiet command.now (W.contents line.old.stream) (W.contents line.new.stream) answer }
+{
+    match answer_command(rt, input, line, command, gate) {
+        Ok(status) => {
+            remark(rt, standard_error, command, input.length(), status);
+            ExitCode::from(status.code())
+        }
+        Err(failure) => {
+            let failure = failure
+                .by_input(input.file_error())
+                .by_output(line.file_error());
+            Ending::Failed(failure).report(rt, standard_error)
+        }
+    }
+}
+
 /// The command of the program's arguments. `-` is the name of an input alone.
 fn command_of_program<R: Env + AllocGlobal>(rt: &R) -> Result<Command, Ending<'static>> {
     let arguments = env::args(rt)?;
@@ -146,17 +184,14 @@ fn main(rt: HostRuntime) -> ExitCode {
     let mut input = Named::new(STANDARD_INPUT, rt.stdin());
     let quota = Quota::of_standard_output(&rt);
     let mut line = Named::new(STANDARD_OUTPUT, Limited::new(io::writer(&rt), quota));
-    let progress = Progress::new(&rt, rt.stderr().is_terminal());
-    match answer_command(&rt, &mut input, &mut line, &command, &progress) {
-        Ok(status) => {
-            remark(&rt, &rt.stderr(), &command, status);
-            ExitCode::from(status.code())
-        }
-        Err(failure) => {
-            let failure = failure
-                .by_input(input.file_error())
-                .by_output(line.file_error());
-            Ending::Failed(failure).report(&rt, &rt.stderr())
-        }
-    }
+    let standard_error = rt.stderr();
+    let progress = Progress::new(&rt, standard_error.is_terminal());
+    carry_out(
+        &rt,
+        &standard_error,
+        &mut input,
+        &mut line,
+        &command,
+        &progress,
+    )
 }

@@ -7,6 +7,7 @@ use movie_file::{read_inputs, read_movie};
 use movie_hints::{Hint, hint_of, hint_of_claims, hint_of_inputs, hint_of_rom, hint_of_text};
 use named_files::STANDARD_INPUT;
 use riot_map::Cart;
+use std::alloc::Global;
 use std::fs;
 use std::io::{Eprint, IsTerminal};
 use std::num::NonZeroU32;
@@ -28,16 +29,29 @@ fn read_again<R: Files + AllocGlobal>(rt: &R, path: &str) -> Option<Vec<u8>> {
     read_all(rt.alloc(), &mut file).ok()
 }
 
-/// What is wrong with a movie. Of one that can be read it is what it holds.
-fn hint_of_movie<R: Files + AllocGlobal>(rt: &R, path: &str) -> Option<Hint> {
-    let bytes = read_again(rt, path)?;
-    match read_movie(rt.alloc(), &bytes) {
+/// What is wrong with the bytes of a movie. Of those that can be read it is what they hold.
+fn hint_of_bytes(alloc: Global, bytes: &[u8]) -> Option<Hint> {
+    match read_movie(alloc, bytes) {
         Ok(movie) => Some(Hint::Holds {
             version: movie.version(),
             frames: movie.frames(),
         }),
-        Err(error) => hint_of(&bytes, error),
+        Err(error) => hint_of(bytes, error),
     }
+}
+
+/// What is wrong with the movie of a file.
+fn hint_of_movie<R: Files + AllocGlobal>(rt: &R, path: &str) -> Option<Hint> {
+    let bytes = read_again(rt, path)?;
+    hint_of_bytes(rt.alloc(), &bytes)
+}
+
+/// What is wrong with the movie of standard input, of which so many bytes were read, up to its end.
+/// These are the last ones of its file: what came before them was read by somebody else.
+fn hint_of_standard_input<R: Files + AllocGlobal>(rt: &R, length: u64) -> Option<Hint> {
+    let bytes = read_again(rt, "/dev/stdin")?;
+    let before = (bytes.len() as u64).checked_sub(length)?;
+    hint_of_bytes(rt.alloc(), bytes.get(before as usize..)?)
 }
 
 /// What is wrong with inputs of a cartridge.
@@ -81,10 +95,12 @@ fn hint_of_making<'a, R: Files + AllocGlobal>(
     }
 }
 
-/// Which file of a command was refused, and what is wrong with it.
+/// Which file of a command was refused, and what is wrong with it. Of standard input so many bytes
+/// were read.
 fn hint_of_refusal<'a, R: Files + AllocGlobal>(
     rt: &R,
     command: &'a Command,
+    length: u64,
 ) -> Option<(&'a str, Hint)> {
     let file: &str = match command {
         Command::Make {
@@ -105,7 +121,7 @@ fn hint_of_refusal<'a, R: Files + AllocGlobal>(
         | Command::Trace { file, .. } => file,
     };
     if file == STDIN {
-        return Some((STANDARD_INPUT, hint_of_movie(rt, "/dev/stdin")?));
+        return Some((STANDARD_INPUT, hint_of_standard_input(rt, length)?));
     }
     Some((file, hint_of_movie(rt, file)?))
 }
@@ -124,18 +140,20 @@ fn hint_of_output<'a, R: Files + AllocGlobal>(
 }
 
 /// Tells a terminal which file was refused and why, and which frames of a movie that was written no
-/// checkpoint follows. If standard error is no terminal nothing is read or written.
+/// checkpoint follows. Of standard input so many bytes were read. If standard error is no terminal
+/// nothing is read or written.
 pub(crate) fn remark<R: Files + AllocGlobal + Eprint, E: IsTerminal>(
     rt: &R,
     standard_error: &E,
     command: &Command,
+    length: u64,
     status: Status,
 ) {
     if !standard_error.is_terminal() {
         return;
     }
     let found = match status {
-        Status::Refused => hint_of_refusal(rt, command),
+        Status::Refused => hint_of_refusal(rt, command, length),
         Status::Done => hint_of_output(rt, command),
         Status::False | Status::Fault => None,
     };
