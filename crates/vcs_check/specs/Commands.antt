@@ -10,7 +10,6 @@ use Rattle.command_line.specs.declared.command.Command.TheVariants.{Verify, Repo
 use Rattle.command_line.specs.declared.command.Command.TheVariants.{Info, Inputs, Convert}
 use Rattle.command_line.specs.declared.command.Command.TheVariants.{Frames, Pictures, Cut, Trace}
 use Rattle.movie_file.specs.Reading.{movie_at}
-use Rattle.replay_plan.specs.declared.notation.Notation.{Notation}
 use Rattle.replay_plan.specs.declared.input_form.InputForm.{InputForm}
 use Rattle.vcs_check.specs.Answers.{IsConversion, IsCut, IsDrawn, IsInformation, IsVerified}
 use Rattle.vcs_check.specs.Failures.{IsNoMemory, IsWriteFault}
