@@ -1,5 +1,6 @@
 -- The pins and buttons of one frame.
-use Rattle.std.specs.Prelude.{ℕ, ◌/◌, ◌%◌, ◌^◌, Bool, ◌==◌, ◌&&◌, nat_lt, bit_and, List, [], ◌∷◌}
+use Rattle.std.specs.Prelude.{ℕ, Bool, ◌==◌, ◌&&◌, nat_lt, bit_and, List, [], ◌∷◌}
+use Rattle.record_table.specs.Bits.{has_bit}
 
 -- The pins of the two ports, and the buttons. The ports' bits are those of the Stella Programmer's
 -- Guide.
@@ -15,7 +16,7 @@ is_input c = (bit_and c.swchb 0x34 == 0x34) && nat_lt c.buttons 4
 
 -- Whether a button is pressed, by its number.
 abbrev pub is_pressed : ℕ → InputData → Bool
-is_pressed button c = c.buttons / 2 ^ button % 2 == 1
+is_pressed button c = has_bit c.buttons button
 
 -- The three bytes of an input in a movie file.
 abbrev pub input_bytes : InputData → List ℕ
