@@ -68,9 +68,8 @@ fn checkpoint_comes_before_the_end(rt: HostRuntime) -> Result<(), Fail> {
 #[test]
 fn numbers_of_two_bytes_have_the_high_one_first(rt: HostRuntime) -> Result<(), Fail> {
     let mut record = with_bank(&state_after_frame_1(), 0);
-    record[140..142].copy_from_slice(&[0x02, 0x01]);
-    record[143] = 0;
-    record[182..184].copy_from_slice(&[0x12, 0x34]);
+    (record[140], record[141], record[143]) = (0x02, 0x01, 0);
+    (record[182], record[183]) = (0x12, 0x34);
     let state = read_state(&record).ok_or("a state")?;
     expect_equal(&rt, state.fields().riot.part, 0x0201);
     expect_equal(&rt, state.fields().tia.collisions, 0x1234);
