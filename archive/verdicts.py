@@ -1,13 +1,17 @@
 """The file verdicts.jsonl: what was answered of each movie of an archive, an object a line.
 
-An object has the keys of Verdict. Its path is relative to the archive's folder; bytes of a name that aren't UTF-8 stand in
-it as Python's surrogateescape has them. Of several objects with one path the last counts.
+An object has the keys of Verdict. Its path is relative to the archive's folder. A name that isn't UTF-8 stands there with
+escapes, and has the member path_base64, which counts. Who reads it by this module has the path as os.fsdecode gives it. Of
+several objects with one path the last counts.
 """
 
+import base64
 import json
 import os
 import pathlib
-from typing import IO, Any, Iterator, TypedDict
+import re
+import stat
+from typing import IO, Any, Iterator, NotRequired, TypedDict
 
 NAME = "verdicts.jsonl"
 # The verdicts in the order of their statuses: status 0 is genuine.
@@ -17,7 +21,8 @@ NONE = "not judged"
 
 class Verdict(TypedDict):
     """What was answered of one movie. Its facts are the object that 'vcs_check report --json' printed, and its line is that of
-    the verdict; of a movie that isn't judged there are no facts, and the line says why."""
+    the verdict; of a movie that isn't judged there are no facts, and the line says why. If such a movie was judged before, and
+    can't be read now, 'before' is what was kept of it."""
 
     path: str
     digest: str | None
@@ -29,6 +34,24 @@ class Verdict(TypedDict):
     seconds: float
     judged: str
     program: str
+    before: NotRequired[dict[str, Any]]
+
+
+# The types of what an object must have.
+TYPES: dict[str, tuple[type, ...]] = {
+    "path": (str,), "digest": (str, type(None)), "size": (int,), "verdict": (str,), "status": (int, type(None)), "line": (str,),
+    "facts": (dict,), "seconds": (int, float), "judged": (str,), "program": (str,),
+}
+# The facts that a verdict can't be without.
+FACTS: dict[str, tuple[str, ...]] = {
+    KINDS[0]: ("frames", "checkpoints", "start", "after_last_checkpoint"), KINDS[1]: ("checkpoint", "frame", "differs"),
+    KINDS[2]: ("frame", "fault"), KINDS[3]: ("refusal",),
+}
+# The types of facts; one without a type here may be anything.
+NUMBERS = ("cartridge", "checkpoints", "first_checkpoint", "last_checkpoint", "largest_gap", "after_last_checkpoint", "version",
+           "frames", "scanline", "cycle", "checkpoint", "frame")
+TEXTS = ("md5", "sha1", "sha256", "banks", "start", "movie_sha256", "program", "segments", "fault", "refusal")
+LISTS = {"differs": {"number", "claimed", "found"}, "start_differs": {"number", "start", "power_on"}}
 
 
 class Damaged(Exception):
@@ -54,57 +77,189 @@ def is_judged(verdict: Verdict) -> bool:
     return verdict["verdict"] in KINDS and verdict["facts"].get("verdict") == verdict["verdict"]
 
 
+def readable(name: str) -> str:
+    """A name as it can be shown on one line: bytes that aren't UTF-8 and signs that don't print as escapes."""
+    text = os.fsencode(name).decode("utf-8", "backslashreplace")
+    return "".join(it if it.isprintable() else it.encode("unicode_escape").decode() for it in text)
+
+
+def named(member: str, name: str) -> dict[str, str]:
+    """The members of an object that has a name: the text, and the bytes too if they aren't UTF-8."""
+    data = os.fsencode(name)
+    try:
+        return {member: data.decode("utf-8")}
+    except UnicodeDecodeError:
+        return {member: data.decode("utf-8", "backslashreplace"), f"{member}_base64": base64.b64encode(data).decode()}
+
+
+def name_in(item: dict[str, Any], member: str) -> str:
+    """The name that 'named' put into an object."""
+    if (coded := item.get(f"{member}_base64")) is not None:
+        return os.fsdecode(base64.b64decode(coded, validate=True))
+    return item[member]
+
+
+def object_in(line: bytes) -> dict[str, Any]:
+    """The object of a line; ValueError if there is none."""
+    try:
+        found = json.loads(line.decode("utf-8"), parse_constant=lambda word: _no(f"{word} is no number"))
+    except RecursionError:
+        raise ValueError("too deep") from None
+    return found if isinstance(found, dict) else _no("not an object")
+
+
+def _no(reason: str) -> Any:
+    raise ValueError(reason)
+
+
+def is_of(value: Any, types: tuple[type, ...]) -> bool:
+    """Whether a value has one of these types; true and false are no numbers."""
+    return isinstance(value, types) and not isinstance(value, bool)
+
+
+def is_digest(value: Any) -> bool:
+    """Whether this is a SHA-256 as it is written here."""
+    return isinstance(value, str) and re.fullmatch("[0-9a-f]{64}", value) is not None
+
+
+def is_path(path: Any) -> bool:
+    """Whether this can be the path of a file below a folder. That of a folder has a '/' at its end."""
+    if not isinstance(path, str) or not path or path.startswith("/") or "\0" in path:
+        return False
+    try:
+        os.fsencode(path)
+    except UnicodeEncodeError:
+        return False
+    return ".." not in path.split("/")
+
+
+def wrong_fact(facts: dict[str, Any]) -> str:
+    """The first fact of a report that isn't as reports have it, or nothing."""
+    kind = facts["verdict"]
+    wrong = [it for it in FACTS[kind] if it not in facts]
+    wrong += [it for it in NUMBERS if not is_of(facts.get(it, 0), (int,))]
+    wrong += [it for it in TEXTS if not is_of(facts.get(it, ""), (str,))]
+    wrong += ["last_input"] if not is_of(facts.get("last_input"), (int, type(None))) else []
+    wrong += ["start_differs"] if kind == KINDS[0] and facts.get("start") != "power-on" and "start_differs" not in facts else []
+    registers = facts.get("registers", {})
+    wrong += ["registers"] if not is_of(registers, (dict,)) or not all(is_of(it, (str,)) for it in registers.values()) else []
+    wrong += ["scanline"] if registers and not facts.keys() >= {"scanline", "cycle"} else []
+    for name, keys in LISTS.items():
+        rows = facts.get(name, [])
+        is_right = isinstance(rows, list) and all(
+            isinstance(row, dict) and row.keys() == keys and all(isinstance(it, str) for it in row.values()) for row in rows)
+        wrong += [] if is_right else [name]
+    return wrong[0] if wrong else ""
+
+
+def checked(item: dict[str, Any]) -> Verdict:
+    """The verdict in an object, or ValueError with what is wrong."""
+    for name, types in TYPES.items():
+        if name not in item or not is_of(item[name], types):
+            raise ValueError(name)
+    item["path"] = name_in(item, "path")
+    item.pop("path_base64", None)
+    if not is_path(item["path"]):
+        raise ValueError("path")
+    if item["digest"] is not None and not is_digest(item["digest"]):
+        raise ValueError("digest")
+    if item["verdict"] not in (*KINDS, NONE) or item["verdict"] != NONE and not item["digest"]:
+        raise ValueError("verdict")
+    verdict: Verdict = item  # type: ignore[assignment]
+    if is_judged(verdict) and (name := wrong_fact(item["facts"])):
+        raise ValueError(f"facts: {name}")
+    if "before" in item:
+        checked(item["before"] if isinstance(item["before"], dict) else _no("before"))
+    return verdict
+
+
+def object_line(item: dict[str, Any]) -> bytes:
+    """The line of an object: ASCII alone, since json escapes the rest, a line feed in a name too."""
+    return json.dumps(item).encode("ascii") + b"\n"
+
+
 def spelled(verdict: Verdict) -> bytes:
-    """The line of a verdict: ASCII alone, since json escapes the rest, a line feed in a name too."""
-    return json.dumps(verdict).encode("ascii") + b"\n"
+    """The line of a verdict."""
+    item: dict[str, Any] = {**named("path", verdict["path"]), **{key: it for key, it in verdict.items() if key != "path"}}
+    if before := verdict.get("before"):
+        item["before"] = {**before, **named("path", before["path"])}
+    return object_line(item)
+
+
+def opened(file: pathlib.Path, flags: int) -> int:
+    """Opens a file for its bytes: never through a link that somebody put there, and nothing but a regular file."""
+    descriptor = os.open(file, flags | os.O_NOFOLLOW | os.O_NONBLOCK | os.O_CLOEXEC, 0o666)
+    if not stat.S_ISREG(os.fstat(descriptor).st_mode):
+        os.close(descriptor)
+        raise OSError(f"{file} is not a regular file")
+    return descriptor
+
+
+def content(file: pathlib.Path) -> bytes:
+    """The bytes of a file; none if it isn't there."""
+    try:
+        with open(opened(file, os.O_RDONLY), "rb") as source:
+            return source.read()
+    except FileNotFoundError:
+        return b""
 
 
 def verdicts_in(file: pathlib.Path) -> Iterator[Verdict]:
     """The verdicts of a file. What follows the last line feed was cut off as it was written, and is none."""
-    whole, _, _ = file.read_bytes().rpartition(b"\n")
+    with open(opened(file, os.O_RDONLY), "rb") as source:
+        whole, _, _ = source.read().rpartition(b"\n")
     for number, line in enumerate(whole.split(b"\n") if whole else [], 1):
         try:
-            verdict: Verdict = json.loads(line)
-            if not Verdict.__annotations__.keys() <= verdict.keys():
-                raise ValueError
-        except (ValueError, AttributeError):
-            raise Damaged(f"{file}: line {number} is not a verdict") from None
-        yield verdict
+            yield checked(object_in(line))
+        except (ValueError, KeyError, TypeError) as error:
+            what = f"{file}: line {number} is not a verdict ({readable(str(error))[:80]})"
+            raise Damaged(f"{what}. Put it right, or take it out, so that its movie is judged again: sed -i {number}d {file}") from None
 
 
-def append(file: IO[bytes], verdict: Verdict) -> None:
-    """Writes a line to an unbuffered file that is open for appending: all of it, or after an error nothing."""
-    line, end = spelled(verdict), os.fstat(file.fileno()).st_size
+def append(file: IO[bytes], data: bytes) -> None:
+    """Writes lines to an unbuffered file that is open for appending: all of them, or after an error nothing."""
+    end = os.fstat(file.fileno()).st_size
     try:
-        written = file.write(line)
-    except OSError:
+        if file.write(data) != len(data):
+            raise OSError(f"{file.name}: the disk is full")
+    except BaseException:
         os.ftruncate(file.fileno(), end)
         raise
-    if written != len(line):
-        os.ftruncate(file.fileno(), end)
-        raise OSError(f"{file.name}: the disk is full")
+
+
+def for_appending(file: pathlib.Path) -> IO[bytes]:
+    """A file to which lines are appended."""
+    return open(opened(file, os.O_RDWR | os.O_APPEND | os.O_CREAT), "ab", buffering=0)
 
 
 def cut_torn_line(file: pathlib.Path) -> None:
     """Takes away what follows the last line feed, so that the next line begins at a line's start."""
-    if file.exists():
-        whole, feed, _ = (data := file.read_bytes()).rpartition(b"\n")
-        if len(whole + feed) != len(data):
-            os.truncate(file, len(whole + feed))
+    whole, feed, _ = (data := content(file)).rpartition(b"\n")
+    if len(whole + feed) != len(data):
+        with open(opened(file, os.O_RDWR), "rb+", buffering=0) as torn:
+            os.ftruncate(torn.fileno(), len(whole + feed))
 
 
-def replace(file: pathlib.Path, verdicts: list[Verdict]) -> None:
-    """Writes the file anew: whoever reads it, or after a kill finds it, has the old one whole or the new one."""
-    beside = file.with_name(f"{file.name}.new")
+def sync_folder(folder: pathlib.Path) -> None:
+    """Asks the disk to have the names of a folder."""
+    descriptor = os.open(folder, os.O_RDONLY)
     try:
-        with beside.open("wb") as new:
-            new.writelines(map(spelled, verdicts))
+        os.fsync(descriptor)
+    finally:
+        os.close(descriptor)
+
+
+def replace(file: pathlib.Path, data: bytes) -> None:
+    """Writes a file anew: whoever reads it, or after a kill finds it, has the old one whole or the new one."""
+    beside = file.with_name(f"{file.name}.new")
+    beside.unlink(missing_ok=True)
+    try:
+        with open(opened(beside, os.O_WRONLY | os.O_CREAT | os.O_EXCL), "wb") as new:
+            new.write(data)
             new.flush()
             os.fsync(new.fileno())
         beside.replace(file)
-    except OSError:
+    except BaseException:
         beside.unlink(missing_ok=True)
         raise
-    folder = os.open(file.parent, os.O_RDONLY)
-    os.fsync(folder)
-    os.close(folder)
+    sync_folder(file.parent)
