@@ -7,6 +7,7 @@ several objects with one path the last counts.
 
 import base64
 import json
+import math
 import os
 import pathlib
 import re
@@ -157,6 +158,8 @@ def checked(item: dict[str, Any]) -> Verdict:
     for name, types in TYPES.items():
         if name not in item or not is_of(item[name], types):
             raise ValueError(name)
+    if not 0 <= item["seconds"] < math.inf:
+        raise ValueError("seconds")
     item["path"] = name_in(item, "path")
     item.pop("path_base64", None)
     if not is_path(item["path"]):
