@@ -1,52 +1,205 @@
 #!/bin/sh
-# Copies the program, its manual page, its completions and the type of its files below a folder.
+# Copies the program and what belongs to it below a folder, or takes that away again.
 #
-#   ./install.sh [--program FILE] PREFIX
+#   ./install.sh [--program FILE] [--magic FILE] PREFIX
+#   ./install.sh --uninstall [--magic FILE] PREFIX
 #
-# PREFIX is ~/.local, say, or /usr/local. The program is the one that 'bash .ci/run' or 'rt run' leaves, or FILE. Files that are
-# there are replaced. Status 0 where all is copied.
+# PREFIX is ~/.local, say, or /usr/local. Copied are vcs_check, which 'bash .ci/run' or 'rt run' leaves, or FILE; archive/'s
+# programs as vcs_judge and vcs_pages; the manual pages, completions, and the type of movies. Files that are there are replaced.
+# With DESTDIR in the environment all goes below $DESTDIR$PREFIX, and nothing else is written or run: that is for packages.
+#
+#   --program FILE   the program to copy
+#   --magic FILE     tells file(1) the type too: adds a block to FILE, which is /etc/magic for everyone, ~/.magic for oneself
+#   --uninstall      takes away the files, the block, and the folders that were made for them and are empty now
+#
+# Status 0 where all is done; 1 where something could not be; 4 where the arguments are wrong.
 set -eu
+umask 022
 
 usage() {
-    sed -n 's/^# \{0,1\}//; 2,7p' "$0"
+    sed -n 's/^# \{0,1\}//; 2,15p' "$script"
 }
 
-here=$(cd "$(dirname "$0")" && pwd)
-program=$here/crates/vcs_check/out/vcs_check
-case ${1-} in
---help | -h)
-    usage
-    exit 0
-    ;;
---program)
-    program=${2-}
-    [ $# -lt 2 ] || shift
-    shift
-    ;;
-esac
-case $#:${1-} in
-1:-* | 1:) usage >&2; exit 4 ;;
-1:*) prefix=$1 ;;
-*) usage >&2; exit 4 ;;
-esac
-if [ ! -f "$program" ]; then
-    echo "install.sh: no program at $program; 'bash .ci/run' builds it" >&2
+# stop WORD..: ends the run with an error.
+stop() {
+    echo "install.sh: $*" >&2
     exit 1
+}
+
+# (through links to this script, and whatever CDPATH says)
+script=$(readlink -f -- "$0")
+here=${script%/*}
+program=$here/crates/vcs_check/out/vcs_check
+prefix= magic= uninstall=
+while [ $# -gt 0 ]; do
+    case $1 in
+    --help | -h) usage; exit 0 ;;
+    --uninstall) uninstall=1 ;;
+    --program | --magic)
+        [ $# -gt 1 ] && [ -n "$2" ] || { usage >&2; exit 4; }
+        if [ "$1" = --program ]; then program=$2; else magic=$2; fi
+        shift
+        ;;
+    -* | '') usage >&2; exit 4 ;;
+    *) [ -z "$prefix" ] || { usage >&2; exit 4; }; prefix=$1 ;;
+    esac
+    shift
+done
+[ -n "$prefix" ] || { usage >&2; exit 4; }
+stage=${DESTDIR-}
+if [ -n "$stage" ]; then
+    case $prefix in /*) ;; *) echo 'install.sh: with DESTDIR, PREFIX begins with /' >&2; exit 4 ;; esac
+    [ -z "$magic" ] || { echo 'install.sh: --magic is of this system, and DESTDIR of another' >&2; exit 4; }
+fi
+root=$stage$prefix
+# Where this script notes the folders that it made, relative to PREFIX.
+made=$root/share/votmeshaw/folders
+
+# What archive/'s programs need; without it they are left out.
+python=$uninstall$(command -v python3 || :)
+
+# each COMMAND: calls it with mode, source and place of each file. The mode may also be 'link', where the source is what the link
+# leads to, or 'page', which is the manual page that is made of a program's --help.
+each() {
+    "$1" 755 "$program" bin/vcs_check
+    if [ -n "$python" ]; then
+        for file in "$here"/archive/*; do
+            case $file in *.md) continue ;; esac
+            [ -f "$file" ] || continue
+            if [ -x "$file" ]; then mode=755; else mode=644; fi
+            "$1" "$mode" "$file" "share/votmeshaw/archive/${file##*/}"
+        done
+        for name in judge pages; do
+            "$1" link "../share/votmeshaw/archive/$name" "bin/vcs_$name"
+            "$1" page "$here/archive/$name" "share/man/man1/vcs_$name.1"
+        done
+    fi
+    "$1" 644 "$here/docs/vcs_check.1" share/man/man1/vcs_check.1
+    for file in bash-completion/completions/vcs_check bash-completion/completions/vcs_judge bash-completion/completions/vcs_pages \
+        zsh/site-functions/_vcs_check zsh/site-functions/_vcs_judge fish/vendor_completions.d/vcs_check.fish \
+        fish/vendor_completions.d/vcs_judge.fish fish/vendor_completions.d/vcs_pages.fish \
+        mime/packages/votmeshaw.xml misc/votmeshaw.magic; do
+        "$1" 644 "$here/share/$file" "share/$file"
+    done
+}
+
+# is_free MODE FROM TO: stops before anything is copied, if a folder stands in a file's place.
+is_free() {
+    if [ -d "$root/$3" ] && [ ! -L "$root/$3" ]; then stop "$root/$3 is a folder"; fi
+}
+
+# folder PATH: makes a folder of PREFIX and those above it, and adds each that is new to $new.
+folder() {
+    [ ! -d "$root/$1" ] || return 0
+    case $1 in */*) folder "${1%/*}" ;; esac
+    mkdir "$root/$1"
+    new="$new$1
+"
+}
+
+# copy MODE FROM TO: replaces a file, also one that is running. The new one is made beside it, under a name that nobody foresees.
+copy() {
+    folder "${3%/*}"
+    beside=$(mktemp "$root/${3%/*}/.votmeshaw.XXXXXX")
+    case $1 in
+    link) ln -sfT "$2" "$beside" ;;
+    page) python3 "$here/share/manual-page" "$2" "${3##*/}" >"$beside" ;;
+    *) cat "$2" >"$beside" ;;
+    esac
+    case $1 in link) ;; 755) chmod 755 "$beside" ;; *) chmod 644 "$beside" ;; esac
+    mv -fT "$beside" "$root/$3"
+    beside=
+}
+
+# take_away MODE FROM TO: removes a file.
+take_away() { rm -f "$root/$3"; }
+
+# old_modules [WORD]: removes the files of archive/ that this version doesn't have, or with a word all.
+old_modules() {
+    for file in "$root"/share/votmeshaw/archive/*; do
+        [ -f "$file" ] || continue
+        if [ $# -gt 0 ] || [ ! -f "$here/archive/${file##*/}" ]; then rm -f "$file"; fi
+    done
+}
+
+# without_block FILE: prints a file of magic without our block.
+without_block() { sed '/^# Votmeshaw begins/,/^# Votmeshaw ends/d' "$1"; }
+
+# write_magic [FILE]: puts our block at the end of --magic's file, or with no FILE only takes it out. An empty file goes.
+write_magic() {
+    [ -n "$magic" ] || return 0
+    magic=$(readlink -f -- "$magic") || stop "no folder for $magic"
+    [ -f "$magic" ] || [ ! -e "$magic" ] || stop "$magic is no file"
+    beside=$(mktemp "${magic%/*}/.votmeshaw.XXXXXX")
+    if [ -f "$magic" ]; then
+        cp -p "$magic" "$beside"
+        without_block "$magic" >"$beside"
+    else
+        chmod 644 "$beside"
+    fi
+    if [ $# -gt 0 ]; then
+        { echo '# Votmeshaw begins'; cat "$1"; echo '# Votmeshaw ends'; } >>"$beside"
+    fi
+    if [ -s "$beside" ]; then mv -fT "$beside" "$magic"; else rm -f "$beside" "$magic"; fi
+    beside=
+}
+
+# renew_types: has the system read its MIME types again. Below DESTDIR that is for the package's system to do.
+renew_types() {
+    [ -z "$stage" ] && [ -d "$root/share/mime/packages" ] || return 0
+    command -v update-mime-database >/dev/null || return 0
+    update-mime-database "$root/share/mime" >/dev/null 2>&1 || echo "install.sh: update-mime-database $root/share/mime failed" >&2
+}
+
+# forget_types: where no package of types is left, takes away what update-mime-database had made of ours.
+forget_types() {
+    [ -z "$stage" ] && [ -d "$root/share/mime/packages" ] || return 0
+    [ -z "$(ls -A "$root/share/mime/packages")" ] || return 0
+    for file in XMLnamespaces aliases generic-icons globs globs2 icons magic mime.cache subclasses treemagic types version; do
+        rm -f "$root/share/mime/$file"
+    done
+    rmdir "$root/share/mime/application" 2>/dev/null || :
+}
+
+beside=
+trap '[ -z "$beside" ] || rm -rf "$beside"' EXIT
+trap 'exit 129' HUP
+trap 'exit 130' INT
+trap 'exit 143' TERM
+
+if [ -n "$uninstall" ]; then
+    each take_away
+    old_modules all
+    write_magic
+    renew_types
+    forget_types
+    folders=
+    if [ -f "$made" ] && [ ! -L "$made" ]; then folders=$(cat "$made"); rm -f "$made"; fi
+    # (the deepest first; one that holds something else stays)
+    echo "$folders" | sort -r | while read -r name; do
+        case /$name/ in // | */../*) continue ;; esac
+        rmdir "$root/$name" 2>/dev/null || :
+    done
+    echo "uninstalled: $root/bin/vcs_check"
+    exit 0
 fi
 
-# copy MODE FROM TO: replaces a file, also one that is running.
-copy() {
-    mkdir -p "$(dirname "$3")"
-    cp "$2" "$3.new"
-    chmod "$1" "$3.new"
-    mv -f "$3.new" "$3"
-}
-
-copy 755 "$program" "$prefix/bin/vcs_check"
-copy 644 "$here/docs/vcs_check.1" "$prefix/share/man/man1/vcs_check.1"
-for file in bash-completion/completions/vcs_check zsh/site-functions/_vcs_check fish/vendor_completions.d/vcs_check.fish \
-    mime/packages/votmeshaw.xml misc/votmeshaw.magic; do
-    copy 644 "$here/share/$file" "$prefix/share/$file"
-done
-if command -v update-mime-database >/dev/null; then update-mime-database "$prefix/share/mime" 2>/dev/null; fi
-echo "installed: $prefix/bin/vcs_check"
+[ -f "$program" ] || stop "no program at $program; 'bash .ci/run' builds it"
+[ -n "$python" ] || echo 'install.sh: no python3 here, so vcs_judge and vcs_pages are left out' >&2
+mkdir -p "$root"
+each is_free
+is_free - - share/votmeshaw/folders
+new=
+each copy
+old_modules
+folder share/votmeshaw
+if [ -n "$new" ] && [ -z "$stage" ]; then
+    beside=$(mktemp "$root/share/votmeshaw/.votmeshaw.XXXXXX")
+    { [ ! -f "$made" ] || cat "$made"; printf %s "$new"; } >"$beside"
+    chmod 644 "$beside"
+    mv -fT "$beside" "$made"
+    beside=
+fi
+write_magic "$here/share/misc/votmeshaw.magic"
+renew_types
+echo "installed: $root/bin/vcs_check"
