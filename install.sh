@@ -52,6 +52,10 @@ if [ -n "$stage" ]; then
     [ -z "$magic" ] || { echo 'install.sh: --magic is of this system, and DESTDIR of another' >&2; exit 4; }
 fi
 root=$stage$prefix
+# (whose files are taken away, and a link could lead to others)
+for name in share/votmeshaw share/votmeshaw/archive; do
+    [ ! -L "$root/$name" ] || stop "$root/$name is a link"
+done
 # Where this script notes the folders that it made, relative to PREFIX.
 made=$root/share/votmeshaw/folders
 
@@ -130,6 +134,9 @@ write_magic() {
     [ -n "$magic" ] || return 0
     magic=$(readlink -f -- "$magic") || stop "no folder for $magic"
     [ -f "$magic" ] || [ ! -e "$magic" ] || stop "$magic is no file"
+    # (each beginning with an end after it, so that nothing else is taken out)
+    marks=$([ ! -f "$magic" ] || sed -n 's/^# Votmeshaw \(begins\|ends\).*/\1/p' "$magic" | tr '\n' ' ')
+    case $marks in '' | 'begins ends ') ;; *) stop "$magic has half a block of ours" ;; esac
     beside=$(mktemp "${magic%/*}/.votmeshaw.XXXXXX")
     if [ -f "$magic" ]; then
         cp -p "$magic" "$beside"
