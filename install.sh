@@ -30,7 +30,7 @@ stop() {
 script=$(readlink -f -- "$0")
 here=${script%/*}
 program=$here/crates/vcs_check/out/vcs_check
-prefix= magic= uninstall=
+prefix='' magic='' uninstall=''
 while [ $# -gt 0 ]; do
     case $1 in
     --help | -h) usage; exit 0 ;;
