@@ -4,8 +4,8 @@
 #   ./install.sh [--program FILE] [--magic FILE] PREFIX
 #   ./install.sh --uninstall [--magic FILE] PREFIX
 #
-# PREFIX is ~/.local, say, or /usr/local. Copied are vcs_check, which 'bash .ci/run' or 'rt run' leaves, or FILE; archive/'s
-# programs as vcs_judge and vcs_pages; the manual pages, completions, and the type of movies. Files that are there are replaced.
+# PREFIX is ~/.local, say, or /usr/local. Copied are vcs_check, which 'bash .ci/run' or 'rt run' leaves, or FILE; the programs
+# companions/vcs_*; the manual pages, completions, and the type of movies. Files that are there are replaced.
 # With DESTDIR in the environment all goes below $DESTDIR$PREFIX, and nothing else is written or run: that is for packages.
 #
 #   --program FILE   the program to copy
@@ -53,13 +53,14 @@ if [ -n "$stage" ]; then
 fi
 root=$stage$prefix
 # (whose files are taken away, and a link could lead to others)
-for name in share/votmeshaw share/votmeshaw/archive; do
+for name in share/votmeshaw share/votmeshaw/archive share/votmeshaw/companions share/votmeshaw/companions/votmeshaw \
+    share/votmeshaw/companions/votmeshaw/site; do
     [ ! -L "$root/$name" ] || stop "$root/$name is a link"
 done
 # Where this script notes the folders that it made, relative to PREFIX.
 made=$root/share/votmeshaw/folders
 
-# What archive/'s programs need; without it they are left out.
+# What the companions need; without it they are left out.
 python=$uninstall$(command -v python3 || :)
 
 # each COMMAND: calls it with mode, source and place of each file. The mode may also be 'link', where the source is what the link
@@ -67,24 +68,24 @@ python=$uninstall$(command -v python3 || :)
 each() {
     "$1" 755 "$program" bin/vcs_check
     if [ -n "$python" ]; then
-        for file in "$here"/archive/*; do
-            case $file in *.md) continue ;; esac
+        for file in "$here"/companions/vcs_* "$here"/companions/votmeshaw/* "$here"/companions/votmeshaw/*/*; do
+            name=${file##*/}
+            case $name in *~ | *.pyc | vcs_*[!a-z_]*) continue ;; vcs_*) mode=755 ;; *) mode=644 ;; esac
             [ -f "$file" ] || continue
-            if [ -x "$file" ]; then mode=755; else mode=644; fi
-            "$1" "$mode" "$file" "share/votmeshaw/archive/${file##*/}"
-        done
-        for name in judge pages; do
-            "$1" link "../share/votmeshaw/archive/$name" "bin/vcs_$name"
-            "$1" page "$here/archive/$name" "share/man/man1/vcs_$name.1"
+            "$1" "$mode" "$file" "share/votmeshaw/${file#"$here"/}"
+            [ "$mode" = 755 ] || continue
+            "$1" link "../share/votmeshaw/companions/$name" "bin/$name"
+            "$1" page "$file" "share/man/man1/$name.1"
+            "$1" link ../../votmeshaw/completion.bash "share/bash-completion/completions/$name"
+            "$1" link ../../votmeshaw/completion.fish "share/fish/vendor_completions.d/$name.fish"
         done
     fi
     "$1" 644 "$here/docs/vcs_check.1" share/man/man1/vcs_check.1
-    for file in bash-completion/completions/vcs_check bash-completion/completions/vcs_judge bash-completion/completions/vcs_pages \
-        zsh/site-functions/_vcs_check zsh/site-functions/_vcs_judge fish/vendor_completions.d/vcs_check.fish \
-        fish/vendor_completions.d/vcs_judge.fish fish/vendor_completions.d/vcs_pages.fish \
-        mime/packages/votmeshaw.xml misc/votmeshaw.magic; do
+    for file in bash-completion/completions/vcs_check zsh/site-functions/_vcs_check fish/vendor_completions.d/vcs_check.fish \
+        zsh/site-functions/_vcs_companions mime/packages/votmeshaw.xml misc/votmeshaw.magic; do
         "$1" 644 "$here/share/$file" "share/$file"
     done
+    for file in completion.bash completion.fish; do "$1" 644 "$here/share/companions/$file" "share/votmeshaw/$file"; done
 }
 
 # is_free MODE FROM TO: stops before anything is copied, if a folder stands in a file's place.
@@ -107,7 +108,7 @@ copy() {
     beside=$(mktemp "$root/${3%/*}/.votmeshaw.XXXXXX")
     case $1 in
     link) ln -sfT "$2" "$beside" ;;
-    page) python3 "$here/share/manual-page" "$2" "${3##*/}" >"$beside" ;;
+    page) python3 "$here/share/manual-page" "$2" >"$beside" ;;
     *) cat "$2" >"$beside" ;;
     esac
     case $1 in link) ;; 755) chmod 755 "$beside" ;; *) chmod 644 "$beside" ;; esac
@@ -118,12 +119,18 @@ copy() {
 # take_away MODE FROM TO: removes a file.
 take_away() { rm -f "$root/$3"; }
 
-# old_modules [WORD]: removes the files of archive/ that this version doesn't have, or with a word all.
-old_modules() {
-    for file in "$root"/share/votmeshaw/archive/*; do
+# old_files [WORD]: removes the modules of companions that this version doesn't have, or with a word all; and what 1.2.0 had elsewhere.
+old_files() {
+    for file in "$root"/share/votmeshaw/companions/* "$root"/share/votmeshaw/companions/votmeshaw/* \
+        "$root"/share/votmeshaw/companions/votmeshaw/*/*; do
         [ -f "$file" ] || continue
-        if [ $# -gt 0 ] || [ ! -f "$here/archive/${file##*/}" ]; then rm -f "$file"; fi
+        if [ $# -gt 0 ] || [ ! -f "$here/${file#"$root"/share/votmeshaw/}" ]; then rm -f "$file"; fi
     done
+    for file in "$root"/share/votmeshaw/archive/*; do
+        if [ -f "$file" ]; then rm -f "$file"; fi
+    done
+    rmdir "$root/share/votmeshaw/archive" 2>/dev/null || :
+    rm -f "$root/share/zsh/site-functions/_vcs_judge"
 }
 
 # without_block FILE: prints a file of magic without our block.
@@ -176,7 +183,7 @@ trap 'exit 143' TERM
 
 if [ -n "$uninstall" ]; then
     each take_away
-    old_modules all
+    old_files all
     write_magic
     renew_types
     forget_types
@@ -192,13 +199,13 @@ if [ -n "$uninstall" ]; then
 fi
 
 [ -f "$program" ] || stop "no program at $program; 'bash .ci/run' builds it"
-[ -n "$python" ] || echo 'install.sh: no python3 here, so vcs_judge and vcs_pages are left out' >&2
+[ -n "$python" ] || echo 'install.sh: no python3 here, so the companions are left out' >&2
 mkdir -p "$root"
 each is_free
 is_free - - share/votmeshaw/folders
 new=
 each copy
-old_modules
+old_files
 folder share/votmeshaw
 if [ -n "$new" ] && [ -z "$stage" ]; then
     beside=$(mktemp "$root/share/votmeshaw/.votmeshaw.XXXXXX")

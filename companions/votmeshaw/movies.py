@@ -7,7 +7,7 @@ import os
 import re
 import stat
 import zlib
-from typing import Iterator
+from collections.abc import Iterator
 
 # The program takes no longer files.
 LONGEST = 16_777_216

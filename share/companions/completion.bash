@@ -1,5 +1,5 @@
-# Completes the words of vcs_judge and vcs_pages in bash: the options that --help lists, and files.
-_vcs_archive() {
+# Completes the words of a companion program in bash: the options that --help lists, and files. Read by the program's name.
+_vcs_companion() {
     local word=${COMP_WORDS[COMP_CWORD]} options
     if [[ $word == -* ]]; then
         options=$("${COMP_WORDS[0]}" --help 2>/dev/null | sed -n 's/^  \(-[a-zA-Z], \)\{0,1\}\(--[a-z-]*\).*/\2/p')
@@ -9,4 +9,4 @@ _vcs_archive() {
         mapfile -t COMPREPLY < <(compgen -f -- "$word")
     fi
 }
-complete -F _vcs_archive vcs_judge vcs_pages
+complete -F _vcs_companion "${BASH_SOURCE[0]##*/}"

@@ -5,14 +5,17 @@ escapes, and has the member path_base64, which counts. Who reads it by this modu
 several objects with one path the last counts.
 """
 
-import base64
 import json
 import math
 import os
 import pathlib
 import re
-import stat
-from typing import IO, Any, Iterator, NotRequired, TypedDict
+from collections.abc import Iterator
+from typing import Any, NotRequired, TypedDict
+
+from votmeshaw.command import Stop
+from votmeshaw.files import opened
+from votmeshaw.names import name_in, named, readable
 
 NAME = "verdicts.jsonl"
 # The verdicts in the order of their statuses: status 0 is genuine.
@@ -55,7 +58,7 @@ TEXTS = ("md5", "sha1", "sha256", "banks", "start", "movie_sha256", "program", "
 LISTS = {"differs": {"number", "claimed", "found"}, "start_differs": {"number", "start", "power_on"}}
 
 
-class Damaged(Exception):
+class Damaged(Stop):
     """A file of verdicts has a line that is none."""
 
 
@@ -76,28 +79,6 @@ def line_of(facts: dict[str, Any]) -> str:
 def is_judged(verdict: Verdict) -> bool:
     """Whether this is the verdict of a program whose facts have the names that are known here, which they have since 1.2.0."""
     return verdict["verdict"] in KINDS and verdict["facts"].get("verdict") == verdict["verdict"]
-
-
-def readable(name: str) -> str:
-    """A name as it can be shown on one line: bytes that aren't UTF-8 and signs that don't print as escapes."""
-    text = os.fsencode(name).decode("utf-8", "backslashreplace")
-    return "".join(it if it.isprintable() else it.encode("unicode_escape").decode() for it in text)
-
-
-def named(member: str, name: str) -> dict[str, str]:
-    """The members of an object that has a name: the text, and the bytes too if they aren't UTF-8."""
-    data = os.fsencode(name)
-    try:
-        return {member: data.decode("utf-8")}
-    except UnicodeDecodeError:
-        return {member: data.decode("utf-8", "backslashreplace"), f"{member}_base64": base64.b64encode(data).decode()}
-
-
-def name_in(item: dict[str, Any], member: str) -> str:
-    """The name that 'named' put into an object."""
-    if (coded := item.get(f"{member}_base64")) is not None:
-        return os.fsdecode(base64.b64decode(coded, validate=True))
-    return item[member]
 
 
 def object_in(line: bytes) -> dict[str, Any]:
@@ -189,24 +170,6 @@ def spelled(verdict: Verdict) -> bytes:
     return object_line(item)
 
 
-def opened(file: pathlib.Path, flags: int) -> int:
-    """Opens a file for its bytes: never through a link that somebody put there, and nothing but a regular file."""
-    descriptor = os.open(file, flags | os.O_NOFOLLOW | os.O_NONBLOCK | os.O_CLOEXEC, 0o666)
-    if not stat.S_ISREG(os.fstat(descriptor).st_mode):
-        os.close(descriptor)
-        raise OSError(f"{file} is not a regular file")
-    return descriptor
-
-
-def content(file: pathlib.Path) -> bytes:
-    """The bytes of a file; none if it isn't there."""
-    try:
-        with open(opened(file, os.O_RDONLY), "rb") as source:
-            return source.read()
-    except FileNotFoundError:
-        return b""
-
-
 def verdicts_in(file: pathlib.Path) -> Iterator[Verdict]:
     """The verdicts of a file. What follows the last line feed was cut off as it was written, and is none."""
     with open(opened(file, os.O_RDONLY), "rb") as source:
@@ -217,52 +180,3 @@ def verdicts_in(file: pathlib.Path) -> Iterator[Verdict]:
         except (ValueError, KeyError, TypeError) as error:
             what = f"{file}: line {number} is not a verdict ({readable(str(error))[:80]})"
             raise Damaged(f"{what}. Put it right, or take it out, so that its movie is judged again: sed -i {number}d {file}") from None
-
-
-def append(file: IO[bytes], data: bytes) -> None:
-    """Writes lines to an unbuffered file that is open for appending: all of them, or after an error nothing."""
-    end = os.fstat(file.fileno()).st_size
-    try:
-        if file.write(data) != len(data):
-            raise OSError(f"{file.name}: the disk is full")
-    except BaseException:
-        os.ftruncate(file.fileno(), end)
-        raise
-
-
-def for_appending(file: pathlib.Path) -> IO[bytes]:
-    """A file to which lines are appended."""
-    return open(opened(file, os.O_RDWR | os.O_APPEND | os.O_CREAT), "ab", buffering=0)
-
-
-def cut_torn_line(file: pathlib.Path) -> None:
-    """Takes away what follows the last line feed, so that the next line begins at a line's start."""
-    whole, feed, _ = (data := content(file)).rpartition(b"\n")
-    if len(whole + feed) != len(data):
-        with open(opened(file, os.O_RDWR), "rb+", buffering=0) as torn:
-            os.ftruncate(torn.fileno(), len(whole + feed))
-
-
-def sync_folder(folder: pathlib.Path) -> None:
-    """Asks the disk to have the names of a folder."""
-    descriptor = os.open(folder, os.O_RDONLY)
-    try:
-        os.fsync(descriptor)
-    finally:
-        os.close(descriptor)
-
-
-def replace(file: pathlib.Path, data: bytes) -> None:
-    """Writes a file anew: whoever reads it, or after a kill finds it, has the old one whole or the new one."""
-    beside = file.with_name(f"{file.name}.new")
-    beside.unlink(missing_ok=True)
-    try:
-        with open(opened(beside, os.O_WRONLY | os.O_CREAT | os.O_EXCL), "wb") as new:
-            new.write(data)
-            new.flush()
-            os.fsync(new.fileno())
-        beside.replace(file)
-    except BaseException:
-        beside.unlink(missing_ok=True)
-        raise
-    sync_folder(file.parent)

@@ -9,10 +9,12 @@ import dataclasses
 import datetime
 import os
 import pathlib
-from typing import Any, Iterator
+from collections.abc import Iterator
+from typing import Any
 
-import verdicts
-from verdicts import NONE, Verdict, readable
+from votmeshaw import files, verdicts
+from votmeshaw.names import name_in, named, readable
+from votmeshaw.verdicts import NONE, Verdict
 
 NAME = "changes.jsonl"
 NEW, MOVED, REPLACED, GONE, OTHERWISE = "new", "moved", "replaced", "gone", "judged otherwise"
@@ -42,16 +44,16 @@ class Change:
     def item(self, when: str) -> dict[str, Any]:
         """The object of the file."""
         old, new = ({key: it[key] for key in KEPT} if it else None for it in (self.old, self.new))
-        found = {"change": self.kind, "when": when, **verdicts.named("path", self.path), "old": old, "new": new}
-        return found | (verdicts.named("from", self.moved_from) if self.moved_from else {})
+        found = {"change": self.kind, "when": when, **named("path", self.path), "old": old, "new": new}
+        return found | (named("from", self.moved_from) if self.moved_from else {})
 
 
 def told(item: dict[str, Any]) -> str:
     """An object of the file as a line."""
     old, new = (f"{it['verdict']} {it['digest'] or '(no digest)'}" if it else "" for it in (item["old"], item["new"]))
-    name = readable(verdicts.name_in(item, "path"))
+    name = readable(name_in(item, "path"))
     if item["change"] == MOVED:
-        name = f"{readable(verdicts.name_in(item, 'from'))} to {name}"
+        name = f"{readable(name_in(item, 'from'))} to {name}"
         old = ""
     return f"{item['change']}: {name}: {' now '.join(filter(None, (f'was {old}' if old and new else old, new)))}"
 
@@ -92,16 +94,16 @@ def keep(file: pathlib.Path, changes: list[Change], when: str) -> None:
     """Adds changes to the file, and asks the disk to have them. A line that was cut off stays, on a line of its own."""
     if not changes:
         return
-    torn = verdicts.content(file)[-1:] not in (b"", b"\n")
-    with verdicts.for_appending(file) as opened:
+    torn = files.content(file)[-1:] not in (b"", b"\n")
+    with files.for_appending(file) as opened:
         lines = b"".join(verdicts.object_line(it.item(when)) for it in changes)
-        verdicts.append(opened, b"\n" * torn + lines)
+        files.append(opened, b"\n" * torn + lines)
         os.fsync(opened.fileno())
 
 
 def since(file: pathlib.Path, moment: datetime.datetime) -> Iterator[str]:
     """The lines of the changes since a moment, each after its time; of a line that is damaged that it is so."""
-    for number, line in enumerate(verdicts.content(file).split(b"\n"), 1):
+    for number, line in enumerate(files.content(file).split(b"\n"), 1):
         try:
             item = verdicts.object_in(line) if line else {}
             if item and datetime.datetime.fromisoformat(item["when"]) >= moment:

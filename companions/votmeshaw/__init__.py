@@ -1,0 +1,1 @@
+"""What the companion programs share. They need Python's standard library alone."""

@@ -1,0 +1,97 @@
+"""The command line of a program: its name, its arguments, its messages, and how it ends."""
+
+import argparse
+import os
+import pathlib
+import re
+import signal
+import sys
+from collections.abc import Callable
+from typing import NoReturn
+
+from votmeshaw.names import printable, readable
+
+# The name by which the program was called.
+NAME = pathlib.Path(sys.argv[0]).name
+# The status of a run that could do nothing, which is also that of wrong arguments.
+NOTHING_DONE = 2
+ENDING = (signal.SIGINT, signal.SIGTERM, signal.SIGHUP)
+
+
+class Stop(Exception):
+    """Nothing can be done; the text says why."""
+
+
+class Ended(BaseException):
+    """A signal, which is the argument, asks the run to end."""
+
+
+def say(text: str) -> None:
+    """Prints a message on standard error, on one line."""
+    print(f"{NAME}: {printable(text)}", file=sys.stderr, flush=True)
+
+
+def parser(description: str | None) -> argparse.ArgumentParser:
+    """What reads the arguments. The description, a module's docstring, is printed as it stands."""
+    return argparse.ArgumentParser(NAME, description=description, formatter_class=argparse.RawDescriptionHelpFormatter)
+
+
+def number(most: int) -> Callable[[str], int]:
+    """Reads a number from 1 to this one."""
+    def of(text: str) -> int:
+        if not re.fullmatch("[0-9]{1,18}", text) or not 1 <= int(text) <= most:
+            raise argparse.ArgumentTypeError(f"a number from 1 to {most}")
+        return int(text)
+    return of
+
+
+def seconds(text: str) -> float:
+    """Reads a number of seconds."""
+    if not re.fullmatch(r"[0-9]{1,9}(\.[0-9]+)?", text) or not float(text):
+        raise argparse.ArgumentTypeError("a number of seconds above 0")
+    return float(text)
+
+
+def reason(error: OSError) -> str:
+    """What the system says, with the file of which it says it."""
+    if error.strerror is None or error.filename is None:
+        return error.strerror or str(error)
+    return f"{readable(os.fsdecode(error.filename))}: {error.strerror}"
+
+
+def _end(number: int, _: object) -> NoReturn:
+    """What a signal does: it ends the run in its order. Another one changes nothing."""
+    for it in ENDING:
+        signal.signal(it, signal.SIG_IGN)
+    raise Ended(number)
+
+
+def _drop_output() -> None:
+    """Takes back what standard output doesn't take, so that no second error is told of it."""
+    try:
+        sys.stdout.flush()
+    except OSError:
+        nowhere = os.open(os.devnull, os.O_WRONLY)
+        os.dup2(nowhere, sys.stdout.fileno())
+        os.close(nowhere)
+
+
+def carried_out(work: Callable[[], int]) -> int:
+    """Does a program's work, and returns its status. An error is told, and has status 2. After SIGINT, SIGTERM or SIGHUP the work
+    is left by Ended, and then the process ends by the same signal, so that whoever started it sees which."""
+    for it in ENDING:
+        if signal.getsignal(it) != signal.SIG_IGN:
+            signal.signal(it, _end)
+    try:
+        status = work()
+        sys.stdout.flush()
+        return status
+    except (Stop, OSError) as error:
+        say(reason(error) if isinstance(error, OSError) else str(error))
+        _drop_output()
+        return NOTHING_DONE
+    except Ended as ended:
+        _drop_output()
+        signal.signal(ended.args[0], signal.SIG_DFL)
+        os.kill(os.getpid(), ended.args[0])
+        return 128 + ended.args[0]

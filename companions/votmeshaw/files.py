@@ -1,0 +1,73 @@
+"""Files that are read and written so that no link, device, kill or full disk can spoil them: each is the old one whole, or the new one."""
+
+import os
+import pathlib
+import stat
+from typing import IO
+
+
+def opened(file: pathlib.Path, flags: int) -> int:
+    """Opens a file for its bytes: never through a link that somebody put there, and nothing but a regular file."""
+    descriptor = os.open(file, flags | os.O_NOFOLLOW | os.O_NONBLOCK | os.O_CLOEXEC, 0o666)
+    if not stat.S_ISREG(os.fstat(descriptor).st_mode):
+        os.close(descriptor)
+        raise OSError(f"{file} is not a regular file")
+    return descriptor
+
+
+def content(file: pathlib.Path) -> bytes:
+    """The bytes of a file; none if it isn't there."""
+    try:
+        with open(opened(file, os.O_RDONLY), "rb") as source:
+            return source.read()
+    except FileNotFoundError:
+        return b""
+
+
+def append(file: IO[bytes], data: bytes) -> None:
+    """Writes lines to an unbuffered file that is open for appending: all of them, or after an error nothing."""
+    end = os.fstat(file.fileno()).st_size
+    try:
+        if file.write(data) != len(data):
+            raise OSError(f"{file.name}: the disk is full")
+    except BaseException:
+        os.ftruncate(file.fileno(), end)
+        raise
+
+
+def for_appending(file: pathlib.Path) -> IO[bytes]:
+    """A file to which lines are appended."""
+    return open(opened(file, os.O_RDWR | os.O_APPEND | os.O_CREAT), "ab", buffering=0)
+
+
+def cut_torn_line(file: pathlib.Path) -> None:
+    """Takes away what follows the last line feed, so that the next line begins at a line's start."""
+    whole, feed, _ = (data := content(file)).rpartition(b"\n")
+    if len(whole + feed) != len(data):
+        with open(opened(file, os.O_RDWR), "rb+", buffering=0) as torn:
+            os.ftruncate(torn.fileno(), len(whole + feed))
+
+
+def sync_folder(folder: pathlib.Path) -> None:
+    """Asks the disk to have the names of a folder."""
+    descriptor = os.open(folder, os.O_RDONLY)
+    try:
+        os.fsync(descriptor)
+    finally:
+        os.close(descriptor)
+
+
+def replace(file: pathlib.Path, data: bytes) -> None:
+    """Writes a file anew: whoever reads it, or after a kill finds it, has the old one whole or the new one."""
+    beside = file.with_name(f"{file.name}.new")
+    beside.unlink(missing_ok=True)
+    try:
+        with open(opened(beside, os.O_WRONLY | os.O_CREAT | os.O_EXCL), "wb") as new:
+            new.write(data)
+            new.flush()
+            os.fsync(new.fileno())
+        beside.replace(file)
+    except BaseException:
+        beside.unlink(missing_ok=True)
+        raise
+    sync_folder(file.parent)

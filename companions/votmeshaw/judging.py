@@ -1,0 +1,59 @@
+"""What the program says of a movie, as an object of the file of verdicts."""
+
+import datetime
+import hashlib
+import os
+import time
+
+from votmeshaw import verdicts
+from votmeshaw.movies import Folder, Movie
+from votmeshaw.names import readable
+from votmeshaw.verdicts import KINDS, NONE, Verdict
+from votmeshaw.verifier import Answer, NoAnswer, Verifier
+
+
+def now() -> str:
+    """The time, as an object has it."""
+    return datetime.datetime.now(datetime.timezone.utc).isoformat(timespec="seconds")
+
+
+def unjudged(movie: Movie, line: str, program: str = "") -> Verdict:
+    """What is kept of a movie without a verdict."""
+    return Verdict(path=movie.path, digest=movie.digest, size=movie.size, verdict=NONE, status=None, line=line, facts={}, seconds=0.0,
+                   judged=now(), program=program)
+
+
+def judged(verifier: Verifier, folder: Folder, movie: Movie) -> Verdict:
+    """Judges a movie: the bytes that it has now, whose digest is taken again."""
+    try:
+        data = folder.read(os.fsencode(movie.path))
+    except OSError as error:
+        return unjudged(movie, f"cannot read: {error.strerror or error}", verifier.version)
+    if hashlib.sha256(data).hexdigest() != movie.digest:
+        return unjudged(movie, "changed while it was judged", verifier.version)
+    began = time.monotonic()
+    try:
+        answer = verifier.answer(data, "report", "-", "--json")
+    except NoAnswer as error:
+        return unjudged(movie, str(error), verifier.version)
+    verdict = _verdict(movie, answer, verifier.version)
+    verdict["seconds"] = round(time.monotonic() - began, 3)
+    return verdict
+
+
+def _verdict(movie: Movie, answer: Answer, version: str) -> Verdict:
+    """The verdict in an answer. An object that isn't that of the status, or of other bytes, is none."""
+    verdict = unjudged(movie, "", version)
+    verdict["status"] = answer.status
+    try:
+        facts = verdicts.object_in(answer.out)
+        verdict["line"] = verdicts.line_of(facts)
+        if KINDS.index(facts["verdict"]) != answer.status or facts.get("movie_sha256", movie.digest) != movie.digest:
+            raise ValueError
+        if verdicts.wrong_fact(facts):
+            raise ValueError
+        verdict["verdict"], verdict["facts"] = facts["verdict"], facts
+    except (ValueError, LookupError, TypeError):
+        error = readable(os.fsdecode(answer.err.partition(b"\n")[0]))
+        verdict["line"] = error or f"the program ended with status {answer.status}, and no verdict"
+    return verdict

@@ -1,0 +1,99 @@
+"""The program vcs_check: one process a question, within limits, and ended when the run is."""
+
+import contextlib
+import os
+import signal
+import subprocess
+import threading
+from collections.abc import Iterator
+from typing import Any, NamedTuple
+
+from votmeshaw.command import Stop
+
+# Starts a program with a limit on its memory, in kilobytes.
+LIMITED = 'ulimit -v "$0" && exec "$@"'
+
+
+class NoAnswer(Exception):
+    """The program didn't answer; the text says why."""
+
+
+class Answer(NamedTuple):
+    """What the program said of one question."""
+
+    status: int
+    out: bytes
+    err: bytes
+
+
+class Verifier:
+    """The verifier, with limits of a question: seconds and megabytes, or none."""
+
+    def __init__(self, path: str, timeout: float | None = None, memory: int | None = None) -> None:
+        self.path, self.timeout = path, timeout
+        self.words = ["/bin/sh", "-c", LIMITED, str(memory * 1024), path] if memory else [path]
+        self.lock, self.processes, self.is_stopped = threading.Lock(), set[subprocess.Popen[bytes]](), False
+        try:
+            said = subprocess.run([path, "--version"], stdin=subprocess.DEVNULL, capture_output=True, check=True)
+        except OSError as error:
+            raise Stop(f"cannot run {path}: {error.strerror}") from None
+        except subprocess.CalledProcessError as error:
+            raise Stop(f"cannot run {path}: {error}") from None
+        self.version = said.stdout.decode(errors="replace").strip()
+
+    def answer(self, movie: bytes, *words: str) -> Answer:
+        """The answer to a question, whose movie is '-': these bytes come on standard input."""
+        with self.running(movie, *words) as process:
+            out, err = process.communicate()
+        return Answer(process.returncode, out, err)
+
+    @contextlib.contextmanager
+    def running(self, movie: bytes, *words: str, **how: Any) -> Iterator[subprocess.Popen[bytes]]:
+        """The process of a question, whose movie is on standard input. However this is left, it has ended then; NoAnswer if that
+        was for its time."""
+        process, is_late = self._started(movie, words, how), threading.Event()
+        timer = threading.Timer(self.timeout or 0, lambda: (is_late.set(), self._end(process)))
+        try:
+            if self.timeout:
+                timer.start()
+            yield process
+        except Exception:
+            if not is_late.is_set():
+                raise
+        finally:
+            timer.cancel()
+            self._end(process)
+            process.wait()
+            for pipe in filter(None, (process.stdout, process.stderr)):
+                pipe.close()
+            with self.lock:
+                self.processes.discard(process)
+        if is_late.is_set():
+            raise NoAnswer(f"no answer within {self.timeout:g} s")
+
+    def _started(self, movie: bytes, words: tuple[str, ...], how: dict[str, Any]) -> subprocess.Popen[bytes]:
+        """A new process, in a group of its own. It reads the movie from a file in memory, so no file is left, and no pipe is full."""
+        with os.fdopen(os.memfd_create("movie"), "w+b") as file:
+            file.write(movie)
+            file.seek(0)
+            pipes = {"stdin": file, "stdout": subprocess.PIPE, "stderr": subprocess.PIPE, **how}
+            with self.lock:
+                if self.is_stopped:
+                    raise NoAnswer("the run ends")
+                process = subprocess.Popen([*self.words, *words], process_group=0, **pipes)
+                self.processes.add(process)
+        return process
+
+    def stop(self) -> None:
+        """Ends what runs, and starts no more."""
+        with self.lock:
+            self.is_stopped = True
+            for process in self.processes:
+                self._end(process)
+
+    @staticmethod
+    def _end(process: subprocess.Popen[bytes]) -> None:
+        """Ends a process, with those that it started."""
+        if process.returncode is None:  # (so nobody else has its number)
+            with contextlib.suppress(ProcessLookupError):
+                os.killpg(process.pid, signal.SIGKILL)
