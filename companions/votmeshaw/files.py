@@ -2,6 +2,7 @@
 
 import os
 import pathlib
+import secrets
 import stat
 from typing import IO
 
@@ -71,3 +72,22 @@ def replace(file: pathlib.Path, data: bytes) -> None:
         beside.unlink(missing_ok=True)
         raise
     sync_folder(file.parent)
+
+
+def write(file: pathlib.Path, data: bytes) -> None:
+    """Writes a file that a user named, whole or not at all. No other file is touched; what isn't a regular file, as a pipe, takes
+    the bytes as they come."""
+    place = pathlib.Path(os.path.realpath(file))
+    beside = place.with_name(f".{secrets.token_hex(8)}.new")
+    try:
+        if file.exists() and not file.is_file():
+            with open(file, "wb") as pipe:
+                pipe.write(data)
+        else:
+            with open(opened(beside, os.O_WRONLY | os.O_CREAT | os.O_EXCL), "wb") as new:
+                new.write(data)
+            beside.replace(place)
+    except OSError as error:
+        raise OSError(error.errno, error.strerror, os.fspath(file)) from None
+    finally:
+        beside.unlink(missing_ok=True)
