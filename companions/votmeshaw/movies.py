@@ -1,6 +1,8 @@
 """The movies below a folder: which there are, and the bytes of each, read so that no name, link or device can stop a run."""
 
+import contextlib
 import dataclasses
+import errno
 import fnmatch
 import hashlib
 import os
@@ -16,6 +18,12 @@ PACKED = (b".a26m.gz", b".a26m.xz", b".a26m.bz2", b".a26m.zst", b".a26m.zip")
 # What git-annex has in the place of a movie: a link to this folder, or a short file that begins with its name.
 ANNEX = b"/annex/objects/"
 LONGEST_POINTER = 32_768
+# How a folder on the way to a file is opened, and a file: never through a link.
+FOLDER = os.O_PATH | os.O_DIRECTORY | os.O_NOFOLLOW | os.O_CLOEXEC
+FILE = os.O_RDONLY | os.O_NONBLOCK | os.O_NOFOLLOW | os.O_CLOEXEC
+LONGEST_PATH = 4096
+# What the system says where a link stands in the place of a folder, or of a file.
+LINKS = (errno.ENOTDIR, errno.ELOOP)
 
 
 @dataclasses.dataclass
@@ -35,12 +43,47 @@ def matches(path: bytes, globs: list[bytes]) -> bool:
     return any(fnmatch.fnmatchcase(it, glob) for it in (path, os.path.basename(path)) for glob in globs)
 
 
+@contextlib.contextmanager
+def way(path: bytes) -> Iterator[tuple[int, bytes]]:
+    """The folder in which an absolute path ends, open, and the last name. Each part is opened in the one before, so no link is
+    followed, whoever plants one, and whenever."""
+    if len(path) >= LONGEST_PATH:
+        raise OSError(errno.ENAMETOOLONG, os.strerror(errno.ENAMETOOLONG))
+    *above, last = path.split(b"/")[1:]
+    at = os.open(b"/", FOLDER)
+    try:
+        for name in above:
+            below = os.open(name, FOLDER, dir_fd=at)
+            os.close(at)
+            at = below
+        yield at, last or b"."
+    finally:
+        os.close(at)
+
+
+def opened(path: bytes, flags: int) -> int:
+    """Opens an absolute path, in which no link is followed."""
+    with way(path) as (folder, name):
+        return os.open(name, flags, dir_fd=folder)
+
+
 class Folder:
     """An archive's folder, which is read by name and never left."""
 
     def __init__(self, root: bytes, excluded: list[str]) -> None:
         self.root, self.excluded = os.path.realpath(root), [os.fsencode(it) for it in excluded]
-        self.annex = next((it for it in map(self._annex_at, self._and_above(self.root)) if os.path.isdir(it)), None)
+        annex = next((it for it in map(self._annex_at, self._and_above(self.root)) if os.path.isdir(it)), None)
+        self.inside = tuple(os.path.join(it, b"") for it in (self.root, annex) if it)
+
+    def _path(self, name: bytes) -> bytes:
+        """The path of a name below the folder; that of none is the folder's own."""
+        if b".." in name.split(b"/"):
+            raise OSError("a path that leads upwards")
+        return os.path.join(self.root, name) if name else self.root
+
+    @staticmethod
+    def _annex_at(folder: bytes) -> bytes:
+        return os.path.join(folder, b".git", b"annex", b"objects")
 
     @staticmethod
     def _and_above(folder: bytes) -> Iterator[bytes]:
@@ -50,30 +93,31 @@ class Folder:
             if folder == (folder := os.path.dirname(folder)):
                 return
 
-    @staticmethod
-    def _annex_at(folder: bytes) -> bytes:
-        return os.path.join(folder, b".git", b"annex", b"objects")
-
     def is_excluded(self, name: bytes) -> bool:
         """Whether a path, or a folder that it is in, is to be left out: by the whole path or by its last name."""
         return any(matches(it, self.excluded) for it in (name, *self._and_above(os.path.dirname(name)))) if self.excluded else False
 
-    def place(self, name: bytes) -> bytes:
-        """Where the file of this name is; OSError if a link leads out of the archive."""
-        path = os.path.join(self.root, name)
-        real = os.path.realpath(path) if os.path.islink(path) else path
-        inside = [self.root] + ([self.annex] if self.annex else [])
-        if real != path and not any(real.startswith(os.path.join(it, b"")) for it in inside):
+    def _opened(self, name: bytes) -> int:
+        """Opens the file of this name. A link is followed to where it leads now, if that is in the archive or its annex."""
+        path = self._path(name)
+        try:
+            return opened(path, FILE)
+        except OSError as error:
+            if error.errno not in LINKS:
+                raise
+        real = os.path.realpath(path)
+        if not real.startswith(self.inside):
             raise OSError("a link that leads out of the archive")
-        return real
+        try:
+            return opened(real, FILE)
+        except OSError as error:
+            if error.errno in LINKS:
+                raise OSError("a link that leads nowhere") from None
+            raise
 
     def read(self, name: bytes) -> bytes:
         """The bytes of a movie, at most one more than the program takes."""
-        place = self.place(name)
-        if os.path.islink(place):  # (a link in a circle)
-            raise OSError("a link that leads nowhere")
-        descriptor = os.open(place, os.O_RDONLY | os.O_NONBLOCK | os.O_NOFOLLOW | os.O_CLOEXEC)
-        with open(descriptor, "rb") as file:
+        with open(descriptor := self._opened(name), "rb") as file:
             if not stat.S_ISREG(os.fstat(descriptor).st_mode):
                 raise OSError("not a regular file")
             data = file.read(LONGEST + 1)
@@ -86,18 +130,24 @@ class Folder:
         shown = os.fsdecode(name)
         if name.lower().endswith(PACKED):
             return Movie(shown, None, 0, "packed: unpack it first")
-        path = os.path.join(self.root, name)
         try:
-            if os.path.islink(path) and not os.path.exists(path) and ANNEX in (key := os.readlink(path)):
-                return self._away(shown, key)
             data = self.read(name)
         except (OSError, ValueError) as error:
+            if key := self._key(name):
+                return self._away(shown, key)
             return Movie(shown, None, 0, f"cannot read: {getattr(error, 'strerror', None) or error}")
         if len(data) > LONGEST:
             return Movie(shown, None, len(data), "file too long")
         if len(data) < LONGEST_POINTER and data.startswith(ANNEX):
             return self._away(shown, data)
         return Movie(shown, hashlib.sha256(data).hexdigest(), len(data))
+
+    def _key(self, name: bytes) -> bytes:
+        """Where a link of git-annex leads whose file isn't here; nothing of another file."""
+        with contextlib.suppress(OSError, ValueError), way(self._path(name)) as (folder, last):
+            key = os.readlink(last, dir_fd=folder)
+            return key if ANNEX in key and not os.path.exists(self._path(name)) else b""
+        return b""
 
     @staticmethod
     def _away(name: str, key: bytes) -> Movie:
@@ -106,6 +156,15 @@ class Folder:
         digest, size = (found[2].decode(), int(found[1] or 0)) if found else (None, 0)
         return Movie(name, digest, size, "not here: git annex get brings it", is_away=True)
 
+    def _entries(self, at: bytes) -> list[tuple[bytes, bool]]:
+        """The names in a folder, in their order, each with whether it is a folder."""
+        descriptor = opened(self._path(at), os.O_RDONLY | os.O_DIRECTORY | os.O_NOFOLLOW | os.O_CLOEXEC)
+        try:
+            with os.scandir(descriptor) as entries:
+                return sorted((os.fsencode(entry.name), entry.is_dir(follow_symlinks=False)) for entry in entries)
+        finally:
+            os.close(descriptor)
+
     def movies(self, part: tuple[int, int]) -> Iterator[Movie]:
         """A part's movies, in the order of their names; folders that can't be read are among them, with a '/' at their end."""
         number, parts = part
@@ -113,8 +172,7 @@ class Folder:
         while waiting:
             at = waiting.pop()
             try:
-                with os.scandir(os.path.join(self.root, at) if at else self.root) as entries:
-                    found = sorted((entry.name, entry.is_dir(follow_symlinks=False)) for entry in entries)
+                found = self._entries(at)
             except OSError as error:
                 if not at:
                     raise
