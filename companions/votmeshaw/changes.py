@@ -83,6 +83,7 @@ def between(histories: dict[str, list[Verdict]], old: set[str], answers: list[Ve
             found += steps(path, histories[path], verdict)
         elif verdict["digest"] and (places := left.get(verdict["digest"])):
             source = places.pop()
+            found += steps(path, [gone[source]], verdict)
             found.append(Change(MOVED, path, gone.pop(source), verdict, source))
         else:
             found.append(Change(NEW, path, None, verdict))
