@@ -1,6 +1,7 @@
 // Makes the table of the index, sorts and filters it. What is asked stands behind the '#' of the address, so that it can be linked to:
 // #sort=frames&order=descending&verdict=fault&notes=start&find=harbour&all=yes
-const few = 250; // rows that are shown at once: to lay out thousands takes seconds
+const few = 250; // rows that are made at once: thousands take seconds
+const group = 50; // rows that are laid out at once: where all are shown, when they are seen
 const { kinds, noted, rows } = JSON.parse(document.getElementById("data").textContent);
 const table = document.getElementById("movies");
 const form = document.querySelector("form");
@@ -26,6 +27,7 @@ const { compare } = new Intl.Collator("en", { numeric: true });
 let asked = new URLSearchParams();
 let found = [];
 let sorted = "";
+let times = 0; // how often something was asked
 
 // The movies in the order that is asked.
 function sort() {
@@ -84,13 +86,23 @@ function show() {
   const verdict = asked.get("verdict") || "";
   const notes = asked.get("notes") || "";
   found = movies.filter((movie) => movie.text.includes(find) && (!verdict || movie.verdict === verdict) && hasNotes(movie, notes));
-  const shown = asked.has("all") ? found : found.slice(0, few);
-  table.tBodies[0].replaceChildren(...shown.map(rowOf));
-  const rest = shown.length < found.length ? `, the first ${few} shown` : "";
-  form.querySelector("output").value = `${found.length} of ${movies.length} movies${rest}`;
   form.all.hidden = found.length <= few;
   form.all.textContent = asked.has("all") ? `Show the first ${few}` : "Show all";
+  table.classList.toggle("all", asked.has("all"));
+  for (const body of [...table.tBodies]) body.remove();
+  times += 1;
+  add(0, times);
   table.dataset.milliseconds = Math.round(table.offsetHeight && performance.now() - began);
+}
+
+// Adds some of the movies that were found, from this one on, and the others after that, unless something else is asked meanwhile.
+function add(from, asking) {
+  if (asking !== times) return;
+  const end = Math.min(from + few, found.length);
+  for (let at = from; at < end; at += group) table.append(element("tbody", "", ...found.slice(at, Math.min(at + group, end)).map(rowOf)));
+  const isWhole = end === found.length;
+  if (from === 0 || isWhole) form.querySelector("output").value = `${found.length} of ${movies.length} movies${isWhole ? "" : `, the first ${end} shown`}`;
+  if (asked.has("all") && !isWhole) requestAnimationFrame(() => add(end, asking));
 }
 
 // Puts what is asked into the address, and shows it.
