@@ -1,10 +1,14 @@
 """Files that are read and written so that no link, device, kill or full disk can spoil them: each is the old one whole, or the new one."""
 
+import fcntl
 import os
 import pathlib
 import secrets
 import stat
+import time
 from typing import IO
+
+from votmeshaw.command import Stop, say
 
 
 def opened(file: pathlib.Path, flags: int) -> int:
@@ -23,6 +27,25 @@ def content(file: pathlib.Path) -> bytes:
             return source.read()
     except FileNotFoundError:
         return b""
+
+
+def lock(descriptor: int, place: pathlib.Path, is_patient: bool = True) -> bool:
+    """Keeps other runs from an open file or folder, and says whether it could: it waits if it is patient, and tells so after a second.
+    The system ends this when the process ends, however it does."""
+    until = time.monotonic() + 1
+    while time.monotonic() < until:
+        try:
+            fcntl.flock(descriptor, fcntl.LOCK_EX | fcntl.LOCK_NB)
+            return True
+        except BlockingIOError:
+            if not is_patient:
+                return False
+        except OSError as error:
+            raise Stop(f"{place}: the file system knows no locks ({error.strerror})") from None
+        time.sleep(0.02)
+    say("waiting for the run that is there")
+    fcntl.flock(descriptor, fcntl.LOCK_EX)
+    return True
 
 
 def append(file: IO[bytes], data: bytes) -> None:
