@@ -10,6 +10,7 @@ import re
 import stat
 import zlib
 from collections.abc import Iterator
+from typing import Self
 
 # The program takes no longer files.
 LONGEST = 16_777_216
@@ -43,28 +44,37 @@ def matches(path: bytes, globs: list[bytes]) -> bool:
     return any(fnmatch.fnmatchcase(it, glob) for it in (path, os.path.basename(path)) for glob in globs)
 
 
-@contextlib.contextmanager
-def way(path: bytes) -> Iterator[tuple[int, bytes]]:
-    """The folder in which an absolute path ends, open, and the last name. Each part is opened in the one before, so no link is
-    followed, whoever plants one, and whenever."""
-    if len(path) >= LONGEST_PATH:
-        raise OSError(errno.ENAMETOOLONG, os.strerror(errno.ENAMETOOLONG))
-    *above, last = path.split(b"/")[1:]
-    at = os.open(b"/", FOLDER)
-    try:
-        for name in above:
-            below = os.open(name, FOLDER, dir_fd=at)
-            os.close(at)
-            at = below
-        yield at, last or b"."
-    finally:
-        os.close(at)
+class Way:
+    """The way to files: each folder is opened in the one before, so no link is followed, whoever plants one, and whenever. The last
+    folder stays open, since the next file is mostly in it, or below it."""
 
+    def __init__(self) -> None:
+        self.path, self.descriptor = b"", os.open(b"/", FOLDER)
 
-def opened(path: bytes, flags: int) -> int:
-    """Opens an absolute path, in which no link is followed."""
-    with way(path) as (folder, name):
-        return os.open(name, flags, dir_fd=folder)
+    def __enter__(self) -> Self:
+        return self
+
+    def __exit__(self, *_: object) -> None:
+        os.close(self.descriptor)
+
+    def _step(self, path: bytes, descriptor: int) -> None:
+        os.close(self.descriptor)
+        self.path, self.descriptor = path, descriptor
+
+    def folder(self, path: bytes) -> int:
+        """A folder of this absolute path, which is open until another one is asked for."""
+        if not (path + b"/").startswith(self.path + b"/"):
+            self._step(b"", os.open(b"/", FOLDER))
+        for name in path[len(self.path) :].split(b"/")[1:]:
+            self._step(b"/".join((self.path, name)), os.open(name, FOLDER, dir_fd=self.descriptor))
+        return self.descriptor
+
+    def opened(self, path: bytes, flags: int) -> int:
+        """Opens an absolute path."""
+        if len(path) >= LONGEST_PATH:
+            raise OSError(errno.ENAMETOOLONG, os.strerror(errno.ENAMETOOLONG))
+        above, _, name = path.rpartition(b"/")
+        return os.open(name or b".", flags, dir_fd=self.folder(above))
 
 
 class Folder:
@@ -97,11 +107,11 @@ class Folder:
         """Whether a path, or a folder that it is in, is to be left out: by the whole path or by its last name."""
         return any(matches(it, self.excluded) for it in (name, *self._and_above(os.path.dirname(name)))) if self.excluded else False
 
-    def _opened(self, name: bytes) -> int:
+    def _opened(self, way: Way, name: bytes) -> int:
         """Opens the file of this name. A link is followed to where it leads now, if that is in the archive or its annex."""
         path = self._path(name)
         try:
-            return opened(path, FILE)
+            return way.opened(path, FILE)
         except OSError as error:
             if error.errno not in LINKS:
                 raise
@@ -109,7 +119,7 @@ class Folder:
         if not real.startswith(self.inside):
             raise OSError("a link that leads out of the archive")
         try:
-            return opened(real, FILE)
+            return way.opened(real, FILE)
         except OSError as error:
             if error.errno in LINKS:
                 raise OSError("a link that leads nowhere") from None
@@ -117,7 +127,11 @@ class Folder:
 
     def read(self, name: bytes) -> bytes:
         """The bytes of a movie, at most one more than the program takes."""
-        with open(descriptor := self._opened(name), "rb") as file:
+        with Way() as way:
+            return self._read(way, name)
+
+    def _read(self, way: Way, name: bytes) -> bytes:
+        with open(descriptor := self._opened(way, name), "rb") as file:
             if not stat.S_ISREG(os.fstat(descriptor).st_mode):
                 raise OSError("not a regular file")
             data = file.read(LONGEST + 1)
@@ -125,15 +139,15 @@ class Folder:
             raise OSError("no bytes to be had")
         return data
 
-    def looked_at(self, name: bytes) -> Movie:
+    def _looked_at(self, way: Way, name: bytes) -> Movie:
         """The movie of this name."""
         shown = os.fsdecode(name)
         if name.lower().endswith(PACKED):
             return Movie(shown, None, 0, "packed: unpack it first")
         try:
-            data = self.read(name)
+            data = self._read(way, name)
         except (OSError, ValueError) as error:
-            if key := self._key(name):
+            if key := self._key(way, name):
                 return self._away(shown, key)
             return Movie(shown, None, 0, f"cannot read: {getattr(error, 'strerror', None) or error}")
         if len(data) > LONGEST:
@@ -142,10 +156,11 @@ class Folder:
             return self._away(shown, data)
         return Movie(shown, hashlib.sha256(data).hexdigest(), len(data))
 
-    def _key(self, name: bytes) -> bytes:
+    def _key(self, way: Way, name: bytes) -> bytes:
         """Where a link of git-annex leads whose file isn't here; nothing of another file."""
-        with contextlib.suppress(OSError, ValueError), way(self._path(name)) as (folder, last):
-            key = os.readlink(last, dir_fd=folder)
+        with contextlib.suppress(OSError, ValueError):
+            above, last = os.path.split(self._path(name))
+            key = os.readlink(last, dir_fd=way.folder(above))
             return key if ANNEX in key and not os.path.exists(self._path(name)) else b""
         return b""
 
@@ -156,9 +171,9 @@ class Folder:
         digest, size = (found[2].decode(), int(found[1] or 0)) if found else (None, 0)
         return Movie(name, digest, size, "not here: git annex get brings it", is_away=True)
 
-    def _entries(self, at: bytes) -> list[tuple[bytes, bool]]:
+    def _entries(self, way: Way, at: bytes) -> list[tuple[bytes, bool]]:
         """The names in a folder, in their order, each with whether it is a folder."""
-        descriptor = opened(self._path(at), os.O_RDONLY | os.O_DIRECTORY | os.O_NOFOLLOW | os.O_CLOEXEC)
+        descriptor = way.opened(self._path(at), os.O_RDONLY | os.O_DIRECTORY | os.O_NOFOLLOW | os.O_CLOEXEC)
         try:
             with os.scandir(descriptor) as entries:
                 return sorted((os.fsencode(entry.name), entry.is_dir(follow_symlinks=False)) for entry in entries)
@@ -168,19 +183,26 @@ class Folder:
     def movies(self, part: tuple[int, int]) -> Iterator[Movie]:
         """A part's movies, in the order of their names; folders that can't be read are among them, with a '/' at their end."""
         number, parts = part
+        with Way() as way:
+            for path, error in self._paths(way):
+                if error:
+                    yield Movie(os.fsdecode(path), None, 0, error)
+                elif zlib.crc32(path) % parts == number - 1:
+                    yield self._looked_at(way, path)
+
+    def _paths(self, way: Way) -> Iterator[tuple[bytes, str]]:
+        """The paths of all movies; and of folders that can't be read, with the reason."""
         waiting = [b""]
         while waiting:
             at = waiting.pop()
             try:
-                found = self._entries(at)
+                found = self._entries(way, at)
             except OSError as error:
                 if not at:
                     raise
-                yield Movie(os.fsdecode(at) + "/", None, 0, f"cannot read: {error.strerror}")
+                yield at + b"/", f"cannot read: {error.strerror}"
                 continue
             below = [(os.path.join(at, name), is_folder, name) for name, is_folder in found]
             below = [it for it in below if not self.is_excluded(it[0])]
             waiting += [path for path, is_folder, name in reversed(below) if is_folder and not name.startswith(b".")]
-            for path, is_folder, _ in below:
-                if not is_folder and path.lower().endswith((MOVIE, *PACKED)) and zlib.crc32(path) % parts == number - 1:
-                    yield self.looked_at(path)
+            yield from ((path, "") for path, is_folder, _ in below if not is_folder and path.lower().endswith((MOVIE, *PACKED)))
