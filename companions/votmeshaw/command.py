@@ -7,7 +7,7 @@ import re
 import signal
 import sys
 from collections.abc import Callable
-from typing import NoReturn
+from typing import Any, NoReturn
 
 from votmeshaw.names import printable, readable
 
@@ -31,9 +31,20 @@ def say(text: str) -> None:
     print(f"{NAME}: {printable(text)}", file=sys.stderr, flush=True)
 
 
-def parser(description: str | None) -> argparse.ArgumentParser:
+class Parser(argparse.ArgumentParser):
+    """What reads the arguments. A wrong one, which may be the name of a stranger's file, is shown with escapes, and help that can't
+    be written is an error."""
+
+    def print_help(self, file: Any = None) -> None:
+        (file or sys.stdout).write(self.format_help())
+
+    def error(self, message: str) -> NoReturn:
+        super().error(printable(message))
+
+
+def parser(description: str | None) -> Parser:
     """What reads the arguments. The description, a module's docstring, is printed as it stands."""
-    return argparse.ArgumentParser(NAME, description=description, formatter_class=argparse.RawDescriptionHelpFormatter)
+    return Parser(NAME, description=description, formatter_class=argparse.RawDescriptionHelpFormatter)
 
 
 def number(most: int) -> Callable[[str], int]:
@@ -66,6 +77,28 @@ def _end(number: int, _: object) -> NoReturn:
     raise Ended(number)
 
 
+def _open_streams() -> None:
+    """Puts nothing in the place of standard streams that are closed, so that no file gets their numbers. Without an output nothing
+    is done."""
+    is_closed = sys.stdout is None
+    while (nowhere := os.open(os.devnull, os.O_RDWR)) < 3:
+        pass
+    os.close(nowhere)
+    if sys.stderr is None:
+        sys.stderr = open(os.devnull, "w")
+    if is_closed:
+        sys.stdout = open(os.devnull, "w")
+        raise Stop("standard output is closed")
+
+
+def _status(work: Callable[[], int]) -> int:
+    """Does a program's work, and returns its status, which argparse raises."""
+    try:
+        return work()
+    except SystemExit as ended:
+        return ended.code if isinstance(ended.code, int) else NOTHING_DONE
+
+
 def _drop_output() -> None:
     """Takes back what standard output doesn't take, so that no second error is told of it."""
     try:
@@ -83,7 +116,8 @@ def carried_out(work: Callable[[], int]) -> int:
         if signal.getsignal(it) != signal.SIG_IGN:
             signal.signal(it, _end)
     try:
-        status = work()
+        _open_streams()
+        status = _status(work)
         sys.stdout.flush()
         return status
     except (Stop, OSError) as error:
