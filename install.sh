@@ -61,7 +61,8 @@ done
 made=$root/share/votmeshaw/folders
 
 # What the companions need; without it they are left out.
-python=$uninstall$(command -v python3 || :)
+python=$uninstall
+if python3 -c 'import sys; sys.exit(sys.version_info < (3, 11))' 2>/dev/null; then python=1; fi
 
 # each COMMAND: calls it with mode, source and place of each file. The mode may also be 'link', where the source is what the link
 # leads to, or 'page', which is the manual page that is made of a program's --help.
@@ -199,7 +200,7 @@ if [ -n "$uninstall" ]; then
 fi
 
 [ -f "$program" ] || stop "no program at $program; 'bash .ci/run' builds it"
-[ -n "$python" ] || echo 'install.sh: no python3 here, so the companions are left out' >&2
+[ -n "$python" ] || echo 'install.sh: no Python 3.11 here, so the companions are left out' >&2
 mkdir -p "$root"
 each is_free
 is_free - - share/votmeshaw/folders
