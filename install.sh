@@ -120,12 +120,18 @@ copy() {
 # take_away MODE FROM TO: removes a file.
 take_away() { rm -f "$root/$3"; }
 
-# old_files [WORD]: removes the modules of companions that this version doesn't have, or with a word all; and what 1.2.0 had elsewhere.
+# old_files [WORD]: removes the companions that this version doesn't have, or with a word all; and what 1.2.0 had elsewhere.
 old_files() {
     for file in "$root"/share/votmeshaw/companions/* "$root"/share/votmeshaw/companions/votmeshaw/* \
         "$root"/share/votmeshaw/companions/votmeshaw/*/*; do
         [ -f "$file" ] || continue
-        if [ $# -gt 0 ] || [ ! -f "$here/${file#"$root"/share/votmeshaw/}" ]; then rm -f "$file"; fi
+        if [ $# -gt 0 ] || [ ! -f "$here/${file#"$root"/share/votmeshaw/}" ]; then
+            rm -f "$file"
+            name=${file##*/}
+            [ "$(readlink "$root/bin/$name")" = "../share/votmeshaw/companions/$name" ] || continue
+            rm -f "$root/bin/$name" "$root/share/man/man1/$name.1" "$root/share/bash-completion/completions/$name" \
+                "$root/share/fish/vendor_completions.d/$name.fish"
+        fi
     done
     for file in "$root"/share/votmeshaw/archive/*; do
         if [ -f "$file" ]; then rm -f "$file"; fi
