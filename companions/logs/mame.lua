@@ -112,6 +112,9 @@ end
 
 local function run()
   local play = os.getenv("VCS_PLAY")
+  for _, variable in ipairs({"VCS_MEMORY", "VCS_INPUTS"}) do
+    if play and os.getenv(variable) == play then error(play .. " is played, and can't be " .. variable .. ", too", 0) end
+  end
   local played = play and read_inputs(play)
   local is_driven_only, is_power_on = os.getenv("VCS_DRIVEN_ONLY") == "1", os.getenv("VCS_POWER_ON") == "1"
   local numbers = saved_numbers()
