@@ -112,6 +112,9 @@ def _drop_output() -> None:
 def carried_out(work: Callable[[], int]) -> int:
     """Does a program's work, and returns its status. An error is told, and has status 2. After SIGINT, SIGTERM or SIGHUP the work
     is left by Ended, and then the process ends by the same signal, so that whoever started it sees which."""
+    if sys.stdout is None:
+        say("standard output is closed")
+        return NOTHING_DONE
     for it in ENDING:
         if signal.getsignal(it) != signal.SIG_IGN:
             signal.signal(it, _end)
