@@ -5,6 +5,7 @@ from __future__ import annotations
 import concurrent.futures
 import os
 import re
+from typing import NamedTuple
 
 from votmeshaw.memory_logs import SIZE
 from votmeshaw.verifier import Verifier
@@ -25,19 +26,28 @@ class Run(dict[int, bytes]):
     fault_frame: int | None = None
 
 
-def _watched(verifier: Verifier, movie: bytes, frames: list[str], first: int) -> list[bytes]:
-    """The lines of 'frames', with WATCHED addresses from this one on; the last may be that of a fault."""
+class Columns(NamedTuple):
+    """What a call of 'frames' gave: WATCHED bytes of each frame, one frame after another, and the line of a fault or an empty one."""
+
+    bytes: bytearray
+    fault: bytes
+
+
+def _watched(verifier: Verifier, movie: bytes, frames: list[str], first: int) -> Columns:
+    """The bytes at WATCHED addresses from this one on."""
     words = [word for address in range(first, first + WATCHED) for word in ("--watch", f"{address:02X}")]
-    answer = verifier.answer(movie, "frames", "-", *frames, *words)
-    lines = answer.out.splitlines()
-    if answer.status and not (lines and FAULT.fullmatch(lines[-1])):
-        raise Refused((answer.out + answer.err).decode(errors="replace").partition("\n")[0])
-    return lines
-
-
-def _bytes(line: bytes) -> bytes:
-    """The bytes in a line of 'frames'."""
-    return bytes.fromhex(b"".join(it[3:5] for it in line.split(b", memory ")[1:]).decode())
+    found, rest = bytearray(), b""
+    with verifier.running(movie, "frames", "-", *frames, *words) as process:
+        for line in process.stdout or ():
+            if line.startswith(b"frame "):
+                found += bytes.fromhex(b"".join(it[3:5] for it in line.split(b", memory ")[1:]).decode())
+            else:
+                rest = line.rstrip()
+        said = rest or (process.stderr.read() if process.stderr else b"")
+        status = process.wait()
+    if status and not FAULT.fullmatch(rest):
+        raise Refused(said.decode(errors="replace").partition("\n")[0] or f"the program ended with status {status}")
+    return Columns(found, rest)
 
 
 def frame_memory(verifier: Verifier, movie: bytes, first: int = 1, count: int | None = None) -> Run:
@@ -55,8 +65,8 @@ def frame_memory(verifier: Verifier, movie: bytes, first: int = 1, count: int | 
             verifier.stop()
             raise
     run = Run()
-    if parts[0] and (found := FAULT.fullmatch(parts[0][-1])):
+    if found := FAULT.fullmatch(parts[0].fault):
         run.fault, run.fault_frame = found[0].decode(), int(found[1])
-        parts = [lines[:-1] for lines in parts]
-    run.update(enumerate((b"".join(map(_bytes, lines)) for lines in zip(*parts)), first))
+    for at in range(0, len(parts[0].bytes), WATCHED):
+        run[first + at // WATCHED] = b"".join(columns.bytes[at : at + WATCHED] for columns in parts)
     return run
