@@ -80,6 +80,8 @@ def read(file: BinaryIO) -> Log:
             break
         if number > MOST_LINES:
             raise BadLog(f"more than {MOST_LINES} lines")
+        if number == 1 and line.startswith(b"A26M"):
+            raise BadLog("a movie, and no memory log")
         if len(line) == LONGEST_LINE:
             raise BadLog(f"line {number}: longer than a line of a log, which has a number and 256 hexadecimal digits")
         if found := LINE.fullmatch(line):
