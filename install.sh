@@ -54,7 +54,7 @@ fi
 root=$stage$prefix
 # (whose files are taken away, and a link could lead to others)
 for name in share/votmeshaw share/votmeshaw/archive share/votmeshaw/companions share/votmeshaw/companions/votmeshaw \
-    share/votmeshaw/companions/votmeshaw/site; do
+    share/votmeshaw/companions/votmeshaw/site share/votmeshaw/companions/logs; do
     [ ! -L "$root/$name" ] || stop "$root/$name is a link"
 done
 # Where this script notes the folders that it made, relative to PREFIX.
@@ -69,7 +69,7 @@ if python3 -c 'import sys; sys.exit(sys.version_info < (3, 11))' 2>/dev/null; th
 each() {
     "$1" 755 "$program" bin/vcs_check
     if [ -n "$python" ]; then
-        for file in "$here"/companions/vcs_* "$here"/companions/votmeshaw/* "$here"/companions/votmeshaw/*/*; do
+        for file in "$here"/companions/vcs_* "$here"/companions/logs/* "$here"/companions/votmeshaw/* "$here"/companions/votmeshaw/*/*; do
             name=${file##*/}
             case $name in *~ | *.pyc | vcs_*[!a-z_]*) continue ;; vcs_*) mode=755 ;; *) mode=644 ;; esac
             [ -f "$file" ] || continue
@@ -123,7 +123,7 @@ take_away() { rm -f "$root/$3"; }
 # old_files [WORD]: removes the companions that this version doesn't have, or with a word all; and what 1.2.0 had elsewhere.
 old_files() {
     for file in "$root"/share/votmeshaw/companions/* "$root"/share/votmeshaw/companions/votmeshaw/* \
-        "$root"/share/votmeshaw/companions/votmeshaw/*/*; do
+        "$root"/share/votmeshaw/companions/votmeshaw/*/* "$root"/share/votmeshaw/companions/logs/*; do
         [ -f "$file" ] || continue
         if [ $# -gt 0 ] || [ ! -f "$here/${file#"$root"/share/votmeshaw/}" ]; then
             rm -f "$file"
