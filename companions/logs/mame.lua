@@ -147,6 +147,14 @@ local function run()
     return shown
   end
 
+  -- Whether a button is held when this byte of it is read: a latch says only that it was.
+  local function is_held(button, byte)
+    local port = machine.ioport.ports[":joyport" .. button + 1 .. ":joy:JOY"]
+    if vblank & 0x40 == 0 or not (played or port) then return byte & 0x80 == 0 end
+    if played then return played[frame][3] >> button & 1 == 1 end
+    return port:read() & 0x20 == 0
+  end
+
   local function read_tia(address, byte)
     local button, kept = (address & 0x0F) - 0x0C, is_driven_only and 0xC0 or 0xFF
     if button ~= 0 and button ~= 1 then return byte & kept end
@@ -154,7 +162,7 @@ local function run()
       local pressed = vblank & 0x40 ~= 0 and latches or played[frame][3]
       byte = byte & 0x7F | (~pressed >> button & 1) << 7
     end
-    note(3, 1 << button, byte & 0x80 == 0 and 1 << button or 0)
+    note(3, 1 << button, is_held(button, byte) and 1 << button or 0)
     return byte & (is_driven_only and 0x80 or 0xFF)
   end
 
