@@ -54,7 +54,7 @@ fi
 root=$stage$prefix
 # (whose files are taken away, and a link could lead to others)
 for name in share/votmeshaw share/votmeshaw/archive share/votmeshaw/companions share/votmeshaw/companions/votmeshaw \
-    share/votmeshaw/companions/votmeshaw/site share/votmeshaw/companions/logs; do
+    share/votmeshaw/companions/votmeshaw/site share/votmeshaw/companions/votmeshaw/importing share/votmeshaw/companions/logs; do
     [ ! -L "$root/$name" ] || stop "$root/$name is a link"
 done
 # Where this script notes the folders that it made, relative to PREFIX.

@@ -1,0 +1,69 @@
+"""What is asked of vcs_check: the movie of a run, its verdict, and how many lines its frames have."""
+
+import pathlib
+import re
+import statistics
+import tempfile
+from typing import NamedTuple
+
+from votmeshaw.command import Stop
+from votmeshaw.importing.runs import Frames
+from votmeshaw.names import readable
+from votmeshaw.verifier import NoAnswer, Verifier
+
+# From this status on the program has done nothing.
+ERRORS = 4
+# How many frames are looked at for their lines: those of a minute.
+LOOKED_AT = 3600
+CYCLES = re.compile(rb"^frame \d+: (\d+) cycles", re.M)
+CYCLES_OF_A_LINE = 76
+# Below, and from this many lines on, a frame isn't one of a television; between are NTSC (262) and PAL (312), which this parts.
+SHORTEST, PARTING, LONGEST = 240, 288, 325
+
+
+class Made(NamedTuple):
+    """What was made of a run: the movie, or none and the line that says why."""
+
+    movie: bytes | None
+    line: str
+
+
+def asked_of(verifier: Verifier, movie: bytes, *words: str) -> tuple[int, bytes]:
+    """Status and output of a question; Stop if the program can't answer."""
+    try:
+        answer = verifier.answer(movie, *words)
+    except NoAnswer as error:
+        raise Stop(f"vcs_check {words[0]}: {error}") from None
+    if not 0 <= answer.status < ERRORS:
+        said = readable(answer.err.partition(b"\n")[0].decode("utf-8", "backslashreplace"))
+        raise Stop(f"vcs_check {words[0]}: {said or f'ended with status {answer.status}'}")
+    return answer.status, answer.out
+
+
+def made(verifier: Verifier, game: bytes, frames: Frames, every: int) -> Made:
+    """The movie of a game with these inputs, from power-on."""
+    with tempfile.TemporaryDirectory(prefix="vcs_import-") as folder:
+        rom, inputs, movie = (pathlib.Path(folder, it) for it in ("game", "inputs", "movie"))
+        rom.write_bytes(game)
+        inputs.write_bytes(frames.text())
+        status, out = asked_of(verifier, b"", "make", str(rom), str(inputs), "--text", "--every", str(every), "--out", str(movie))
+        if status == 0 and not movie.exists():
+            raise Stop("vcs_check make: no movie was made")
+        return Made(movie.read_bytes() if status == 0 else None, out.decode("utf-8", "backslashreplace").strip())
+
+
+def verdict(verifier: Verifier, movie: bytes) -> tuple[bool, str]:
+    """Whether a movie is genuine, and the line that says so."""
+    status, out = asked_of(verifier, movie, "verify", "-")
+    return status == 0, out.decode("utf-8", "backslashreplace").strip()
+
+
+def standard(verifier: Verifier, movie: bytes) -> str:
+    """What the lines of a movie's frames say of the television that its game is for."""
+    _, out = asked_of(verifier, movie, "frames", "-", "--count", str(LOOKED_AT))
+    lines = round(statistics.median_low([int(it) for it in CYCLES.findall(out)] or [0]) / CYCLES_OF_A_LINE)
+    if not SHORTEST <= lines < LONGEST:
+        return f"{lines} lines a frame, which is neither NTSC (262) nor PAL (312)"
+    if lines < PARTING:
+        return f"{lines} lines a frame, as NTSC has"
+    return f"{lines} lines a frame, as PAL has; the machine here has the colours and the time of NTSC"
