@@ -1,11 +1,13 @@
 """Files that are read and written so that no link, device, kill or full disk can spoil them: each is the old one whole, or the new one."""
 
+import contextlib
 import fcntl
 import os
 import pathlib
 import secrets
 import stat
 import time
+from collections.abc import Iterator
 from typing import IO
 
 from votmeshaw.command import Stop, say
@@ -97,20 +99,28 @@ def replace(file: pathlib.Path, data: bytes) -> None:
     sync_folder(file.parent)
 
 
-def write(file: pathlib.Path, data: bytes) -> None:
-    """Writes a file that a user named, whole or not at all. No other file is touched; what isn't a regular file, as a pipe, takes
-    the bytes as they come."""
+@contextlib.contextmanager
+def anew(file: pathlib.Path) -> Iterator[IO[bytes]]:
+    """What will be the file that a user named, once it is written whole. No other file is touched."""
     place = pathlib.Path(os.path.realpath(file))
     beside = place.with_name(f".{secrets.token_hex(8)}.new")
     try:
-        if file.exists() and not file.is_file():
-            with open(file, "wb") as pipe:
-                pipe.write(data)
-        else:
-            with open(opened(beside, os.O_WRONLY | os.O_CREAT | os.O_EXCL), "wb") as new:
-                new.write(data)
-            beside.replace(place)
+        with open(beside, "x+b") as new:
+            yield new
+            if place.exists():
+                os.fchmod(new.fileno(), stat.S_IMODE(place.stat().st_mode))
+        beside.replace(place)
     except OSError as error:
         raise OSError(error.errno, error.strerror, os.fspath(file)) from None
     finally:
-        beside.unlink(missing_ok=True)
+        with contextlib.suppress(OSError):
+            beside.unlink()
+
+
+def write(file: pathlib.Path, data: bytes) -> None:
+    """Writes a file that a user named, whole or not at all; what isn't a regular file, as a pipe, takes the bytes as they come."""
+    try:
+        with open(file, "wb") if file.exists() and not file.is_file() else anew(file) as new:
+            new.write(data)
+    except OSError as error:
+        raise OSError(error.errno, error.strerror, os.fspath(file)) from None
