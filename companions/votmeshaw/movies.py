@@ -14,8 +14,9 @@ from typing import Self
 
 # The program takes no longer files.
 LONGEST = 16_777_216
-MOVIE = b".a26m"
-PACKED = (b".a26m.gz", b".a26m.xz", b".a26m.bz2", b".a26m.zst", b".a26m.zip")
+# How the names of movies end, with their cartridge and without it.
+MOVIES = (b".a26m", b".a26s")
+PACKED = tuple(ending + packing for ending in MOVIES for packing in (b".gz", b".xz", b".bz2", b".zst", b".zip"))
 # What git-annex has in the place of a movie: a link to this folder, or a short file that begins with its name.
 ANNEX = b"/annex/objects/"
 LONGEST_POINTER = 32_768
@@ -125,16 +126,16 @@ class Folder:
                 raise OSError("a link that leads nowhere") from None
             raise
 
-    def read(self, name: bytes) -> bytes:
-        """The bytes of a movie, at most one more than the program takes."""
+    def read(self, name: bytes, longest: int = LONGEST) -> bytes:
+        """The bytes of a file, at most one more than the longest has; of a movie that is one more than the program takes."""
         with Way() as way:
-            return self._read(way, name)
+            return self._read(way, name, longest)
 
-    def _read(self, way: Way, name: bytes) -> bytes:
+    def _read(self, way: Way, name: bytes, longest: int) -> bytes:
         with open(descriptor := self._opened(way, name), "rb") as file:
             if not stat.S_ISREG(os.fstat(descriptor).st_mode):
                 raise OSError("not a regular file")
-            data = file.read(LONGEST + 1)
+            data = file.read(longest + 1)
         if data is None:
             raise OSError("no bytes to be had")
         return data
@@ -145,7 +146,7 @@ class Folder:
         if name.lower().endswith(PACKED):
             return Movie(shown, None, 0, "packed: unpack it first")
         try:
-            data = self._read(way, name)
+            data = self._read(way, name, LONGEST)
         except (OSError, ValueError) as error:
             if key := self._key(way, name):
                 return self._away(shown, key)
@@ -184,14 +185,19 @@ class Folder:
         """A part's movies, in the order of their names; folders that can't be read are among them, with a '/' at their end."""
         number, parts = part
         with Way() as way:
-            for path, error in self._paths(way):
+            for path, error in self._paths(way, (*MOVIES, *PACKED)):
                 if error:
                     yield Movie(os.fsdecode(path), None, 0, error)
                 elif zlib.crc32(path) % parts == number - 1:
                     yield self._looked_at(way, path)
 
-    def _paths(self, way: Way) -> Iterator[tuple[bytes, str]]:
-        """The paths of all movies; and of folders that can't be read, with the reason."""
+    def files(self) -> Iterator[tuple[bytes, str]]:
+        """The paths of all files, but for those in hidden folders; and of folders that can't be read, with the reason."""
+        with Way() as way:
+            yield from self._paths(way, (b"",))
+
+    def _paths(self, way: Way, endings: tuple[bytes, ...]) -> Iterator[tuple[bytes, str]]:
+        """The paths of all files with these endings; and of folders that can't be read, with the reason."""
         waiting = [b""]
         while waiting:
             at = waiting.pop()
@@ -205,4 +211,4 @@ class Folder:
             below = [(os.path.join(at, name), is_folder, name) for name, is_folder in found]
             below = [it for it in below if not self.is_excluded(it[0])]
             waiting += [path for path, is_folder, name in reversed(below) if is_folder and not name.startswith(b".")]
-            yield from ((path, "") for path, is_folder, _ in below if not is_folder and path.lower().endswith((MOVIE, *PACKED)))
+            yield from ((path, "") for path, is_folder, _ in below if not is_folder and path.lower().endswith(endings))
