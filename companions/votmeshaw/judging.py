@@ -6,8 +6,10 @@ import os
 import time
 
 from votmeshaw import verdicts
+from votmeshaw.cartridges import Cartridges
 from votmeshaw.movies import Folder, Movie
 from votmeshaw.names import readable
+from votmeshaw.stripped import Damaged, Stripped, is_stripped
 from votmeshaw.verdicts import KINDS, NONE, Verdict
 from votmeshaw.verifier import Answer, NoAnswer, Verifier
 
@@ -23,8 +25,8 @@ def unjudged(movie: Movie, line: str, program: str = "") -> Verdict:
                    judged=now(), program=program)
 
 
-def judged(verifier: Verifier, folder: Folder, movie: Movie) -> Verdict:
-    """Judges a movie: the bytes that it has now, whose digest is taken again."""
+def judged(verifier: Verifier, folder: Folder, movie: Movie, cartridges: Cartridges | None = None) -> Verdict:
+    """Judges a movie: the bytes that it has now, whose digest is taken again. One without its cartridge gets that first."""
     try:
         data = folder.read(os.fsencode(movie.path))
     except OSError as error:
@@ -33,22 +35,33 @@ def judged(verifier: Verifier, folder: Folder, movie: Movie) -> Verdict:
         return unjudged(movie, "changed while it was judged", verifier.version)
     began = time.monotonic()
     try:
+        data = whole(data, cartridges)
         answer = verifier.answer(data, "report", "-", "--json")
-    except NoAnswer as error:
+    except (NoAnswer, Damaged) as error:
         return unjudged(movie, str(error), verifier.version)
-    verdict = _verdict(movie, answer, verifier.version)
+    verdict = _verdict(movie, hashlib.sha256(data).hexdigest(), answer, verifier.version)
     verdict["seconds"] = round(time.monotonic() - began, 3)
     return verdict
 
 
-def _verdict(movie: Movie, answer: Answer, version: str) -> Verdict:
-    """The verdict in an answer. An object that isn't that of the status, or of other bytes, is none."""
+def whole(data: bytes, cartridges: Cartridges | None) -> bytes:
+    """The bytes of a movie, with its cartridge if it came without; Damaged if it can't have it."""
+    if not is_stripped(data):
+        return data
+    stripped = Stripped.read(data)
+    if not cartridges or not (found := cartridges.find(stripped.length, stripped.digest)):
+        raise Damaged(f"needs the cartridge {stripped.digest}")
+    return stripped.joined(found[1])
+
+
+def _verdict(movie: Movie, digest: str, answer: Answer, version: str) -> Verdict:
+    """The verdict in an answer about bytes of this digest. An object that isn't that of the status, or of other bytes, is none."""
     verdict = unjudged(movie, "", version)
     verdict["status"] = answer.status
     try:
         facts = verdicts.object_in(answer.out)
         verdict["line"] = verdicts.line_of(facts)
-        if KINDS.index(facts["verdict"]) != answer.status or facts.get("movie_sha256", movie.digest) != movie.digest:
+        if KINDS.index(facts["verdict"]) != answer.status or facts.get("movie_sha256", digest) != digest:
             raise ValueError
         if verdicts.wrong_fact(facts):
             raise ValueError
