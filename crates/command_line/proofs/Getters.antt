@@ -1,6 +1,6 @@
 -- What the getters of `clap` read, by the rows that it found.
 use Rattle.std.proofs.Common.{◌≡◌, ◌↔◌, ◌^◌, ◌<◌, ◌≤◌, ◌∙◌, ℕ, Bool, true, false, [], Option, Some, None, Result, option_map, codes, slice_index}
-use Rattle.std.proofs.Common.{IfNone, IfSome, IsSome, MatchOption, unwrap_or, sym, subst, refl, ap, arith}
+use Rattle.std.proofs.Common.{unwrap_or, sym, subst, refl, ap, arith}
 use Rattle.std.specs.Str.Parse.{ParsesUnsigned, ExplainsUnsignedError, HasUnsignedDigitsIfOk, ParsesBool}
 use Rattle.std.specs.Borrow.{Bor}
 use Rattle.std.specs.declared.num.ParseIntError.{ParseIntError}
@@ -49,26 +49,11 @@ one_read k o r n read is = subst (IsRead k o) is read
 pub wider : (o : Option Text) (least most lower higher : ℕ) → lower ≤ least → most ≤ higher → IsNumberIn least most o → IsNumberIn lower higher o
 wider o least most lower higher low high fits = grind arith
 
--- The same of an answer as it is.
-pub number_some : (k : ℕ) (o : Option Text) (r : Option ℕ) → IsRead k o r → IfSome r (λ n. option_map number_in o ≡ Some n)
-number_some k o r read = grind arith
-
-pub number_none : (k : ℕ) (o : Option Text) (r : Option ℕ) (least most : ℕ) → most < 2 ^ k → IsRead k o r → IfNone r (IsNumberIn least most o → ⊥)
-number_none k o r least most fits read = grind arith
-
 -- The number that was read is in each range in which the text has it.
 pub read_in : (o : Option Text) (n least most : ℕ) → option_map number_in o ≡ Some n → IsNumberIn least most o → (least ≤ n) × (n ≤ most)
 read_in o n least most is fits = grind arith
 
 pub ruleset ranges = (read_in, wider)
-
--- ---- what a type makes of a number
-
-pub none_if : {X : Type 0} (r : Option X) (P : Type 0) → (P → IsSome r) → IfNone r (P → ⊥)
-none_if r P h = grind arith
-
-pub none_if_zero : {X : Type 0} (r : Option X) (n : ℕ) (get : X → ℕ) (P : Type 0) → MatchOption r (n ≡ 0) (λ x. get x ≡ n) → (P → 1 ≤ n) → IfNone r (P → ⊥)
-none_if_zero r n get P zero some = grind arith
 
 -- ---- texts
 

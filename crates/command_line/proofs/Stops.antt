@@ -19,10 +19,10 @@ use Rattle.clap.specs.declared.error.ErrorKind.{ErrorKind}
 use Rattle.std.specs.List.{list_any}
 use Rattle.command_line.proofs.Found.{none_first, none_then}
 use Rattle.command_line.proofs.Lists.{Each, found}
-use Rattle.command_line.specs.Meanings.{IsCommand, IsCommandAt}
+use Rattle.command_line.specs.Meanings.{IsLine, IsLineAt}
 use Rattle.command_line.specs.Private.Names.{IsUnlisted}
 use Rattle.command_line.specs.Table.{Listed, commands, program_app}
-use Rattle.command_line.specs.declared.command.Command.{Command}
+use Rattle.command_line.specs.declared.command.CommandLine.{CommandLine}
 
 -- ---- what a word is
 
@@ -147,6 +147,6 @@ listed_met words name rows none met =
     subst (λ (o : Option (Text × List Row)). IfSome o (λ met. IsUnlisted met.0 commands → ⊥)) met
     (entered_met a (stop_after a.top.rules (names_of a) all) program_known clear)
 
-pub named : (words : List Text) (name : Text) (rows : List Row) (command : Command) → subcommand_of program_app words ≡ Some (name, rows)
-    → IsCommandAt name rows command → IsCommand (subcommand_of program_app words) command
-named words name rows command met at = subst (λ (o : Option (Text × List Row)). IsCommand o command) (sym met) at
+pub named : (words : List Text) (name : Text) (rows : List Row) (line : CommandLine) → subcommand_of program_app words ≡ Some (name, rows)
+    → IsLineAt name rows line → IsLine (subcommand_of program_app words) line
+named words name rows line met at = subst (λ (o : Option (Text × List Row)). IsLine o line) (sym met) at

@@ -1,5 +1,5 @@
 -- Which command the words of a command line are. This project's own.
-use Rattle.std.specs.Prelude.{◌≡◌, ◌↔◌, ◌≤◌, ℕ, Bool, true, List, [], ◌∷◌, Option, Some, None, codes}
+use Rattle.std.specs.Prelude.{◌≡◌, ◌↔◌, ◌≤◌, ℕ, false, true, List, [], ◌∷◌, Option, Some, None, codes}
 use Rattle.std.specs.Prelude.{Ok, is_some, length, map, option_map, string_bytes, unwrap_or}
 use Rattle.std.specs.NonZero.{non_zero_u16_get, non_zero_u32_get}
 use Rattle.std.specs.Str.Parse.{digits_value, without_leading_plus}
@@ -19,6 +19,7 @@ use Rattle.command_line.specs.Table.{old_row, watch_row}
 use Rattle.command_line.specs.Table.{out_row, pictures_row, rom_row}
 use Rattle.command_line.specs.Table.{text_row, workers_row}
 use Rattle.command_line.specs.declared.command.Command.{Command}
+use Rattle.command_line.specs.declared.command.CommandLine.{CommandLine}
 use Rattle.command_line.specs.declared.command.Command.TheVariants.{Verify, Report, Make}
 use Rattle.command_line.specs.declared.command.Command.TheVariants.{Info, Inputs, Convert}
 use Rattle.command_line.specs.declared.command.Command.TheVariants.{Frames, Pictures, Cut, Trace}
@@ -36,11 +37,12 @@ abbrev pub word_of : Argument → List Row → Text
 word_of argument rows = unwrap_or (first_of argument.name rows) (codes "")
 
 -- The plan of `verify`. If no file takes pictures none is kept.
-pub record IsPlan (rows : List Row) (pictures : Bool) (plan : Plan) : Type 0 where
+pub record IsPlan (rows : List Row) (plan : Plan) : Type 0 where
   pub workers : number_of workers_row rows ≡ Some plan.workers.number
   pub every : number_of cuts_row rows ≡ Some (non_zero_u16_get plan.every)
   pub first : number_of first_row rows ≡ Some plan.keep.first
-  pub count : pictures ≡ true → number_of count_row rows ≡ Some plan.keep.count
+  pub count : is_some (first_of pictures_row.name rows) ≡ true → number_of count_row rows ≡ Some plan.keep.count
+  pub none : is_some (first_of pictures_row.name rows) ≡ false → plan.keep.count ≡ 0
 
 -- The words of an argument that may be there more than once, in order.
 abbrev pub words_of : Argument → List Row → List Text
@@ -58,55 +60,66 @@ pub record AreDetails (rows : List Row) (details : Details) : Type 0 where
 
 -- The command of this name, of which `clap` found these values.
 abbrev pub IsCommandAt : Text → List Row → Command → Type 0
-IsCommandAt name rows (Verify file plan pictures) =
-    (name ≡ codes "verify") × (string_bytes file ≡ word_of file_row rows)
-    × IsPlan rows (is_some pictures) plan
-    × (option_map string_bytes pictures ≡ first_of pictures_row.name rows)
-IsCommandAt name rows (Report file workers notation) =
-    (name ≡ codes "report") × (string_bytes file ≡ word_of file_row rows)
-    × (number_of workers_row rows ≡ Some workers.number)
+IsCommandAt name rows (Verify plan) = (name ≡ codes "verify") × IsPlan rows plan
+IsCommandAt name rows (Report workers notation) =
+    (name ≡ codes "report") × (number_of workers_row rows ≡ Some workers.number)
     × ((notation ≡ Json) ↔ (one_of json_row.name rows ≡ Some (codes "true")))
-IsCommandAt name rows (Make rom inputs form every out) =
-    (name ≡ codes "make") × (string_bytes rom ≡ word_of rom_row rows)
-    × (string_bytes inputs ≡ word_of inputs_row rows)
+IsCommandAt name rows (Make inputs form every) =
+    (name ≡ codes "make") × (string_bytes inputs ≡ word_of inputs_row rows)
     × ((form ≡ forms.Text) ↔ (one_of text_row.name rows ≡ Some (codes "true")))
     × (number_of checkpoints_row rows ≡ Some (non_zero_u32_get every))
-    × (string_bytes out ≡ word_of out_row rows)
-IsCommandAt name rows (Info file notation) =
-    (name ≡ codes "info") × (string_bytes file ≡ word_of file_row rows)
-    × ((notation ≡ Json) ↔ (one_of json_row.name rows ≡ Some (codes "true")))
-IsCommandAt name rows (Inputs file) =
-    (name ≡ codes "inputs") × (string_bytes file ≡ word_of file_row rows)
-IsCommandAt name rows (Convert older newer) =
-    (name ≡ codes "convert") × (string_bytes older ≡ word_of old_row rows)
-    × (string_bytes newer ≡ word_of new_row rows)
-IsCommandAt name rows (Frames file first count details) =
-    (name ≡ codes "frames") × (string_bytes file ≡ word_of file_row rows)
-    × (number_of first_row rows ≡ Some (non_zero_u32_get first))
+IsCommandAt name rows (Info notation) =
+    (name ≡ codes "info") × ((notation ≡ Json) ↔ (one_of json_row.name rows ≡ Some (codes "true")))
+IsCommandAt name rows Inputs = name ≡ codes "inputs"
+IsCommandAt name rows Convert = name ≡ codes "convert"
+IsCommandAt name rows (Frames first count details) =
+    (name ≡ codes "frames") × (number_of first_row rows ≡ Some (non_zero_u32_get first))
     × (number_of asked_row rows ≡ Some count) × AreDetails rows details
-IsCommandAt name rows (Pictures file first count out) =
-    (name ≡ codes "pictures") × (string_bytes file ≡ word_of file_row rows)
-    × (number_of first_row rows ≡ Some (non_zero_u32_get first))
-    × (number_of asked_row rows ≡ Some count) × (string_bytes out ≡ word_of out_row rows)
-IsCommandAt name rows (Cut file first count every out) =
-    (name ≡ codes "cut") × (string_bytes file ≡ word_of file_row rows)
-    × (number_of first_row rows ≡ Some (non_zero_u32_get first))
+IsCommandAt name rows (Pictures first count) =
+    (name ≡ codes "pictures") × (number_of first_row rows ≡ Some (non_zero_u32_get first))
+    × (number_of asked_row rows ≡ Some count)
+IsCommandAt name rows (Cut first count every) =
+    (name ≡ codes "cut") × (number_of first_row rows ≡ Some (non_zero_u32_get first))
     × (number_of asked_row rows ≡ Some count)
     × (number_of checkpoints_row rows ≡ Some (non_zero_u32_get every))
-    × (string_bytes out ≡ word_of out_row rows)
-IsCommandAt name rows (Trace file frame) =
-    (name ≡ codes "trace") × (string_bytes file ≡ word_of file_row rows)
-    × (number_of frame_row rows ≡ Some (non_zero_u32_get frame))
+IsCommandAt name rows (Trace frame) =
+    (name ≡ codes "trace") × (number_of frame_row rows ≡ Some (non_zero_u32_get frame))
+
+-- The argument that names the file that a command is about,
+abbrev pub input_row : Command → Argument
+input_row (Make inputs form every) = rom_row
+input_row Convert = old_row
+input_row other = file_row
+
+-- and the word that names the file that it writes, if it writes one.
+abbrev pub output_word : Command → List Row → Option Text
+output_word (Verify plan) rows = first_of pictures_row.name rows
+output_word (Make inputs form every) rows = Some (word_of out_row rows)
+output_word Convert rows = Some (word_of new_row rows)
+output_word (Pictures first count) rows = Some (word_of out_row rows)
+output_word (Cut first count every) rows = Some (word_of out_row rows)
+output_word other rows = None
+
+-- The command with its files.
+abbrev pub IsLineAt : Text → List Row → CommandLine → Type 0
+IsLineAt name rows line =
+    IsCommandAt name rows line.command
+    × (string_bytes line.input ≡ word_of (input_row line.command) rows)
+    × (option_map string_bytes line.output ≡ output_word line.command rows)
+
+-- `verify` by one worker, cut at every checkpoint, which keeps no picture.
+abbrev pub IsPlainVerify : Command → Type 0
+IsPlainVerify (Verify plan) =
+    (plan.workers.number ≡ 1) × (non_zero_u16_get plan.every ≡ 1)
+    × (plan.keep.first ≡ 1) × (plan.keep.count ≡ 0)
+IsPlainVerify other = ⊥
 
 -- The command of the words at which `clap` met this command's name, with the values that it found
--- there. Without a name it is `verify -`: by one worker, cut at every checkpoint, and no picture is
--- kept.
-abbrev pub IsCommand : Option (Text × List Row) → Command → Type 0
-IsCommand None (Verify file plan pictures) =
-    (string_bytes file ≡ codes "-") × (plan.workers.number ≡ 1) × (non_zero_u16_get plan.every ≡ 1)
-    × (plan.keep.first ≡ 1) × (plan.keep.count ≡ 0) × (pictures ≡ None)
-IsCommand None other = ⊥
-IsCommand (Some met) command = IsCommandAt met.0 met.1 command
+-- there. Without a name it is `verify -`.
+abbrev pub IsLine : Option (Text × List Row) → CommandLine → Type 0
+IsLine None line =
+    IsPlainVerify line.command × (string_bytes line.input ≡ codes "-") × (line.output ≡ None)
+IsLine (Some met) line = IsLineAt met.0 met.1 line
 
 -- Each word after `--watch` writes an address of the memory, and there are at most 16 of them.
 abbrev pub HasAddresses : List Row → Type 0

@@ -10,11 +10,10 @@ ghost use Rattle.command_line.specs.Private.Mistakes.{IsMistake};
 ghost use Rattle.command_line.specs.Private.Numbers.{HasNumbers};
 ghost use Rattle.command_line.specs.Meanings.{AreAddresses, HasAddresses, IsCommandAt};
 ghost use Rattle.command_line.specs.Meanings.{words_of};
-ghost use Rattle.command_line.specs.Pictures.{KeepsWhatIsTaken};
 ghost use Rattle.command_line.specs.Table.{frames_listed, watch_row};
 
 use crate::command::{Command, LineFault};
-use crate::line::{is_given, number_at, number_from_one, text_of};
+use crate::line::{is_given, number_at, number_from_one};
 use clap::ArgMatches;
 use hex::FromHex;
 use replay_plan::{Address, Details, Watches};
@@ -72,26 +71,16 @@ fn no_addresses(alloc: Global) -> LineFault
 /// The command `frames`.
 pub(crate) fn frames_of(alloc: Global, matches: &ArgMatches<'_>) -> Result<Command, LineFault>
     requires { HasNumbers frames_listed (rows_of (found_of matches.now)) }
-    ensures kept { IfOk result KeepsWhatIsTaken }
     ensures ok { IfOk result (IsCommandAt (codes "frames") (rows_of (found_of matches.now))) }
     ensures err { IfErr result (IsNoFrames (rows_of (found_of matches.now))) }
 {
-    let file = text_of(alloc, matches, "file")?;
-    let digests = is_given(matches, "digests");
-    let Some(first) = number_from_one(matches, "first") else {
-        unreachable!()
-    };
-    let Some(count) = number_at(matches, "count") else {
-        unreachable!()
-    };
     let Some(watches) = watches_of(matches) else {
         return Err(no_addresses(alloc));
     };
-    let details = Details { watches, digests };
+    let digests = is_given(matches, "digests");
     Ok(Command::Frames {
-        file,
-        first,
-        count,
-        details,
+        first: number_from_one(matches, "first"),
+        count: number_at(matches, "count"),
+        details: Details { watches, digests },
     })
 }

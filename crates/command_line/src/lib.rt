@@ -7,6 +7,6 @@ mod line;
 mod parser;
 mod version;
 
-pub use command::{Command, LineFault};
+pub use command::{Command, CommandLine, LineFault};
 pub use line::parse_line;
 pub use version::program_name;

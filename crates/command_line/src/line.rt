@@ -1,16 +1,15 @@
 //! From arguments to a command.
-ghost use Rattle.std.specs.Prelude.{◌≡◌, ◌↔◌, false, true, [], map, codes, option_map, unwrap_or};
+ghost use Rattle.std.specs.Prelude.{◌≡◌, ◌↔◌, false, true, [], map, codes, is_some, option_map, unwrap_or};
 ghost use Rattle.std.specs.Prelude.{IfErr, IfOk, IfNone, IfSome, string_bytes};
 ghost use Rattle.std.specs.NonZero.{non_zero_u16_get, non_zero_u32_get};
 ghost use Rattle.clap.specs.Words.{fault_of as faults_at, found_of, kind_of, rows_of, subcommand_of};
 ghost use Rattle.clap.specs.Words.{first_of, one_of};
 ghost use Rattle.command_line.specs.Faults.{HasBadValue, IsAnswerTo, IsRefusal};
-ghost use Rattle.command_line.specs.Meanings.{IsCommand, IsCommandAt, IsPlan};
-ghost use Rattle.command_line.specs.Meanings.{number_in, number_of};
+ghost use Rattle.command_line.specs.Meanings.{IsCommandAt, IsLine, IsLineAt, input_row};
+ghost use Rattle.command_line.specs.Meanings.{number_in, number_of, output_word, word_of};
 ghost use Rattle.command_line.specs.Private.Names.{IsUnlisted};
 ghost use Rattle.command_line.specs.Private.Numbers.{HasNumbers, HasNumbersOf, IsNumberIn};
 ghost use Rattle.command_line.specs.Private.Numbers.{Suits};
-ghost use Rattle.command_line.specs.Pictures.{KeepsWhatIsTaken};
 ghost use Rattle.command_line.specs.declared.command.LineFault.TheVariants.{Memory};
 ghost use Rattle.command_line.specs.Table.{commands, program_app, verify_listed, report_listed};
 ghost use Rattle.command_line.specs.Table.{make_listed};
@@ -20,7 +19,7 @@ ghost use Rattle.command_line.specs.Table.{frame_row, json_row, pictures_row, te
 ghost use Rattle.replay_plan.specs.declared.input_form.InputForm.TheVariants.{Text};
 ghost use Rattle.replay_plan.specs.declared.notation.Notation.TheVariants.{Json};
 
-use crate::command::{Command, LineFault};
+use crate::command::{Command, CommandLine, LineFault};
 use crate::frames::frames_of;
 use crate::parser::program;
 use clap::ArgMatches;
@@ -43,127 +42,120 @@ pub(crate) fn text_of(
     String::from_str(alloc, matches.get_str(name).unwrap_or(""))
 }
 
-/// The workers that are asked for.
-fn workers_of(matches: &ArgMatches<'_>) -> Option<Workers>
-    ensures some { IfSome result (λ workers.
-        number_of workers_row (rows_of (found_of matches.now)) ≡ Some workers.number) }
-    ensures none { IfNone result (Suits workers_row.kind
-        (one_of workers_row.name (rows_of (found_of matches.now))) → ⊥) }
-{
-    Workers::new(matches.get_one::<u8>("workers")?)
-}
-
-/// Where `verify` cuts the movie.
-fn cuts_of(matches: &ArgMatches<'_>) -> Option<NonZeroU16>
-    ensures some { IfSome result (λ every. number_of cuts_row
-        (rows_of (found_of matches.now)) ≡ Some (non_zero_u16_get every)) }
-    ensures none { IfNone result (Suits cuts_row.kind
-        (one_of cuts_row.name (rows_of (found_of matches.now))) → ⊥) }
-{
-    NonZeroU16::new(matches.get_one::<u16>("every")?)
-}
-
-/// The pictures that are kept, which are none if no file takes them.
-#[tactic(auto, using(crate::proofs::Getters::ranges))]
-fn keep_of(matches: &ArgMatches<'_>, pictures: bool) -> Option<Keep>
-    ensures kept { IfSome result (λ keep. pictures ≡ false → keep.count ≡ 0) }
-    ensures first { IfSome result (λ keep.
-        number_of first_row (rows_of (found_of matches.now)) ≡ Some keep.first) }
-    ensures count { IfSome result (λ keep. pictures ≡ true
-        → number_of count_row (rows_of (found_of matches.now)) ≡ Some keep.count) }
-    ensures none { IfNone result (
-        Suits first_row.kind (one_of first_row.name (rows_of (found_of matches.now)))
-        → Suits count_row.kind (one_of count_row.name (rows_of (found_of matches.now))) → ⊥) }
-{
-    let first = number_at(matches, "first")?;
-    let wanted = number_at(matches, "count")?;
-    let count = if pictures { wanted } else { 0 };
-    Keep::new(first, count).ok()
-}
-
-/// The plan that is asked for, which keeps pictures only if a file takes them.
-fn plan_of(matches: &ArgMatches<'_>, pictures: bool) -> Option<Plan>
-    ensures kept { IfSome result (λ plan. pictures ≡ false → plan.keep.count ≡ 0) }
-    ensures some { IfSome result (IsPlan (rows_of (found_of matches.now)) pictures) }
-    ensures none { IfNone result (HasNumbers verify_listed (rows_of (found_of matches.now)) → ⊥) }
-{
-    let workers = workers_of(matches)?;
-    let every = cuts_of(matches)?;
-    let keep = keep_of(matches, pictures)?;
-    Some(Plan {
-        workers,
-        every,
-        keep,
-    })
-}
-
-/// The file that takes the pictures, if there is one.
+/// The word of an option, if it is there.
 #[tactic(auto, using(crate::proofs::Getters::word_read))]
-fn pictures_of(alloc: Global, matches: &ArgMatches<'_>) -> Result<Option<String>, AllocError>
-    ensures { IfOk result (λ pictures. option_map string_bytes pictures
-        ≡ first_of pictures_row.name (rows_of (found_of matches.now))) }
+fn word_of(
+    alloc: Global,
+    matches: &ArgMatches<'_>,
+    name: &str,
+) -> Result<Option<String>, AllocError>
+    ensures { IfOk result (λ word. option_map string_bytes word
+        ≡ first_of name.now (rows_of (found_of matches.now))) }
 {
-    match matches.get_str("pictures") {
-        Some(name) => Ok(Some(String::from_str(alloc, name)?)),
+    match matches.get_str(name) {
+        Some(word) => Ok(Some(String::from_str(alloc, word)?)),
         None => Ok(None),
     }
 }
 
-/// The command `verify`.
-fn verify_of(alloc: Global, matches: &ArgMatches<'_>) -> Result<Command, AllocError>
-    requires { HasNumbers verify_listed (rows_of (found_of matches.now)) }
-    ensures kept { IfOk result KeepsWhatIsTaken }
-    ensures ok { IfOk result (IsCommandAt (codes "verify") (rows_of (found_of matches.now))) }
+/// The number of an argument, which `clap` has tried.
+pub(crate) fn number_at(matches: &ArgMatches<'_>, name: &str) -> u32
+    requires { IsNumberIn 0 4294967295 (one_of name.now (rows_of (found_of matches.now))) }
+    ensures { option_map number_in (one_of name.now (rows_of (found_of matches.now))) ≡ Some result }
 {
-    let file = text_of(alloc, matches, "file")?;
-    let pictures = pictures_of(alloc, matches)?;
-    let Some(plan) = plan_of(matches, pictures.is_some()) else {
+    let Some(number) = matches.get_one::<u32>(name) else {
         unreachable!()
     };
-    Ok(Command::Verify {
-        file,
-        plan,
-        pictures,
-    })
-}
-
-/// The command `report`.
-fn report_of(alloc: Global, matches: &ArgMatches<'_>) -> Result<Command, AllocError>
-    requires { HasNumbers report_listed (rows_of (found_of matches.now)) }
-    ensures kept { IfOk result KeepsWhatIsTaken }
-    ensures ok { IfOk result (IsCommandAt (codes "report") (rows_of (found_of matches.now))) }
-{
-    let file = text_of(alloc, matches, "file")?;
-    let notation = notation_of(matches);
-    let Some(workers) = workers_of(matches) else {
-        unreachable!()
-    };
-    Ok(Command::Report {
-        file,
-        workers,
-        notation,
-    })
-}
-
-/// The number of an argument, if its text writes one that a `u32` holds.
-pub(crate) fn number_at(matches: &ArgMatches<'_>, name: &str) -> Option<u32>
-    ensures some { IfSome result (λ number.
-        option_map number_in (one_of name.now (rows_of (found_of matches.now))) ≡ Some number) }
-    ensures none { IfNone result (
-        IsNumberIn 0 4294967295 (one_of name.now (rows_of (found_of matches.now))) → ⊥) }
-{
-    matches.get_one::<u32>(name)
+    number
 }
 
 /// The number of an argument that is at least 1.
 #[tactic(auto, using(crate::proofs::Getters::ranges))]
-pub(crate) fn number_from_one(matches: &ArgMatches<'_>, name: &str) -> Option<NonZeroU32>
-    ensures some { IfSome result (λ number. option_map number_in
-        (one_of name.now (rows_of (found_of matches.now))) ≡ Some (non_zero_u32_get number)) }
-    ensures none { IfNone result (
-        IsNumberIn 1 4294967295 (one_of name.now (rows_of (found_of matches.now))) → ⊥) }
+pub(crate) fn number_from_one(matches: &ArgMatches<'_>, name: &str) -> NonZeroU32
+    requires { IsNumberIn 1 4294967295 (one_of name.now (rows_of (found_of matches.now))) }
+    ensures { option_map number_in (one_of name.now (rows_of (found_of matches.now)))
+        ≡ Some (non_zero_u32_get result) }
 {
-    NonZeroU32::new(number_at(matches, name)?)
+    let Some(number) = NonZeroU32::new(number_at(matches, name)) else {
+        unreachable!()
+    };
+    number
+}
+
+/// The workers that are asked for.
+fn workers_of(matches: &ArgMatches<'_>) -> Workers
+    requires { Suits workers_row.kind (one_of workers_row.name (rows_of (found_of matches.now))) }
+    ensures { number_of workers_row (rows_of (found_of matches.now)) ≡ Some result.number }
+{
+    let Some(number) = matches.get_one::<u8>("workers") else {
+        unreachable!()
+    };
+    let Some(workers) = Workers::new(number) else {
+        unreachable!()
+    };
+    workers
+}
+
+/// Where `verify` cuts the movie.
+fn cuts_of(matches: &ArgMatches<'_>) -> NonZeroU16
+    requires { Suits cuts_row.kind (one_of cuts_row.name (rows_of (found_of matches.now))) }
+    ensures { number_of cuts_row (rows_of (found_of matches.now))
+        ≡ Some (non_zero_u16_get result) }
+{
+    let Some(number) = matches.get_one::<u16>("every") else {
+        unreachable!()
+    };
+    let Some(every) = NonZeroU16::new(number) else {
+        unreachable!()
+    };
+    every
+}
+
+/// The pictures that are kept, which are none if no file takes them.
+#[tactic(auto, using(crate::proofs::Getters::ranges, crate::proofs::Getters::word_read))]
+fn keep_of(matches: &ArgMatches<'_>) -> Keep
+    requires first { Suits first_row.kind (one_of first_row.name (rows_of (found_of matches.now))) }
+    requires count { Suits count_row.kind (one_of count_row.name (rows_of (found_of matches.now))) }
+    ensures first { number_of first_row (rows_of (found_of matches.now)) ≡ Some result.first }
+    ensures count { is_some (first_of pictures_row.name (rows_of (found_of matches.now))) ≡ true
+        → number_of count_row (rows_of (found_of matches.now)) ≡ Some result.count }
+    ensures none { is_some (first_of pictures_row.name (rows_of (found_of matches.now))) ≡ false
+        → result.count ≡ 0 }
+{
+    let wanted = number_at(matches, "count");
+    let count = if matches.get_str("pictures").is_some() {
+        wanted
+    } else {
+        0
+    };
+    match Keep::new(number_at(matches, "first"), count) {
+        Ok(keep) => keep,
+        Err(_) => unreachable!(),
+    }
+}
+
+/// The command `verify`, which keeps pictures only if a file takes them.
+fn verify_of(matches: &ArgMatches<'_>) -> Command
+    requires { HasNumbers verify_listed (rows_of (found_of matches.now)) }
+    ensures { IsCommandAt (codes "verify") (rows_of (found_of matches.now)) result }
+{
+    let plan = Plan {
+        workers: workers_of(matches),
+        every: cuts_of(matches),
+        keep: keep_of(matches),
+    };
+    Command::Verify { plan }
+}
+
+/// The command `report`.
+fn report_of(matches: &ArgMatches<'_>) -> Command
+    requires { HasNumbers report_listed (rows_of (found_of matches.now)) }
+    ensures { IsCommandAt (codes "report") (rows_of (found_of matches.now)) result }
+{
+    Command::Report {
+        workers: workers_of(matches),
+        notation: notation_of(matches),
+    }
 }
 
 /// Whether an option without a word is there.
@@ -201,94 +193,47 @@ fn form_of(matches: &ArgMatches<'_>) -> InputForm
 /// The command `make`.
 fn make_of(alloc: Global, matches: &ArgMatches<'_>) -> Result<Command, AllocError>
     requires { HasNumbers make_listed (rows_of (found_of matches.now)) }
-    ensures kept { IfOk result KeepsWhatIsTaken }
-    ensures ok { IfOk result (IsCommandAt (codes "make") (rows_of (found_of matches.now))) }
+    ensures { IfOk result (IsCommandAt (codes "make") (rows_of (found_of matches.now))) }
 {
-    let rom = text_of(alloc, matches, "rom")?;
     let inputs = text_of(alloc, matches, "inputs")?;
-    let out = text_of(alloc, matches, "out")?;
-    let form = form_of(matches);
-    let Some(every) = number_from_one(matches, "every") else {
-        unreachable!()
-    };
     Ok(Command::Make {
-        rom,
         inputs,
-        form,
-        every,
-        out,
+        form: form_of(matches),
+        every: number_from_one(matches, "every"),
     })
 }
 
 /// The command `pictures`.
-fn drawing_of(alloc: Global, matches: &ArgMatches<'_>) -> Result<Command, AllocError>
+fn pictures_of(matches: &ArgMatches<'_>) -> Command
     requires { HasNumbers drawing_listed (rows_of (found_of matches.now)) }
-    ensures kept { IfOk result KeepsWhatIsTaken }
-    ensures ok { IfOk result (IsCommandAt (codes "pictures") (rows_of (found_of matches.now))) }
+    ensures { IsCommandAt (codes "pictures") (rows_of (found_of matches.now)) result }
 {
-    let file = text_of(alloc, matches, "file")?;
-    let out = text_of(alloc, matches, "out")?;
-    let Some(first) = number_from_one(matches, "first") else {
-        unreachable!()
-    };
-    let Some(count) = number_at(matches, "count") else {
-        unreachable!()
-    };
-    Ok(Command::Pictures {
-        file,
-        first,
-        count,
-        out,
-    })
+    Command::Pictures {
+        first: number_from_one(matches, "first"),
+        count: number_at(matches, "count"),
+    }
 }
 
 /// The command `cut`.
-fn cut_of(alloc: Global, matches: &ArgMatches<'_>) -> Result<Command, AllocError>
+fn cut_of(matches: &ArgMatches<'_>) -> Command
     requires { HasNumbers cut_listed (rows_of (found_of matches.now)) }
-    ensures kept { IfOk result KeepsWhatIsTaken }
-    ensures ok { IfOk result (IsCommandAt (codes "cut") (rows_of (found_of matches.now))) }
+    ensures { IsCommandAt (codes "cut") (rows_of (found_of matches.now)) result }
 {
-    let file = text_of(alloc, matches, "file")?;
-    let out = text_of(alloc, matches, "out")?;
-    let Some(first) = number_from_one(matches, "first") else {
-        unreachable!()
-    };
-    let Some(count) = number_at(matches, "count") else {
-        unreachable!()
-    };
-    let Some(every) = number_from_one(matches, "every") else {
-        unreachable!()
-    };
-    Ok(Command::Cut {
-        file,
-        first,
-        count,
-        every,
-        out,
-    })
+    Command::Cut {
+        first: number_from_one(matches, "first"),
+        count: number_at(matches, "count"),
+        every: number_from_one(matches, "every"),
+    }
 }
 
 /// The command `trace`.
-fn trace_of(alloc: Global, matches: &ArgMatches<'_>) -> Result<Command, AllocError>
+fn trace_of(matches: &ArgMatches<'_>) -> Command
     requires { HasNumbers trace_listed (rows_of (found_of matches.now)) }
-    ensures kept { IfOk result KeepsWhatIsTaken }
-    ensures ok { IfOk result (IsCommandAt (codes "trace") (rows_of (found_of matches.now))) }
+    ensures { IsCommandAt (codes "trace") (rows_of (found_of matches.now)) result }
 {
-    let file = text_of(alloc, matches, "file")?;
-    let Some(frame) = number_from_one(matches, "frame") else {
-        unreachable!()
-    };
-    Ok(Command::Trace { file, frame })
-}
-
-/// The command `info`.
-fn info_of(alloc: Global, matches: &ArgMatches<'_>) -> Result<Command, AllocError>
-    ensures kept { IfOk result KeepsWhatIsTaken }
-    ensures ok { IfOk result (IsCommandAt (codes "info") (rows_of (found_of matches.now))) }
-{
-    let file = text_of(alloc, matches, "file")?;
-    let notation = notation_of(matches);
-    Ok(Command::Info { file, notation })
+    Command::Trace {
+        frame: number_from_one(matches, "frame"),
+    }
 }
 
 /// What `clap` says of arguments that are no command, or that ask for help.
@@ -310,40 +255,88 @@ fn fault_of(alloc: Global, error: &clap::Error) -> LineFault
 fn command_of(alloc: Global, name: &str, matches: &ArgMatches<'_>) -> Result<Command, LineFault>
     requires numbers { HasNumbersOf name.now (rows_of (found_of matches.now)) }
     requires listed { IsUnlisted name.now commands → ⊥ }
-    ensures kept { IfOk result KeepsWhatIsTaken }
     ensures ok { IfOk result (IsCommandAt name.now (rows_of (found_of matches.now))) }
     ensures err { IfErr result (HasBadValue name.now (rows_of (found_of matches.now))) }
 {
     match name {
-        "verify" => Ok(verify_of(alloc, matches)?),
-        "report" => Ok(report_of(alloc, matches)?),
+        "verify" => Ok(verify_of(matches)),
+        "report" => Ok(report_of(matches)),
         "make" => Ok(make_of(alloc, matches)?),
-        "info" => Ok(info_of(alloc, matches)?),
-        "inputs" => Ok(Command::Inputs {
-            file: text_of(alloc, matches, "file")?,
+        "info" => Ok(Command::Info {
+            notation: notation_of(matches),
         }),
-        "convert" => Ok(Command::Convert {
-            old: text_of(alloc, matches, "old")?,
-            new: text_of(alloc, matches, "new")?,
-        }),
+        "inputs" => Ok(Command::Inputs),
+        "convert" => Ok(Command::Convert),
         "frames" => frames_of(alloc, matches),
-        "pictures" => Ok(drawing_of(alloc, matches)?),
-        "cut" => Ok(cut_of(alloc, matches)?),
-        "trace" => Ok(trace_of(alloc, matches)?),
+        "pictures" => Ok(pictures_of(matches)),
+        "cut" => Ok(cut_of(matches)),
+        "trace" => Ok(trace_of(matches)),
         _ => unreachable!(),
     }
 }
 
+/// The file that a command is about.
+fn input_of(
+    alloc: Global,
+    command: &Command,
+    matches: &ArgMatches<'_>,
+) -> Result<String, AllocError>
+    ensures { IfOk result (λ input. string_bytes input
+        ≡ word_of (input_row command.now) (rows_of (found_of matches.now))) }
+{
+    match command {
+        Command::Make { .. } => text_of(alloc, matches, "rom"),
+        Command::Convert => text_of(alloc, matches, "old"),
+        _ => text_of(alloc, matches, "file"),
+    }
+}
+
+/// The file that a command writes, if it writes one.
+fn output_of(
+    alloc: Global,
+    command: &Command,
+    matches: &ArgMatches<'_>,
+) -> Result<Option<String>, AllocError>
+    ensures { IfOk result (λ output. option_map string_bytes output
+        ≡ output_word command.now (rows_of (found_of matches.now))) }
+{
+    match command {
+        Command::Verify { .. } => word_of(alloc, matches, "pictures"),
+        Command::Make { .. } | Command::Pictures { .. } | Command::Cut { .. } => {
+            Ok(Some(text_of(alloc, matches, "out")?))
+        }
+        Command::Convert => Ok(Some(text_of(alloc, matches, "new")?)),
+        _ => Ok(None),
+    }
+}
+
+/// The command of this name, as `command_of` has it, with its files.
+fn line_of(alloc: Global, name: &str, matches: &ArgMatches<'_>) -> Result<CommandLine, LineFault>
+    requires numbers { HasNumbersOf name.now (rows_of (found_of matches.now)) }
+    requires listed { IsUnlisted name.now commands → ⊥ }
+    ensures ok { IfOk result (IsLineAt name.now (rows_of (found_of matches.now))) }
+    ensures err { IfErr result (HasBadValue name.now (rows_of (found_of matches.now))) }
+{
+    let command = command_of(alloc, name, matches)?;
+    let input = input_of(alloc, &command, matches)?;
+    let output = output_of(alloc, &command, matches)?;
+    Ok(CommandLine {
+        command,
+        input,
+        output,
+    })
+}
+
 /// The command of no arguments: `verify -` by one worker.
-fn command_of_no_words(alloc: Global) -> Result<Command, LineFault>
-    ensures kept { IfOk result KeepsWhatIsTaken }
-    ensures ok { IfOk result (IsCommand None) }
+fn line_of_no_words(alloc: Global) -> Result<CommandLine, LineFault>
+    ensures ok { IfOk result (IsLine None) }
     ensures err { IfErr result (λ fault. fault ≡ Memory) }
 {
-    Ok(Command::Verify {
-        file: String::from_str(alloc, "-")?,
-        plan: Plan::without_pictures(Workers::ONE),
-        pictures: None,
+    let plan = Plan::without_pictures(Workers::ONE);
+    Ok(CommandLine {
+        command: Command::Verify { plan },
+        input: String::from_str(alloc, "-")?,
+        output: None,
     })
 }
 
@@ -351,10 +344,9 @@ fn command_of_no_words(alloc: Global) -> Result<Command, LineFault>
 ///
 /// If they name no command it is `verify -` by one worker. `clap` tries each number, so that each is
 /// in its range here.
-pub fn parse_line<S: AsStr>(alloc: Global, words: &[S]) -> Result<Command, LineFault>
-    ensures kept { IfOk result KeepsWhatIsTaken }
+pub fn parse_line<S: AsStr>(alloc: Global, words: &[S]) -> Result<CommandLine, LineFault>
     ensures taken { IfOk result (λ _. faults_at program_app (map S.text words.now) ≡ []) }
-    ensures ok { IfOk result (IsCommand (subcommand_of program_app (map S.text words.now))) }
+    ensures ok { IfOk result (IsLine (subcommand_of program_app (map S.text words.now))) }
     ensures err { IfErr result (IsRefusal (map S.text words.now)) }
 {
     let program = program(alloc)?;
@@ -363,7 +355,7 @@ pub fn parse_line<S: AsStr>(alloc: Global, words: &[S]) -> Result<Command, LineF
         Err(error) => return Err(fault_of(alloc, &error)),
     };
     match matches.subcommand() {
-        Some((name, inner)) => command_of(alloc, name, inner),
-        None => command_of_no_words(alloc),
+        Some((name, inner)) => line_of(alloc, name, inner),
+        None => line_of_no_words(alloc),
     }
 }

@@ -5,7 +5,7 @@ use Rattle.named_files.specs.declared.file_error.CreateError.TheVariants.{Open}
 use Rattle.named_files.specs.declared.file_error.FileError.{FileError}
 use Rattle.named_files.specs.declared.file_error.Reason.{Reason}
 use Rattle.named_files.specs.declared.file_error.Reason.TheVariants.{IsInput, IsOutput, TooLong}
-use Rattle.vcs_engine.specs.Streams.{input_limit}
+use Rattle.commands.specs.Streams.{input_limit}
 
 -- It is the file of this name.
 abbrev pub Names : List ℕ → FileError → Type 0

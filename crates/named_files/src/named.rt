@@ -10,7 +10,7 @@ use crate::file_error::{FileError, Reason};
 use crate::replacing::Replacing;
 use std::io::{self, Read, Write};
 use std::rt::Files;
-use vcs_engine::INPUT_LIMIT;
+use commands::INPUT_LIMIT;
 
 /// A file or a standard stream with its name, which remembers how many bytes were read of it, and
 /// why it failed last.

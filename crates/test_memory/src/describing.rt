@@ -5,8 +5,7 @@ use crate::movies::two_frames;
 use replay_plan::{Address, Details, Watches};
 use std::alloc::Global;
 use std::num::NonZeroU32;
-use vcs_engine::{RunError, Status};
-use view_engine::run_frames;
+use commands::{RunError, Status, run_frames};
 
 /// The room for two lines with digests.
 const ROOM: usize = 512;

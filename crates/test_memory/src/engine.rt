@@ -12,11 +12,7 @@ use std::io::{self, Read};
 use std::num::NonZeroU32;
 use std::sync::Wait;
 use std::thread::Threads;
-use vcs_engine::{
-    InputForm, NoGate, Notation, RunError, Status, run, run_convert, run_info, run_information,
-    run_inputs, run_make, run_report,
-};
-use view_engine::{run_cut, run_pictures};
+use commands::{InputForm, NoGate, Notation, RunError, Status, run, run_convert, run_cut, run_info, run_information, run_inputs, run_make, run_pictures, run_report};
 
 /// The room for a line.
 const ROOM: usize = 64;

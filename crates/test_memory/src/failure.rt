@@ -5,7 +5,7 @@ use replay_plan::BadKeep;
 use replay_segments::{BadCuts, GatherError};
 use std::alloc::{AllocError, AllocFailed};
 use thiserror::Error;
-use vcs_engine::RunError;
+use commands::RunError;
 use verify_pool::{NoThread, VerifyError};
 
 /// Why a call is not right, or not with a growth of its own refused.

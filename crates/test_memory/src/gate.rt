@@ -2,7 +2,7 @@
 
 use replay_segments::Piece;
 use std::sync::atomic::{AtomicU64, Ordering};
-use vcs_engine::CountedGate;
+use commands::CountedGate;
 use verify_pool::{Gate, Ticket};
 
 /// A gate that counts the judgements that begin and those that end.

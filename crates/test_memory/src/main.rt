@@ -32,7 +32,7 @@ use std::io::{self, Print, Read};
 use std::process::ExitCode;
 use std::sync::Wait;
 use std::thread::Threads;
-use vcs_engine::InputForm;
+use commands::InputForm;
 use wrong_movies::WrongMovie;
 
 /// Tries a call about a movie or its segments; none has another name.

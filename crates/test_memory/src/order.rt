@@ -7,9 +7,8 @@ use movie_file::{MakeError, MovieError, make_movie, read_inputs, read_movie};
 use std::alloc::Global;
 use std::io;
 use std::num::NonZeroU32;
-use vcs_engine::{RunError, Status};
+use commands::{RunError, Status, run_cut};
 use vcs_machine::{FrameError, Input, State, frame};
-use view_engine::run_cut;
 
 /// The movie of two frames with 02, which is no opcode, where its program begins.
 fn without_opcode() -> [u8; LENGTH] {

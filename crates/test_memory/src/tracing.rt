@@ -5,8 +5,7 @@ use crate::failure::{Failure, right};
 use crate::movies::two_frames;
 use std::alloc::Global;
 use std::num::NonZeroU32;
-use vcs_engine::{RunError, Status};
-use view_engine::run_trace;
+use commands::{RunError, Status, run_trace};
 
 /// The room for the lines.
 const ROOM: usize = 512;

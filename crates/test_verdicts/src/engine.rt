@@ -12,7 +12,7 @@ use std::num::NonZeroU16;
 use std::sync::Wait;
 use std::test::Fail;
 use std::thread::Threads;
-use vcs_engine::{NoGate, RunError, Status, rgb, run};
+use commands::{NoGate, RunError, Status, rgb, run};
 
 /// Two workers, and a cut at each checkpoint.
 fn plan() -> Plan {

@@ -3,7 +3,7 @@
 use replay_segments::Piece;
 use std::sync::atomic::{AtomicU64, Ordering};
 use std::thread;
-use vcs_engine::CountedGate;
+use commands::CountedGate;
 use verify_pool::{Gate, Ticket};
 
 /// How often the workers at a gate look, all together, before it gives up.

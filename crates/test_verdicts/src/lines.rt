@@ -2,7 +2,7 @@
 
 use crate::expectation::expect_equal;
 use std::test::Fail;
-use vcs_engine::{Line, Status};
+use commands::{Line, Status};
 use vcs_machine::FaultKind;
 
 #[test]

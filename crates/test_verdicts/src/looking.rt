@@ -6,8 +6,7 @@ use crate::movies::{first_of_two_false, two_frames, two_frames_with_a_last_check
 use std::io;
 use std::num::NonZeroU32;
 use std::test::Fail;
-use vcs_engine::{RunError, Status};
-use view_engine::{run_cut, run_pictures};
+use commands::{RunError, Status, run_cut, run_pictures};
 
 /// The length of a picture of one row.
 const PICTURE: u64 = 13 + 480;

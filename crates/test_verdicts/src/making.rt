@@ -7,7 +7,7 @@ use crate::movies::{ENDLESS_FRAMES, rom, two_frames_with_a_last_checkpoint};
 use std::alloc::Global;
 use std::io;
 use std::test::Fail;
-use vcs_engine::{InputForm, RunError, Status, run_info, run_make};
+use commands::{InputForm, RunError, Status, run_info, run_make};
 
 /// Two idle inputs.
 const TWO_INPUTS: [u8; 6] = [0xFF, 0x3F, 0, 0xFF, 0x3F, 0];

@@ -6,7 +6,7 @@ use replay_plan::Keep;
 use replay_segments::{Verdict, verify_one};
 use std::alloc::Global;
 use std::test::Fail;
-use vcs_engine::{ppm, rgb};
+use commands::{ppm, rgb};
 
 /// The red, green and blue of each hue at luminance 0.
 const BASES: [[u8; 3]; 16] = [

@@ -5,8 +5,7 @@ use crate::expectation::expect_equal;
 use crate::movies::two_frames;
 use std::num::NonZeroU32;
 use std::test::Fail;
-use vcs_engine::{RunError, Status};
-use view_engine::run_trace;
+use commands::{RunError, Status, run_trace};
 
 /// The trace of the second of two frames.
 const LINES: &str = "  0 13  F00A  4C 00 F0  JMP $F000    A=00 X=00 Y=00 S=FF P=06

@@ -4,9 +4,9 @@ use Rattle.named_files.specs.declared.file_error.FileError.{FileError}
 use Rattle.vcs_check.specs.Failures.{IsWriteFault}
 use Rattle.vcs_check.specs.Private.FileErrors.{by_input, by_output}
 use Rattle.vcs_check.specs.declared.failure.Failure.TheVariants.{Run}
-use Rattle.vcs_engine.specs.declared.run_error.RunError.{RunError}
-use Rattle.vcs_engine.specs.declared.run_error.RunError.TheVariants.{WriteFault}
-use Rattle.vcs_engine.specs.declared.status.Status.{Status}
+use Rattle.commands.specs.declared.run_error.RunError.{RunError}
+use Rattle.commands.specs.declared.run_error.RunError.TheVariants.{WriteFault}
+use Rattle.commands.specs.declared.status.Status.{Status}
 
 -- What an answer becomes is a failed write, if the answer is an error.
 abbrev pub Stays : Option FileError → Option FileError → Option FileError → Result Status RunError → Type 0

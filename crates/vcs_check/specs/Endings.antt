@@ -8,9 +8,9 @@ use Rattle.vcs_check.specs.declared.failure.Failure.{Failure}
 use Rattle.vcs_check.specs.declared.failure.Failure.TheVariants.{Run}
 use Rattle.vcs_check.specs.declared.ending.Ending.{Ending}
 use Rattle.vcs_check.specs.declared.ending.Ending.TheVariants.{Help, Usage, NotUtf8, Dash, Failed}
-use Rattle.vcs_engine.specs.Status.{status_code}
-use Rattle.vcs_engine.specs.declared.run_error.RunError.TheVariants.{NoMemory}
-use Rattle.vcs_engine.specs.declared.status.Status.{Status}
+use Rattle.commands.specs.Status.{status_code}
+use Rattle.commands.specs.declared.run_error.RunError.TheVariants.{NoMemory}
+use Rattle.commands.specs.declared.status.Status.{Status}
 
 -- The exit status: help is no error.
 abbrev pub exit_code : Ending → ℕ

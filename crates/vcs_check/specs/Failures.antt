@@ -1,7 +1,7 @@
 -- Which failures a command may end with. This project's own.
 use Rattle.vcs_check.specs.declared.failure.Failure.{Failure}
 use Rattle.vcs_check.specs.declared.failure.Failure.TheVariants.{Run}
-use Rattle.vcs_engine.specs.declared.run_error.RunError.TheVariants.{NoMemory, NoThread, WriteFault}
+use Rattle.commands.specs.declared.run_error.RunError.TheVariants.{NoMemory, NoThread, WriteFault}
 
 -- A write failed,
 abbrev pub IsWriteFault : Failure → Type 0

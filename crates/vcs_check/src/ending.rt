@@ -10,7 +10,7 @@ use std::io::{self, Eprint, IsTerminal};
 use std::process::ExitCode;
 use terminal_text::Shown;
 use thiserror::Error;
-use vcs_engine::RunError;
+use commands::RunError;
 
 /// The exit status of arguments that are no command.
 const USAGE: u8 = 4;

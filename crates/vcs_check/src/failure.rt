@@ -4,7 +4,7 @@ ghost use Rattle.vcs_check.specs.Private.FileErrors.{by_input, by_output, file_e
 
 use named_files::{CreateError, FileError};
 use thiserror::Error;
-use vcs_engine::RunError;
+use commands::RunError;
 
 /// Why a command did not reach its end, as the program prints it after `error: `.
 #[derive(Clone, Copy, Debug, Error)]

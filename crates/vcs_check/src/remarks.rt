@@ -1,8 +1,8 @@
 //! What a terminal is told after an answer: why something was refused, and what no checkpoint
 //! claims. Files are read again for it, so that nothing before is another on a terminal.
 
-use crate::STDIN;
-use command_line::Command;
+use crate::answering::reads_standard_input;
+use command_line::{Command, CommandLine};
 use movie_file::{read_inputs, read_movie};
 use movie_hints::{Hint, hint_of, hint_of_claims, hint_of_inputs, hint_of_rom, hint_of_text};
 use named_files::STANDARD_INPUT;
@@ -13,7 +13,7 @@ use std::io::{Eprint, IsTerminal};
 use std::num::NonZeroU32;
 use std::rt::Files;
 use terminal_text::Shown;
-use vcs_engine::{InputForm, Status, read_all};
+use commands::{InputForm, Status, read_all};
 
 /// What a file holds, if it is a regular file, which can be read again.
 fn read_again<R: Files + AllocGlobal>(rt: &R, path: &str) -> Option<Vec<u8>> {
@@ -99,44 +99,35 @@ fn hint_of_making<'a, R: Files + AllocGlobal>(
 /// were read.
 fn hint_of_refusal<'a, R: Files + AllocGlobal>(
     rt: &R,
-    command: &'a Command,
+    line: &'a CommandLine,
     length: u64,
 ) -> Option<(&'a str, Hint)> {
-    let file: &str = match command {
-        Command::Make {
-            rom,
-            inputs,
-            form,
-            every,
-            ..
-        } => return hint_of_making(rt, rom, inputs, *form, *every),
-        Command::Convert { old, .. } => return Some((old, hint_of_movie(rt, old)?)),
-        Command::Verify { file, .. }
-        | Command::Report { file, .. }
-        | Command::Info { file, .. }
-        | Command::Inputs { file, .. }
-        | Command::Frames { file, .. }
-        | Command::Pictures { file, .. }
-        | Command::Cut { file, .. }
-        | Command::Trace { file, .. } => file,
-    };
-    if file == STDIN {
+    if let Command::Make {
+        inputs,
+        form,
+        every,
+    } = &line.command
+    {
+        return hint_of_making(rt, &line.input, inputs, *form, *every);
+    }
+    if reads_standard_input(line) {
         return Some((STANDARD_INPUT, hint_of_standard_input(rt, length)?));
     }
-    Some((file, hint_of_movie(rt, file)?))
+    Some((&line.input, hint_of_movie(rt, &line.input)?))
 }
 
 /// Which frames at the end of a movie that was written no checkpoint follows, if any.
 fn hint_of_output<'a, R: Files + AllocGlobal>(
     rt: &R,
-    command: &'a Command,
+    line: &'a CommandLine,
 ) -> Option<(&'a str, Hint)> {
-    let (out, every) = match command {
-        Command::Make { out, every, .. } | Command::Cut { out, every, .. } => (out, every),
+    let every = match line.command {
+        Command::Make { every, .. } | Command::Cut { every, .. } => every,
         _ => return None,
     };
-    let bytes = read_again(rt, out)?;
-    Some((out, hint_of_claims(&bytes, *every)?))
+    let output = line.output.as_deref()?;
+    let bytes = read_again(rt, output)?;
+    Some((output, hint_of_claims(&bytes, every)?))
 }
 
 /// Tells a terminal which file was refused and why, and which frames of a movie that was written no
@@ -145,7 +136,7 @@ fn hint_of_output<'a, R: Files + AllocGlobal>(
 pub(crate) fn remark<R: Files + AllocGlobal + Eprint, E: IsTerminal>(
     rt: &R,
     standard_error: &E,
-    command: &Command,
+    line: &CommandLine,
     length: u64,
     status: Status,
 ) {
@@ -153,8 +144,8 @@ pub(crate) fn remark<R: Files + AllocGlobal + Eprint, E: IsTerminal>(
         return;
     }
     let found = match status {
-        Status::Refused => hint_of_refusal(rt, command, length),
-        Status::Done => hint_of_output(rt, command),
+        Status::Refused => hint_of_refusal(rt, line, length),
+        Status::Done => hint_of_output(rt, line),
         Status::False | Status::Fault => None,
     };
     if let Some((name, hint)) = found {

@@ -5,7 +5,7 @@ use Rattle.named_files.specs.declared.file_error.CreateError.TheVariants as crea
 use Rattle.named_files.specs.declared.file_error.FileError.{FileError}
 use Rattle.vcs_check.specs.declared.failure.Failure.{Failure}
 use Rattle.vcs_check.specs.declared.failure.Failure.TheVariants.{Open, Run}
-use Rattle.vcs_engine.specs.declared.run_error.RunError.TheVariants.{NoMemory, ReadFault, TooLong, WriteFault}
+use Rattle.commands.specs.declared.run_error.RunError.TheVariants.{NoMemory, ReadFault, TooLong, WriteFault}
 
 -- An output is not there.
 abbrev pub of_create_error : CreateError → Failure

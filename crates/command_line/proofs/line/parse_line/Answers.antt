@@ -1,7 +1,7 @@
 use Rattle.std.proofs.Common.{◌∙◌, map, subst, sym}
 use Rattle.std.proofs.lemmas.Result.{IfErr-weaker, IfOk-weaker}
 use Rattle.clap.specs.Words.{app_of, found_of, rows_of}
-use Rattle.command_line.specs.Meanings.{IsCommand}
+use Rattle.command_line.specs.Meanings.{IsLine}
 use Rattle.command_line.proofs.Known.{bad_value, both_of, failing, in_both, meets, none_of, refused, taken}
 use Rattle.command_line.proofs.Numbers.{numbers_met}
 use Rattle.command_line.proofs.Stops.{listed_met, named}
@@ -13,8 +13,8 @@ returns-in-Err-clause-err g c =
     refused words _ c.fault_of.result
     (failing (app_of c.in_ok-program.program) words c.in-Err.error c.in_ok-program.ensures.0 c.in-Err.ensures.kinds) c.fault_of.ensures
 
-pub command_of-requires : goal.command_of-requires
-command_of-requires g c =
+pub line_of-requires : goal.line_of-requires
+line_of-requires g c =
     let words = map g.S.AsStr.text c.args.words.now in
     let none = taken (app_of c.in_ok-program.program) words c.in_ok-program.ensures.0 c.in-Ok.ensures.kinds in
     let met = meets (app_of c.in_ok-program.program) words c.in-Ok.matches c.in_ok-program.ensures.0 c.in-Ok.ensures.matches in
@@ -28,20 +28,19 @@ returns-in-Some g c =
     let met = meets (app_of c.in_ok-program.program) words c.in-Ok.matches c.in_ok-program.ensures.0 c.in-Ok.ensures.matches in
     let at = sym met ∙ both_of _ _ _ c.in-Some.name.now (rows_of (found_of c.in-Some.inner.now)) c.in-Some.ensures.name c.in-Some.ensures.rows in
     record {
-      kept = c.command_of.ensures.kept;
-      taken = in_both c.command_of.result _ (taken (app_of c.in_ok-program.program) words c.in_ok-program.ensures.0 c.in-Ok.ensures.kinds);
-      ok = IfOk-weaker c.command_of.result _ _ (λ command is. named words _ _ command at is) c.command_of.ensures.ok;
-      err = IfErr-weaker c.command_of.result _ _ (λ fault bad. bad_value words _ _ fault at bad) c.command_of.ensures.err;
+      taken = in_both c.line_of.result _ (taken (app_of c.in_ok-program.program) words c.in_ok-program.ensures.0 c.in-Ok.ensures.kinds);
+      ok = IfOk-weaker c.line_of.result _ _ (λ line is. named words _ _ line at is) c.line_of.ensures.ok;
+      err = IfErr-weaker c.line_of.result _ _ (λ fault bad. bad_value words _ _ fault at bad) c.line_of.ensures.err;
     }
 
 pub returns-clause-taken : goal.returns-clause-taken
 returns-clause-taken g c =
     let words = map g.S.AsStr.text c.args.words.now in
-    in_both c.command_of_no_words.result _ (taken (app_of c.in_ok-program.program) words c.in_ok-program.ensures.0 c.in-Ok.ensures.kinds)
+    in_both c.line_of_no_words.result _ (taken (app_of c.in_ok-program.program) words c.in_ok-program.ensures.0 c.in-Ok.ensures.kinds)
 
 pub returns-clause-ok : goal.returns-clause-ok
 returns-clause-ok g c =
     let words = map g.S.AsStr.text c.args.words.now in
     let met = meets (app_of c.in_ok-program.program) words c.in-Ok.matches c.in_ok-program.ensures.0 c.in-Ok.ensures.matches in
     let none = none_of _ _ _ c.in-None.ensures.name c.in-None.ensures.rows in
-    IfOk-weaker c.command_of_no_words.result _ _ (λ command is. subst (λ met. IsCommand met command) (sym (sym met ∙ none)) is) c.command_of_no_words.ensures.ok
+    IfOk-weaker c.line_of_no_words.result _ _ (λ line is. subst (λ met. IsLine met line) (sym (sym met ∙ none)) is) c.line_of_no_words.ensures.ok

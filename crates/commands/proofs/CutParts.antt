@@ -1,0 +1,57 @@
+-- The parts of a cut make a movie, and that is the cut.
+use Rattle.std.proofs.Common.{◌≡◌, ℕ, ◌+◌, ◌-◌, List, length, take, drop, Some, arith}
+use Rattle.std.specs.Prelude.{IsTrue, slice_range}
+use Rattle.std.proofs.lemmas.List.{length-take, take_min}
+use Rattle.std.proofs.lemmas.List.Elements.{All-drop, All-from_recursion, All-take, recursion_from_All}
+use Rattle.riot_map.specs.Cart.{is_cart_length}
+use Rattle.vcs_machine.specs.Inputs.{InputData, is_input}
+use Rattle.vcs_machine.specs.declared.fields.StateFields.{StateFields}
+use Rattle.movie_file.specs.Making.{counts_fit, version_made}
+use Rattle.movie_file.specs.Movie.{MovieData, IsMovie, IsState}
+use Rattle.movie_file.specs.ClaimedStates.{Claims}
+use Rattle.movie_file.specs.Run.{run}
+use Rattle.movie_file.specs.declared.checkpoint.Checkpoint.{Checkpoint}
+use Rattle.movie_file.proofs.InputLemmas.{AreInputs}
+use Rattle.movie_file.proofs.MakingRuns.{IsMovie-parts, parts}
+use Rattle.commands.specs.Cut.{IsCutOf}
+use Rattle.commands.specs.Stretches.{inputs_asked, frames_asked, Ends}
+
+-- the inputs that are asked for are lawful, as all of the movie's are
+asked_lawful : (m : MovieData) (first count : ℕ) → AreInputs m.inputs → AreInputs (inputs_asked m first count)
+asked_lawful m first count all =
+    let lawful = λ (i : InputData). IsTrue (is_input i) in
+    let rest = drop (first - 1) m.inputs in
+    recursion_from_All lawful (take count rest) (All-take lawful count rest (All-drop lawful (first - 1) m.inputs (All-from_recursion lawful m.inputs all)))
+
+module _ (m : MovieData) (first count : ℕ) {every got frames version : ℕ} {cart : List ℕ} {start : StateFields}
+    {all inputs : List InputData} {cs : List Checkpoint}
+    (got_is : got ≡ first) (frames_is : frames ≡ frames_asked m first count) (all_is : all ≡ m.inputs)
+    (taken : inputs ≡ slice_range all (got - 1) (got - 1 + frames)) (cart_is : cart ≡ m.cart) (version_is : version ≡ version_made (length cart) frames)
+    (ran : run m m.start 0 (got - 1) ≡ Some start) (far : Claims m (got - 1) every frames cs) where
+  asked : inputs ≡ inputs_asked m first count
+  asked =
+      let len : got - 1 + frames - (got - 1) ≡ frames = omega arith in
+      rw (taken, len, all_is, got_is, frames_is, length-take count) (take_min count (drop (first - 1) m.inputs))
+
+  frames_are : frames ≡ length inputs
+  frames_are = rw asked frames_is
+
+  pub IsMovie-cut : IsMovie m → IsTrue (counts_fit frames every) → IsTrue (is_cart_length (length cart)) → IsState start
+      → IsMovie (parts version cart start inputs cs)
+  IsMovie-cut movie fits lawful state =
+      IsMovie-parts m (got - 1) every version cart start inputs cs cart_is (rw frames_are at version_is) ran movie.start.bank (rw frames_are at fits)
+      (rw frames_are at far) lawful state (rw asked (asked_lawful m first count movie.inputs))
+
+  pub IsCutOf-parts : Ends m (got - 1 + frames) → IsCutOf m first count every (parts version cart start inputs cs)
+  IsCutOf-parts ends =
+      let here = rw (got_is, frames_are) at far in
+      record {
+        version = rw frames_are at version_is;
+        cart_is = cart_is;
+        start = rw got_is at ran;
+        inputs_are = asked;
+        ends = rw (got_is, frames_are) at ends;
+        count_is = here.count;
+        places = here.places;
+        states = here.states;
+      }

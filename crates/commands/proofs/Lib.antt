@@ -1,0 +1,13 @@
+pub mod AccessTexts
+pub mod BytesRead
+pub mod ColumnLemmas
+pub mod CutMovies
+pub mod CutParts
+pub mod RunFrames
+pub mod RunSteps
+pub mod StandingCheckpoints
+pub mod TraceSteps
+pub mod TracedFrames
+pub mod WrittenFrames
+pub mod WrittenLines
+pub mod WrittenPictures

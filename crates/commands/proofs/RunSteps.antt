@@ -1,0 +1,88 @@
+-- The one unbroken run of a movie, a frame further.
+use Rattle.std.proofs.Common.{◌≡◌, ℕ, zero, suc, ◌+◌, ◌-◌, ◌<◌, ◌≤◌, List, length, get_or, drop, Option, Some}
+use Rattle.std.proofs.Common.{None, refl, sym, ap, ◌∙◌, arith, add-one, add-zero, ◌⊎◌, inl, inr}
+use Rattle.std.specs.Prelude.{slice_get, min}
+use Rattle.std.proofs.lemmas.Option.{slice_get-get_or}
+use Rattle.std.proofs.lemmas.List.{length-take, length-drop, get_or-take, get_or-drop}
+use Rattle.vcs_machine.specs.Inputs.{InputData}
+use Rattle.vcs_machine.specs.Outcomes.{FrameOutcome, Played, Failed, FailsAs, frame_of}
+use Rattle.vcs_machine.specs.declared.fault.FaultKind.{FaultKind}
+use Rattle.vcs_machine.specs.declared.fault.FrameError.{FrameError}
+use Rattle.vcs_machine.specs.declared.fault.FrameError.TheVariants.{Fault, NoMemory}
+use Rattle.vcs_machine.specs.declared.fields.StateFields.{StateFields}
+use Rattle.movie_file.specs.Judgement.{FaultsAt}
+use Rattle.movie_file.specs.Movie.{MovieData}
+use Rattle.movie_file.specs.Run.{run}
+use Rattle.movie_file.proofs.RunLemmas.{run-fault, run-next, faults-here}
+use Rattle.commands.specs.Private.Stops.{PicturesFail}
+use Rattle.commands.specs.Stretches.{Ends, FaultsWithin, inputs_asked, frames_asked}
+
+-- ---- one frame
+
+-- why a frame has no picture
+pub pictures_fail : (m : MovieData) (k : ℕ) (cart : List ℕ) (state left : StateFields) (input : InputData) (error : FrameError)
+    → run m m.start 0 k ≡ Some state → slice_get m.inputs (k + 1 - 1) ≡ Some input → cart ≡ m.cart → FailsAs (frame_of cart state input) error left
+    → PicturesFail m k error
+pictures_fail m k cart state left input (Fault kind) ran at same fails =
+    let here : k + 1 - 1 ≡ k = omega arith in
+    faults-here m m.start 0 k k state input ran (omega arith) (rw here at at) kind left (rw same at fails)
+pictures_fail m k cart state left input NoMemory ran at same fails = tt
+
+-- ---- it ends, or faults
+
+pub faults_sooner : (m : MovieData) (n more frame : ℕ) (kind : FaultKind) → n ≤ more → FaultsWithin m n frame kind → FaultsWithin m more frame kind
+faults_sooner m n more frame kind le (k, less, is, fault) = (k, omega arith, is, fault)
+
+pub ends_or_faults : (m : MovieData) (n : ℕ) → n ≤ length m.inputs → Ends m n ⊎ ((frame : ℕ) × (kind : FaultKind) × FaultsWithin m n frame kind)
+ends_or_faults m zero le = inl (m.start, refl)
+ends_or_faults m (suc n) le = elim (ends_or_faults m n (omega arith)) [
+  | inr faults ↦ inr (faults.0, faults.1, faults_sooner m n (suc n) faults.0 faults.1 (omega arith) faults.2)
+  | inl ended ↦ play ended.0 ended.1 (frame_of m.cart ended.0 input) refl
+]
+  where
+    input : InputData
+    input = get_or m.inputs n (record { swcha = 0; swchb = 0; buttons = 0 })
+
+    there : slice_get m.inputs n ≡ Some input
+    there = slice_get-get_or m.inputs n _ (omega arith)
+
+    play : (state : StateFields) → run m m.start 0 n ≡ Some state → (outcome : FrameOutcome) → frame_of m.cart state input ≡ outcome
+        → Ends m (suc n) ⊎ ((frame : ℕ) × (kind : FaultKind) × FaultsWithin m (suc n) frame kind)
+    play state ran (Played new rows) e = inl (new, rw add-one at (run-next m m.start 0 n n state input ran (omega arith) there new rows e))
+    play state ran (Failed kind left) e =
+        inr (n + 1, kind, (n, omega arith, refl, faults-here m m.start 0 n n state input ran (omega arith) there kind left e))
+
+-- ---- what ended before
+
+-- after a fault there is no state
+no_run : (m : MovieData) (k x : ℕ) → k ≤ x → run m m.start 0 k ≡ None → run m m.start 0 x ≡ None
+no_run m k x le none = let all : k + (x - k) ≡ x = omega arith in rw all at (later (x - k))
+  where
+    later : (d : ℕ) → run m m.start 0 (k + d) ≡ None
+    later zero = rw add-zero none
+    later (suc d) = let more : k + suc d ≡ suc (k + d) = omega arith in rw (more, later d) refl
+
+pub none_after : (m : MovieData) (f x : ℕ) (kind : FaultKind) → FaultsAt m m.start 0 f kind → f < x → run m m.start 0 x ≡ None
+none_after m f x kind fault less = no_run m (f + 1) x (omega arith) (run-fault m m.start 0 f kind fault)
+
+pub Ends-below : (m : MovieData) (k n : ℕ) → k ≤ n → Ends m n → Ends m k
+Ends-below m k n le (last, ran) = by (run m m.start 0 k) refl
+  where
+    by : (o : Option StateFields) → run m m.start 0 k ≡ o → Ends m k
+    by (Some state) is = (state, is)
+    by None is = absurd (let none = no_run m k n le is in cc)
+
+-- ---- the frames that are asked for
+
+pub frames_asked-min : (m : MovieData) (first count : ℕ) → frames_asked m first count ≡ min count (length m.inputs - (first - 1))
+frames_asked-min m first count = length-take count (drop (first - 1) m.inputs) ∙ ap (λ (n : ℕ). min count n) (length-drop (first - 1) m.inputs)
+
+-- an input that is asked for is that of the movie
+pub input_asked : (m : MovieData) (first count k : ℕ) → k < frames_asked m first count
+    → slice_get (inputs_asked m first count) k ≡ slice_get m.inputs (first - 1 + k)
+input_asked m first count k less =
+    let d : InputData = record { swcha = 0; swchb = 0; buttons = 0 } in
+    let is = frames_asked-min m first count in
+    slice_get-get_or (inputs_asked m first count) k d less
+    ∙ ap (λ (x : InputData). Some x) (get_or-take count (drop (first - 1) m.inputs) k d (omega arith) ∙ get_or-drop (first - 1) m.inputs k d)
+    ∙ sym (slice_get-get_or m.inputs (first - 1 + k) d (omega arith))

@@ -1,0 +1,89 @@
+-- Which checkpoint stands after a frame.
+use Rattle.std.proofs.Common.{◌≡◌, ◌≢◌, ℕ, ◌+◌, ◌-◌, ◌<◌, ◌≤◌, List, [], length, get_or, Some, refl, arith}
+use Rattle.std.specs.Prelude.{◌==◌, slice_get}
+use Rattle.std.specs.List.{position_or_len}
+use Rattle.std.proofs.lemmas.Bool.Decides.{nat_tests}
+use Rattle.std.proofs.lemmas.List.Sums.{position_or_len_is}
+use Rattle.std.proofs.lemmas.Option.{slice_get-get_or, slice_get_within, slice_get_past}
+use Rattle.vcs_machine.specs.declared.fields.StateFields.{StateFields}
+use Rattle.movie_file.specs.Movie.{MovieData, IsMovie}
+use Rattle.movie_file.specs.declared.checkpoint.Checkpoint.{Checkpoint}
+use Rattle.replay_segments.specs.NextCheckpoint.{IsNext}
+use Rattle.replay_segments.proofs.CheckpointLemmas.{in_order}
+use Rattle.commands.specs.Frames.{checkpoint_text, claim_text}
+use Rattle.commands.specs.Private.Describing.{StandBefore}
+
+-- the first that stands there, or how many there are
+first_is : (cs : List Checkpoint) (frame i : ℕ) (d : Checkpoint) → i ≤ length cs
+    → ((j : ℕ) (c : Checkpoint) → slice_get cs j ≡ Some c → j < i → c.frame ≢ frame) → ((c : Checkpoint) → slice_get cs i ≡ Some c → c.frame ≡ frame)
+    → position_or_len (λ c. c.frame == frame) cs ≡ i
+first_is cs frame i d within before here =
+    position_or_len_is (λ c. c.frame == frame) cs i d within
+    (λ k less. let other = before k (get_or cs k d) (slice_get-get_or cs k d (omega arith)) less in grind (arith, nat_tests))
+    (λ less. let same = here (get_or cs i d) (slice_get-get_or cs i d less) in grind (arith, nat_tests))
+
+nothing_there : (cs : List Checkpoint) (frame : ℕ) (state : StateFields) → ((j : ℕ) (c : Checkpoint) → slice_get cs j ≡ Some c → c.frame ≢ frame)
+    → checkpoint_text cs frame state ≡ []
+nothing_there cs frame state none =
+    let d : Checkpoint = record { frame = 0; state = state } in
+    let all = first_is cs frame (length cs) d (omega arith) (λ j c at less. none j c at)
+    (λ c at. absurd (let within = slice_get_within cs (length cs) c at in omega arith)) in
+    rw (all, slice_get_past cs (length cs) (omega arith)) refl
+
+-- ---- the ones before a frame
+
+pub none_before : (m : MovieData) (frame : ℕ) → StandBefore m 0 frame
+none_before m frame = record { within = omega arith; before = λ j c at less. absurd (omega arith) }
+
+pub stand_before : (m : MovieData) (next frame more : ℕ) → IsNext m next frame → frame ≤ more → StandBefore m next more
+stand_before m next frame more is le = record { within = is.within; before = λ j c at less. let before = is.before j c at less in omega arith }
+
+-- none is left
+pub all_before : (m : MovieData) (next frame count : ℕ) → count ≡ length m.checkpoints → next ≡ count → StandBefore m next frame → IsNext m count frame
+all_before m next frame count all same is = rw (← same) (record {
+  within = is.within;
+  before = is.before;
+  after = λ j c at le. let within = slice_get_within m.checkpoints j c at in absurd (omega arith);
+})
+
+pub no_more : (m : MovieData) (next frame : ℕ) (state : StateFields) → IsNext m next frame → next ≡ length m.checkpoints
+    → checkpoint_text m.checkpoints frame state ≡ []
+no_more m next frame state is all =
+    nothing_there m.checkpoints frame state (λ j c at same.
+    let within = slice_get_within m.checkpoints j c at in
+    let before = is.before j c at (omega arith) in
+    omega arith)
+
+module _ (m : MovieData) (movie : IsMovie m) (next frame : ℕ) (c : Checkpoint) (at : slice_get m.checkpoints (next + 1 - 1) ≡ Some c) where
+  here : slice_get m.checkpoints next ≡ Some c
+  here = let same : next + 1 - 1 ≡ next = omega arith in rw same at at
+
+  pub next_is : StandBefore m next frame → frame ≤ c.frame → IsNext m next frame
+  next_is is le = record {
+    within = is.within;
+    before = is.before;
+    after = λ j d there from. grind (arith, in_order m movie next j c d here there);
+  }
+
+  pub one_more_before : StandBefore m next frame → c.frame < frame → StandBefore m (next + 1) frame
+  one_more_before is less = record {
+    within = omega (arith, slice_get_within m.checkpoints next c here);
+    before = λ j d there low. grind (arith, in_order m movie next j c d here there, is.before j d there);
+  }
+
+  -- the next one stands after a later frame
+  pub stands_later : (state : StateFields) → IsNext m next frame → c.frame ≢ frame → checkpoint_text m.checkpoints frame state ≡ []
+  stands_later state is other =
+      nothing_there m.checkpoints frame state
+      (λ j d there same. grind (arith, in_order m movie next j c d here there, is.after next c here, is.before j d there))
+
+  -- it stands after this one
+  pub stands_here : (state : StateFields) → IsNext m next frame → c.frame ≡ frame
+      → checkpoint_text m.checkpoints frame state ≡ claim_text (next + 1) (Some c) state
+  stands_here state is this =
+      let place = first_is m.checkpoints frame next c is.within (λ j d there less same. let before = is.before j d there less in omega arith)
+      (λ d there. grind (arith, in_order m movie next next c d here there)) in
+      rw (place, here) refl
+
+-- what is told of the checkpoint after a frame
+pub ruleset what_is_told = (no_more, stands_here, stands_later)

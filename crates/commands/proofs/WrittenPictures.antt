@@ -1,0 +1,61 @@
+-- What is written of the pictures of a run.
+use Rattle.std.proofs.Common.{◌≡◌, ℕ, ◌-◌, List, [], Option, Some, Result, Ok, Err, refl, ◌∙◌, arith, inl, inr}
+use Rattle.std.proofs.lemmas.List.{append-nil}
+use Rattle.std.specs.Io.KnownBytes.{Appends, Keeps}
+use Rattle.movie_file.specs.Movie.{MovieData}
+use Rattle.movie_file.specs.Run.{run}
+use Rattle.movie_file.specs.declared.error.MovieError.{MovieError}
+use Rattle.picture_file.specs.PictureBytes.{picture_bytes, pictures_bytes}
+use Rattle.picture_file.specs.Prefixes.{AppendsPrefix}
+use Rattle.replay_segments.specs.KeptPictures.{picture_after}
+use Rattle.commands.specs.Answers.{AnswerData}
+use Rattle.commands.specs.Lines.{line_bytes, status_of}
+use Rattle.commands.specs.declared.line.Line.{Line}
+use Rattle.commands.specs.declared.line.Line.TheVariants as lines
+use Rattle.commands.specs.Pictures.{AppendsSome, drawn, Draws, DrawsOf}
+use Rattle.commands.specs.Private.Stops.{picture_of_frame}
+use Rattle.commands.specs.Stretches.{frames_asked, from_frames, pictures_after}
+use Rattle.commands.proofs.RunFrames.{frames_flat}
+use Rattle.commands.proofs.WrittenFrames.{asked_ends_or_faults}
+
+module _ (m : MovieData) (first count : ℕ) where
+  -- the bytes of the first so many pictures
+  abbrev first_bytes : ℕ → List ℕ
+  first_bytes k = from_frames (picture_of_frame m) (first - 1) k
+
+  pub pictures_are : (k : ℕ) → pictures_bytes (pictures_after m (first - 1) k) ≡ first_bytes k
+  pictures_are k = frames_flat (λ x. picture_after m x (run m m.start 0 x)) (first - 1) picture_bytes k
+
+  module _ (a b : Option (List ℕ)) where
+    pub told : (line : Line) → DrawsOf m first count (drawn m first count line) → Appends a b (first_bytes (frames_asked m first count))
+        → (answer : AnswerData) × DrawsOf m first count answer × (status_of line ≡ answer.status) × (line_bytes line ≡ answer.line)
+        × Appends a b (pictures_bytes answer.pictures)
+    told line draws written = (drawn m first count line, draws, refl, refl, rw (pictures_are (frames_asked m first count)) written)
+
+    -- whatever comes of the run, there is an answer
+    pub told_in_part : AppendsPrefix a b (first_bytes (frames_asked m first count))
+        → (answer : AnswerData) × DrawsOf m first count answer × AppendsPrefix a b (pictures_bytes answer.pictures)
+    told_in_part part =
+        let bytes : AppendsPrefix a b (pictures_bytes (pictures_after m (first - 1) (frames_asked m first count))) =
+        rw (pictures_are (frames_asked m first count)) part in
+        elim (asked_ends_or_faults m first count) [
+          | inl ends ↦ (drawn m first count (lines.Pictures (frames_asked m first count)), inl (ends, refl), bytes)
+          | inr faults ↦ (drawn m first count (lines.Fault faults.0 faults.1), inr (faults.0, faults.1, faults.2, refl), bytes)
+        ]
+
+-- ---- all of them are some
+
+keeps_of_nothing : (a b : Option (List ℕ)) → Appends a b [] → Keeps a b
+keeps_of_nothing (Some xs) (Some ys) h = h ∙ append-nil xs
+keeps_of_nothing a b h = h
+
+all_pictures : (m : MovieData) (first count : ℕ) (answer : AnswerData) → DrawsOf m first count answer
+    → answer.pictures ≡ pictures_after m (first - 1) (frames_asked m first count)
+all_pictures m first count answer (inl (ends, is)) = rw is refl
+all_pictures m first count answer (inr (frame, kind, faults, is)) = rw is refl
+
+pub all_are_some : (read : Result MovieData MovieError) (first count : ℕ) (answer : AnswerData) (a b : Option (List ℕ)) → Draws read first count answer
+    → Appends a b (pictures_bytes answer.pictures) → AppendsSome read first count a b
+all_are_some (Ok m) first count answer a b draws written =
+    (frames_asked m first count, omega arith, rw (all_pictures m first count answer draws) at written)
+all_are_some (Err error) first count answer a b draws written = keeps_of_nothing a b (rw draws at written)

@@ -1,0 +1,29 @@
+use Rattle.std.proofs.Common.{◌≡◌, ◌+◌, ◌/◌, add-zero, arith}
+use Rattle.std.specs.Prelude.{vec_len}
+use Rattle.movie_file.proofs.MakingRuns.{Claims-next, Claims-none, has_room}
+use Rattle.commands.proofs.cutting.checkpoints_after.Goals as goal
+
+pub loop-k-init : goal.loop-k-init
+loop-k-init c = record {
+  made = rw c.requires.empty (Claims-none _ _ _);
+  ran = rw (add-zero, c.copy-state.ensures.value) c.requires.ran;
+  room = c.requires.room;
+}
+
+pub claim-requires-clause-room : goal.claim-requires-clause-room
+claim-requires-clause-room c = λ h.
+    let count : vec_len c.loop-k.checkpoints ≡ c.loop-k.k / c.args.every = omega (arith, c.loop-k.invariant.made.count, c.loop-k.checkpoints.ok.0) in
+    has_room _ _ _ _ _ c.requires.every count c.loop-k-test.true c.loop-k.invariant.room h
+
+pub loop-k-preserved : goal.loop-k-preserved
+loop-k-preserved c =
+    let next : c.args.from + c.loop-k.k + 1 ≡ c.args.from + (c.loop-k.k + 1) = omega arith in
+    let ran = rw next at c.in-Ok.ensures.ok in
+    record {
+      made = Claims-next _ _ _ _ _ _ _ c.requires.every c.loop-k.invariant.made ran c.claim.ensures.items c.claim.ensures.lawful;
+      ran = ran;
+      room = rw c.claim.ensures.capacity c.loop-k.invariant.room;
+    }
+
+pub returns-clause-ends : goal.returns-clause-ends
+returns-clause-ends c = let all : c.loop-k.k ≡ c.args.frames = omega arith in (c.loop-k.state, rw all at c.loop-k.invariant.ran)

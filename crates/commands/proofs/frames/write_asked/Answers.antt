@@ -1,0 +1,33 @@
+use Rattle.std.proofs.Common.{◌-◌}
+use Rattle.std.specs.NonZero.{non_zero_u32_get}
+use Rattle.std.proofs.lemmas.Result.{err_from_is_err_and}
+use Rattle.commands.specs.Frames.{frame_line}
+use Rattle.commands.proofs.RunFrames.{no_line}
+use Rattle.commands.proofs.WrittenFrames.{last_is, none_asked, stops_before}
+use Rattle.commands.proofs.frames.write_asked.Goals as goal
+
+pub returns-then-frames-eq0-clause-ends : goal.returns-then-frames-eq0-clause-ends
+returns-then-frames-eq0-clause-ends g c =
+    none_asked c.args.movie.now (non_zero_u32_get c.args.first) c.args.count _ c.frames_asked-frames.ensures.value c.if-frames-eq0.true
+
+pub returns-in_err-start-clause-err : goal.returns-in_err-start-clause-err
+returns-in_err-start-clause-err g c =
+    let first = c.get-from.ensures.value in
+    let frames = c.frames_asked-frames.ensures.value in
+    let last = last_is c.args.movie.now _ c.args.count _ _ first frames c.if-frames-eq0.false in
+    let p = err_from_is_err_and c.from_residual.result c.from_residual.ensures.1 in
+    let stops = stops_before c.args.movie.now (frame_line c.args.movie.now c.args.details.now)
+    (no_line c.args.movie.now c.args.details.now) (c.get-from.result - 1) c.frames_asked-frames.result
+    _ _ (g.L.Write.contents c.args.lines.now) c.in_err-start.ensures.err in
+    rw (p.1, p.2) (rw (last, first, frames) at stops)
+
+pub returns-clause-ends : goal.returns-clause-ends
+returns-clause-ends g c =
+    let last = last_is c.args.movie.now _ c.args.count _ _ c.get-from.ensures.value c.frames_asked-frames.ensures.value c.if-frames-eq0.false in
+    rw last at c.write_frames.ensures.ends
+
+pub returns-clause-err : goal.returns-clause-err
+returns-clause-err g c =
+    let first = c.get-from.ensures.value in
+    let frames = c.frames_asked-frames.ensures.value in
+    rw (last_is c.args.movie.now _ c.args.count _ _ first frames c.if-frames-eq0.false, first, frames) at c.write_frames.ensures.err

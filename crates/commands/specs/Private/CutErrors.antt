@@ -1,0 +1,15 @@
+-- Why a movie is not cut. This project's own.
+use Rattle.std.specs.Prelude.{ℕ, ◌+◌, ◌-◌, IsTrue}
+use Rattle.movie_file.specs.Making.{counts_fit}
+use Rattle.movie_file.specs.Movie.{MovieData}
+use Rattle.commands.specs.Stretches.{frames_asked, FaultsWithin}
+use Rattle.commands.specs.declared.cutting.CutError.{CutError}
+use Rattle.commands.specs.declared.cutting.CutError.TheVariants.{BadCounts, Fault, NoMemory}
+
+-- The counts are looked at first.
+abbrev pub Explains : MovieData → ℕ → ℕ → ℕ → CutError → Type 0
+Explains m first count every BadCounts = ¬ IsTrue (counts_fit (frames_asked m first count) every)
+Explains m first count every (Fault frame kind) =
+    IsTrue (counts_fit (frames_asked m first count) every)
+    × FaultsWithin m (first - 1 + frames_asked m first count) frame kind
+Explains m first count every NoMemory = Unit {0}

@@ -1,0 +1,93 @@
+//! Instructions as an assembler writes them.
+ghost use Rattle.std.specs.Prelude.{◌≡◌, ◌+◌, ◌%◌, ◌∷◌, [], take};
+ghost use Rattle.mos_cpu.specs.Operands.{length_of};
+ghost use Rattle.commands.specs.Assembly.{branch_address, operand_text, word};
+ghost use Rattle.commands.specs.Columns.{left};
+ghost use Rattle.commands.specs.TraceLines.{spaced};
+
+use mos_cpu::Mode;
+use std::fmt;
+use vcs_machine::{HexByte, HexWord};
+
+/// The bytes of an instruction with this addressing mode, in 8 columns.
+#[derive(Clone, Copy)]
+pub(crate) struct InstructionBytes {
+    pub mode: Mode,
+    pub opcode: u8,
+    pub low: u8,
+    pub high: u8,
+}
+
+impl fmt::Display for InstructionBytes {
+    ghost use Rattle.std.specs.Prelude.{Some};
+
+    ghost output = { λ i. Some (left 8 (spaced (take (length_of i.mode) (i.opcode ∷ i.low ∷ i.high ∷ [])))) };
+
+    fn fmt<W: fmt::Write>(&self, f: &mut fmt::Formatter<W>) -> fmt::Result {
+        let opcode = HexByte(self.opcode);
+        let low = HexByte(self.low);
+        match self.mode {
+            Mode::Implied | Mode::Accumulator => write!(f, "{opcode}      "),
+            Mode::Absolute | Mode::AbsoluteX | Mode::AbsoluteY | Mode::Indirect => {
+                write!(f, "{opcode} {low} {}", HexByte(self.high))
+            }
+            _ => write!(f, "{opcode} {low}   "),
+        }
+    }
+}
+
+/// The operand of an instruction at an address with these bytes after its opcode, in 7 columns.
+#[derive(Clone, Copy)]
+pub(crate) struct OperandText {
+    pub mode: Mode,
+    pub pc: u16,
+    pub low: u8,
+    pub high: u8,
+}
+
+impl OperandText {
+    /// The number of the two bytes.
+    fn word(self) -> HexWord
+        ensures { result.0 ≡ word self.low self.high }
+    {
+        HexWord(u16::from_le_bytes([self.low, self.high]))
+    }
+
+    /// Where a branch leads if it is taken.
+    fn target(self) -> HexWord
+        ensures { result.0 ≡ branch_address self.pc self.low }
+    {
+        let next = self.pc.wrapping_add(2);
+        let offset = if self.low >= 0x80 {
+            0xFF00 + self.low as u16
+        } else {
+            self.low as u16
+        };
+        HexWord(next.wrapping_add(offset))
+    }
+}
+
+impl fmt::Display for OperandText {
+    ghost use Rattle.std.specs.Prelude.{Some};
+
+    ghost output = { λ o. Some (left 7 (operand_text o.mode o.pc o.low o.high)) };
+
+    fn fmt<W: fmt::Write>(&self, f: &mut fmt::Formatter<W>) -> fmt::Result {
+        let low = HexByte(self.low);
+        match self.mode {
+            Mode::Implied => write!(f, "       "),
+            Mode::Accumulator => write!(f, "A      "),
+            Mode::Immediate => write!(f, "#${low}   "),
+            Mode::ZeroPage => write!(f, "${low}    "),
+            Mode::ZeroPageX => write!(f, "${low},X  "),
+            Mode::ZeroPageY => write!(f, "${low},Y  "),
+            Mode::Absolute => write!(f, "${}  ", self.word()),
+            Mode::AbsoluteX => write!(f, "${},X", self.word()),
+            Mode::AbsoluteY => write!(f, "${},Y", self.word()),
+            Mode::Relative => write!(f, "${}  ", self.target()),
+            Mode::Indirect => write!(f, "(${})", self.word()),
+            Mode::IndirectX => write!(f, "(${low},X)"),
+            Mode::IndirectY => write!(f, "(${low}),Y"),
+        }
+    }
+}

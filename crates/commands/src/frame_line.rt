@@ -1,0 +1,165 @@
+//! The line of a frame of a run.
+ghost use Rattle.std.specs.Prelude.{◌≡◌, ◌<◌, ◌+◌, ◌^◌, length, Some, None, IfOk, IfErr, OnOk};
+ghost use Rattle.std.specs.Prelude.{if◌then◌else◌, string_bytes};
+ghost use Rattle.std.specs.List.{flat_map};
+ghost use Rattle.vcs_machine.specs.Pictures.{Rows};
+ghost use Rattle.movie_file.specs.Run.{run};
+ghost use Rattle.picture_file.specs.PictureBytes.{picture_bytes};
+ghost use Rattle.replay_segments.specs.NextCheckpoint.{IsNext};
+ghost use Rattle.commands.specs.Frames.{byte_text, checkpoint_text, digests_text};
+ghost use Rattle.commands.specs.Frames.{ended_line, frame_line};
+ghost use Rattle.commands.specs.Private.Describing.{StandBefore};
+ghost use Rattle.commands.specs.Private.Stops.{PicturesFail};
+
+use hex::encode;
+use movie_file::{Movie, write_state};
+use picture_file::{HEADER_BYTES, ROW_BYTES, ppm};
+use replay_plan::{Details, Watches};
+use sha2::{Digest, Sha256};
+use std::alloc::{AllocError, Global};
+use crate::line::Line;
+use vcs_machine::{FrameError, HexByte, Picture, State, TimedFrame, timed_frame};
+
+/// How many checkpoints stand before a frame, of which the first `from` surely do.
+#[tactic(auto, using(crate::proofs::StandingCheckpoints::one_more_before))]
+pub(crate) fn checkpoints_before(movie: &Movie, from: u16, frame: u32) -> u16
+    requires { StandBefore movie.now from frame }
+    ensures { IsNext movie.now result frame }
+{
+    let count = movie.checkpoints();
+    for next in from..count {
+        if movie.checkpoint(next + 1).frame >= frame {
+            return next;
+        }
+    }
+    count
+}
+
+/// What a line says of the checkpoint after its frame, if one stands there. `next` is the index of the
+/// first that is not before the frame.
+#[tactic(auto, using(crate::proofs::StandingCheckpoints::what_is_told))]
+fn told_checkpoint(
+    alloc: Global,
+    movie: &Movie,
+    next: u16,
+    frame: u32,
+    state: &State,
+) -> Result<String, AllocError>
+    requires { IsNext movie.now next frame }
+    ensures { IfOk result (λ text. string_bytes text
+        ≡ checkpoint_text movie.now.checkpoints frame state.now) }
+{
+    if next == movie.checkpoints() {
+        return Ok(String::new(alloc));
+    }
+    let number = next + 1;
+    let checkpoint = movie.checkpoint(number);
+    if checkpoint.frame != frame {
+        return Ok(String::new(alloc));
+    }
+    if write_state(&checkpoint.state) == write_state(state) {
+        format!(in alloc; ", checkpoint {number} true")
+    } else {
+        format!(in alloc; ", checkpoint {number} false")
+    }
+}
+
+/// What a line says of the memory.
+fn told_memory(alloc: Global, watches: &Watches, state: &State) -> Result<String, AllocError>
+    ensures { IfOk result (λ text. string_bytes text ≡ flat_map (byte_text state.now) watches.now) }
+{
+    let ram = state.fields().riot.ram;
+    let mut text = String::new(alloc);
+    for watched in watches.addresses() {
+        let byte = ram[watched.place() as usize];
+        let part = format!(in alloc; ", memory {} {}", HexByte(watched.number()), HexByte(byte))?;
+        text.push_str(&part)?;
+    }
+    Ok(text)
+}
+
+/// The file of a picture.
+fn file_of(alloc: Global, picture: &Picture) -> Result<Vec<u8>, AllocError>
+    ensures { IfOk result (λ file. file.items ≡ picture_bytes picture.now) }
+{
+    let length = HEADER_BYTES + ROW_BYTES * picture.rows() as usize;
+    let mut file = Vec::with_capacity(alloc, length)?;
+    match ppm(picture, &mut file) {
+        Ok(()) => Ok(file),
+        Err(_) => Err(AllocError),
+    }
+}
+
+/// The digests of a state's record and of a picture's file.
+fn told_digests(alloc: Global, state: &State, picture: &Picture) -> Result<String, AllocError>
+    ensures { IfOk result (λ text. string_bytes text ≡ digests_text state.now picture.now) }
+{
+    let state = encode(alloc, Sha256::digest(&write_state(state)))?;
+    let file = file_of(alloc, picture)?;
+    let picture = encode(alloc, Sha256::digest(&file))?;
+    format!(in alloc; ", state {state}, picture {picture}")
+}
+
+/// The line of a frame that ended, with its end. `next` is the index of the first checkpoint that
+/// is not before the frame.
+fn line_of(
+    alloc: Global,
+    movie: &Movie,
+    details: &Details,
+    next: u16,
+    frame: u32,
+    timed: &TimedFrame,
+    state: &State,
+) -> Result<String, AllocError>
+    requires next { IsNext movie.now next frame }
+    requires picture { (rows : Rows) × (timed.now.rows ≡ length rows)
+        × (timed.now.picture ≡ (if details.now.digests then Some rows else None)) }
+    ensures { IfOk result (λ text. (rows : Rows) → timed.now.rows ≡ length rows → timed.now.picture ≡ (if details.now.digests then Some rows else None)
+        → string_bytes text ≡ ended_line movie.now.checkpoints details.now frame timed.now.cycles state.now rows) }
+{
+    let length = Line::Frame {
+        frame,
+        cycles: timed.cycles,
+        rows: timed.rows,
+    };
+    let checkpoint = told_checkpoint(alloc, movie, next, frame, state)?;
+    let memory = told_memory(alloc, &details.watches, state)?;
+    let digests = match &timed.picture {
+        Some(picture) => told_digests(alloc, state, picture)?,
+        None => String::new(alloc),
+    };
+    format!(in alloc; "{length}{checkpoint}{memory}{digests}\n")
+}
+
+/// Plays frame `before` + 1 of the run; the answer is its line, with its end. `next` is the index of
+/// the first checkpoint that is not before the frame.
+#[tactic(auto, using(crate::proofs::RunSteps::pictures_fail))]
+pub(crate) fn played_line(
+    alloc: Global,
+    movie: &Movie,
+    details: &Details,
+    next: u16,
+    before: u32,
+    state: &mut State,
+) -> Result<String, FrameError>
+    requires frame { before < length movie.now.inputs }
+    requires number { before + 1 < 2 ^ 32 }
+    requires ran { run movie.now movie.now.start 0 before ≡ Some state.old }
+    requires next { IsNext movie.now next (before + 1) }
+    ensures ran { OnOk result (run movie.now movie.now.start 0 (before + 1) ≡ Some state.new) }
+    ensures line { IfOk result (λ text. string_bytes text ≡ frame_line movie.now details.now before) }
+    ensures err { IfErr result (PicturesFail movie.now before) }
+{
+    let frame = before + 1;
+    let timed = timed_frame(
+        alloc,
+        movie.cart(),
+        state,
+        movie.input(frame),
+        details.digests,
+    )?;
+    match line_of(alloc, movie, details, next, frame, &timed, state) {
+        Ok(text) => Ok(text),
+        Err(AllocError) => Err(FrameError::NoMemory),
+    }
+}

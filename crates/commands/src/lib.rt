@@ -1,0 +1,55 @@
+//! The commands of the verifier, each from the bytes of its input to what it writes: a movie's
+//! verdict and facts, what is in it, its inputs as text, what its run shows frame by frame or
+//! instruction by instruction, the same movie in version 2, and movies that are made.
+#![tactic(auto)]
+
+mod answer;
+mod assembly;
+mod command;
+mod convert;
+mod counted_gate;
+mod cut;
+mod cutting;
+mod frame_line;
+mod frames;
+mod info;
+mod inputs;
+mod judging;
+mod last_line;
+mod laws;
+mod line;
+mod make;
+mod mnemonic;
+mod pictures;
+mod refusing;
+mod report;
+mod run_error;
+mod status;
+mod stop;
+mod streams;
+mod stretch;
+mod trace;
+mod trace_line;
+mod verify;
+
+pub use answer::Answer;
+pub use command::run_command;
+pub use convert::run_convert;
+pub use counted_gate::CountedGate;
+pub use cut::run_cut;
+pub use frames::run_frames;
+pub use info::{run_info, run_information};
+pub use inputs::run_inputs;
+pub use laws::law_of_cuts;
+pub use line::Line;
+pub use make::run_make;
+pub use picture_file::{WriteFault, ppm, rgb};
+pub use pictures::run_pictures;
+pub use replay_plan::{InputForm, Notation};
+pub use report::run_report;
+pub use run_error::{ReadError, RunError};
+pub use status::Status;
+pub use streams::{INPUT_LIMIT, read_all};
+pub use trace::run_trace;
+pub use verify::run;
+pub use verify_pool::{Gate, NoGate, Ticket};

@@ -1,0 +1,40 @@
+//! Reading an input to its end.
+ghost use Rattle.std.specs.Prelude.{◌≡◌, ◌≤◌, IfOk, length};
+ghost use Rattle.commands.specs.Streams.{ReadsAll, IsTooLong, input_limit};
+
+use crate::run_error::ReadError;
+use std::alloc::Global;
+use std::io::Read;
+
+/// The most bytes of one input.
+pub const INPUT_LIMIT: usize = 16_777_216;
+
+/// One read for each byte of the longest input, and one that finds its end or a byte too many.
+const MOST_READS: usize = INPUT_LIMIT + 1;
+
+/// All bytes of an input, in at most 16,777,217 reads. Any error of a read is the end.
+pub fn read_all<R: Read>(alloc: Global, reader: &mut R) -> Result<Vec<u8>, ReadError>
+    ensures all { IfOk result (λ bytes. ReadsAll (R.remaining reader.old) (R.remaining reader.new) bytes.items) }
+    ensures few { IfOk result (λ bytes. length bytes.items ≤ input_limit) }
+    ensures too_long { result ≡ Err ReadError.TooLong → IsTooLong (R.remaining reader.old) }
+{
+    let mut bytes = Vec::new(alloc);
+    let mut chunk = [0; 4096];
+    for _ in 0..MOST_READS {
+        let n = match reader.read(&mut chunk) {
+            Ok(n) => n,
+            Err(_) => return Err(ReadError::Fault),
+        };
+        if n == 0 {
+            return Ok(bytes);
+        }
+        if INPUT_LIMIT - bytes.len() < n {
+            return Err(ReadError::TooLong);
+        }
+        match bytes.extend_from_slice(&chunk[..n]) {
+            Ok(()) => {}
+            Err(_) => return Err(ReadError::NoMemory),
+        }
+    }
+    unreachable!()
+}

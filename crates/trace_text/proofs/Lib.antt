@@ -1,2 +1,0 @@
-pub mod AccessTexts
-pub mod ColumnLemmas

@@ -1,3 +1,0 @@
-pub mod Assembly
-pub mod Columns
-pub mod TraceLines

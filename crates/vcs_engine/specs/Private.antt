@@ -1,3 +1,0 @@
--- Definitions of how things are kept. Only private contracts and proofs cite them: what is promised
--- can be read without them.
-pub mod Errors
