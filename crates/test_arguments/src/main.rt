@@ -7,7 +7,7 @@
 //! memory is refused, so that it is the N-th one of the call. `ci/refused-growths` walks through N.
 #![tactic(auto)]
 
-use command_line::{Command, LineFault, parse_line};
+use command_line::{Command, CommandLine, LineFault, parse_line};
 use replay_plan::Keep;
 use std::alloc::{AllocError, Global};
 use std::io::{self, Print, Read};
@@ -38,9 +38,9 @@ fn outcome_of(alloc: Global, name: &str) -> &'static str {
     };
     match parse_line(alloc, words) {
         Ok(
-            Command::Verify {
-                plan,
-                pictures: Some(_),
+            CommandLine {
+                command: Command::Verify { plan },
+                output: Some(_),
                 ..
             },
         ) if name == "command" && Keep::new(1, 600) == Ok(plan.keep) => "right",
@@ -52,7 +52,7 @@ fn outcome_of(alloc: Global, name: &str) -> &'static str {
 }
 
 /// The command that the words of a line are.
-fn command_of(alloc: Global, line: &str) -> Result<Command, LineFault> {
+fn command_of(alloc: Global, line: &str) -> Result<CommandLine, LineFault> {
     let mut words = Vec::new(alloc);
     for word in line.split(' ') {
         words.push(word).map_err(AllocError::from)?;

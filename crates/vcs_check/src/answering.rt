@@ -279,7 +279,7 @@ pub(crate) fn reads_standard_input(line: &CommandLine) -> bool
 {
     match line.command {
         Command::Make { .. } | Command::Convert => false,
-        _ => line.input == STDIN,
+        _ => line.input.as_str() == STDIN,
     }
 }
 
