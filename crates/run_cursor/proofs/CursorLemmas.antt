@@ -1,0 +1,51 @@
+-- A cursor goes on by one frame.
+use Rattle.std.proofs.Common.{◌≡◌, ℕ, zero, suc, ◌+◌, ◌-◌, ◌<◌, ◌≤◌, List, length, Some, None, refl, arith, add-zero}
+use Rattle.std.specs.Prelude.{slice_get}
+use Rattle.vcs_machine.specs.Inputs.{InputData}
+use Rattle.vcs_machine.specs.Outcomes.{Played, FailsAs, frame_of}
+use Rattle.vcs_machine.specs.Pictures.{Rows}
+use Rattle.vcs_machine.specs.declared.fault.FaultKind.{FaultKind}
+use Rattle.vcs_machine.specs.declared.fault.FrameError.{FrameError}
+use Rattle.vcs_machine.specs.declared.fault.FrameError.TheVariants.{Fault, NoMemory}
+use Rattle.vcs_machine.specs.declared.fields.StateFields.{StateFields}
+use Rattle.movie_file.specs.Judgement.{FaultsAt}
+use Rattle.movie_file.specs.Movie.{MovieData}
+use Rattle.movie_file.specs.Run.{run}
+use Rattle.movie_file.proofs.RunLemmas.{faults-here, run-fault, run-next}
+use Rattle.run_cursor.specs.Cursor.{CursorData, IsAt}
+use Rattle.run_cursor.specs.RunFaults.{FaultsWithin, FrameFails}
+
+module _ (m : MovieData) (k : ℕ) (state left : StateFields) (cart : List ℕ) (input : InputData) (at : IsAt m k (record { movie = m; frame = k; state = state }))
+    (same : cart ≡ m.cart) (there : slice_get m.inputs (k + 1 - 1) ≡ Some input) where
+  pub here : slice_get m.inputs k ≡ Some input
+  here = let e : k + 1 - 1 ≡ k = omega arith in rw e at there
+
+  -- it ends,
+  pub one_further : k < length m.inputs → (rows : Rows) → frame_of cart state input ≡ Played left rows
+      → IsAt m (k + 1) (record { movie = m; frame = k + 1; state = left })
+  one_further less rows ends = record {
+    movie_is = refl;
+    frame_is = refl;
+    within = omega arith;
+    ran = run-next m m.start 0 k k state input at.ran (omega arith) here left rows (rw same at ends);
+  }
+
+  -- or fails
+  pub not_further : (error : FrameError) → FailsAs (frame_of cart state input) error left → FrameFails m k error
+  not_further (Fault kind) fails = faults-here m m.start 0 k k state input at.ran (omega arith) here kind left (rw same at fails)
+  not_further NoMemory fails = tt
+
+-- ---- after a fault there is no state
+
+no_run : (m : MovieData) (k n : ℕ) → k ≤ n → run m m.start 0 k ≡ None → run m m.start 0 n ≡ None
+no_run m k n le none = let whole : k + (n - k) ≡ n = omega arith in rw whole at (later (n - k))
+  where
+    later : (d : ℕ) → run m m.start 0 (k + d) ≡ None
+    later zero = rw add-zero none
+    later (suc d) = let more : k + suc d ≡ suc (k + d) = omega arith in rw (more, later d) refl
+
+pub none_after : (m : MovieData) (f x : ℕ) (kind : FaultKind) → FaultsAt m m.start 0 f kind → f < x → run m m.start 0 x ≡ None
+none_after m f x kind fault less = no_run m (f + 1) x (omega arith) (run-fault m m.start 0 f kind fault)
+
+pub not_past : (m : MovieData) (k frame : ℕ) (kind : FaultKind) (c : CursorData) → IsAt m k c → FaultsWithin m k frame kind → ⊥
+not_past m k frame kind c at (f, less, is, fault) = let ran = at.ran in let none = none_after m f k kind fault less in cc

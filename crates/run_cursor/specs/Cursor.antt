@@ -1,0 +1,17 @@
+-- Where a cursor stands in the one unbroken run of a movie. This project's own.
+use Rattle.std.specs.Prelude.{◌≡◌, ◌≤◌, ℕ, length, Some}
+use Rattle.vcs_machine.specs.declared.fields.StateFields.{StateFields}
+use Rattle.movie_file.specs.Movie.{MovieData}
+use Rattle.movie_file.specs.Run.{run}
+
+pub record CursorData : Type 0 where
+  pub movie : MovieData
+  pub frame : ℕ
+  pub state : StateFields
+
+-- A cursor stands after frame k of the movie's run, in the state that the run has there.
+pub record IsAt (m : MovieData) (k : ℕ) (c : CursorData) : Type 0 where
+  pub movie_is : c.movie ≡ m
+  pub frame_is : c.frame ≡ k
+  pub within : k ≤ length m.inputs
+  pub ran : run m m.start 0 k ≡ Some c.state
