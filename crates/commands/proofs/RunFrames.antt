@@ -19,7 +19,7 @@ use Rattle.replay_segments.specs.KeptPictures.{picture_after}
 use Rattle.commands.specs.Frames.{frame_line, played_line}
 use Rattle.commands.specs.Private.Stops.{picture_of_frame}
 use Rattle.commands.specs.Stretches.{from_frames}
-use Rattle.commands.proofs.RunSteps.{none_after}
+use Rattle.run_cursor.proofs.CursorLemmas.{none_after}
 
 module _ {X : Type 0} (what : ℕ → List X) (from : ℕ) where
   -- what comes of more frames begins with what comes of fewer

@@ -1,35 +1,21 @@
--- The one unbroken run of a movie, a frame further.
-use Rattle.std.proofs.Common.{◌≡◌, ℕ, zero, suc, ◌+◌, ◌-◌, ◌<◌, ◌≤◌, List, length, get_or, drop, Option, Some}
-use Rattle.std.proofs.Common.{None, refl, sym, ap, ◌∙◌, arith, add-one, add-zero, ◌⊎◌, inl, inr}
+-- How far the one unbroken run of a movie goes.
+use Rattle.std.proofs.Common.{◌≡◌, ℕ, zero, suc, ◌+◌, ◌-◌, ◌<◌, ◌≤◌, length, get_or, drop, Option, Some}
+use Rattle.std.proofs.Common.{None, refl, sym, ap, ◌∙◌, arith, add-one, ◌⊎◌, inl, inr}
 use Rattle.std.specs.Prelude.{slice_get, min}
 use Rattle.std.proofs.lemmas.Option.{slice_get-get_or}
 use Rattle.std.proofs.lemmas.List.{length-take, length-drop, get_or-take, get_or-drop}
 use Rattle.vcs_machine.specs.Inputs.{InputData}
-use Rattle.vcs_machine.specs.Outcomes.{FrameOutcome, Played, Failed, FailsAs, frame_of}
+use Rattle.vcs_machine.specs.Outcomes.{FrameOutcome, Played, Failed, frame_of}
 use Rattle.vcs_machine.specs.declared.fault.FaultKind.{FaultKind}
-use Rattle.vcs_machine.specs.declared.fault.FrameError.{FrameError}
-use Rattle.vcs_machine.specs.declared.fault.FrameError.TheVariants.{Fault, NoMemory}
 use Rattle.vcs_machine.specs.declared.fields.StateFields.{StateFields}
-use Rattle.movie_file.specs.Judgement.{FaultsAt}
 use Rattle.movie_file.specs.Movie.{MovieData}
 use Rattle.movie_file.specs.Run.{run}
-use Rattle.movie_file.proofs.RunLemmas.{run-fault, run-next, faults-here}
-use Rattle.commands.specs.Private.Stops.{PicturesFail}
-use Rattle.commands.specs.Stretches.{Ends, FaultsWithin, inputs_asked, frames_asked}
+use Rattle.movie_file.proofs.RunLemmas.{run-next, faults-here}
+use Rattle.run_cursor.specs.RunFaults.{FaultsWithin}
+use Rattle.run_cursor.proofs.CursorLemmas.{no_run}
+use Rattle.commands.specs.Stretches.{Ends, inputs_asked, frames_asked}
 
--- ---- one frame
-
--- why a frame has no picture
-pub pictures_fail : (m : MovieData) (k : ℕ) (cart : List ℕ) (state left : StateFields) (input : InputData) (error : FrameError)
-    → run m m.start 0 k ≡ Some state → slice_get m.inputs (k + 1 - 1) ≡ Some input → cart ≡ m.cart → FailsAs (frame_of cart state input) error left
-    → PicturesFail m k error
-pictures_fail m k cart state left input (Fault kind) ran at same fails =
-    let here : k + 1 - 1 ≡ k = omega arith in
-    faults-here m m.start 0 k k state input ran (omega arith) (rw here at at) kind left (rw same at fails)
-pictures_fail m k cart state left input NoMemory ran at same fails = tt
-
--- ---- it ends, or faults
-
+-- it ends, or faults
 pub faults_sooner : (m : MovieData) (n more frame : ℕ) (kind : FaultKind) → n ≤ more → FaultsWithin m n frame kind → FaultsWithin m more frame kind
 faults_sooner m n more frame kind le (k, less, is, fault) = (k, omega arith, is, fault)
 
@@ -52,19 +38,7 @@ ends_or_faults m (suc n) le = elim (ends_or_faults m n (omega arith)) [
     play state ran (Failed kind left) e =
         inr (n + 1, kind, (n, omega arith, refl, faults-here m m.start 0 n n state input ran (omega arith) there kind left e))
 
--- ---- what ended before
-
--- after a fault there is no state
-no_run : (m : MovieData) (k x : ℕ) → k ≤ x → run m m.start 0 k ≡ None → run m m.start 0 x ≡ None
-no_run m k x le none = let all : k + (x - k) ≡ x = omega arith in rw all at (later (x - k))
-  where
-    later : (d : ℕ) → run m m.start 0 (k + d) ≡ None
-    later zero = rw add-zero none
-    later (suc d) = let more : k + suc d ≡ suc (k + d) = omega arith in rw (more, later d) refl
-
-pub none_after : (m : MovieData) (f x : ℕ) (kind : FaultKind) → FaultsAt m m.start 0 f kind → f < x → run m m.start 0 x ≡ None
-none_after m f x kind fault less = no_run m (f + 1) x (omega arith) (run-fault m m.start 0 f kind fault)
-
+-- what ended before
 pub Ends-below : (m : MovieData) (k n : ℕ) → k ≤ n → Ends m n → Ends m k
 Ends-below m k n le (last, ran) = by (run m m.start 0 k) refl
   where

@@ -17,7 +17,7 @@ use Rattle.commands.specs.declared.status.Status.TheVariants as statuses
 use Rattle.commands.specs.Lines.{line_bytes}
 use Rattle.commands.specs.declared.run_error.RunError.TheVariants as runs
 use Rattle.commands.specs.Private.Stops.{of_writing}
-use Rattle.commands.specs.Stretches.{FaultsWithin}
+use Rattle.run_cursor.specs.RunFaults.{FaultsWithin}
 use Rattle.commands.specs.declared.stop.WriteError.{WriteError}
 use Rattle.commands.specs.declared.stop.WriteError.TheVariants as writes
 use Rattle.commands.specs.Trace.{BeginsIn, TracesOf, instructions, last_line, status_of}

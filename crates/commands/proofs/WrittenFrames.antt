@@ -11,8 +11,9 @@ use Rattle.movie_file.specs.Judgement.{FaultsAt}
 use Rattle.movie_file.specs.Movie.{MovieData}
 use Rattle.picture_file.specs.Prefixes.{AppendsPrefix}
 use Rattle.picture_file.proofs.BytesWritten.{appends_nothing, appends_then, prefix_after, prefix_longer}
-use Rattle.commands.specs.Private.Stops.{PicturesFail, StopsWriting, stop_of}
-use Rattle.commands.specs.Stretches.{Ends, FaultsWithin, frames_asked, from_frames, last_asked}
+use Rattle.commands.specs.Private.Stops.{StopsWriting, stop_of}
+use Rattle.run_cursor.specs.RunFaults.{FaultsWithin, FrameFails}
+use Rattle.commands.specs.Stretches.{Ends, frames_asked, from_frames, last_asked}
 use Rattle.commands.specs.declared.stop.Stop.TheVariants.{Fault}
 use Rattle.commands.proofs.RunFrames.{EndsAtFault, frames_begin, frames_none}
 use Rattle.commands.proofs.RunSteps.{ends_or_faults, faults_sooner, frames_asked-min}
@@ -50,7 +51,7 @@ module _ (m : MovieData) (text : ℕ → List ℕ) (ends : EndsAtFault m text) (
       rw (frames_begin text from k len within, frames_none text (from + k) (len - k) (λ x later. ends f kind fault x (omega arith)), append-nil) written
 
   -- what a writer has got where a frame isn't played
-  pub stops_here : (k : ℕ) (a b : Option (List ℕ)) (error : FrameError) → k < len → PicturesFail m (from + k) error
+  pub stops_here : (k : ℕ) (a b : Option (List ℕ)) (error : FrameError) → k < len → FrameFails m (from + k) error
       → Appends a b (from_frames text from k) → StopsWriting m text (from + len) from len a b (stop_of (from + k + 1) error)
   stops_here k a b (frames.Fault kind) less fault written =
       ((from + k, omega arith, refl, fault), all_before k (from + k) kind a b fault (omega arith) (omega arith) written)

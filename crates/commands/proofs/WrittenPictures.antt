@@ -1,13 +1,19 @@
 -- What is written of the pictures of a run.
-use Rattle.std.proofs.Common.{◌≡◌, ℕ, ◌-◌, List, [], Option, Some, Result, Ok, Err, refl, ◌∙◌, arith, inl, inr}
+use Rattle.std.proofs.Common.{◌≡◌, ℕ, ◌+◌, ◌-◌, List, [], Option, Some, Result, Ok, Err, refl, sym, ◌∙◌, arith, inl, inr}
+use Rattle.std.specs.Prelude.{slice_get}
 use Rattle.std.proofs.lemmas.List.{append-nil}
 use Rattle.std.specs.Io.KnownBytes.{Appends, Keeps}
+use Rattle.vcs_machine.specs.Inputs.{InputData}
+use Rattle.vcs_machine.specs.Outcomes.{Played, frame_of}
+use Rattle.vcs_machine.specs.Pictures.{Rows}
+use Rattle.vcs_machine.specs.declared.fields.StateFields.{StateFields}
 use Rattle.movie_file.specs.Movie.{MovieData}
 use Rattle.movie_file.specs.Run.{run}
 use Rattle.movie_file.specs.declared.error.MovieError.{MovieError}
 use Rattle.picture_file.specs.PictureBytes.{picture_bytes, pictures_bytes}
 use Rattle.picture_file.specs.Prefixes.{AppendsPrefix}
 use Rattle.replay_segments.specs.KeptPictures.{picture_after}
+use Rattle.run_cursor.specs.Cursor.{CursorData, IsAt}
 use Rattle.commands.specs.Answers.{AnswerData}
 use Rattle.commands.specs.Lines.{line_bytes, status_of}
 use Rattle.commands.specs.declared.line.Line.{Line}
@@ -17,6 +23,11 @@ use Rattle.commands.specs.Private.Stops.{picture_of_frame}
 use Rattle.commands.specs.Stretches.{frames_asked, from_frames, pictures_after}
 use Rattle.commands.proofs.RunFrames.{frames_flat}
 use Rattle.commands.proofs.WrittenFrames.{asked_ends_or_faults}
+
+-- the picture of the frame after which a cursor goes on
+pub drawn_by : (m : MovieData) (k : ℕ) (c : CursorData) (input : InputData) (rows : Rows) (new : StateFields) → IsAt m k c
+    → slice_get m.inputs k ≡ Some input → frame_of m.cart c.state input ≡ Played new rows → picture_bytes rows ≡ picture_of_frame m k
+drawn_by m k c input rows new at there ends = let none : 0 + k ≡ k = omega arith in rw (at.ran, there, ends) (sym (append-nil (picture_bytes rows)))
 
 module _ (m : MovieData) (first count : ℕ) where
   -- the bytes of the first so many pictures

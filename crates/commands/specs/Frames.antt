@@ -27,7 +27,8 @@ use Rattle.replay_plan.specs.declared.watches.Details.{Details}
 use Rattle.commands.specs.declared.status.Status.{Status}
 use Rattle.commands.specs.declared.status.Status.TheVariants as statuses
 use Rattle.commands.specs.Lines.{frame_text, line_bytes}
-use Rattle.commands.specs.Stretches.{frames_asked, from_frames, last_asked, Ends, FaultsWithin}
+use Rattle.run_cursor.specs.RunFaults.{FaultsWithin}
+use Rattle.commands.specs.Stretches.{frames_asked, from_frames, last_asked, Ends}
 use Rattle.commands.specs.declared.line.Line.TheVariants as lines
 
 -- ---- one frame

@@ -7,7 +7,8 @@ use Rattle.movie_file.specs.declared.error.MovieError.{MovieError}
 use Rattle.picture_file.specs.PictureBytes.{pictures_bytes}
 use Rattle.commands.specs.Answers.{AnswerData}
 use Rattle.commands.specs.Answers.{line_answer, refusal}
-use Rattle.commands.specs.Stretches.{frames_asked, last_asked, Ends, FaultsWithin, pictures_after}
+use Rattle.run_cursor.specs.RunFaults.{FaultsWithin}
+use Rattle.commands.specs.Stretches.{frames_asked, last_asked, Ends, pictures_after}
 use Rattle.commands.specs.declared.line.Line.{Line}
 use Rattle.commands.specs.declared.line.Line.TheVariants as lines
 

@@ -1,11 +1,9 @@
 -- The frames of a movie that a command asks for: `count` of them from frame `first` on, counted from
 -- 1, as many as the movie has. This project's own.
-use Rattle.std.specs.Prelude.{◌≡◌, ℕ, zero, suc, ◌+◌, ◌-◌, ◌<◌, List, [], ◌++◌, length, take, drop, Some, ◌==◌, if◌then◌else◌}
+use Rattle.std.specs.Prelude.{◌≡◌, ℕ, zero, suc, ◌+◌, ◌-◌, List, [], ◌++◌, length, take, drop, Some, ◌==◌, if◌then◌else◌}
 use Rattle.vcs_machine.specs.Inputs.{InputData}
 use Rattle.vcs_machine.specs.Pictures.{Rows}
-use Rattle.vcs_machine.specs.declared.fault.FaultKind.{FaultKind}
 use Rattle.vcs_machine.specs.declared.fields.StateFields.{StateFields}
-use Rattle.movie_file.specs.Judgement.{FaultsAt}
 use Rattle.movie_file.specs.Movie.{MovieData}
 use Rattle.movie_file.specs.Run.{run}
 use Rattle.replay_segments.specs.KeptPictures.{picture_after}
@@ -22,13 +20,9 @@ frames_asked m first count = length (inputs_asked m first count)
 abbrev pub last_asked : MovieData → ℕ → ℕ → ℕ
 last_asked m first count = if frames_asked m first count == 0 then 0 else first - 1 + frames_asked m first count
 
--- The first `frames` frames of the movie's one unbroken run end,
+-- The first `frames` frames of the movie's one unbroken run end.
 abbrev pub Ends : MovieData → ℕ → Type 0
 Ends m frames = (state : StateFields) × (run m m.start 0 frames ≡ Some state)
-
--- or this one of them, counted from 1, faults. It is the first, as there is no state after a fault.
-abbrev pub FaultsWithin : MovieData → ℕ → ℕ → FaultKind → Type 0
-FaultsWithin m frames frame kind = (k : ℕ) × (k < frames) × (frame ≡ k + 1) × FaultsAt m m.start 0 k kind
 
 -- What comes of the `len` frames that follow frame `from`, in order, if this comes of frame k + 1.
 abbrev pub from_frames : {X : Type 0} → (ℕ → List X) → ℕ → ℕ → List X

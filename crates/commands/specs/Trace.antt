@@ -22,7 +22,7 @@ use Rattle.movie_file.specs.declared.error.MovieError.{MovieError}
 use Rattle.commands.specs.declared.status.Status.{Status}
 use Rattle.commands.specs.declared.status.Status.TheVariants as statuses
 use Rattle.commands.specs.Lines.{line_bytes}
-use Rattle.commands.specs.Stretches.{FaultsWithin}
+use Rattle.run_cursor.specs.RunFaults.{FaultsWithin}
 use Rattle.commands.specs.declared.line.Line.{Line}
 use Rattle.commands.specs.declared.line.Line.TheVariants as lines
 

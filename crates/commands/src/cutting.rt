@@ -1,21 +1,22 @@
 //! Movies of some frames of a movie.
-ghost use Rattle.std.specs.Prelude.{◌≡◌, ◌≤◌, ◌<◌, ◌+◌, ◌/◌, ◌^◌, [], length, Some, IfOk, IfErr, OnOk};
+ghost use Rattle.std.specs.Prelude.{◌≡◌, ◌≤◌, ◌+◌, ◌/◌, [], length, IfOk, IfErr, OnOk};
 ghost use Rattle.std.specs.Prelude.{IsTrue, vec_capacity};
 ghost use Rattle.std.specs.NonZero.{non_zero_u32_get};
 ghost use Rattle.movie_file.specs.Making.{counts_fit};
-ghost use Rattle.movie_file.specs.Movie.{IsMovie, IsState};
+ghost use Rattle.movie_file.specs.Movie.{IsMovie};
 ghost use Rattle.movie_file.specs.ClaimedStates.{Claims};
-ghost use Rattle.movie_file.specs.Run.{run};
+ghost use Rattle.run_cursor.specs.RunFaults.{FaultsWithin};
 ghost use Rattle.commands.specs.Cut.{IsCutOf};
 ghost use Rattle.commands.specs.Private.CutErrors.{Explains};
-ghost use Rattle.commands.specs.Stretches.{Ends, FaultsWithin, frames_asked};
+ghost use Rattle.commands.specs.Stretches.{Ends, frames_asked};
 
-use crate::stretch::{RunFault, frames_asked, play, state_after};
+use crate::stretch::{cursor_after, frames_asked};
 use movie_file::{Checkpoint, Movie, claim, do_counts_fit, movie_of, version_made};
 use riot_map::Cart;
+use run_cursor::{Cursor, RunFault};
 use std::alloc::{AllocError, Global};
 use std::num::NonZeroU32;
-use vcs_machine::{FaultKind, State};
+use vcs_machine::FaultKind;
 
 /// Why a movie is not cut.
 #[derive(Clone, Copy)]
@@ -61,32 +62,26 @@ fn copy_of(alloc: Global, cart: &Cart) -> Result<Cart, AllocError>
     }
 }
 
-/// The checkpoints of the frames that follow frame `from`, put into an empty list that has room
-/// for them.
+/// The checkpoints of the frames that follow, put into an empty list that has room for them.
 fn checkpoints_after(
     mut checkpoints: Vec<Checkpoint>,
-    movie: &Movie,
-    start: &State,
-    from: u32,
+    cursor: &mut Cursor<'_>,
     frames: u32,
     every: u32,
 ) -> Result<Vec<Checkpoint>, RunFault>
     requires empty { checkpoints.items ≡ [] }
-    requires within { from + frames ≤ length movie.now.inputs }
-    requires fits { from + frames < 2 ^ 32 }
-    requires ran { run movie.now movie.now.start 0 from ≡ Some start.now }
+    requires within { cursor.old.frame + frames ≤ length cursor.old.movie.inputs }
     requires every { 1 ≤ every }
     requires room { frames / every ≤ vec_capacity checkpoints }
-    ensures ok { IfOk result (λ made. Claims movie.now from every frames made.items) }
-    ensures start { IsState start.now }
-    ensures ends { OnOk result (Ends movie.now (from + frames)) }
+    ensures ok { IfOk result (λ made. Claims cursor.old.movie cursor.old.frame every frames made.items) }
+    ensures ends { OnOk result (Ends cursor.old.movie (cursor.old.frame + frames)) }
     ensures err { IfErr result (λ fault.
-        FaultsWithin movie.now (from + frames) fault.frame fault.kind) }
+        FaultsWithin cursor.old.movie (cursor.old.frame + frames) fault.frame fault.kind) }
 {
-    let mut state = start.copy();
+    let from = cursor.frame();
     for k in 0..frames {
-        match play(movie, from + k, &mut state) {
-            Ok(()) => claim(&mut checkpoints, every, k + 1, &state),
+        match cursor.advance() {
+            Ok(()) => claim(&mut checkpoints, every, k + 1, cursor.state()),
             Err(kind) => {
                 let frame = from + k + 1;
                 return Err(RunFault { frame, kind });
@@ -120,11 +115,12 @@ pub(crate) fn cut(
     if !do_counts_fit(frames as usize, every) {
         return Err(CutError::BadCounts);
     }
-    let start = state_after(movie, from)?;
+    let mut cursor = cursor_after(movie, from)?;
+    let start = cursor.state().copy();
     let Ok(checkpoints) = Vec::with_capacity(alloc, (frames / every) as usize) else {
         return Err(CutError::NoMemory);
     };
-    let checkpoints = checkpoints_after(checkpoints, movie, &start, from, frames, every)?;
+    let checkpoints = checkpoints_after(checkpoints, &mut cursor, frames, every)?;
     let asked = &movie.inputs()[from as usize..(from + frames) as usize];
     let inputs = Vec::from_slice(alloc, asked)?;
     let cart = copy_of(alloc, movie.cart())?;

@@ -1,24 +1,25 @@
 //! The line of a frame of a run.
-ghost use Rattle.std.specs.Prelude.{◌≡◌, ◌<◌, ◌+◌, ◌^◌, length, Some, None, IfOk, IfErr, OnOk};
+ghost use Rattle.std.specs.Prelude.{◌≡◌, ◌<◌, ◌+◌, length, Some, None, IfOk, IfErr, OnOk};
 ghost use Rattle.std.specs.Prelude.{if◌then◌else◌, string_bytes};
 ghost use Rattle.std.specs.List.{flat_map};
 ghost use Rattle.vcs_machine.specs.Pictures.{Rows};
-ghost use Rattle.movie_file.specs.Run.{run};
 ghost use Rattle.picture_file.specs.PictureBytes.{picture_bytes};
 ghost use Rattle.replay_segments.specs.NextCheckpoint.{IsNext};
+ghost use Rattle.run_cursor.specs.Cursor.{IsAt};
+ghost use Rattle.run_cursor.specs.RunFaults.{FrameFails};
 ghost use Rattle.commands.specs.Frames.{byte_text, checkpoint_text, digests_text};
 ghost use Rattle.commands.specs.Frames.{ended_line, frame_line};
 ghost use Rattle.commands.specs.Private.Describing.{StandBefore};
-ghost use Rattle.commands.specs.Private.Stops.{PicturesFail};
 
 use hex::encode;
 use movie_file::{Movie, write_state};
 use picture_file::{HEADER_BYTES, ROW_BYTES, ppm};
 use replay_plan::{Details, Watches};
+use run_cursor::Cursor;
 use sha2::{Digest, Sha256};
 use std::alloc::{AllocError, Global};
 use crate::line::Line;
-use vcs_machine::{FrameError, HexByte, Picture, State, TimedFrame, timed_frame};
+use vcs_machine::{FrameError, HexByte, Picture, State, TimedFrame};
 
 /// How many checkpoints stand before a frame, of which the first `from` surely do.
 #[tactic(auto, using(crate::proofs::StandingCheckpoints::one_more_before))]
@@ -131,34 +132,31 @@ fn line_of(
     format!(in alloc; "{length}{checkpoint}{memory}{digests}\n")
 }
 
-/// Plays frame `before` + 1 of the run; the answer is its line, with its end. `next` is the index of
-/// the first checkpoint that is not before the frame.
-#[tactic(auto, using(crate::proofs::RunSteps::pictures_fail))]
+/// Plays the next frame; the answer is its line, with its end. `next` is the index of the first
+/// checkpoint that is not before that frame.
 pub(crate) fn played_line(
     alloc: Global,
-    movie: &Movie,
     details: &Details,
     next: u16,
-    before: u32,
-    state: &mut State,
+    cursor: &mut Cursor<'_>,
 ) -> Result<String, FrameError>
-    requires frame { before < length movie.now.inputs }
-    requires number { before + 1 < 2 ^ 32 }
-    requires ran { run movie.now movie.now.start 0 before ≡ Some state.old }
-    requires next { IsNext movie.now next (before + 1) }
-    ensures ran { OnOk result (run movie.now movie.now.start 0 (before + 1) ≡ Some state.new) }
-    ensures line { IfOk result (λ text. string_bytes text ≡ frame_line movie.now details.now before) }
-    ensures err { IfErr result (PicturesFail movie.now before) }
+    requires more { cursor.old.frame < length cursor.old.movie.inputs }
+    requires next { IsNext cursor.old.movie next (cursor.old.frame + 1) }
+    ensures ok { OnOk result (IsAt cursor.old.movie (cursor.old.frame + 1) cursor.new) }
+    ensures line { IfOk result (λ text. string_bytes text ≡ frame_line cursor.old.movie details.now cursor.old.frame) }
+    ensures err { IfErr result (FrameFails cursor.old.movie cursor.old.frame) }
 {
-    let frame = before + 1;
-    let timed = timed_frame(
+    let movie = cursor.movie();
+    let timed = cursor.advance_timed(alloc, details.digests)?;
+    match line_of(
         alloc,
-        movie.cart(),
-        state,
-        movie.input(frame),
-        details.digests,
-    )?;
-    match line_of(alloc, movie, details, next, frame, &timed, state) {
+        movie,
+        details,
+        next,
+        cursor.frame(),
+        &timed,
+        cursor.state(),
+    ) {
         Ok(text) => Ok(text),
         Err(AllocError) => Err(FrameError::NoMemory),
     }

@@ -4,7 +4,6 @@ ghost use Rattle.std.specs.Prelude.{IfErr, OnOk, OnErr};
 ghost use Rattle.std.specs.Io.KnownBytes.{Appends, Keeps};
 ghost use Rattle.std.specs.NonZero.{non_zero_u32_get};
 ghost use Rattle.movie_file.specs.Reading.{movie_at};
-ghost use Rattle.movie_file.specs.Run.{run};
 ghost use Rattle.picture_file.specs.Prefixes.{AppendsPrefix};
 ghost use Rattle.commands.specs.Streams.{ReadsAll, IsTooLong};
 ghost use Rattle.commands.specs.Frames.{AppendsLines, Describes, DescribesOf};
@@ -16,10 +15,11 @@ ghost use Rattle.commands.specs.Stretches.{Ends, frames_asked, from_frames, last
 use crate::frame_line::{checkpoints_before, played_line};
 use crate::last_line::write_last;
 use crate::stop::{Stop, WriteError};
-use crate::stretch::{frames_asked, state_after};
+use crate::stretch::{cursor_after, frames_asked};
 use movie_file::{Movie, MovieError, read_movie};
 use picture_file::write_bytes;
 use replay_plan::Details;
+use run_cursor::Cursor;
 use std::alloc::Global;
 use std::io::{Read, Write};
 use std::num::NonZeroU32;
@@ -27,35 +27,31 @@ use crate::line::Line;
 use crate::run_error::RunError;
 use crate::status::Status;
 use crate::streams::read_all;
-use vcs_machine::State;
 
-/// Writes the lines of the frames that follow frame `from`, each as soon as it is played. It takes
-/// the memory of one frame at a time.
+/// Writes the lines of the frames that follow, each as soon as it is played. It takes the memory of
+/// one frame at a time.
 #[tactic(auto, using(crate::proofs::StandingCheckpoints::none_before))]
 fn write_frames<L: Write>(
     alloc: Global,
-    movie: &Movie,
     details: &Details,
-    start: State,
-    from: u32,
+    cursor: &mut Cursor<'_>,
     frames: u32,
     lines: &mut L,
 ) -> Result<(), Stop>
-    requires within { from + frames ≤ length movie.now.inputs }
-    requires fits { from + frames < 2 ^ 32 }
-    requires ran { run movie.now movie.now.start 0 from ≡ Some start }
-    ensures ends { OnOk result (Ends movie.now (from + frames)) }
+    requires within { cursor.old.frame + frames ≤ length cursor.old.movie.inputs }
+    ensures ends { OnOk result (Ends cursor.old.movie (cursor.old.frame + frames)) }
     ensures ok { OnOk result (Appends (L.contents lines.old) (L.contents lines.new)
-        (from_frames (frame_line movie.now details.now) from frames)) }
-    ensures err { IfErr result (StopsWriting movie.now (frame_line movie.now details.now) (from + frames) from frames
-        (L.contents lines.old) (L.contents lines.new)) }
+        (from_frames (frame_line cursor.old.movie details.now) cursor.old.frame frames)) }
+    ensures err { IfErr result (StopsWriting cursor.old.movie (frame_line cursor.old.movie details.now) (cursor.old.frame + frames)
+        cursor.old.frame frames (L.contents lines.old) (L.contents lines.new)) }
 {
-    let mut state = start;
+    let movie = cursor.movie();
+    let from = cursor.frame();
     let mut next = 0;
     for k in 0..frames {
         let frame = from + k + 1;
         next = checkpoints_before(movie, next, frame);
-        match played_line(alloc, movie, details, next, from + k, &mut state) {
+        match played_line(alloc, details, next, cursor) {
             Ok(line) => write_bytes(line.as_bytes(), lines)?,
             Err(error) => return Err(Stop::of_frame(frame, error)),
         }
@@ -84,8 +80,8 @@ fn write_asked<L: Write>(
         return Ok(());
     }
     let from = first.get() - 1;
-    let start = state_after(movie, from)?;
-    write_frames(alloc, movie, details, start, from, frames, lines)
+    let mut cursor = cursor_after(movie, from)?;
+    write_frames(alloc, details, &mut cursor, frames, lines)
 }
 
 /// Writes the lines of a movie that are asked for, and that of a fault.

@@ -1,25 +1,25 @@
 //! From the bytes of a movie to the pictures of some of its frames.
-ghost use Rattle.std.specs.Prelude.{◌≡◌, ◌≢◌, ◌≤◌, ◌<◌, ◌+◌, ◌^◌, ◌-◌, ◌⊎◌, List, ℕ, [], ◌∷◌, length, Ok, Some, IfOk, IfErr};
+ghost use Rattle.std.specs.Prelude.{◌≡◌, ◌≢◌, ◌≤◌, ◌<◌, ◌+◌, ◌-◌, ◌⊎◌, List, ℕ, [], ◌∷◌, length, Ok, Some, IfOk, IfErr};
 ghost use Rattle.std.specs.Prelude.{OnOk, OnErr};
 ghost use Rattle.std.specs.Io.KnownBytes.{Appends, Keeps};
 ghost use Rattle.std.specs.NonZero.{non_zero_u32_get};
-ghost use Rattle.movie_file.specs.Judgement.{FaultsAt};
 ghost use Rattle.movie_file.specs.Reading.{movie_at};
-ghost use Rattle.movie_file.specs.Run.{run};
-ghost use Rattle.picture_file.specs.PictureBytes.{pictures_bytes};
+ghost use Rattle.picture_file.specs.PictureBytes.{picture_bytes, pictures_bytes};
 ghost use Rattle.picture_file.specs.Prefixes.{AppendsPrefix};
-ghost use Rattle.replay_segments.specs.KeptPictures.{picture_after};
+ghost use Rattle.run_cursor.specs.Cursor.{IsAt};
+ghost use Rattle.run_cursor.specs.RunFaults.{FrameFails};
 ghost use Rattle.commands.specs.Answers.{AnswerData};
 ghost use Rattle.commands.specs.Streams.{ReadsAll, WritesPart, IsTooLong};
 ghost use Rattle.commands.specs.Lines.{line_bytes, status_of};
-ghost use Rattle.commands.specs.Private.Stops.{PicturesFail, StopsWriting, picture_of_frame};
+ghost use Rattle.commands.specs.Private.Stops.{StopsWriting, picture_of_frame};
 ghost use Rattle.commands.specs.Pictures.{AppendsSome, Draws, DrawsOf};
 ghost use Rattle.commands.specs.Stretches.{Ends, frames_asked, from_frames, last_asked};
 
 use crate::stop::{Stop, WriteError};
-use crate::stretch::{frames_asked, state_after};
+use crate::stretch::{cursor_after, frames_asked};
 use movie_file::{Movie, MovieError, read_movie};
 use picture_file::{WriteFault, ppm, write_bytes};
+use run_cursor::Cursor;
 use std::alloc::Global;
 use std::io::{Read, Write};
 use std::num::NonZeroU32;
@@ -27,55 +27,39 @@ use crate::line::Line;
 use crate::run_error::RunError;
 use crate::status::Status;
 use crate::streams::read_all;
-use vcs_machine::{FrameError, Picture, State, frame};
+use vcs_machine::{FrameError, Picture};
 
-/// Plays frame `before` + 1 of the run, with its picture.
-#[tactic(auto, using(crate::proofs::RunSteps::pictures_fail))]
-fn picture_of(
-    alloc: Global,
-    movie: &Movie,
-    before: u32,
-    state: &mut State,
-) -> Result<Picture, FrameError>
-    requires frame { before < length movie.now.inputs }
-    requires number { before + 1 < 2 ^ 32 }
-    requires ran { run movie.now movie.now.start 0 before ≡ Some state.old }
-    ensures ran { OnOk result (run movie.now movie.now.start 0 (before + 1) ≡ Some state.new) }
-    ensures picture { IfOk result (λ rows. picture_after movie.now before (run movie.now movie.now.start 0 before) ≡ rows ∷ []) }
-    ensures err { IfErr result (PicturesFail movie.now before) }
+/// Plays the next frame, with its picture.
+fn picture_of(alloc: Global, cursor: &mut Cursor<'_>) -> Result<Picture, FrameError>
+    requires more { cursor.old.frame < length cursor.old.movie.inputs }
+    ensures ok { OnOk result (IsAt cursor.old.movie (cursor.old.frame + 1) cursor.new) }
+    ensures picture { IfOk result (λ rows. picture_bytes rows ≡ picture_of_frame cursor.old.movie cursor.old.frame) }
+    ensures err { IfErr result (FrameFails cursor.old.movie cursor.old.frame) }
 {
-    match frame(alloc, movie.cart(), state, movie.input(before + 1), true) {
-        Ok(Some(picture)) => Ok(picture),
-        Ok(None) => unreachable!(),
-        Err(error) => Err(error),
-    }
+    let timed = cursor.advance_timed(alloc, true)?;
+    Ok(timed.picture.unwrap())
 }
 
-/// Writes the pictures of the frames that follow frame `from`, each as soon as it is played. It
-/// takes the memory of one picture at a time.
+/// Writes the pictures of the frames that follow, each as soon as it is played. It takes the memory
+/// of one picture at a time.
 fn write_frames<P: Write>(
     alloc: Global,
-    movie: &Movie,
-    start: State,
-    from: u32,
+    cursor: &mut Cursor<'_>,
     frames: u32,
     pictures: &mut P,
 ) -> Result<(), Stop>
-    requires within { from + frames ≤ length movie.now.inputs }
-    requires fits { from + frames < 2 ^ 32 }
-    requires ran { run movie.now movie.now.start 0 from ≡ Some start }
-    ensures ends { OnOk result (Ends movie.now (from + frames)) }
+    requires within { cursor.old.frame + frames ≤ length cursor.old.movie.inputs }
+    ensures ends { OnOk result (Ends cursor.old.movie (cursor.old.frame + frames)) }
     ensures ok { OnOk result (Appends (P.contents pictures.old) (P.contents pictures.new)
-        (from_frames (picture_of_frame movie.now) from frames)) }
-    ensures err { IfErr result (StopsWriting movie.now (picture_of_frame movie.now) (from + frames) from frames
-        (P.contents pictures.old) (P.contents pictures.new)) }
+        (from_frames (picture_of_frame cursor.old.movie) cursor.old.frame frames)) }
+    ensures err { IfErr result (StopsWriting cursor.old.movie (picture_of_frame cursor.old.movie) (cursor.old.frame + frames)
+        cursor.old.frame frames (P.contents pictures.old) (P.contents pictures.new)) }
 {
-    let mut state = start;
+    let from = cursor.frame();
     for k in 0..frames {
-        let frame = from + k + 1;
-        match picture_of(alloc, movie, from + k, &mut state) {
+        match picture_of(alloc, cursor) {
             Ok(picture) => ppm(&picture, pictures)?,
-            Err(error) => return Err(Stop::of_frame(frame, error)),
+            Err(error) => return Err(Stop::of_frame(from + k + 1, error)),
         }
     }
     Ok(())
@@ -103,8 +87,8 @@ fn write_asked<P: Write>(
         return Ok(frames);
     }
     let from = first.get() - 1;
-    let start = state_after(movie, from)?;
-    write_frames(alloc, movie, start, from, frames, pictures)?;
+    let mut cursor = cursor_after(movie, from)?;
+    write_frames(alloc, &mut cursor, frames, pictures)?;
     Ok(frames)
 }
 

@@ -1,8 +1,8 @@
 //! Why what is asked for of a run is not all written.
 ghost use Rattle.std.specs.Prelude.{◌≡◌};
 
-use crate::stretch::RunFault;
 use picture_file::WriteFault;
+use run_cursor::RunFault;
 use crate::run_error::RunError;
 use vcs_machine::{FaultKind, FrameError};
 

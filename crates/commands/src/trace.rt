@@ -15,7 +15,7 @@ ghost use Rattle.commands.specs.Trace.{AppendsInstructions, Traces, TracesOf, li
 
 use crate::last_line::write_last;
 use crate::stop::WriteError;
-use crate::stretch::state_after;
+use crate::stretch::cursor_after;
 use movie_file::{Movie, MovieError, read_movie};
 use picture_file::write_bytes;
 use std::alloc::Global;
@@ -133,8 +133,8 @@ fn trace<L: Write>(
         write_last(alloc, Line::NoFrame(frame), lines)?;
         return Ok(Status::Refused);
     }
-    match state_after(movie, frame - 1) {
-        Ok(state) => trace_frame(alloc, movie, frame, &state, lines),
+    match cursor_after(movie, frame - 1) {
+        Ok(cursor) => trace_frame(alloc, movie, frame, cursor.state(), lines),
         Err(fault) => {
             let line = Line::Fault {
                 frame: fault.frame,

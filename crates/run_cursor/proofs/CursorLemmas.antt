@@ -27,6 +27,7 @@ module _ (m : MovieData) (k : ℕ) (state left : StateFields) (cart : List ℕ) 
     movie_is = refl;
     frame_is = refl;
     within = omega arith;
+    few = at.few;
     ran = run-next m m.start 0 k k state input at.ran (omega arith) here left rows (rw same at ends);
   }
 
@@ -37,7 +38,7 @@ module _ (m : MovieData) (k : ℕ) (state left : StateFields) (cart : List ℕ) 
 
 -- ---- after a fault there is no state
 
-no_run : (m : MovieData) (k n : ℕ) → k ≤ n → run m m.start 0 k ≡ None → run m m.start 0 n ≡ None
+pub no_run : (m : MovieData) (k n : ℕ) → k ≤ n → run m m.start 0 k ≡ None → run m m.start 0 n ≡ None
 no_run m k n le none = let whole : k + (n - k) ≡ n = omega arith in rw whole at (later (n - k))
   where
     later : (d : ℕ) → run m m.start 0 (k + d) ≡ None

@@ -1,5 +1,5 @@
 -- Where a cursor stands in the one unbroken run of a movie. This project's own.
-use Rattle.std.specs.Prelude.{◌≡◌, ◌≤◌, ℕ, length, Some}
+use Rattle.std.specs.Prelude.{◌≡◌, ◌≤◌, ◌<◌, ◌^◌, ℕ, length, Some}
 use Rattle.vcs_machine.specs.declared.fields.StateFields.{StateFields}
 use Rattle.movie_file.specs.Movie.{MovieData}
 use Rattle.movie_file.specs.Run.{run}
@@ -14,4 +14,5 @@ pub record IsAt (m : MovieData) (k : ℕ) (c : CursorData) : Type 0 where
   pub movie_is : c.movie ≡ m
   pub frame_is : c.frame ≡ k
   pub within : k ≤ length m.inputs
+  pub few : length m.inputs < 2 ^ 32
   pub ran : run m m.start 0 k ≡ Some c.state

@@ -48,6 +48,7 @@ impl<'a> Cursor<'a> {
     pub fn at_start(movie: &'a Movie) -> Cursor<'a>
         ensures { IsAt movie.now 0 result }
     {
+        let _ = movie.frames();
         Cursor {
             movie,
             frame: 0,
@@ -61,6 +62,7 @@ impl<'a> Cursor<'a> {
         requires ran { run movie.now movie.now.start 0 frame ≡ Some state.now }
         ensures { IsAt movie.now frame result }
     {
+        let _ = movie.frames();
         Cursor {
             movie,
             frame,
@@ -100,7 +102,6 @@ impl<'a> Cursor<'a> {
         ensures same { OnErr result (self.new ≡ self.old) }
     {
         let movie = self.movie;
-        let _ = movie.frames();
         let frame = self.frame + 1;
         let mut state = self.state.copy();
         match halt(movie.cart(), &mut state, movie.input(frame)) {
@@ -123,12 +124,12 @@ impl<'a> Cursor<'a> {
             × (frame_of self.old.movie.cart self.old.state input ≡ Played self.new.state rows)
             × (timed.cycles ≡ cycles_of self.old.movie.cart self.old.state input)
             × (timed.rows ≡ length rows) × (timed.picture ≡ (if keep then Some rows else None))) }
+        ensures at { IsAt self.old.movie self.old.frame self.old }
         ensures err { IfErr result (FrameFails self.old.movie self.old.frame) }
         ensures memory { result ≡ Err FrameError.NoMemory → keep ≡ true }
         ensures same { OnErr result (self.new ≡ self.old) }
     {
         let movie = self.movie;
-        let _ = movie.frames();
         let frame = self.frame + 1;
         let mut state = self.state.copy();
         let timed = timed_frame(alloc, movie.cart(), &mut state, movie.input(frame), keep)?;

@@ -2,7 +2,8 @@
 use Rattle.std.specs.Prelude.{ℕ, ◌+◌, ◌-◌, IsTrue}
 use Rattle.movie_file.specs.Making.{counts_fit}
 use Rattle.movie_file.specs.Movie.{MovieData}
-use Rattle.commands.specs.Stretches.{frames_asked, FaultsWithin}
+use Rattle.run_cursor.specs.RunFaults.{FaultsWithin}
+use Rattle.commands.specs.Stretches.{frames_asked}
 use Rattle.commands.specs.declared.cutting.CutError.{CutError}
 use Rattle.commands.specs.declared.cutting.CutError.TheVariants.{BadCounts, Fault, NoMemory}
 

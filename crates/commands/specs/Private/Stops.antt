@@ -3,7 +3,6 @@ use Rattle.std.specs.Prelude.{ℕ, ◌≤◌, List, Option}
 use Rattle.std.specs.Io.KnownBytes.{Appends}
 use Rattle.vcs_machine.specs.declared.fault.FrameError.{FrameError}
 use Rattle.vcs_machine.specs.declared.fault.FrameError.TheVariants as frames
-use Rattle.movie_file.specs.Judgement.{FaultsAt}
 use Rattle.movie_file.specs.Movie.{MovieData}
 use Rattle.picture_file.specs.PictureBytes.{pictures_bytes}
 use Rattle.picture_file.specs.Prefixes.{AppendsPrefix}
@@ -11,18 +10,14 @@ use Rattle.commands.specs.declared.run_error.RunError.{RunError}
 use Rattle.commands.specs.declared.run_error.RunError.TheVariants as runs
 use Rattle.replay_segments.specs.KeptPictures.{picture_after}
 use Rattle.movie_file.specs.Run.{run}
-use Rattle.commands.specs.Stretches.{from_frames, FaultsWithin}
+use Rattle.run_cursor.specs.RunFaults.{FaultsWithin}
+use Rattle.commands.specs.Stretches.{from_frames}
 use Rattle.commands.specs.declared.stop.WriteError.{WriteError}
 use Rattle.commands.specs.declared.stop.WriteError.TheVariants as writes
 use Rattle.commands.specs.declared.stop.Stop.{Stop}
 use Rattle.commands.specs.declared.stop.Stop.TheVariants.{Fault, NoMemory, WriteFault}
 
--- frame k + 1 has no picture
-abbrev pub PicturesFail : MovieData → ℕ → FrameError → Type 0
-PicturesFail m k (frames.Fault kind) = FaultsAt m m.start 0 k kind
-PicturesFail m k frames.NoMemory = Unit {0}
-
--- the stop of a frame that has none
+-- the stop of a frame that isn't played
 abbrev pub stop_of : ℕ → FrameError → Stop
 stop_of frame (frames.Fault kind) = Fault frame kind
 stop_of frame frames.NoMemory = NoMemory

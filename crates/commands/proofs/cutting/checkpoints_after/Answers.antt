@@ -6,7 +6,7 @@ use Rattle.commands.proofs.cutting.checkpoints_after.Goals as goal
 pub loop-k-init : goal.loop-k-init
 loop-k-init c = record {
   made = rw c.requires.empty (Claims-none _ _ _);
-  ran = rw (add-zero, c.copy-state.ensures.value) c.requires.ran;
+  at = rw add-zero c.frame-from.ensures.at;
   room = c.requires.room;
 }
 
@@ -17,13 +17,14 @@ claim-requires-clause-room c = λ h.
 
 pub loop-k-preserved : goal.loop-k-preserved
 loop-k-preserved c =
-    let next : c.args.from + c.loop-k.k + 1 ≡ c.args.from + (c.loop-k.k + 1) = omega arith in
-    let ran = rw next at c.in-Ok.ensures.ok in
+    let here = c.args.cursor.now.frame in
+    let next : here + c.loop-k.k + 1 ≡ here + (c.loop-k.k + 1) = omega arith in
+    let at = rw (c.loop-k.invariant.at.movie_is, c.loop-k.invariant.at.frame_is, next) at c.in-Ok.ensures.ok in
     record {
-      made = Claims-next _ _ _ _ _ _ _ c.requires.every c.loop-k.invariant.made ran c.claim.ensures.items c.claim.ensures.lawful;
-      ran = ran;
+      made = Claims-next _ _ _ _ _ _ _ c.requires.every c.loop-k.invariant.made at.ran (rw c.state.ensures.value at c.claim.ensures.items) (rw c.state.ensures.value at c.claim.ensures.lawful);
+      at = at;
       room = rw c.claim.ensures.capacity c.loop-k.invariant.room;
     }
 
 pub returns-clause-ends : goal.returns-clause-ends
-returns-clause-ends c = let all : c.loop-k.k ≡ c.args.frames = omega arith in (c.loop-k.state, rw all at c.loop-k.invariant.ran)
+returns-clause-ends c = let all : c.loop-k.k ≡ c.args.frames = omega arith in (c.loop-k.cursor.state, rw all at c.loop-k.invariant.at.ran)

@@ -10,24 +10,32 @@ pub returns-then-frames-eq0-clause-ends : goal.returns-then-frames-eq0-clause-en
 returns-then-frames-eq0-clause-ends g c =
     none_asked c.args.movie.now (non_zero_u32_get c.args.first) c.args.count _ c.frames_asked-frames.ensures.value c.if-frames-eq0.true
 
-pub returns-in_err-start-clause-err : goal.returns-in_err-start-clause-err
-returns-in_err-start-clause-err g c =
+pub returns-in_err-cursor-clause-err : goal.returns-in_err-cursor-clause-err
+returns-in_err-cursor-clause-err g c =
     let first = c.get-from.ensures.value in
     let frames = c.frames_asked-frames.ensures.value in
     let last = last_is c.args.movie.now _ c.args.count _ _ first frames c.if-frames-eq0.false in
     let p = err_from_is_err_and c.from_residual.result c.from_residual.ensures.1 in
     let stops = stops_before c.args.movie.now (frame_line c.args.movie.now c.args.details.now)
     (no_line c.args.movie.now c.args.details.now) (c.get-from.result - 1) c.frames_asked-frames.result
-    _ _ (g.L.Write.contents c.args.lines.now) c.in_err-start.ensures.err in
+    _ _ (g.L.Write.contents c.args.lines.now) c.in_err-cursor.ensures.err in
     rw (p.1, p.2) (rw (last, first, frames) at stops)
 
 pub returns-clause-ends : goal.returns-clause-ends
 returns-clause-ends g c =
+    let at = c.in_ok-cursor.ensures.ok in
     let last = last_is c.args.movie.now _ c.args.count _ _ c.get-from.ensures.value c.frames_asked-frames.ensures.value c.if-frames-eq0.false in
-    rw last at c.write_frames.ensures.ends
+    rw (at.movie_is, at.frame_is, last) at c.write_frames.ensures.ends
+
+pub returns-clause-ok : goal.returns-clause-ok
+returns-clause-ok g c =
+    let at = c.in_ok-cursor.ensures.ok in
+    rw (at.movie_is, at.frame_is, c.get-from.ensures.value, c.frames_asked-frames.ensures.value) at c.write_frames.ensures.ok
 
 pub returns-clause-err : goal.returns-clause-err
 returns-clause-err g c =
+    let at = c.in_ok-cursor.ensures.ok in
     let first = c.get-from.ensures.value in
     let frames = c.frames_asked-frames.ensures.value in
-    rw (last_is c.args.movie.now _ c.args.count _ _ first frames c.if-frames-eq0.false, first, frames) at c.write_frames.ensures.err
+    let last = last_is c.args.movie.now _ c.args.count _ _ first frames c.if-frames-eq0.false in
+    rw (at.movie_is, at.frame_is, last, first, frames) at c.write_frames.ensures.err

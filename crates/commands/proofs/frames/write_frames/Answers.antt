@@ -1,34 +1,54 @@
-use Rattle.std.proofs.Common.{◌≡◌, ◌∙◌, ◌+◌, arith}
+use Rattle.std.proofs.Common.{◌≡◌, ◌∙◌, ◌+◌, add-zero, arith}
 use Rattle.std.proofs.lemmas.Result.{err_from_is_err_and}
+use Rattle.picture_file.proofs.BytesWritten.{appends_nothing}
 use Rattle.commands.specs.Frames.{frame_line}
-use Rattle.commands.proofs.StandingCheckpoints.{stand_before}
+use Rattle.commands.proofs.StandingCheckpoints.{none_before, stand_before}
 use Rattle.commands.proofs.RunFrames.{no_line}
 use Rattle.commands.proofs.WrittenFrames.{one_more, part_of_one, stops_here}
 use Rattle.commands.proofs.frames.write_frames.Goals as goal
 
+pub loop-k-init : goal.loop-k-init
+loop-k-init g c = record {
+  at = rw add-zero c.frame-from.ensures.at;
+  written = appends_nothing (g.L.Write.contents c.args.lines.now);
+  passed = none_before _ _;
+}
+
+pub checkpoints_before-next-requires : goal.checkpoints_before-next-requires
+checkpoints_before-next-requires g c = rw (c.movie-movie.ensures.value, c.frame-from.ensures.value) c.loop-k.invariant.passed
+
+pub played_line-requires-clause-next : goal.played_line-requires-clause-next
+played_line-requires-clause-next g c =
+    rw (c.loop-k.invariant.at.movie_is, c.loop-k.invariant.at.frame_is)
+    (rw (c.movie-movie.ensures.value, c.frame-from.ensures.value) at c.checkpoints_before-next.ensures)
+
 pub returns-in_err-write_bytes-in-Ok-clause-err : goal.returns-in_err-write_bytes-in-Ok-clause-err
 returns-in_err-write_bytes-in-Ok-clause-err g c =
     let p = err_from_is_err_and c.from_residual.result c.from_residual.ensures.1 in
+    let line = rw (c.loop-k.invariant.at.movie_is, c.loop-k.invariant.at.frame_is) at c.in-Ok.ensures.line in
     rw (p.1, p.2)
-    (part_of_one (frame_line c.args.movie.now c.args.details.now) _ _ _ _ _ _
-    (c.as_bytes.ensures.value ∙ c.in-Ok.ensures.line) c.loop-k.invariant.written _ c.loop-k-test.true
+    (part_of_one (frame_line c.args.cursor.now.movie c.args.details.now) _ _ _ _ _ _
+    (c.as_bytes.ensures.value ∙ line) c.loop-k.invariant.written _ c.loop-k-test.true
     c.in_err-write_bytes-in-Ok.ensures.err)
 
 pub returns-in-Err-clause-err : goal.returns-in-Err-clause-err
 returns-in-Err-clause-err g c =
-    rw c.of_frame.ensures
-    (stops_here c.args.movie.now (frame_line c.args.movie.now c.args.details.now) (no_line c.args.movie.now c.args.details.now)
-    _ _ _ _ _ c.in-Err.error c.loop-k-test.true c.in-Err.ensures.err c.loop-k.invariant.written)
+    rw (c.of_frame.ensures, c.frame-from.ensures.value)
+    (stops_here c.args.cursor.now.movie (frame_line c.args.cursor.now.movie c.args.details.now) (no_line c.args.cursor.now.movie c.args.details.now)
+    _ _ _ _ _ c.in-Err.error c.loop-k-test.true
+    (rw (c.loop-k.invariant.at.movie_is, c.loop-k.invariant.at.frame_is) at c.in-Err.ensures.err) c.loop-k.invariant.written)
 
 pub loop-k-preserved : goal.loop-k-preserved
 loop-k-preserved g c =
-    let next : c.args.from + c.loop-k.k + 1 ≡ c.args.from + (c.loop-k.k + 1) = omega arith in
+    let here = c.args.cursor.now.frame in
+    let next : here + c.loop-k.k + 1 ≡ here + (c.loop-k.k + 1) = omega arith in
+    let line = rw (c.loop-k.invariant.at.movie_is, c.loop-k.invariant.at.frame_is) at c.in-Ok.ensures.line in
     record {
-      ran = rw next at c.in-Ok.ensures.ran;
-      written = one_more (frame_line c.args.movie.now c.args.details.now) c.args.from c.loop-k.k _ _ _ _
-          (c.as_bytes.ensures.value ∙ c.in-Ok.ensures.line) c.loop-k.invariant.written c.in_ok-write_bytes-in-Ok.ensures.ok;
-      passed = stand_before _ _ _ _ c.checkpoints_before-next.ensures (omega arith);
+      at = rw (c.loop-k.invariant.at.movie_is, c.loop-k.invariant.at.frame_is, next) at c.in-Ok.ensures.ok;
+      written = one_more (frame_line c.args.cursor.now.movie c.args.details.now) here c.loop-k.k _ _ _ _
+          (c.as_bytes.ensures.value ∙ line) c.loop-k.invariant.written c.in_ok-write_bytes-in-Ok.ensures.ok;
+      passed = stand_before _ _ _ _ (rw (c.movie-movie.ensures.value, c.frame-from.ensures.value) at c.checkpoints_before-next.ensures) (omega arith);
     }
 
 pub returns-clause-ends : goal.returns-clause-ends
-returns-clause-ends g c = let all : c.loop-k.k ≡ c.args.frames = omega arith in (c.loop-k.state, rw all at c.loop-k.invariant.ran)
+returns-clause-ends g c = let all : c.loop-k.k ≡ c.args.frames = omega arith in (c.loop-k.cursor.state, rw all at c.loop-k.invariant.at.ran)
