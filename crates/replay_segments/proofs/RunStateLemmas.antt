@@ -1,39 +1,24 @@
 -- From where the one unbroken run of a movie can be replayed.
-use Rattle.std.proofs.Common.{◌≡◌, ℕ, zero, suc, ◌+◌, ◌-◌, ◌<◌, ◌≤◌, length, Option, Some, None}
-use Rattle.std.proofs.Common.{IsSome, slice_get, refl, arith, subst, add-zero}
-use Rattle.std.specs.Prelude.{option_and_then}
+use Rattle.std.proofs.Common.{◌≡◌, ℕ, ◌+◌, ◌-◌, ◌<◌, ◌≤◌, length, Some, None}
+use Rattle.std.proofs.Common.{IsSome, slice_get, arith, subst}
 use Rattle.std.proofs.lemmas.Option.{slice_get_within}
 use Rattle.vcs_machine.specs.declared.fault.FaultKind.{FaultKind}
 use Rattle.vcs_machine.specs.declared.fields.StateFields.{StateFields}
 use Rattle.movie_file.specs.Movie.{MovieData, IsMovie}
-use Rattle.movie_file.specs.Judgement.{AllSound, FaultsAt}
-use Rattle.movie_file.specs.Run.{frame_after, run, state_after}
+use Rattle.movie_file.specs.Judgement.{AllSound}
+use Rattle.movie_file.specs.Run.{run}
 use Rattle.movie_file.specs.declared.checkpoint.Checkpoint.{Checkpoint}
-use Rattle.movie_file.proofs.RunLemmas.{run-shift, run-fault}
+use Rattle.run_cursor.specs.RunFaults.{FaultsWithin}
+use Rattle.run_cursor.proofs.CursorLemmas.{none_after}
 use Rattle.replay_segments.specs.Private.Resuming.{IsResumable}
 use Rattle.replay_segments.specs.Verdicts.{HasVerdict}
 use Rattle.replay_segments.specs.declared.verdict.Verdict.TheVariants.{FalseCheckpoint, Fault}
 use Rattle.replay_segments.proofs.CheckpointLemmas.{frame_in_range, frames_rise}
 
-some_before : {A B : Type 0} (f : A → Option B) (o : Option A) → IsSome (option_and_then f o) → IsSome o
-some_before f (Some x) is = refl
-some_before f None is = cc
-
--- A run that has a state after some frames has one after fewer.
-IsSome-run : (m : MovieData) (s : StateFields) (a k more : ℕ) → IsSome (run m s a (k + more)) → IsSome (run m s a k)
-IsSome-run m s a k zero is = rw add-zero at is
-IsSome-run m s a k (suc more) is =
-    let e : k + suc more ≡ suc (k + more) = omega arith in
-    IsSome-run m s a k more (some_before (λ state. state_after (frame_after m (a + (k + more)) state)) (run m s a (k + more)) (rw e at is))
-
-pub IsSome-run-below : (m : MovieData) (s : StateFields) (a k len : ℕ) → k ≤ len → IsSome (run m s a len) → IsSome (run m s a k)
-IsSome-run-below m s a k len le is =
-    let e : len ≡ k + (len - k) = omega arith in
-    IsSome-run m s a k (len - k) (subst (λ (n : ℕ). IsSome (run m s a n)) e is)
-
--- No frame of it fails.
-pub no_fault : (m : MovieData) (s : StateFields) (a k : ℕ) (kind : FaultKind) → IsSome (run m s a (k + 1)) → FaultsAt m s a k kind → ⊥
-no_fault m s a k kind ends fault = let no : IsSome {T = StateFields} None = rw (run-fault m s a k kind fault) at ends in cc
+-- A run that comes to the end of a frame has no fault up to it.
+pub no_fault_within : (m : MovieData) (frames frame : ℕ) (kind : FaultKind) → IsSome (run m m.start 0 frames) → FaultsWithin m frames frame kind → ⊥
+no_fault_within m frames frame kind ends (k, less, is, fault) =
+    let no : IsSome {T = StateFields} None = rw (none_after m k frames kind fault less) at ends in cc
 
 -- Where its first frames are sound a checkpoint after one of them claims the run's state.
 pub claim_of_sound : (m : MovieData) (k j : ℕ) (c : Checkpoint) → IsMovie m → AllSound m m.start 0 k → slice_get m.checkpoints j ≡ Some c → c.frame ≤ k
@@ -49,15 +34,6 @@ pub IsResumable-false : (m : MovieData) (number frame : ℕ) → IsMovie m → H
     → IsResumable m (number - 1) frame
 IsResumable-false m number frame movie (keep, (k, less, at, sound, (state, j, c, ran, num, here, after, ne))) =
     grind (arith, slice_get_within, frames_rise, claim_of_sound)
-
--- From a checkpoint of the run to the frame.
-pub run-resumed : (m : MovieData) (from frame : ℕ) (state : StateFields) → from ≤ frame → run m m.start 0 from ≡ Some state
-    → run m m.start 0 frame ≡ run m state from (frame - from)
-run-resumed m from frame state le is =
-    let e : from + (frame - from) ≡ frame = omega arith in
-    let none : 0 + from ≡ from = omega arith in
-    let shifted = run-shift m m.start 0 from state is (frame - from) in
-    rw (e, none) at shifted
 
 -- It can be replayed from the last checkpoint before the frame that faults.
 pub IsResumable-fault : (m : MovieData) (frame next : ℕ) (kind : FaultKind) → IsMovie m → HasVerdict m (Fault frame kind) → next ≤ length m.checkpoints

@@ -1,5 +1,5 @@
 //! States of a movie's one unbroken run.
-ghost use Rattle.std.specs.Prelude.{◌≡◌, ℕ, ◌+◌, ◌<◌, ◌≤◌, ◌^◌, length, slice_get, IsSome, Some};
+ghost use Rattle.std.specs.Prelude.{◌≡◌, ℕ, ◌<◌, ◌≤◌, length, slice_get, IsSome, Some};
 ghost use Rattle.movie_file.specs.Movie.{IsMovie};
 ghost use Rattle.movie_file.specs.Run.{run};
 ghost use Rattle.movie_file.specs.declared.checkpoint.Checkpoint.{Checkpoint};
@@ -10,6 +10,7 @@ ghost use Rattle.replay_segments.specs.declared.verdict.Verdict.TheVariants.{Fal
 ghost use Rattle.replay_segments.specs.declared.verdict.Verdict.TheVariants.{Fault};
 
 use movie_file::Movie;
+use run_cursor::Cursor;
 use vcs_machine::{FaultKind, LINE_CYCLES, State, halt};
 
 /// What a frame leaves that faults.
@@ -22,22 +23,17 @@ pub struct LeftState {
     pub scanline: u64,
 }
 
-/// The state after `len` frames from a state that stands after frame `from`. None of the frames
-/// fails.
-fn state_after(movie: &Movie, start: &State, from: u32, len: u32) -> State
-    requires range { from + len ≤ length movie.now.inputs }
-    requires short { from + len < 2 ^ 32 }
-    requires ends { IsSome (run movie.now start.now from len) }
-    ensures { run movie.now start.now from len ≡ Some result }
+/// The state after a frame to which a cursor goes. The run comes to its end.
+fn state_after(cursor: &mut Cursor<'_>, frame: u32) -> State
+    requires later { cursor.old.frame ≤ frame }
+    requires within { frame ≤ length cursor.old.movie.inputs }
+    requires ends { IsSome (run cursor.old.movie cursor.old.movie.start 0 frame) }
+    ensures { run cursor.old.movie cursor.old.movie.start 0 frame ≡ Some result }
 {
-    let mut state = start.copy();
-    for k in 0..len {
-        match halt(movie.cart(), &mut state, movie.input(from + k + 1)) {
-            None => {}
-            Some(_) => unreachable!(),
-        }
+    match cursor.advance_to(frame) {
+        Ok(()) => cursor.state().copy(),
+        Err(_) => unreachable!(),
     }
-    state
 }
 
 /// The state of the run after a frame, replayed from the checkpoint before index `next`, or from
@@ -47,11 +43,12 @@ fn resume(movie: &Movie, next: u16, frame: u32) -> State
     ensures { run movie.now movie.now.start 0 frame ≡ Some result }
 {
     if next == 0 {
-        return state_after(movie, movie.start(), 0, frame);
+        let mut start = Cursor::at_start(movie);
+        return state_after(&mut start, frame);
     }
-    let checkpoint = movie.checkpoint(next);
-    let from = checkpoint.frame;
-    state_after(movie, &checkpoint.state, from, frame - from)
+    let claim = movie.checkpoint(next);
+    let mut cursor = Cursor::at_claim(movie, claim.frame, &claim.state);
+    state_after(&mut cursor, frame)
 }
 
 /// The state that a movie's one unbroken run has after the frame of its first false checkpoint.
