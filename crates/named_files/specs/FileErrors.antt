@@ -1,10 +1,10 @@
 -- What is known of a file that failed. This project's own.
-use Rattle.std.specs.Prelude.{◌≡◌, ℕ, ◌-◌, min, nat_lt, option_map, if◌then◌else◌, Bool, true, false, List, Option, Some, None}
+use Rattle.std.specs.Prelude.{◌≡◌, ℕ, ◌-◌, ◌≤◌, min, nat_lt, option_map, if◌then◌else◌, Bool, true, false, List, Option, Some, None, IfSome}
 use Rattle.named_files.specs.declared.file_error.CreateError.{CreateError}
 use Rattle.named_files.specs.declared.file_error.CreateError.TheVariants.{Open}
 use Rattle.named_files.specs.declared.file_error.FileError.{FileError}
 use Rattle.named_files.specs.declared.file_error.Reason.{Reason}
-use Rattle.named_files.specs.declared.file_error.Reason.TheVariants.{IsInput, IsOutput, TooLong}
+use Rattle.named_files.specs.declared.file_error.Reason.TheVariants.{IsInput, IsOutput, NotCopied, System, TooLong}
 use Rattle.commands.specs.Streams.{input_limit}
 
 -- It is the file of this name.
@@ -31,6 +31,12 @@ conflict true is_pipe false false = None
 conflict false true false is_stream = None
 conflict false false is_input is_stream = None
 
+-- The same where all that was written is kept in a file beside it, of this digit, which could not be
+-- copied.
+abbrev pub reason_beside : Option ℕ → Reason → Reason
+reason_beside (Some digit) (System error) = NotCopied error digit
+reason_beside other reason = reason
+
 -- Why a stream failed of which so many bytes were read, and which had failed before as is said: no
 -- input has so many.
 abbrev pub reason_at_length : ℕ → Option Reason → Option Reason
@@ -40,6 +46,10 @@ reason_at_length length before = if nat_lt input_limit length then Some TooLong 
 abbrev pub within_quota : Option ℕ → ℕ → ℕ
 within_quota None bytes = bytes
 within_quota (Some left) bytes = min left bytes
+
+-- It has room for so many.
+abbrev pub HasRoom : Option ℕ → ℕ → Type 0
+HasRoom left bytes = IfSome left (λ bytes_left. bytes ≤ bytes_left)
 
 -- How many bytes a file still takes after so many more, if there is a limit.
 abbrev pub left_after : ℕ → Option ℕ → Option ℕ

@@ -12,6 +12,9 @@ pub enum Reason {
     /// The system's.
     #[error("{0}")]
     System(io::Error),
+    /// The system's, as the file beside it was copied, whose name ends with this digit.
+    #[error("{0}; the file beside it that ends with .part{1} has all of it")]
+    NotCopied(io::Error, char),
     #[error("longer than 16,777,216 bytes")]
     TooLong,
     #[error("is also an input of this command")]

@@ -4,6 +4,7 @@
 //! rules are this project's own.
 #![tactic(auto)]
 
+mod disk;
 mod file_error;
 mod files;
 mod identity;
@@ -12,6 +13,7 @@ mod output;
 mod replacing;
 mod size_limit;
 
+pub use disk::sync_standard_output;
 pub use file_error::{CreateError, FileError, Reason};
 pub use files::{create, null_if_closed, open, open_beside};
 pub use identity::Identity;

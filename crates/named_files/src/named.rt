@@ -3,7 +3,7 @@ ghost use Rattle.std.specs.Prelude.{◌≡◌, ◌≢◌, ◌+◌, ◌-◌, ◌^
 ghost use Rattle.std.specs.Prelude.{IfErr, IfOk, IfSome, IsSomeAnd, OnOk};
 ghost use Rattle.std.specs.Io.{ReadsAtMost, WritesAtMost};
 ghost use Rattle.std.specs.Io.KnownBytes.{Keeps, ReadConsumes, WriteAppends};
-ghost use Rattle.named_files.specs.FileErrors.{IsAbout, reason_at_length};
+ghost use Rattle.named_files.specs.FileErrors.{IsAbout, reason_at_length, reason_beside};
 ghost use Rattle.named_files.specs.declared.file_error.Reason.TheVariants.{System, TookNothing};
 
 use crate::file_error::{FileError, Reason};
@@ -68,7 +68,21 @@ impl<'a, S> Named<'a, S> {
     }
 }
 
-impl<R: Files> Named<'_, Replacing<'_, R>> {
+impl<'a, R: Files> Named<'a, Replacing<'_, R>> {
+    /// The name and the reason, if it failed, which may name the file beside it.
+    pub fn output_error(&self) -> Option<FileError<'a>>
+        ensures failed { IfSome self.now.reason (λ reason. IsSomeAnd result (IsAbout self.now.name.now (reason_beside self.now.stream.kept reason))) }
+        ensures whole { self.now.reason ≡ None → result ≡ None }
+    {
+        match (self.reason, self.stream.kept()) {
+            (Some(Reason::System(error)), Some(digit)) => {
+                Some(FileError::new(self.name, Reason::NotCopied(error, digit)))
+            }
+            (Some(reason), _) => Some(FileError::new(self.name, reason)),
+            (None, _) => None,
+        }
+    }
+
     /// Takes out the bytes of before, if none was written.
     pub fn finish(&mut self) -> io::Result<()>
         ensures ok { OnOk result (self.new.reason ≡ self.old.reason) }

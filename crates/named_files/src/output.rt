@@ -1,6 +1,7 @@
 //! Files that are written.
-ghost use Rattle.std.specs.Prelude.{◌≡◌};
+ghost use Rattle.std.specs.Prelude.{◌≡◌, true};
 
+use crate::disk::sync;
 use std::fs::{Metadata, OpenFile};
 use std::io::{self, Write};
 
@@ -11,6 +12,8 @@ pub(crate) struct Output<F> {
     file: F,
     /// Whether it may still have bytes of before.
     is_old: bool,
+    /// Whether it was changed since it was last synced.
+    is_changed: bool,
 }
 
 impl<F: OpenFile> Output<F> {
@@ -19,7 +22,11 @@ impl<F: OpenFile> Output<F> {
         ensures file { result.file ≡ file }
         ensures old { result.is_old ≡ is_old }
     {
-        Output { file, is_old }
+        Output {
+            file,
+            is_old,
+            is_changed: false,
+        }
     }
 
     /// What the system says of the file.
@@ -34,6 +41,26 @@ impl<F: OpenFile> Output<F> {
         if self.is_old {
             self.file.set_len(0)?;
             self.is_old = false;
+            self.is_changed = true;
+        }
+        Ok(())
+    }
+
+    /// It was changed by another way.
+    pub(crate) fn change(&mut self)
+        ensures file { self.new.file ≡ self.old.file }
+        ensures changed { self.new.is_changed ≡ true }
+    {
+        self.is_changed = true;
+    }
+
+    /// Waits until the disk has its bytes, if it was changed.
+    pub(crate) fn sync(&mut self) -> io::Result<()>
+        ensures file { self.new.file ≡ self.old.file }
+    {
+        if self.is_changed {
+            sync(&self.file)?;
+            self.is_changed = false;
         }
         Ok(())
     }
@@ -44,6 +71,7 @@ impl<F: Write + OpenFile> Write for Output<F> {
 
     fn write(&mut self, buf: &[u8]) -> io::Result<usize> {
         self.empty()?;
+        self.is_changed = true;
         self.file.write(buf)
     }
 

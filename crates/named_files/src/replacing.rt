@@ -1,12 +1,55 @@
 //! Files that are whole or as they were.
+ghost use Rattle.std.specs.Prelude.{◌≡◌};
+
+use crate::disk::sync;
 use crate::identity::Identity;
 use crate::output::Output;
 use crate::size_limit::Quota;
 use std::alloc::{AllocError, Global};
 use std::fs::{self, Metadata, OpenFile, OpenOptions};
-use std::io::{self, Write};
+use std::io::{self, ErrorKind, Write};
 use std::os::unix::fs::{MetadataExt, OpenOptionsExt};
+use std::path::Path;
 use std::rt::Files;
+
+/// Whether the folder or its system refuses a new file, and nothing has failed: EACCES, EPERM or
+/// EROFS.
+fn is_refusal(error: io::Error) -> bool {
+    matches!(
+        error.kind(),
+        ErrorKind::PermissionDenied | ErrorKind::ReadOnlyFilesystem
+    )
+}
+
+/// Whether no file takes the place of another: because of a refusal, or as something is mounted on it.
+fn is_bound(error: io::Error) -> bool {
+    is_refusal(error)
+        || matches!(
+            error.kind(),
+            ErrorKind::ResourceBusy | ErrorKind::CrossesDevices
+        )
+}
+
+/// The most bytes of a name to which `.part1` can be added.
+const LONGEST: usize = 249;
+
+/// The folder of a path.
+fn folder_of(file: &str) -> &str {
+    match Path::new(file).parent() {
+        Some(folder) if !folder.as_str().is_empty() => folder.as_str(),
+        _ => ".",
+    }
+}
+
+/// The path of the first file beside a file.
+fn part_of(alloc: Global, file: &str) -> Result<String, AllocError> {
+    match Path::new(file).file_name() {
+        Some(name) if name.len() > LONGEST => {
+            format!(in alloc; "{}/vcs_check.part1", folder_of(file))
+        }
+        _ => format!(in alloc; "{file}.part1"),
+    }
+}
 
 /// The path of a file, and that of another beside it, which takes its place.
 #[derive(Drop)]
@@ -19,8 +62,9 @@ pub(crate) struct Paths {
 }
 
 impl Paths {
-    /// Those of the file that is open under this name. There are none if nothing can take its place:
-    /// if it is no regular file, has other names, or has a path that can't be found.
+    /// Those of the file that is open under this name, which stands for its path if that can't be
+    /// found. There are none if nothing can take its place: if it is no regular file, has other names
+    /// or none.
     fn of<R: Files>(
         rt: &R,
         alloc: Global,
@@ -32,14 +76,14 @@ impl Paths {
         }
         let file = match rt.canonicalize(alloc, name) {
             Ok(file) => file.into_string(),
-            Err(error) if error.kind() == io::ErrorKind::OutOfMemory => return Err(AllocError),
-            Err(_) => return Ok(None),
+            Err(error) if error.kind() == ErrorKind::OutOfMemory => return Err(AllocError),
+            Err(_) => String::from_str(alloc, name)?,
         };
         match fs::symlink_metadata(rt, file.as_str()) {
             Ok(found) if Identity::new(&found) == Identity::new(&metadata) => {}
             _ => return Ok(None),
         }
-        let part = format!(in alloc; "{file}.part1")?;
+        let part = part_of(alloc, file.as_str())?;
         Ok(Some(Paths {
             file,
             part,
@@ -74,36 +118,39 @@ impl Paths {
     }
 
     /// Opens a file beside: FILE.part1, or as long as others have their names, up to FILE.part9. There
-    /// is none where no file can be made. If there is no room for one, or each of the names is taken,
-    /// that is an error.
+    /// is none where a new file is refused. Each other error stays one, and so does it if each of the
+    /// names is taken.
     fn open<R: Files>(&mut self, rt: &R) -> io::Result<Option<R::File>> {
         for digit in b"123456789" {
             let _last = self.part.pop();
             if self.part.push(char::from(*digit)).is_err() {
-                return Ok(None);
+                return Err(io::Error::from(ErrorKind::OutOfMemory));
             }
-            let error = match self.make(rt) {
+            match self.make(rt) {
                 Ok(file) => return Ok(Some(file)),
-                Err(error) => error,
-            };
-            match error.kind() {
-                io::ErrorKind::AlreadyExists => {}
-                io::ErrorKind::StorageFull | io::ErrorKind::QuotaExceeded => return Err(error),
-                _ => return Ok(None),
+                Err(error) if error.kind() == ErrorKind::AlreadyExists => {}
+                Err(error) if is_refusal(error) => return Ok(None),
+                Err(error) => return Err(error),
             }
         }
-        Err(io::Error::from(io::ErrorKind::AlreadyExists))
+        Err(io::Error::from(ErrorKind::AlreadyExists))
     }
 
-    /// Puts the file beside in the place of the file. If the system doesn't do that, as where
-    /// something is mounted on the file, its bytes are copied.
-    fn put<R: Files>(&self, rt: &R) -> io::Result<()> {
-        if fs::rename(rt, self.part.as_str(), self.file.as_str()).is_ok() {
-            return Ok(());
+    /// Puts the file beside in the place of the file. The answer is whether the system does that.
+    fn put<R: Files>(&self, rt: &R) -> io::Result<bool> {
+        match fs::rename(rt, self.part.as_str(), self.file.as_str()) {
+            Ok(()) => Ok(true),
+            Err(error) if is_bound(error) => Ok(false),
+            Err(error) => Err(error),
         }
-        let _bytes = fs::copy(rt, self.part.as_str(), self.file.as_str())?;
-        self.remove(rt);
-        Ok(())
+    }
+
+    /// Waits until the disk has the file's name, if its folder can be opened.
+    fn sync_folder<R: Files>(&self, rt: &R) -> io::Result<()> {
+        match fs::open(rt, folder_of(self.file.as_str())) {
+            Ok(folder) => sync(&folder),
+            Err(_) => Ok(()),
+        }
     }
 
     fn remove<R: Files>(&self, rt: &R) {
@@ -129,6 +176,8 @@ pub struct Replacing<'a, R: Files> {
     paths: Option<Paths>,
     /// What is open as the file beside.
     part: Option<R::File>,
+    /// The digit of the file beside that was kept, since it could not be copied.
+    kept: Option<char>,
     quota: Quota,
 }
 
@@ -143,7 +192,7 @@ impl<'a, R: Files> Replacing<'a, R> {
     ) -> Result<Replacing<'a, R>, AllocError> {
         let metadata = output.metadata();
         let quota = match &metadata {
-            Ok(metadata) if metadata.is_file() => Quota::after(rt, 0),
+            Ok(metadata) if metadata.is_file() => Quota::after(0),
             _ => Quota::UNLIMITED,
         };
         let paths = match metadata {
@@ -156,6 +205,7 @@ impl<'a, R: Files> Replacing<'a, R> {
             whole,
             paths: paths?,
             part: None,
+            kept: None,
             quota,
         })
     }
@@ -174,22 +224,61 @@ impl<'a, R: Files> Replacing<'a, R> {
         Ok(())
     }
 
-    /// Puts what was written beside in its place.
+    /// Copies what was written beside over the file, and removes it once the disk has the copy.
+    fn copy(&mut self, mut paths: Paths) -> io::Result<()> {
+        let copied = fs::copy(self.rt, paths.part.as_str(), paths.file.as_str());
+        self.output.change();
+        let answer = match copied {
+            Ok(_) => self.output.sync(),
+            Err(error) => Err(error),
+        };
+        if answer.is_ok() {
+            paths.remove(self.rt);
+        } else {
+            self.kept = paths.part.pop();
+        }
+        answer
+    }
+
+    /// Puts what was written beside in its place, and waits until the disk has it.
     fn replace(&mut self) -> io::Result<()> {
-        if let (Some(paths), Some(part)) = (&self.paths, &self.part) {
-            part.sync_all()?;
-            paths.put(self.rt)?;
+        let is_put = match (&self.paths, &self.part) {
+            (Some(paths), Some(part)) => {
+                sync(part)?;
+                paths.put(self.rt)?
+            }
+            _ => return Ok(()),
+        };
+        let (Some(paths), Some(part)) = (self.paths.take(), self.part.take()) else {
+            return Ok(());
+        };
+        if !is_put {
+            return self.copy(paths);
         }
-        self.paths = None;
-        if let Some(part) = self.part.take() {
-            self.output = Output::new(part, false);
+        self.output = Output::new(part, false);
+        paths.sync_folder(self.rt)
+    }
+
+    /// Waits until the disk has what was written, in its place.
+    fn settle(&mut self) -> io::Result<()> {
+        if self.part.is_some() {
+            self.replace()
+        } else {
+            self.output.sync()
         }
-        Ok(())
     }
 
     /// Takes out the bytes of before, if none was written.
     pub(crate) fn empty(&mut self) -> io::Result<()> {
-        self.output.empty()
+        self.output.empty()?;
+        self.output.sync()
+    }
+
+    /// The digit of the file beside that was kept, if it could not be copied.
+    pub(crate) fn kept(&self) -> Option<char>
+        ensures { result ≡ self.now.kept }
+    {
+        self.kept
     }
 }
 
@@ -202,17 +291,14 @@ impl<R: Files> Write for Replacing<'_, R> {
             None => self.output.write(bytes)?,
         };
         self.quota.wrote(n);
-        if self.part.is_some() && self.whole == Whole::Written && n == buf.len() {
-            self.replace()?;
+        if self.whole == Whole::Written && n == buf.len() {
+            self.settle()?;
         }
         Ok(n)
     }
 
     fn flush(&mut self) -> io::Result<()> {
-        if self.part.is_some() {
-            return self.replace();
-        }
-        self.output.flush()
+        self.settle()
     }
 }
 
@@ -224,6 +310,7 @@ impl<R: Files> Drop for Replacing<'_, R> {
             whole: _,
             paths,
             part,
+            kept: _,
             quota: _,
         } = self;
         if let (Some(paths), Some(_part)) = (paths, part) {

@@ -1,36 +1,45 @@
 //! The limit that the system sets on the size of files. At the first byte beyond it the system ends
 //! a program by a signal, which can't be caught here. So no such byte is written.
-ghost use Rattle.std.specs.Prelude.{◌≡◌, ◌≤◌, ◌<◌, IfOk, IfSome, OnErr, Some, length, take};
+ghost use Rattle.std.specs.Prelude.{◌≡◌, ◌↔◌, ◌≤◌, ◌<◌, IfOk, IfSome, OnErr, Some, length, take, true};
 ghost use Rattle.std.specs.Io.{WritesAtMost};
 ghost use Rattle.std.specs.Io.KnownBytes.{WriteAppends};
-ghost use Rattle.named_files.specs.FileErrors.{left_after, within_quota};
+ghost use Rattle.named_files.specs.FileErrors.{HasRoom, left_after, within_quota};
 
-use std::fs;
-use std::io::{self, Read, Write};
+use libc::types::rlimit;
+use std::io::{self, Write};
 use std::rt::Files;
+use std::{fmt, fs};
 
 /// The system's number of the error that a file would be too large.
 const TOO_LARGE: i32 = 27;
 
-/// The bytes that a file may have, if there is a limit. A system that has no such file as is read
-/// here says nothing of one.
-fn size_limit<R: Files>(rt: &R) -> Option<u64> {
-    let mut buffer = [0u8; 2048];
-    let Ok(mut file) = fs::open(rt, "/proc/self/limits") else {
-        return None;
+/// The system's number of the limit on the size of files.
+const FILE_SIZE: i32 = 1;
+
+/// The bytes that a file may have, if there is a limit.
+fn size_limit() -> Option<u64> {
+    let mut limit = rlimit {
+        rlim_cur: 0,
+        rlim_max: 0,
     };
-    let Ok(length) = file.read(&mut buffer) else {
-        return None;
-    };
-    let Ok(text) = str::from_utf8(&buffer[..length]) else {
-        return None;
-    };
-    for line in text.lines() {
-        if let Some(numbers) = line.strip_prefix("Max file size") {
-            return numbers.split_ascii_whitespace().next()?.parse::<u64>().ok();
-        }
+    let is_known = libc::getrlimit(FILE_SIZE, &mut limit) == 0;
+    if is_known && limit.rlim_cur != u64::MAX {
+        Some(limit.rlim_cur)
+    } else {
+        None
     }
-    None
+}
+
+/// How many bytes the file has that is open under a number, if it is a file that keeps them, which
+/// only those are that can be synced. For a system without `/proc`, where it has no name.
+fn length_by_number(number: i32) -> Option<u64> {
+    let place = libc::lseek(number, 0, libc::SEEK_CUR);
+    if place < 0 || libc::fsync(number) < 0 {
+        return None;
+    }
+    let end = libc::lseek(number, 0, libc::SEEK_END);
+    let _place = libc::lseek(number, place, libc::SEEK_SET);
+    u64::try_from(end).ok()
 }
 
 /// How many bytes may still be written to a file, if there is a limit.
@@ -44,18 +53,56 @@ impl Quota {
     pub const UNLIMITED: Quota = Quota { left: None };
 
     /// Of a regular file in which so many bytes come before.
-    pub fn after<R: Files>(rt: &R, bytes: u64) -> Quota {
+    pub fn after(bytes: u64) -> Quota {
         Quota {
-            left: size_limit(rt).map(|limit| limit.saturating_sub(bytes)),
+            left: size_limit().map(|limit| limit.saturating_sub(bytes)),
+        }
+    }
+
+    /// Of a standard stream that is written, by its name and its number.
+    fn of_stream<R: Files>(rt: &R, name: &str, number: i32) -> Quota {
+        if size_limit().is_none() {
+            return Quota::UNLIMITED;
+        }
+        let length = match fs::metadata(rt, name) {
+            Ok(metadata) if metadata.is_file() => Some(metadata.len()),
+            Ok(_) => None,
+            Err(_) => length_by_number(number),
+        };
+        match length {
+            Some(length) => Quota::after(length),
+            None => Quota::UNLIMITED,
         }
     }
 
     /// Of standard output.
     pub fn of_standard_output<R: Files>(rt: &R) -> Quota {
-        match fs::metadata(rt, "/dev/stdout") {
-            Ok(metadata) if metadata.is_file() => Quota::after(rt, metadata.len()),
-            _ => Quota::UNLIMITED,
+        Quota::of_stream(rt, "/dev/stdout", libc::STDOUT_FILENO)
+    }
+
+    /// Of standard error.
+    pub fn of_standard_error<R: Files>(rt: &R) -> Quota {
+        Quota::of_stream(rt, "/dev/stderr", libc::STDERR_FILENO)
+    }
+
+    /// Takes the room of so many bytes, if it is there.
+    fn takes(&mut self, bytes: usize) -> bool
+        ensures room { (result ≡ true) ↔ HasRoom self.old.left bytes }
+        ensures left { result ≡ true → self.new.left ≡ left_after bytes self.old.left }
+    {
+        let has_room = self.left.is_none_or(|left| bytes as u64 <= left);
+        if has_room {
+            self.wrote(bytes);
         }
+        has_room
+    }
+
+    /// Whether there is room for a whole text.
+    pub fn has_room<D: fmt::Display + Drop>(&self, text: D) -> bool {
+        use std::fmt::Write as _;
+
+        let mut quota = *self;
+        write!(quota, "{text}").is_ok()
     }
 
     /// The first of some bytes, for which there is room: all, if all have room. If there is none it
@@ -79,6 +126,19 @@ impl Quota {
         ensures { self.new.left ≡ left_after bytes self.old.left }
     {
         self.left = self.left.map(|left| left.saturating_sub(bytes as u64));
+    }
+}
+
+/// A text that is only measured: it is written if there is room for it.
+impl fmt::Write for Quota {
+    ghost write_str_gives = { λ old bytes new. HasRoom old.left (length bytes) × (new.left ≡ left_after (length bytes) old.left) };
+
+    fn write_str(&mut self, text: &str) -> fmt::Result {
+        if self.takes(text.len()) {
+            Ok(())
+        } else {
+            Err(fmt::Error)
+        }
     }
 }
 

@@ -1,5 +1,5 @@
-//! Texts for a terminal: names without control characters, and a line that shows how far a
-//! judgement has come.
+//! Texts for a terminal or a log: names without characters that hide something, and a line that shows
+//! how far a judgement has come.
 //!
 //! The texts are this project's own.
 #![tactic(auto)]

@@ -1,52 +1,73 @@
-//! Texts from outside, as a terminal may be given them.
-ghost use Rattle.std.specs.Prelude.{◌≡◌, ◌↔◌, true, false};
-ghost use Rattle.terminal_text.specs.Names.{IsKept};
+//! Texts from outside, as a terminal or a log may be given them.
+ghost use Rattle.std.specs.Prelude.{◌≡◌, ◌↔◌, true};
+ghost use Rattle.terminal_text.specs.Names.{IsIgnorable, IsLineEnd, IsPlain};
 
 use std::fmt;
 
-/// A text whose control characters are shown as `\n` or `\u{1b}`, so that none reaches a terminal.
+/// Whether Unicode lets a character go unseen, as marks of the direction and spaces without a width.
+fn is_ignorable(c: char) -> bool
+    ensures { (result ≡ true) ↔ IsIgnorable c }
+{
+    matches!(
+        c,
+        '\u{ad}'
+            | '\u{34f}'
+            | '\u{61c}'
+            | '\u{115f}'..='\u{1160}'
+            | '\u{17b4}'..='\u{17b5}'
+            | '\u{180b}'..='\u{180f}'
+            | '\u{200b}'..='\u{200f}'
+            | '\u{202a}'..='\u{202e}'
+            | '\u{2060}'..='\u{206f}'
+            | '\u{3164}'
+            | '\u{fe00}'..='\u{fe0f}'
+            | '\u{feff}'
+            | '\u{ffa0}'
+            | '\u{fff0}'..='\u{fff8}'
+            | '\u{1bca0}'..='\u{1bca3}'
+            | '\u{1d173}'..='\u{1d17a}'
+            | '\u{e0000}'..='\u{e0fff}'
+    )
+}
+
+/// Whether a character ends a line or a paragraph, and is no control character.
+fn is_line_end(c: char) -> bool
+    ensures { (result ≡ true) ↔ IsLineEnd c }
+{
+    c == '\u{2028}' || c == '\u{2029}'
+}
+
+/// A text on one line: control characters, and others that aren't seen or end a line, are shown as
+/// `\n` or `\u{1b}`, so that none reaches a terminal or a log.
 #[derive(Clone, Copy)]
 pub struct Shown<'a> {
     text: &'a str,
-    /// Whether line feeds stay as they are.
-    has_lines: bool,
 }
 
 impl<'a> Shown<'a> {
-    /// A name, on one line.
     pub fn name(text: &'a str) -> Shown<'a>
-        ensures text { result.text.now ≡ text.now }
-        ensures lines { result.has_lines ≡ false }
+        ensures { result.text.now ≡ text.now }
     {
-        Shown {
-            text,
-            has_lines: false,
-        }
-    }
-
-    /// A text of several lines.
-    pub fn lines(text: &'a str) -> Shown<'a>
-        ensures text { result.text.now ≡ text.now }
-        ensures lines { result.has_lines ≡ true }
-    {
-        Shown {
-            text,
-            has_lines: true,
-        }
+        Shown { text }
     }
 
     /// Whether a character is shown as it is.
-    fn keeps(&self, c: char) -> bool
-        ensures { (result ≡ true) ↔ IsKept self.now.has_lines c }
+    pub fn is_plain(c: char) -> bool
+        ensures { (result ≡ true) ↔ IsPlain c }
     {
-        !c.is_control() || (self.has_lines && c == '\n')
+        !c.is_control() && !is_ignorable(c) && !is_line_end(c)
+    }
+
+    /// Whether the text is shown as it is.
+    pub fn is_all_plain(&self) -> bool {
+        self.text.chars().all(|c| Shown::is_plain(c))
     }
 }
 
 impl fmt::Display for Shown<'_> {
     fn fmt<W: fmt::Write>(&self, f: &mut fmt::Formatter<W>) -> fmt::Result {
         for c in self.text.chars() {
-            if self.keeps(c) {
+            if Shown::is_plain(c) {
                 f.write_char(c)?;
             } else {
                 write!(f, "{}", c.escape_default())?;

@@ -150,10 +150,10 @@ fn write_to<
     let mut output = create(rt, output, identities, whole(command))?;
     let status = match write(rt, command, input, inputs, &mut output, text, gate) {
         Ok(status) => status,
-        Err(error) => return Err(Failure::from(error).by_output(output.file_error())),
+        Err(error) => return Err(Failure::from(error).by_output(output.output_error())),
     };
     if status == Status::Done && output.finish().is_err() {
-        return Err(Failure::Run(RunError::WriteFault, output.file_error()));
+        return Err(Failure::Run(RunError::WriteFault, output.output_error()));
     }
     Ok(status)
 }

@@ -5,10 +5,10 @@ ghost use Rattle.vcs_check.specs.Endings.{IsReported, exit_code};
 
 use crate::failure::Failure;
 use command_line::LineFault;
-use named_files::{FileError, Reason, STANDARD_OUTPUT};
-use std::io::{self, Eprint, IsTerminal};
+use named_files::{FileError, Quota, Reason, STANDARD_OUTPUT, sync_standard_output};
+use std::io::{self, Eprint, IsTerminal, Print};
 use std::process::ExitCode;
-use terminal_text::Shown;
+use std::rt::Files;
 use thiserror::Error;
 use commands::RunError;
 
@@ -36,12 +36,24 @@ pub(crate) enum Ending<'a> {
     Failed(Failure<'a>),
 }
 
-/// The ending of help that standard output did not take, for this reason.
-fn help_not_written(error: io::Error) -> Ending<'static>
+/// The system's number of the error that a file would be too large.
+const TOO_LARGE: i32 = 27;
+
+/// The ending of a text that standard output did not take, for this reason.
+pub(crate) fn not_written(error: io::Error) -> Ending<'static>
     ensures { exit_code result ≡ 5 }
 {
     let file_error = FileError::new(STANDARD_OUTPUT, Reason::System(error));
     Ending::Failed(Failure::Run(RunError::WriteFault, Some(file_error)))
+}
+
+/// Prints a text on standard output, if its file has room, and waits until the disk has it.
+fn print_whole<R: Files + Print>(rt: &R, text: &str) -> io::Result<()> {
+    if !Quota::of_standard_output(rt).has_room(text) {
+        return Err(io::Error::from_raw_os_error(TOO_LARGE));
+    }
+    print!(rt; "{text}")?;
+    sync_standard_output()
 }
 
 impl Ending<'_> {
@@ -56,20 +68,15 @@ impl Ending<'_> {
         }
     }
 
-    /// Shows it on a terminal, with a line after it that says more: a file's error, or what to
-    /// write in place of the arguments. No character of an argument or a name controls the terminal.
+    /// Says more on a terminal: a file's error, or what to write in place of the arguments.
     fn show<R: Eprint>(&self, rt: &R) {
         if let Ending::Usage { text } = self {
-            let lines = Shown::lines(text);
-            let _printed = eprint!(rt; "{lines}");
             if text.contains("'-o'") {
                 let _printed = eprintln!(rt;
                     "-o: --out names what is written, and --pictures of verify"
                 );
             }
-            return;
         }
-        let _printed = eprint!(rt; "{self}");
         if let Ending::NotUtf8 = self {
             let _printed = eprintln!(rt;
                 "a file of any name can be standard input, as in verify - < FILE"
@@ -83,8 +90,9 @@ impl Ending<'_> {
     }
 
     /// Prints it, help on standard output and all else on standard error, and answers the exit
-    /// status. If standard error is a terminal, it may have a second line.
-    pub(crate) fn report<R: Print + Eprint, E: IsTerminal>(
+    /// status. If standard error is a terminal, it may have a second line. A text for which a file
+    /// has no room isn't begun.
+    pub(crate) fn report<R: Files + Print + Eprint, E: IsTerminal>(
         self,
         rt: &R,
         standard_error: &E,
@@ -92,16 +100,17 @@ impl Ending<'_> {
         ensures { IsReported self.entry (exit_status result) }
     {
         let ending = match self {
-            Ending::Help { text } => match print!(rt; "{text}") {
+            Ending::Help { text } => match print_whole(rt, text.as_str()) {
                 Ok(()) => return ExitCode::SUCCESS,
-                Err(error) => help_not_written(error),
+                Err(error) => not_written(error),
             },
             other => other,
         };
+        if Quota::of_standard_error(rt).has_room(&ending) {
+            let _printed = eprint!(rt; "{ending}");
+        }
         if standard_error.is_terminal() {
             ending.show(rt);
-        } else {
-            let _printed = eprint!(rt; "{ending}");
         }
         ExitCode::from(ending.code())
     }

@@ -21,23 +21,48 @@ ghost use Rattle.std.specs.Process.{exit_status};
 
 use answering::{STDIN, answer_line};
 use command_line::{CommandLine, LineFault, parse_line};
-use ending::Ending;
-use named_files::{Limited, Named, Quota, STANDARD_INPUT, STANDARD_OUTPUT, null_if_closed};
+use commands::{CountedGate, Status};
+use ending::{Ending, not_written};
+use named_files::{
+    Limited, Named, Quota, STANDARD_INPUT, STANDARD_OUTPUT, null_if_closed, sync_standard_output,
+};
 use progress::Progress;
 use remarks::remark;
-use std::alloc::Global;
+use std::alloc::{AllocError, Global};
 use std::env::{self, Args, Env};
 use std::io::{self, Eprint, IsTerminal, Print, Read, Write};
 use std::process::ExitCode;
 use std::rt::Files;
 use std::sync::Wait;
 use std::thread::Threads;
-use commands::{CountedGate, Status};
+use terminal_text::Shown;
 
-/// The command line of the arguments.
+/// Why some words are no command, where some of them aren't shown as they are: the reason of those
+/// that are shown in their place.
+fn fault_of_shown(alloc: Global, words: &[String]) -> Result<LineFault, AllocError> {
+    let mut shown = Vec::with_capacity(alloc, words.len())?;
+    for word in words {
+        shown.push(format!(in alloc; "{}", Shown::name(word))?)?;
+    }
+    match parse_line(alloc, &shown) {
+        Err(fault) => Ok(fault),
+        Ok(_) => {
+            let text = String::from_str(alloc, "error: no command\n")?;
+            Ok(LineFault::Usage { text })
+        }
+    }
+}
+
+/// The command line of the arguments. No text about them has a character of theirs that isn't shown as it
+/// is.
 fn line_of(alloc: Global, arguments: Args) -> Result<CommandLine, LineFault> {
-    let arguments: Vec<String> = arguments.collect(alloc)?;
-    parse_line(alloc, &arguments)
+    let words: Vec<String> = arguments.collect(alloc)?;
+    let answer = parse_line(alloc, &words);
+    let is_plain = words.iter().all(|word| Shown::name(word).is_all_plain());
+    match answer {
+        Err(LineFault::Usage { .. }) if !is_plain => Err(fault_of_shown(alloc, &words)?),
+        answer => answer,
+    }
 }
 
 /// Does what a command asks for, tells a terminal what more there is to say, and answers the exit
@@ -61,10 +86,13 @@ fn carry_out<
         × KeepsQuiet line.now.command (W.contents text.old.stream) (W.contents text.new.stream) answer }
 {
     match answer_line(rt, line, input, text, gate) {
-        Ok(status) => {
-            remark(rt, standard_error, line, input.length(), status);
-            ExitCode::from(status.code())
-        }
+        Ok(status) => match sync_standard_output() {
+            Ok(()) => {
+                remark(rt, standard_error, line, input.length(), status);
+                ExitCode::from(status.code())
+            }
+            Err(error) => not_written(error).report(rt, standard_error),
+        },
         Err(failure) => {
             let failure = failure
                 .by_input(input.file_error())
