@@ -45,6 +45,7 @@ pub struct Shown<'a> {
 }
 
 impl<'a> Shown<'a> {
+    /// A name or a word from outside.
     pub fn name(text: &'a str) -> Shown<'a>
         ensures { result.text.now ≡ text.now }
     {

@@ -53,8 +53,8 @@ fn fault_of_shown(alloc: Global, words: &[String]) -> Result<LineFault, AllocErr
     }
 }
 
-/// The command line of the arguments. No text about them has a character of theirs that isn't shown as it
-/// is.
+/// The command line of the arguments. No text about them has a character of theirs that isn't shown
+/// as it is.
 fn line_of(alloc: Global, arguments: Args) -> Result<CommandLine, LineFault> {
     let words: Vec<String> = arguments.collect(alloc)?;
     let answer = parse_line(alloc, &words);
