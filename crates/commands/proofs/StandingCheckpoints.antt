@@ -8,10 +8,9 @@ use Rattle.std.proofs.lemmas.Option.{slice_get-get_or, slice_get_within, slice_g
 use Rattle.vcs_machine.specs.declared.fields.StateFields.{StateFields}
 use Rattle.movie_file.specs.Movie.{MovieData, IsMovie}
 use Rattle.movie_file.specs.declared.checkpoint.Checkpoint.{Checkpoint}
-use Rattle.replay_segments.specs.NextCheckpoint.{IsNext}
+use Rattle.replay_segments.specs.NextCheckpoint.{IsNext, StandBefore}
 use Rattle.replay_segments.proofs.CheckpointLemmas.{in_order}
 use Rattle.commands.specs.Frames.{checkpoint_text, claim_text}
-use Rattle.commands.specs.Private.Describing.{StandBefore}
 
 -- the first that stands there, or how many there are
 first_is : (cs : List Checkpoint) (frame i : ℕ) (d : Checkpoint) → i ≤ length cs
@@ -30,21 +29,8 @@ nothing_there cs frame state none =
     (λ c at. absurd (let within = slice_get_within cs (length cs) c at in omega arith)) in
     rw (all, slice_get_past cs (length cs) (omega arith)) refl
 
--- ---- the ones before a frame
-
-pub none_before : (m : MovieData) (frame : ℕ) → StandBefore m 0 frame
-none_before m frame = record { within = omega arith; before = λ j c at less. absurd (omega arith) }
-
 pub stand_before : (m : MovieData) (next frame more : ℕ) → IsNext m next frame → frame ≤ more → StandBefore m next more
 stand_before m next frame more is le = record { within = is.within; before = λ j c at less. let before = is.before j c at less in omega arith }
-
--- none is left
-pub all_before : (m : MovieData) (next frame count : ℕ) → count ≡ length m.checkpoints → next ≡ count → StandBefore m next frame → IsNext m count frame
-all_before m next frame count all same is = rw (← same) (record {
-  within = is.within;
-  before = is.before;
-  after = λ j c at le. let within = slice_get_within m.checkpoints j c at in absurd (omega arith);
-})
 
 pub no_more : (m : MovieData) (next frame : ℕ) (state : StateFields) → IsNext m next frame → next ≡ length m.checkpoints
     → checkpoint_text m.checkpoints frame state ≡ []
@@ -57,19 +43,6 @@ no_more m next frame state is all =
 module _ (m : MovieData) (movie : IsMovie m) (next frame : ℕ) (c : Checkpoint) (at : slice_get m.checkpoints (next + 1 - 1) ≡ Some c) where
   here : slice_get m.checkpoints next ≡ Some c
   here = let same : next + 1 - 1 ≡ next = omega arith in rw same at at
-
-  pub next_is : StandBefore m next frame → frame ≤ c.frame → IsNext m next frame
-  next_is is le = record {
-    within = is.within;
-    before = is.before;
-    after = λ j d there from. grind (arith, in_order m movie next j c d here there);
-  }
-
-  pub one_more_before : StandBefore m next frame → c.frame < frame → StandBefore m (next + 1) frame
-  one_more_before is less = record {
-    within = omega (arith, slice_get_within m.checkpoints next c here);
-    before = λ j d there low. grind (arith, in_order m movie next j c d here there, is.before j d there);
-  }
 
   -- the next one stands after a later frame
   pub stands_later : (state : StateFields) → IsNext m next frame → c.frame ≢ frame → checkpoint_text m.checkpoints frame state ≡ []

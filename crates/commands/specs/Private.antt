@@ -1,7 +1,6 @@
 -- Definitions of how things are kept. Only private contracts and proofs cite them: what is promised
 -- can be read without them.
 pub mod CutErrors
-pub mod Describing
 pub mod Errors
 pub mod Stops
 pub mod Tracing

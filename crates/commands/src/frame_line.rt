@@ -9,7 +9,6 @@ ghost use Rattle.run_cursor.specs.Cursor.{IsAt};
 ghost use Rattle.run_cursor.specs.RunFaults.{FrameFails};
 ghost use Rattle.commands.specs.Frames.{byte_text, checkpoint_text, digests_text};
 ghost use Rattle.commands.specs.Frames.{ended_line, frame_line};
-ghost use Rattle.commands.specs.Private.Describing.{StandBefore};
 
 use hex::encode;
 use movie_file::{Movie, write_state};
@@ -20,21 +19,6 @@ use sha2::{Digest, Sha256};
 use std::alloc::{AllocError, Global};
 use crate::line::Line;
 use vcs_machine::{FrameError, HexByte, Picture, State, TimedFrame};
-
-/// How many checkpoints stand before a frame, of which the first `from` surely do.
-#[tactic(auto, using(crate::proofs::StandingCheckpoints::one_more_before))]
-pub(crate) fn checkpoints_before(movie: &Movie, from: u16, frame: u32) -> u16
-    requires { StandBefore movie.now from frame }
-    ensures { IsNext movie.now result frame }
-{
-    let count = movie.checkpoints();
-    for next in from..count {
-        if movie.checkpoint(next + 1).frame >= frame {
-            return next;
-        }
-    }
-    count
-}
 
 /// What a line says of the checkpoint after its frame, if one stands there. `next` is the index of the
 /// first that is not before the frame.

@@ -12,13 +12,14 @@ ghost use Rattle.commands.specs.Lines.{line_bytes};
 ghost use Rattle.commands.specs.Private.Stops.{StopsWriting};
 ghost use Rattle.commands.specs.Stretches.{Ends, frames_asked, from_frames, last_asked};
 
-use crate::frame_line::{checkpoints_before, played_line};
+use crate::frame_line::played_line;
 use crate::last_line::write_last;
 use crate::stop::{Stop, WriteError};
 use crate::stretch::{cursor_after, frames_asked};
 use movie_file::{Movie, MovieError, read_movie};
 use picture_file::write_bytes;
 use replay_plan::Details;
+use replay_segments::checkpoints_before;
 use run_cursor::Cursor;
 use std::alloc::Global;
 use std::io::{Read, Write};
@@ -30,7 +31,6 @@ use crate::streams::read_all;
 
 /// Writes the lines of the frames that follow, each as soon as it is played. It takes the memory of
 /// one frame at a time.
-#[tactic(auto, using(crate::proofs::StandingCheckpoints::none_before))]
 fn write_frames<L: Write>(
     alloc: Global,
     details: &Details,

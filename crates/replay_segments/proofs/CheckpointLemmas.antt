@@ -1,5 +1,5 @@
 -- Which checkpoint is the next.
-use Rattle.std.proofs.Common.{◌≡◌, ◌≢◌, ◌⊎◌, ℕ, ◌+◌, ◌<◌, ◌≤◌, Some, length, slice_get}
+use Rattle.std.proofs.Common.{◌≡◌, ◌≢◌, ◌⊎◌, ℕ, ◌+◌, ◌-◌, ◌<◌, ◌≤◌, Some, length, slice_get}
 use Rattle.std.proofs.Common.{arith}
 use Rattle.std.proofs.lemmas.Bool.{cases_lt}
 use Rattle.std.proofs.lemmas.Option.{slice_get_within}
@@ -7,7 +7,7 @@ use Rattle.vcs_machine.specs.declared.fields.StateFields.{StateFields}
 use Rattle.movie_file.specs.Movie.{MovieData, IsMovie}
 use Rattle.movie_file.specs.declared.checkpoint.Checkpoint.{Checkpoint}
 use Rattle.movie_file.proofs.CheckpointLemmas.{checkpoint_in_range, checkpoints_rise}
-use Rattle.replay_segments.specs.NextCheckpoint.{IsNext}
+use Rattle.replay_segments.specs.NextCheckpoint.{IsNext, StandBefore}
 use Rattle.replay_segments.specs.Private.Steps.{IsClaim}
 use Rattle.replay_segments.specs.declared.judge.Claim.TheVariants.{Holds}
 use Rattle.replay_segments.proofs.ListLemmas.{same_at}
@@ -46,3 +46,33 @@ module _ (m : MovieData) (movie : IsMovie m) (next frame : ℕ) (state : StateFi
   pub IsClaim-true : c.frame ≡ frame → c.state ≡ state → IsClaim m next frame state (Holds (next + 1))
   IsClaim-true this true_state =
       (rw (← this) (IsNext-after m movie next c here), λ j d at e. grind (arith, in_order m movie next j c d here at))
+
+-- ---- the ones before a frame
+
+pub none_before : (m : MovieData) (frame : ℕ) → StandBefore m 0 frame
+none_before m frame = record { within = omega arith; before = λ j c at less. absurd (omega arith) }
+
+-- none is left
+pub all_before : (m : MovieData) (next frame count : ℕ) → count ≡ length m.checkpoints → next ≡ count → StandBefore m next frame → IsNext m count frame
+all_before m next frame count all same is = rw (← same) (record {
+  within = is.within;
+  before = is.before;
+  after = λ j c at le. let within = slice_get_within m.checkpoints j c at in absurd (omega arith);
+})
+
+module _ (m : MovieData) (movie : IsMovie m) (next frame : ℕ) (c : Checkpoint) (at : slice_get m.checkpoints (next + 1 - 1) ≡ Some c) where
+  here : slice_get m.checkpoints next ≡ Some c
+  here = let same : next + 1 - 1 ≡ next = omega arith in rw same at at
+
+  pub next_is : StandBefore m next frame → frame ≤ c.frame → IsNext m next frame
+  next_is is le = record {
+    within = is.within;
+    before = is.before;
+    after = λ j d there from. grind (arith, in_order m movie next j c d here there);
+  }
+
+  pub one_more_before : StandBefore m next frame → c.frame < frame → StandBefore m (next + 1) frame
+  one_more_before is less = record {
+    within = omega (arith, slice_get_within m.checkpoints next c here);
+    before = λ j d there low. grind (arith, in_order m movie next j c d here there, is.before j d there);
+  }

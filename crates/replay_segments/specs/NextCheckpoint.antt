@@ -3,7 +3,12 @@ use Rattle.std.specs.Prelude.{ℕ, ◌<◌, ◌≤◌, ◌≡◌, length, Some, 
 use Rattle.movie_file.specs.Movie.{MovieData}
 use Rattle.movie_file.specs.declared.checkpoint.Checkpoint.{Checkpoint}
 
--- The checkpoints before index `next` stand before a frame, and no other does.
+-- The checkpoints before index `next` stand before a frame.
+pub record StandBefore (m : MovieData) (next frame : ℕ) : Type 0 where
+  pub within : next ≤ length m.checkpoints
+  pub before : (j : ℕ) (c : Checkpoint) → slice_get m.checkpoints j ≡ Some c → j < next → c.frame < frame
+
+-- They do, and no other does.
 pub record IsNext (m : MovieData) (next frame : ℕ) : Type 0 where
   pub within : next ≤ length m.checkpoints
   pub before : (j : ℕ) (c : Checkpoint) → slice_get m.checkpoints j ≡ Some c → j < next → c.frame < frame

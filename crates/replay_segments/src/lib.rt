@@ -5,6 +5,7 @@
 //! from the state that its first cut claims; the pieces then give the same verdict.
 #![tactic(auto)]
 
+mod checkpoints;
 mod cuts;
 mod finding;
 mod gathering;
@@ -17,6 +18,7 @@ mod run_states;
 mod segment;
 mod verdict;
 
+pub use checkpoints::checkpoints_before;
 pub use cuts::{BadCuts, Cuts};
 pub use gathering::{GatherError, gather};
 pub use judge::verify_one;

@@ -1,14 +1,13 @@
 //! States of a movie's one unbroken run.
-ghost use Rattle.std.specs.Prelude.{◌≡◌, ℕ, ◌<◌, ◌≤◌, length, slice_get, IsSome, Some};
-ghost use Rattle.movie_file.specs.Movie.{IsMovie};
+ghost use Rattle.std.specs.Prelude.{◌≡◌, ◌≤◌, length, IsSome, Some};
 ghost use Rattle.movie_file.specs.Run.{run};
-ghost use Rattle.movie_file.specs.declared.checkpoint.Checkpoint.{Checkpoint};
 ghost use Rattle.replay_segments.specs.Private.Resuming.{IsResumable};
 ghost use Rattle.replay_segments.specs.RunStates.{left_at};
 ghost use Rattle.replay_segments.specs.Verdicts.{HasVerdict};
 ghost use Rattle.replay_segments.specs.declared.verdict.Verdict.TheVariants.{FalseCheckpoint};
 ghost use Rattle.replay_segments.specs.declared.verdict.Verdict.TheVariants.{Fault};
 
+use crate::checkpoints::checkpoints_before;
 use movie_file::Movie;
 use run_cursor::Cursor;
 use vcs_machine::{FaultKind, LINE_CYCLES, State, halt};
@@ -63,30 +62,16 @@ pub fn found_state(movie: &Movie, number: u16, frame: u32) -> State
     resume(movie, number - 1, frame)
 }
 
-/// How many checkpoints stand before a frame.
-fn checkpoints_before(movie: &Movie, frame: u32) -> u16
-    ensures lawful { IsMovie movie.now }
-    ensures within { result ≤ length movie.now.checkpoints }
-    ensures before { (j : ℕ) (c : Checkpoint) → j < result → slice_get movie.now.checkpoints j ≡ Some c → c.frame < frame }
-{
-    let count = movie.checkpoints();
-    for next in 0..count {
-        if movie.checkpoint(next + 1).frame >= frame {
-            return next;
-        }
-    }
-    count
-}
-
 /// What the frame leaves in which a movie's one unbroken run faults.
 ///
 /// The movie is replayed from the last checkpoint before that frame, or from its start if there
 /// is none. No memory is taken.
+#[tactic(auto, using(crate::proofs::CheckpointLemmas::none_before))]
 pub fn left_state(movie: &Movie, frame: u32, kind: FaultKind) -> LeftState
     requires { HasVerdict movie.now (Fault frame kind) }
     ensures { left_at movie.now frame ≡ Some result }
 {
-    let next = checkpoints_before(movie, frame);
+    let next = checkpoints_before(movie, 0, frame);
     let mut state = resume(movie, next, frame - 1);
     let begun = state.line_cycle();
     let Some(halt) = halt(movie.cart(), &mut state, movie.input(frame)) else {

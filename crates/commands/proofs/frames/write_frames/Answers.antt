@@ -2,7 +2,8 @@ use Rattle.std.proofs.Common.{◌≡◌, ◌∙◌, ◌+◌, add-zero, arith}
 use Rattle.std.proofs.lemmas.Result.{err_from_is_err_and}
 use Rattle.picture_file.proofs.BytesWritten.{appends_nothing}
 use Rattle.commands.specs.Frames.{frame_line}
-use Rattle.commands.proofs.StandingCheckpoints.{none_before, stand_before}
+use Rattle.replay_segments.proofs.CheckpointLemmas.{none_before}
+use Rattle.commands.proofs.StandingCheckpoints.{stand_before}
 use Rattle.commands.proofs.RunFrames.{no_line}
 use Rattle.commands.proofs.WrittenFrames.{one_more, part_of_one, stops_here}
 use Rattle.commands.proofs.frames.write_frames.Goals as goal
@@ -20,7 +21,7 @@ checkpoints_before-next-requires g c = rw (c.movie-movie.ensures.value, c.frame-
 pub played_line-requires-clause-next : goal.played_line-requires-clause-next
 played_line-requires-clause-next g c =
     rw (c.loop-k.invariant.at.movie_is, c.loop-k.invariant.at.frame_is)
-    (rw (c.movie-movie.ensures.value, c.frame-from.ensures.value) at c.checkpoints_before-next.ensures)
+    (rw (c.movie-movie.ensures.value, c.frame-from.ensures.value) at c.checkpoints_before-next.ensures.next)
 
 pub returns-in_err-write_bytes-in-Ok-clause-err : goal.returns-in_err-write_bytes-in-Ok-clause-err
 returns-in_err-write_bytes-in-Ok-clause-err g c =
@@ -47,7 +48,7 @@ loop-k-preserved g c =
       at = rw (c.loop-k.invariant.at.movie_is, c.loop-k.invariant.at.frame_is, next) at c.in-Ok.ensures.ok;
       written = one_more (frame_line c.args.cursor.now.movie c.args.details.now) here c.loop-k.k _ _ _ _
           (c.as_bytes.ensures.value ∙ line) c.loop-k.invariant.written c.in_ok-write_bytes-in-Ok.ensures.ok;
-      passed = stand_before _ _ _ _ (rw (c.movie-movie.ensures.value, c.frame-from.ensures.value) at c.checkpoints_before-next.ensures) (omega arith);
+      passed = stand_before _ _ _ _ (rw (c.movie-movie.ensures.value, c.frame-from.ensures.value) at c.checkpoints_before-next.ensures.next) (omega arith);
     }
 
 pub returns-clause-ends : goal.returns-clause-ends

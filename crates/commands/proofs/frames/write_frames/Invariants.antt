@@ -3,7 +3,7 @@ use Rattle.std.specs.Io.KnownBytes.{Appends}
 use Rattle.run_cursor.specs.Cursor.{IsAt}
 use Rattle.commands.specs.Frames.{frame_line}
 use Rattle.commands.specs.Stretches.{from_frames}
-use Rattle.commands.specs.Private.Describing.{StandBefore}
+use Rattle.replay_segments.specs.NextCheckpoint.{StandBefore}
 use Rattle.commands.proofs.frames.write_frames.Given as goal
 
 abbrev pub invariant-loop-k : goal.invariant-loop-k
