@@ -17,7 +17,7 @@ returns-in-Err g c =
     let quiet = c.in-Err.ensures.quiet in
     (
       Err c.by_output-failure.result,
-      grind (arith, c.report.ensures),
+      grind (arith, c.report-in-Err.ensures),
       tt,
       rw (c.by_output-failure.ensures, c.by_input.ensures) (λ written few. quiet
       (λ is. written (write_fault_stays failure one other is)) (λ is. few (no_memory_stays failure one other is))),
