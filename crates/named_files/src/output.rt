@@ -1,5 +1,5 @@
 //! Files that are written.
-ghost use Rattle.std.specs.Prelude.{◌≡◌, true};
+ghost use Rattle.std.specs.Prelude.{◌≡◌, false, true};
 
 use crate::disk::sync;
 use std::fs::{Metadata, OpenFile};
@@ -46,11 +46,13 @@ impl<F: OpenFile> Output<F> {
         Ok(())
     }
 
-    /// It was changed by another way.
+    /// It has new bytes, written by another way.
     pub(crate) fn change(&mut self)
         ensures file { self.new.file ≡ self.old.file }
+        ensures new { self.new.is_old ≡ false }
         ensures changed { self.new.is_changed ≡ true }
     {
+        self.is_old = false;
         self.is_changed = true;
     }
 
