@@ -71,10 +71,10 @@ each() {
     if [ -n "$python" ]; then
         for file in "$here"/companions/vcs_* "$here"/companions/logs/* "$here"/companions/votmeshaw/* "$here"/companions/votmeshaw/*/*; do
             name=${file##*/}
-            case $name in *~ | *.pyc | vcs_*[!a-z_]*) continue ;; vcs_*) mode=755 ;; *) mode=644 ;; esac
+            case $name in *~ | *.pyc | vcs_*[!a-z_]*) continue ;; vcs_* | *.sh) mode=755 ;; *) mode=644 ;; esac
             [ -f "$file" ] || continue
             "$1" "$mode" "$file" "share/votmeshaw/${file#"$here"/}"
-            [ "$mode" = 755 ] || continue
+            case $name in vcs_*) ;; *) continue ;; esac
             "$1" link "../share/votmeshaw/companions/$name" "bin/$name"
             "$1" page "$file" "share/man/man1/$name.1"
             "$1" link ../../votmeshaw/completion.bash "share/bash-completion/completions/$name"
