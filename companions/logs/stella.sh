@@ -23,7 +23,7 @@ stop() {
 PATH=$PATH:/usr/games
 game=$1 inputs=$2 log=$3
 for file in "$game" "$inputs"; do
-    [ -f "$file" ] && [ -r "$file" ] || stop "cannot read $file"
+    if [ ! -f "$file" ] || [ ! -r "$file" ]; then stop "cannot read $file"; fi
 done
 [ ! -d "$log" ] || stop "$log is a folder"
 command -v stella >/dev/null || stop 'stella is not installed'
