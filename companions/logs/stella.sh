@@ -6,9 +6,10 @@
 # Stella runs with its debugger, on a screen in memory if there is none (Debian: apt-get install stella xvfb xauth). A frame ends
 # when the program clears bit 1 of VSYNC, and its line is what memory holds then.
 #
-# Set are power-on as docs/MACHINE.md has it, as far as the debugger can (not the flag I): memory 0, A, X, Y 0, S FF, the second of
-# two banks, a timer with an interval of 1024 cycles and one to go, HMCLR. If the inputs have words of the console's switches, the
-# latch and direction of port B are set in each frame, since the debugger has no command for switches.
+# Set is power-on as docs/MACHINE.md has it, as far as options and debugger can: memory 0, the second of two banks, A, X, Y, S, and P
+# but for I, a timer with an interval of 1024 cycles and one to go, and HMCLR. If the inputs have words of the console's switches, the
+# latch and direction of port B are set in each frame, since the debugger has no command for switches. Bits of the TIA's registers
+# that nothing drives are not set: in Stella they are what was on the bus.
 #
 # Status: 0 the log is written; 1 Stella ended before the inputs did, and the log has the frames until then; 2 nothing was written.
 set -u

@@ -18,7 +18,7 @@ SIZE = 128
 # More lines than any movie has frames, and more bytes than a line needs.
 MOST_LINES = 1_000_000
 LONGEST_LINE = 4096
-LINE = re.compile(rb"[ \t]*([0-9]{1,10})[ \t]+([0-9A-Fa-f]{256})[ \t\r]*\n?")
+LINE = re.compile(rb"[ \t]*([0-9]{1,7})[ \t]+([0-9A-Fa-f]{256})[ \t\r]*\n?")
 CARTRIDGE = re.compile(rb"#[ \t]*cartridge (crc32|md5|sha1|sha256) ([0-9A-Fa-f]{8,64})[ \t\r]*\n?")
 # Among how many shifts, how many of the log's frames and how many equal frames in a row the search looks.
 MOST_SHIFT, SEARCHED, IN_A_ROW = 60, 600, 10
