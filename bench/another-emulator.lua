@@ -1,8 +1,8 @@
 -- What bench/another-emulator and bench/another-trace have MAME do: it plays the file 'inputs', three numbers a frame as a movie
 -- has them, and writes the file 'states', a line a frame: what processor, memory, RIOT, TIA and cartridge hold at the frame's end.
--- Of as many frames as PICTURES says it also writes 'writes', a line for each write to the TIA, and 'pictures', each after its
--- frame's number. Of each frame K that TRACED names it writes 'trace-K', a line for each instruction as MAME's debugger has it,
--- and 'accesses-K', a line for each access of the processor.
+-- It also writes 'writes', a line for each write to the TIA, and of as many frames as PICTURES says 'pictures', what MAME's TIA has
+-- drawn at each frame's end. Of each frame K that TRACED names it writes 'trace-K', a line for each instruction as MAME's debugger
+-- has it, and 'accesses-K', a line for each access of the processor. With UNDRIVEN the bits that the TIA doesn't drive are MAME's.
 
 local machine = manager.machine
 local processor = machine.devices[":maincpu"]
@@ -10,9 +10,12 @@ local space = processor.spaces["program"]
 local memory = machine.memory.shares[":riot_ram"]
 local cycles_a_second = 1193191
 
--- The cycles that have passed.
+-- The processor's reset takes so many cycles, which the beam is set back by.
+local reset = 6
+
+-- The cycles that have passed since.
 local function cycles()
-  return math.floor(machine.time:as_double() * cycles_a_second + 0.5)
+  return math.floor(machine.time:as_double() * cycles_a_second + 0.5) - reset
 end
 
 -- All numbers that MAME would save of the TIA and the RIOT, by their names.
@@ -61,11 +64,12 @@ end
 
 -- What docs/MACHINE.md says of power-on by a rule of its own, and MAME has otherwise: the processor's registers (of S, MAME's
 -- processor takes three when it is reset, and bits 5 and 4 of P are always set in it), the second of two banks is
--- selected, the timer has an interval of 1024 cycles and one to go, and no collision has been.
+-- selected, the timer has an interval of 1024 cycles and one to go, the beam is at the beginning of a line, and no collision has been.
 local function power_on(numbers)
   for name, value in pairs({A = 0, X = 0, Y = 0, SP = 0x0102, P = 0x34}) do processor.state[name].value = value end
   space:read_u8(0x1FF9)
   space:write_u8(0x0297, 0)
+  numbers["frame_cycles"]:write(0, reset - 76)
   for name, item in pairs(numbers) do
     if name:match("^CX") then item:write(0, 0) end
   end
@@ -79,22 +83,18 @@ local frame, written = 1, 0 -- and what was last written to VSYNC
 states:setvbuf("line")
 power_on(numbers)
 
--- What MAME shows at the end of a frame of its own is what the program had drawn when the first line was to be shown, 238
--- lines before: a picture of the frame that had ended by then.
+-- MAME's TIA draws into two buffers in turn, 228 colours a row, and changes them when vertical sync begins.
 local wanted = tonumber(os.getenv("PICTURES") or "0")
 local pictures, writes = io.open("pictures", "wb"), io.open("writes", "w")
-local moments = {}
-emu.register_frame_done(function()
-  local bytes, shown = machine.screens[":screen"]:pixels(), #moments
-  while shown > 0 and moments[shown] > cycles() - 238 * 76 do shown = shown - 1 end
-  if shown <= wanted then pictures:write(string.pack("<I4", shown), bytes) end
-end)
+local buffers = {}
+for number = 0, 1 do buffers[number] = emu.item(machine.devices[":tia_video"].items["0/helper[" .. number .. "]"]) end
+local rows_of_a_buffer, bytes_of_a_row = 262, 456
 
 -- The frames that are traced, and where the accesses of the one that is played now go, if it is among them.
 local traced, accesses = {}, nil
 for number in (os.getenv("TRACED") or ""):gmatch("%d+") do traced[tonumber(number)] = true end
 local line_of_a_trace = '{tracelog "%d %02X %02X %02X A=%02X X=%02X Y=%02X S=%02X P=%02X ' .. (bank and "B=%d " or "")
-  .. '",totalcycles,b@pc,b@(pc+1),b@(pc+2),a,x,y,sp & ff,p & cf'
+  .. '",totalcycles-' .. reset .. ',b@pc,b@(pc+1),b@(pc+2),a,x,y,sp & ff,p & cf'
   .. (bank and string.format(",b@%X == %X}", place_of_bank, byte_of_second) or "}")
 
 local function begin_frame()
@@ -117,40 +117,48 @@ begin_frame()
 
 -- What follows is global, so that MAME keeps it. MAME itself looks at what is held once in a frame of its own, wherever
 -- the program then is; so what is held is put in where the program reads it, a bit of a port if it is an input.
-WatchOfPorts = space:install_read_tap(0x0280, 0x029F, "ports", function(address, byte)
-  if address & 5 ~= 0 then return byte end
+WatchOfPorts = space:install_read_tap(0x0080, 0x0FFF, "ports", function(address, byte)
+  if address & 0x0285 ~= 0x0280 then return byte end
   local port = address >> 1 & 1
   local driven = numbers["m_port[" .. port .. "].m_ddr"]:read(0)
-  return byte & driven | inputs[frame][port + 1] & ~driven & 0xFF
+  local latch = numbers["m_port[" .. port .. "].m_out"]:read(0)
+  return latch & driven | inputs[frame][port + 1] & ~driven & 0xFF
 end)
 
--- The same of the buttons. Other bits that the TIA doesn't drive are 0 here, and in MAME what was on the bus.
-WatchOfTia = space:install_read_tap(0x0000, 0x007F, "tia", function(address, byte)
+-- The same of the buttons. While VBLANK latches them, MAME keeps in INPT4 and INPT5 what was pressed at a read; MAME itself sees none
+-- pressed. Other bits that the TIA doesn't drive are 0 here, and in MAME what was on the bus.
+local undriven = os.getenv("UNDRIVEN") and 0xFF or 0xC0
+WatchOfTia = space:install_read_tap(0x0000, 0x0F7F, "tia", function(address, byte)
+  if address & 0x80 ~= 0 then return byte end
   local button = (address & 0x0F) - 0x0C
-  if button ~= 0 and button ~= 1 then return byte & 0xC0 end
-  return inputs[frame][3] >> button & 1 == 1 and 0 or 0x80
+  if button ~= 0 and button ~= 1 then return byte & undriven end
+  local latch = numbers["INPT" .. button + 4]
+  if inputs[frame][3] >> button & 1 == 1 then latch:write(0, 0) end
+  return latch:read(0) | byte & undriven & 0x7F
 end)
 
 -- A write is seen before it is done.
-WatchOfVsync = space:install_write_tap(0x0000, 0x0000, "vsync", function(_, byte)
+WatchOfVsync = space:install_write_tap(0x0000, 0x0F7F, "vsync", function(address, byte)
+  if address & 0xBF ~= 0 then return end
   local ends = written & 2 == 2 and byte & 2 == 0
   written = byte
   if not ends or frame > #inputs then return end
   states:write(state_line(numbers, bank))
-  moments[frame] = cycles()
+  if frame <= wanted then
+    pictures:write(buffers[1 - numbers["current_bitmap"]:read(0)]:read_block(0, rows_of_a_buffer * bytes_of_a_row))
+  end
   frame = frame + 1
   begin_frame()
   if frame > #inputs then
     inputs[frame] = inputs[frame - 1]
     for _, file in ipairs({states, pictures, writes}) do file:close() end
-    wanted = 0
     machine:exit()
   end
 end)
 
 -- It is put in last, since of two such functions the later one is called first.
-WatchOfWrites = space:install_write_tap(0x0000, 0x003F, "writes", function(address, byte)
-  if frame > wanted then return end
+WatchOfWrites = space:install_write_tap(0x0000, 0x0F7F, "writes", function(address, byte)
+  if frame > #inputs or address & 0x80 ~= 0 then return end
   writes:write(cycles(), " ", address & 0x3F, " ", byte, "\n")
 end)
 

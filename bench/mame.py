@@ -1,61 +1,96 @@
-"""What the scripts that play a movie in MAME share: the parts of a movie, and how MAME is started. another-emulator.lua, which runs
-in MAME, says what it sets at power-on and what it writes down. bench/in-stella takes the parts of a movie from here, too."""
+"""A movie in MAME: how it is started, and what it played. another-emulator.lua, which runs in MAME, says what it sets at power-on and
+what it writes down. What doesn't depend on MAME (the parts of a movie, the program's own pictures) stands in movies.py."""
 
 from __future__ import annotations
 
 import os
 import pathlib
 import shutil
+import struct
 import subprocess
-import sys
-from typing import NoReturn
 
-HOME = pathlib.Path(__file__).resolve().parent
-MOVIES = (HOME.parent / "demo" / "demo.a26m", HOME.parent / "demo" / "harbour.a26m")
+import movies
+import tia_model
+
 MAME = shutil.which("mame", path=f"{os.environ.get('PATH', '')}:/usr/games")
 SECONDS = 100  # more than a movie with so many checkpoints has; MAME ends after its last frame
+# MAME's names of what a record has from byte 146 on, and the bits of it that are kept.
+TIA_FROM = 146
+TIA = {
+    "VBLANK": 0xC2, "NUSIZ0": 0x37, "NUSIZ1": 0x37, "COLUP0": 0xFE, "COLUP1": 0xFE, "COLUPF": 0xFE, "COLUBK": 0xFE,
+    "CTRLPF": 0x37, "REFP0": 0x08, "REFP1": 0x08, "PF0": 0xF0, "PF1": 0xFF, "PF2": 0xFF,
+    "GRP0": 0xFF, "prevGRP0": 0xFF, "GRP1": 0xFF, "prevGRP1": 0xFF, "ENAM0": 2, "ENAM1": 2, "ENABL": 2, "prevENABL": 2,
+    "HMP0": 0xF0, "HMP1": 0xF0, "HMM0": 0xF0, "HMM1": 0xF0, "HMBL": 0xF0, "VDELP0": 1, "VDELP1": 1, "VDELBL": 1,
+    "RESMP0": 2, "RESMP1": 2, "horzP0": 0xFF, "horzP1": 0xFF, "horzM0": 0xFF, "horzM1": 0xFF, "horzBL": 0xFF,
+}
+POSITIONS = ("horzP0", "horzP1", "horzM0", "horzM1", "horzBL")  # MAME has 160 to 164 for 0 to 4
+# The latches of the ports, from byte 135 on.
+PORTS = ("m_port[0].m_out", "m_port[0].m_ddr", "m_port[1].m_out", "m_port[1].m_ddr")
+COLLISIONS = ("CXM0P", "CXM1P", "CXP0FB", "CXP1FB", "CXM0FB", "CXM1FB", "CXBLPF", "CXPPMM")
+# MAME's buffer of lines: how many it draws, the colours of each, and where pixel 0 is.
+ROWS, COLOURS, LEFT = 262, 228, 34
 
 
-def fail(text: str) -> NoReturn:
-    """Ends the script that is run."""
-    sys.exit(f"bench/{pathlib.Path(sys.argv[0]).name}: {text}")
-
-
-def parts(movie: bytes) -> tuple[bytes, bytes, bytes, list[bytes]]:
-    """The cartridge, the start state, the inputs and the claimed records of a movie's bytes, by docs/MOVIE_FORMAT.md."""
-    version, length = int.from_bytes(movie[4:6], "big"), int.from_bytes(movie[6:8], "big")
-    size = 186 + version
-    inputs = 14 + length + size
-    claims = inputs + 3 * int.from_bytes(movie[8:12], "big")
-    records = [movie[at + 4 : at + 4 + size] for at in range(claims, len(movie), 4 + size)]
-    return movie[14 : 14 + length], movie[14 + length : inputs], movie[inputs:claims], records
-
-
-def make(program: str, movie: pathlib.Path, folder: pathlib.Path) -> list[bytes]:
-    """Makes a movie again, as 'made', with a checkpoint after every frame; leaves what MAME plays, and returns the states before
-    frame 1, 2, .. and after the last."""
-    cartridge, _, inputs, _ = parts(movie.read_bytes())
-    lines = ["%d %d %d\n" % tuple(inputs[at : at + 3]) for at in range(0, len(inputs), 3)]
-    (folder / "cartridge.bin").write_bytes(cartridge)
-    (folder / "made.inputs").write_bytes(inputs)
-    (folder / "inputs").write_text("".join(lines))
-    words = [program, "make", "cartridge.bin", "made.inputs", "--every", "1", "--out", "made"]
-    made = subprocess.run(words, cwd=folder, capture_output=True, text=True)
-    if made.returncode:
-        fail(f"no movie made of {movie.name}: {(made.stdout + made.stderr).strip()}")
-    _, start, _, records = parts((folder / "made").read_bytes())
-    return [start, *records]
-
-
-def play(folder: pathlib.Path, pictures: int = 0, traced: list[int] | None = None) -> list[str]:
+def play(folder: pathlib.Path, pictures: int = 0, traced: list[int] | None = None, undriven: bool = False) -> list[str]:
     """The states that MAME writes, a line a frame. Its status says nothing: after a script it sometimes crashes at the end."""
     words = [MAME, "a2600", "-cart", "cartridge.bin", "-bench", str(SECONDS), "-skip_gameinfo", "-noreadconfig"]
-    words += ["-noplugins", "-autoboot_script", HOME / "another-emulator.lua", "-autoboot_delay", "0"]
+    words += ["-noplugins", "-autoboot_script", movies.HOME / "another-emulator.lua", "-autoboot_delay", "0"]
     words += ["-debug", "-debugger", "none"] if traced else []
     environment = os.environ | {"SDL_VIDEODRIVER": "dummy", "HOME": str(folder), "PICTURES": str(pictures)}
-    environment["TRACED"] = " ".join(map(str, traced or []))
+    environment |= {"TRACED": " ".join(map(str, traced or []))} | ({"UNDRIVEN": "1"} if undriven else {})
     said = subprocess.run(words, cwd=folder, env=environment, capture_output=True, text=True)
     states = folder / "states"
     if not states.exists():
-        fail(f"MAME wrote nothing: {(said.stdout + said.stderr)[-300:]}")
+        movies.fail(f"MAME wrote nothing: {(said.stdout + said.stderr)[-300:]}")
     return states.read_text().splitlines()
+
+
+def claimed(record: bytes) -> dict[str, int]:
+    """The numbers of a record that are compared, by name."""
+    numbers = movies.numbers(record)
+    numbers |= dict(zip(PORTS, record[135:139]))
+    numbers |= {"timer interval": record[142], "timer past zero": record[143], "timer flag": record[144]}
+    return numbers | dict(zip(TIA, record[TIA_FROM:]))
+
+
+def next_instruction(address: int, opcode: int) -> int:
+    """The address after an instruction that writes: MAME's PC stands at it until the next is fetched."""
+    return address + (3 if opcode & 0x0C == 0x0C or opcode & 0x1F == 0x19 else 2)
+
+
+def seen(line: str) -> dict[str, int]:
+    """The same numbers of a line that MAME wrote."""
+    words = dict(word.split("=") for word in line.split())
+    memory = bytes.fromhex(words.pop("memory"))
+    found = {name: int(number) for name, number in words.items() if number.isdigit()}
+    numbers = {name: found[name] for name in ("A", "X", "Y")}
+    numbers |= {"S": found["SP"] & 0xFF, "P": found["P"] & 0xCF, "PC": next_instruction(found["PC"], found["IR"])}
+    numbers |= movies.memory(memory)
+    numbers |= {name: found[name] for name in PORTS}
+    numbers |= {"timer interval": (0, 3, 6, 10).index(found["m_timershift"])}
+    numbers |= {"timer past zero": int(found["m_timerstate"] == 2), "timer flag": found["m_irqstate"] >> 7 & 1}
+    numbers |= {name: found[name] & mask for name, mask in TIA.items()} | {name: found[name] % 160 for name in POSITIONS}
+    numbers |= {"collisions": movies.collisions([found[name] for name in COLLISIONS]), "line cycle": found["cycles"] % 76}
+    return numbers | ({"bank": found["bank"]} if "bank" in found else {})
+
+
+def writes(folder: pathlib.Path) -> list[tia_model.Write]:
+    """The writes to the TIA's registers that MAME's processor made."""
+    return [tia_model.Write(*map(int, line.split())) for line in (folder / "writes").read_text().splitlines()]
+
+
+def pictures(folder: pathlib.Path) -> dict[int, list[bytes]]:
+    """The rows of MAME's pictures, by the number of the frame, from the second on. A buffer begins with the line in which vertical
+    sync began, which ends the frame before, and it is whole when the next one begins."""
+    syncs, was, begin = [], 0, 0
+    for cycle, register, byte in writes(folder):
+        if register == tia_model.VSYNC:
+            begin = cycle if byte & 2 and not was & 2 else begin
+            syncs += [(begin // 76, cycle // 76)] if was & 2 and not byte & 2 else []
+            was = byte
+    data, size, found = (folder / "pictures").read_bytes(), 2 * COLOURS * ROWS, {}
+    for frame in range(2, len(data) // size + 1):
+        (base, first), (last, _) = syncs[frame - 2], syncs[frame - 1]
+        begins = range((frame - 1) * size + 2 * COLOURS * (first - base), (frame - 1) * size + 2 * COLOURS * min(last - base + 1, ROWS), 2 * COLOURS)
+        found[frame] = [bytes(2 * it for it in struct.unpack_from("<160H", data, row + 2 * LEFT)) for row in begins]
+    return found

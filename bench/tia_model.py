@@ -1,9 +1,12 @@
-"""What the TIA draws, of a list of writes to its registers: sections 5 and 6 of docs/MACHINE.md as a second body.
+"""What the TIA draws and which objects meet, of a list of writes to its registers: sections 5 and 6 of docs/MACHINE.md as a second body.
 
-With 'as_mame' two rules are others, and nothing else: a player of 16 or 32 pixels begins a pixel later, and a write to GRP0 or GRP1
-acts a clock later.
+A Rule puts one of other emulators in place of one of that page, and changes nothing else. MAME and STELLA are the rules by which each
+of the two draws. What moves objects otherwise (HMOVE late, RESMP) isn't here: the objects' positions are compared with MAME's own.
 """
 
+from __future__ import annotations
+
+import enum
 import functools
 from typing import Iterable, Iterator, NamedTuple
 
@@ -12,7 +15,30 @@ COPIES = ((0,), (0, 16), (0, 32), (0, 16, 32), (0, 64), (0,), (0, 32, 64), (0,))
 SIZES = (1, 1, 1, 1, 1, 2, 1, 4)  # pixels for each bit of a player, by its mode
 VSYNC, VBLANK, NUSIZ, COLUP, COLUPF, COLUBK, CTRLPF, REFP = 0x00, 0x01, 0x04, 0x06, 0x08, 0x09, 0x0A, 0x0B
 PF0, RESP0, RESBL, GRP0, GRP1, ENAM, ENABL, HMP0, VDELP, VDELBL = 0x0D, 0x10, 0x14, 0x1B, 0x1C, 0x1D, 0x1F, 0x20, 0x25, 0x27
-RESMP, HMOVE, HMCLR = 0x28, 0x2A, 0x2B
+RESMP, HMOVE, HMCLR, CXCLR = 0x28, 0x2A, 0x2B, 0x2C
+MIRROR_BIT, FIRST_COPY = 0x40, 0x41  # beyond the registers: what a write does later
+# The pairs of a state's 15 bits, from the highest on, by the numbers of objects: players, missiles, ball, playfield.
+PAIRS = ((2, 1), (2, 0), (3, 0), (3, 1), (0, 5), (0, 4), (1, 5), (1, 4), (2, 5), (2, 4), (3, 5), (3, 4), (4, 5), (0, 1), (2, 3))
+
+
+class Rule(enum.Flag):
+    """A rule of another emulator in place of one of docs/MACHINE.md."""
+
+    WIDE = enum.auto()  # a player of 16 or 32 pixels begins a pixel later
+    GRAPHIC = enum.auto()  # GRP0 and GRP1 act a clock later
+    ENABLE = enum.auto()  # ENAM0, ENAM1, ENABL, REFP0 and REFP1 act a clock later
+    PLAYFIELD = enum.auto()  # PF0, PF1 and PF2 act two clocks later, from a fourth pixel on
+    MIRROR = enum.auto()  # the bit that mirrors the playfield is looked at as pixel 80 begins
+    FIRST = enum.auto()  # RESP and RESM outside of the blank: the first copy is shown from the next line on
+    UNMET = enum.auto()  # no objects meet while VBLANK blanks
+    COMB = enum.auto()  # no objects meet under the comb
+    SCORE = enum.auto()  # in score mode the playfield's left half is behind player 0, and its right half in front of player 1
+    LATE_BLANK = enum.auto()  # VBLANK acts a clock later
+
+
+NONE = Rule(0)
+MAME = Rule.WIDE | Rule.GRAPHIC | Rule.ENABLE | Rule.PLAYFIELD | Rule.MIRROR | Rule.FIRST | Rule.UNMET
+STELLA = MAME | Rule.COMB | Rule.SCORE | Rule.LATE_BLANK
 
 
 class Write(NamedTuple):
@@ -24,18 +50,18 @@ class Write(NamedTuple):
 
 
 @functools.lru_cache(1 << 16)
-def player(position: int, mode: int, graphic: int, is_reflected: bool, as_mame: bool) -> frozenset[int]:
+def player(position: int, mode: int, graphic: int, is_reflected: bool, later: int, hides_first: bool) -> frozenset[int]:
     """The pixels that a player covers."""
     size = SIZES[mode]
-    begin = position + (as_mame and size > 1)
     bits = [at for at in range(8) if graphic >> (at if is_reflected else 7 - at) & 1]
-    return frozenset((begin + copy + bit * size + at) % WIDTH for copy in COPIES[mode] for bit in bits for at in range(size))
+    begins = [position + copy + later for copy in COPIES[mode][hides_first:]]
+    return frozenset((begin + bit * size + at) % WIDTH for begin in begins for bit in bits for at in range(size))
 
 
 @functools.lru_cache(1 << 16)
-def block(position: int, mode: int, size: int) -> frozenset[int]:
+def block(position: int, mode: int, size: int, hides_first: bool) -> frozenset[int]:
     """The pixels that a missile or the ball covers."""
-    return frozenset((position + copy + at) % WIDTH for copy in COPIES[mode] for at in range(size))
+    return frozenset((position + copy + at) % WIDTH for copy in COPIES[mode][hides_first:] for at in range(size))
 
 
 @functools.lru_cache(1 << 12)
@@ -46,45 +72,67 @@ def playfield(pf0: int, pf1: int, pf2: int, is_mirrored: bool) -> frozenset[int]
     return frozenset(x for x in range(WIDTH) if both[x // 4])
 
 
-class Tia:
-    """The registers, and the lines that are drawn."""
+class Row(NamedTuple):
+    """A line on which nothing is written: its colours, and which pairs meet in each pixel."""
 
-    def __init__(self, as_mame: bool) -> None:
-        self.as_mame = as_mame
-        self.kept = [0] * 64
+    colours: bytes
+    met: tuple[int, ...]
+    meets: bool
+
+
+class Tia:
+    """The registers, the lines that are drawn, and the pairs that have met."""
+
+    def __init__(self, rules: Rule) -> None:
+        self.rules = rules
+        self.kept = [0] * 66
         self.at = [0] * 5  # the positions of players, missiles and ball
         self.old = [0, 0, 0]  # the old graphics and the ball's old enable
-        self.clock, self.comb = 0, -1  # the comb's line
+        self.hidden = [0] * 4  # up to which clock the first copy of a player or a missile isn't shown
+        self.clock, self.comb, self.met = 0, -1, 0  # the comb's line
+        self.later: list[tuple[int, int, int]] = []  # what writes do later: the clock, the register, the byte
         self.lines: dict[int, bytearray] = {}
-        self.rows: dict[tuple[object, ...], bytes] = {}
+        self.rows: dict[tuple[object, ...], Row] = {}
+        self.now: Row | None = None  # until something is written
 
     def look(self) -> tuple[object, ...]:
-        """All that a line's colours depend on."""
+        """All that a line depends on."""
         kept, at = self.kept, self.at
-        shapes = [
-            player(at[it], kept[NUSIZ + it] & 7, self.old[it] if kept[VDELP + it] & 1 else kept[GRP0 + it], bool(kept[REFP + it] & 8), self.as_mame)
-            for it in (0, 1)
-        ] + [
-            block(at[2 + it], kept[NUSIZ + it] & 7, 1 << (kept[NUSIZ + it] >> 4 & 3))
-            if kept[ENAM + it] & 2 and not kept[RESMP + it] & 2 else frozenset() for it in (0, 1)
-        ]
+        modes = [kept[NUSIZ + it % 2] & 7 for it in range(4)]
+        hides = [self.hidden[it] > self.clock for it in range(4)]
+        shapes = []
+        for it in (0, 1):
+            graphic = self.old[it] if kept[VDELP + it] & 1 else kept[GRP0 + it]
+            later = int(Rule.WIDE in self.rules and SIZES[modes[it]] > 1)
+            shapes.append(player(at[it], modes[it], graphic, bool(kept[REFP + it] & 8), later, hides[it]))
+        for it in (0, 1):
+            is_shown = kept[ENAM + it] & 2 and not kept[RESMP + it] & 2
+            size = 1 << (kept[NUSIZ + it] >> 4 & 3)
+            shapes.append(block(at[2 + it], modes[it], size, hides[2 + it]) if is_shown else frozenset())
         ball = self.old[2] if kept[VDELBL] & 1 else kept[ENABL]
-        shapes.append(block(at[4], 0, 1 << (kept[CTRLPF] >> 4 & 3)) if ball & 2 else frozenset())
-        shapes.append(playfield(kept[PF0] & 0xF0, kept[PF0 + 1], kept[PF0 + 2], bool(kept[CTRLPF] & 1)))
+        shapes.append(block(at[4], 0, 1 << (kept[CTRLPF] >> 4 & 3), False) if ball & 2 else frozenset())
+        shapes.append(playfield(kept[PF0] & 0xF0, kept[PF0 + 1], kept[PF0 + 2], bool(kept[MIRROR_BIT])))
         return (*shapes, *(it & 0xFE for it in kept[COLUP : COLUBK + 1]), kept[CTRLPF] & 6)
 
-    def row(self) -> bytes:
-        """The colours of a line on which nothing is written."""
+    def row(self) -> Row:
+        """The line as it is now."""
         if (look := self.look()) not in self.rows:
-            p0, p1, m0, m1, ball, field, colup0, colup1, colupf, colubk, how = look
+            *shapes, colup0, colup1, colupf, colubk, how = look
+            p0, p1, m0, m1, ball, field = shapes
             halves = (colup0, colup1) if how == 2 else (colupf, colupf)
             first, second = (p0 | m0, colup0), (p1 | m1, colup1)
             row = bytearray()
             for x in range(WIDTH):
                 back = (ball, colupf), (field, halves[x // 80])
                 order = (*back, first, second) if how & 4 else (first, second, *back)
+                if how == 2 and Rule.SCORE in self.rules:
+                    order = first, back[1], second, back[0]
                 row.append(next((colour for shape, colour in order if x in shape), colubk))
-            self.rows[look] = bytes(row)
+            met = [0] * WIDTH
+            for bit, (one, other) in enumerate(PAIRS):
+                for x in shapes[one] & shapes[other]:
+                    met[x] |= 1 << 14 - bit
+            self.rows[look] = Row(bytes(row), tuple(met), any(met))
         return self.rows[look]
 
     def draw(self, until: int) -> None:
@@ -93,24 +141,65 @@ class Tia:
             line, h = divmod(self.clock, LINE)
             end = min(until - LINE * line, LINE)
             first, last = max(h - BLANK, 0), max(end - BLANK, 0)
-            if first < last and not self.kept[VSYNC] & 2 and not self.kept[VBLANK] & 2:
-                into = self.lines.setdefault(line, bytearray(WIDTH))
-                first = max(first, 8) if self.comb == line else first
-                into[first:last] = self.row()[first:last]
+            if first < last:
+                row, is_blanked = self.now or self.row(), self.kept[VBLANK] & 2
+                self.now, shown = row, max(first, 8) if self.comb == line else first
+                if row.meets and not (is_blanked and Rule.UNMET in self.rules):
+                    for pairs in set(row.met[shown if Rule.COMB in self.rules else first : last]):
+                        self.met |= pairs
+                if not is_blanked and not self.kept[VSYNC] & 2:
+                    into = self.lines.setdefault(line, bytearray(WIDTH))
+                    into[shown:last] = row.colours[shown:last]
             self.clock = LINE * line + end
+
+    def pass_to(self, until: int) -> None:
+        """Draws up to this clock, and does what earlier writes do before it."""
+        while self.later and self.later[0][0] <= until:
+            clock, register, byte = self.later.pop(0)
+            self.draw(clock)
+            self.act(register, byte)
+        self.draw(until)
+
+    def acts_at(self, register: int) -> int:
+        """From which clock on a write acts that is done now."""
+        rules, clock = self.rules, self.clock
+        x = clock % LINE - BLANK
+        if register in (GRP0, GRP1):
+            return clock + (Rule.GRAPHIC in rules)
+        if ENAM <= register <= ENABL or register in (REFP, REFP + 1):
+            return clock + (Rule.ENABLE in rules)
+        if register == VBLANK:
+            return clock + (Rule.LATE_BLANK in rules)
+        if PF0 <= register <= PF0 + 2 and Rule.PLAYFIELD in rules:
+            return clock + 2 + (-(x + 2) % 4 if x + 2 > 0 else 0)
+        if register == MIRROR_BIT and Rule.MIRROR in rules and x > WIDTH // 2:
+            return clock - clock % LINE + LINE
+        return clock
 
     def write(self, write: Write) -> None:
         """Draws up to a write, and does it."""
-        clock, register, byte = 3 * write.cycle, write.register & 0x3F, write.byte
-        self.draw(clock + (self.as_mame and register in (GRP0, GRP1)))
-        h, kept = clock % LINE, self.kept
+        self.pass_to(3 * write.cycle)
+        register, byte = write.register & 0x3F, write.byte
+        if RESP0 <= register < RESBL and Rule.FIRST in self.rules and self.clock % LINE >= BLANK:
+            self.hidden[register - RESP0] = self.clock + LINE
+            self.later.append((self.clock + LINE, FIRST_COPY, 0))
+        for what, value in ((register, byte), (MIRROR_BIT, byte & 1))[: 2 if register == CTRLPF else 1]:
+            if (at := self.acts_at(what)) == self.clock:
+                self.act(what, value)
+            else:
+                self.later.append((at, what, value))
+        self.later.sort()
+
+    def act(self, register: int, byte: int) -> None:
+        """What a write does, at this clock."""
+        h, kept, self.now = self.clock % LINE, self.kept, None
         if RESP0 <= register <= RESBL:
             far = 5 if register < RESP0 + 2 else 4
             self.at[register - RESP0] = (h - BLANK + far) % WIDTH if h >= BLANK else far - 2
         elif register == HMOVE:
             motions = [it >> 4 for it in kept[HMP0 : HMP0 + 5]]
             self.at = [(it - (motion if motion < 8 else motion - 16)) % WIDTH for it, motion in zip(self.at, motions)]
-            self.comb = clock // LINE if h < BLANK else self.comb
+            self.comb = self.clock // LINE if h < BLANK else self.comb
         elif register == HMCLR:
             kept[HMP0 : HMP0 + 5] = [0] * 5
         elif register == GRP0:
@@ -120,15 +209,24 @@ class Tia:
         elif register in (RESMP, RESMP + 1) and kept[register] & 2 and not byte & 2:
             it = register - RESMP
             self.at[2 + it] = (self.at[it] + 4 * SIZES[kept[NUSIZ + it] & 7]) % WIDTH
+        elif register == CXCLR:
+            self.met = 0
         kept[register] = byte
 
 
-def pictures(writes: Iterable[Write], as_mame: bool) -> Iterator[list[bytes]]:
-    """The picture of each frame, as its rows, and rows of black below."""
-    tia, begin, black = Tia(as_mame), 0, bytes(WIDTH)
+class Frame(NamedTuple):
+    """What a frame shows: its rows, and rows of black below; and the pairs that have met at its end."""
+
+    rows: list[bytes]
+    collisions: int
+
+
+def frames(writes: Iterable[Write], rules: Rule = NONE) -> Iterator[Frame]:
+    """Each frame of these writes."""
+    tia, begin, black = Tia(rules), 0, bytes(WIDTH)
     for write in writes:
         is_end = write.register & 0x3F == VSYNC and tia.kept[VSYNC] & 2 and not write.byte & 2
         tia.write(write)
         if is_end:
-            yield [bytes(tia.lines.get(line, black)) for line in range(begin, begin + MOST_ROWS)]
+            yield Frame([bytes(tia.lines.get(line, black)) for line in range(begin, begin + MOST_ROWS)], tia.met)
             begin, tia.lines = 3 * write.cycle // LINE, {}

@@ -1,0 +1,138 @@
+"""What the scripts share that compare a program of this project with other emulators: the parts of a movie, the program's own movies
+and pictures, and the numbers of a state."""
+
+from __future__ import annotations
+
+import pathlib
+import re
+import subprocess
+import sys
+from typing import Iterator, NoReturn
+
+import tia_model
+
+HOME = pathlib.Path(__file__).resolve().parent
+DEMOS = (HOME.parent / "demo" / "demo.a26m", HOME.parent / "demo" / "harbour.a26m")
+MOST_PICTURES = 600
+# The palette of docs/MACHINE.md (9): each colour byte by its red, green and blue.
+BASES = (
+    (0, 0, 0), (64, 64, 0), (87, 48, 0), (87, 32, 8), (87, 0, 0), (80, 0, 56), (64, 0, 87), (40, 0, 87),
+    (0, 0, 87), (0, 24, 87), (0, 48, 80), (0, 64, 56), (0, 72, 0), (24, 64, 0), (48, 56, 0), (72, 40, 0),
+)
+COLOURS = {bytes(part + 12 * (colour & 0x0E) for part in BASES[colour >> 4]): colour for colour in range(0, 256, 2)}
+
+# A line of 'trace': scanline, cycle, opcode, and what follows A, X, Y, S, P and bank.
+TRACED = re.compile(r" *(\d+) +(\d+)  ....  (..).* P=..(?: B=.)?(.*)")
+# The cycles in which instructions write, by docs/MACHINE.md (1.4, 1.5).
+STORES = {0x84: 3, 0x85: 3, 0x86: 3, 0x94: 4, 0x95: 4, 0x96: 4, 0x8C: 4, 0x8D: 4, 0x8E: 4, 0x99: 5, 0x9D: 5, 0x81: 6, 0x91: 6}
+CHANGES = {0x06: (4, 5), 0x16: (5, 6), 0x0E: (5, 6), 0x1E: (6, 7)}  # those of ASL, and of the others alike
+PUSHES = {0x48: (3,), 0x08: (3,), 0x20: (4, 5), 0x00: (3, 4, 5)}
+
+
+def fail(text: str) -> NoReturn:
+    """Ends the script that is run."""
+    sys.exit(f"bench/{pathlib.Path(sys.argv[0]).name}: {text}")
+
+
+def parts(movie: bytes) -> tuple[bytes, bytes, bytes, list[bytes]]:
+    """The cartridge, the start state, the inputs and the claimed records of a movie's bytes, by docs/MOVIE_FORMAT.md."""
+    version, length = int.from_bytes(movie[4:6], "big"), int.from_bytes(movie[6:8], "big")
+    size = 186 + version
+    inputs = 14 + length + size
+    claims = inputs + 3 * int.from_bytes(movie[8:12], "big")
+    records = [movie[at + 4 : at + 4 + size] for at in range(claims, len(movie), 4 + size)]
+    return movie[14 : 14 + length], movie[14 + length : inputs], movie[inputs:claims], records
+
+
+def make(program: str, movie: pathlib.Path, folder: pathlib.Path) -> list[bytes]:
+    """Makes a movie again, as 'made', with a checkpoint after every frame; leaves what other emulators play, and returns the states
+    before frame 1, 2, .. and after the last."""
+    cartridge, _, inputs, _ = parts(movie.read_bytes())
+    lines = ["%d %d %d\n" % tuple(inputs[at : at + 3]) for at in range(0, len(inputs), 3)]
+    (folder / "cartridge.bin").write_bytes(cartridge)
+    (folder / "made.inputs").write_bytes(inputs)
+    (folder / "inputs").write_text("".join(lines))
+    words = [program, "make", "cartridge.bin", "made.inputs", "--every", "1", "--out", "made"]
+    made = subprocess.run(words, cwd=folder, capture_output=True, text=True)
+    if made.returncode:
+        fail(f"no movie made of {movie.name}: {(made.stdout + made.stderr).strip()}")
+    _, start, _, records = parts((folder / "made").read_bytes())
+    return [start, *records]
+
+
+def pictures(program: str, folder: pathlib.Path, wanted: int) -> Iterator[list[bytes]]:
+    """The program's pictures of the first frames of what 'make' left, each as its rows of colour bytes."""
+    words = [program, "verify", "made", "--count", str(wanted), "--pictures", "own.ppm"]
+    subprocess.run(words, cwd=folder, stdout=subprocess.DEVNULL, check=True)
+    data, at, known = (folder / "own.ppm").read_bytes(), 0, {}
+    while at < len(data):
+        begin = at
+        for _ in range(3):  # the lines of a header
+            begin = data.index(b"\n", begin) + 1
+        at, begin = begin + 480 * int(data[at:begin].split()[2]), begin
+        rows = [data[row : row + 480] for row in range(begin, at, 480)]
+        for row in set(rows) - known.keys():
+            known[row] = bytes(COLOURS[row[pixel : pixel + 3]] for pixel in range(0, 480, 3))
+        yield [known[row] for row in rows]
+
+
+def writing_cycles(opcode: int) -> tuple[int, ...]:
+    """The cycles of an instruction in which it writes."""
+    return (STORES[opcode],) if opcode in STORES else PUSHES.get(opcode) or CHANGES.get(opcode & 0x1F, ())
+
+
+def writes(program: str, folder: pathlib.Path, wanted: int) -> Iterator[tia_model.Write]:
+    """The writes to the TIA's registers in the first frames of what 'make' left, as 'trace' prints them."""
+    base = 0
+    for frame in range(1, wanted + 1):
+        words = [program, "trace", "made", "--frame", str(frame)]
+        said = subprocess.run(words, cwd=folder, capture_output=True, text=True, check=True).stdout
+        cycle = 0
+        for line in said.splitlines():
+            found = TRACED.fullmatch(line) if "write" in line else None
+            accesses = [it.split() for it in found[4].split("  ") if it.startswith("write")] if found else []
+            for (_, address, byte), after in zip(accesses, writing_cycles(int(found[3], 16)) if found else ()):
+                if int(address, 16) & 0x1080 == 0:
+                    cycle = 76 * (base + int(found[1])) + int(found[2]) + after
+                    yield tia_model.Write(cycle, int(address, 16) & 0x3F, int(byte, 16))
+        base = cycle // 76
+
+
+def memory(found: bytes) -> dict[str, int]:
+    """The RIOT's memory as numbers of a state."""
+    return {f"memory {128 + place:02X}": byte for place, byte in enumerate(found)}
+
+
+def numbers(record: bytes) -> dict[str, int]:
+    """The numbers of a record that each emulator shows: processor, memory, collisions, beam, bank."""
+    found = dict(zip(("A", "X", "Y", "S", "P"), record), PC=int.from_bytes(record[5:7], "big")) | memory(record[7:135])
+    found |= {"collisions": int.from_bytes(record[182:184], "big"), "line cycle": record[185]}
+    return found | ({"bank": record[187]} if len(record) > 187 else {})
+
+
+def collisions(found: list[int]) -> int:
+    """Eight registers of collisions as the bits of a record: two of each, but for one of BL-PF."""
+    bits = 0
+    for number, byte in enumerate(found):
+        bits = bits << 2 | byte >> 6 & 3 if number != 6 else bits << 1 | byte >> 7 & 1
+    return bits
+
+
+def differences(here: dict[str, int], there: dict[str, int]) -> list[str]:
+    """The names of the numbers in which two states differ, as far as both have them."""
+    return [name for name in here if name in there and here[name] != there[name]]
+
+
+def compare(name: str, emulator: str, ours: list[dict[str, int]], theirs: list[dict[str, int]]) -> bool:
+    """Prints how many frames agree, and what differs in the first that doesn't; returns whether all agree."""
+    wrong = {frame: differences(*pair) for frame, pair in enumerate(zip(ours, theirs), 1)}
+    equal = sum(not names for names in wrong.values())
+    compared = sum(it in theirs[0] for it in ours[0]) if theirs else 0
+    print(f"{name}: {equal} of {len(ours)} frames agree, each in {compared} numbers")
+    for frame in [frame for frame, names in wrong.items() if names][:1]:
+        here, there = ours[frame - 1], theirs[frame - 1]
+        said = [f"{key}: {here[key]:X}, in {emulator} {there[key]:X}" for key in wrong[frame]]
+        print(f"frame {frame} is the first that doesn't: {'; '.join(said)}")
+    if len(theirs) < len(ours):
+        print(f"{emulator} ended after {len(theirs)} frames")
+    return equal == len(ours)
