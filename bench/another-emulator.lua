@@ -126,15 +126,19 @@ WatchOfPorts = space:install_read_tap(0x0080, 0x0FFF, "ports", function(address,
 end)
 
 -- The same of the buttons. While VBLANK latches them, MAME keeps in INPT4 and INPT5 what was pressed at a read; MAME itself sees none
--- pressed. Other bits that the TIA doesn't drive are 0 here, and in MAME what was on the bus.
-local undriven = os.getenv("UNDRIVEN") and 0xFF or 0xC0
+-- pressed. Bits that the TIA doesn't drive are 0 here, and in MAME what was on the bus.
+local driven_by_tia = {[6] = 0x80, [14] = 0, [15] = 0}
+for register = 8, 13 do driven_by_tia[register] = 0x80 end
 WatchOfTia = space:install_read_tap(0x0000, 0x0F7F, "tia", function(address, byte)
   if address & 0x80 ~= 0 then return byte end
-  local button = (address & 0x0F) - 0x0C
-  if button ~= 0 and button ~= 1 then return byte & undriven end
-  local latch = numbers["INPT" .. button + 4]
-  if inputs[frame][3] >> button & 1 == 1 then latch:write(0, 0) end
-  return latch:read(0) | byte & undriven & 0x7F
+  local register = address & 0x0F
+  local driven = driven_by_tia[register] or 0xC0
+  if register == 12 or register == 13 then
+    local latch = numbers["INPT" .. register - 8]
+    if inputs[frame][3] >> register - 12 & 1 == 1 then latch:write(0, 0) end
+    byte = byte & 0x7F | latch:read(0)
+  end
+  return os.getenv("UNDRIVEN") and byte or byte & driven
 end)
 
 -- A write is seen before it is done.

@@ -91,6 +91,6 @@ def pictures(folder: pathlib.Path) -> dict[int, list[bytes]]:
     data, size, found = (folder / "pictures").read_bytes(), 2 * COLOURS * ROWS, {}
     for frame in range(2, len(data) // size + 1):
         (base, first), (last, _) = syncs[frame - 2], syncs[frame - 1]
-        begins = range((frame - 1) * size + 2 * COLOURS * (first - base), (frame - 1) * size + 2 * COLOURS * min(last - base + 1, ROWS), 2 * COLOURS)
+        begins = [(frame - 1) * size + 2 * COLOURS * row for row in range(first - base, min(last - base + 1, ROWS))]
         found[frame] = [bytes(2 * it for it in struct.unpack_from("<160H", data, row + 2 * LEFT)) for row in begins]
     return found

@@ -3,6 +3,7 @@ and pictures, and the numbers of a state."""
 
 from __future__ import annotations
 
+import os
 import pathlib
 import re
 import subprocess
@@ -34,6 +35,13 @@ def fail(text: str) -> NoReturn:
     sys.exit(f"bench/{pathlib.Path(sys.argv[0]).name}: {text}")
 
 
+def program(word: str) -> str:
+    """The program that was asked for."""
+    if not os.access(word, os.X_OK) or not os.path.isfile(word):
+        fail(f"no program at {word!r}")
+    return os.path.abspath(word)
+
+
 def parts(movie: bytes) -> tuple[bytes, bytes, bytes, list[bytes]]:
     """The cartridge, the start state, the inputs and the claimed records of a movie's bytes, by docs/MOVIE_FORMAT.md."""
     version, length = int.from_bytes(movie[4:6], "big"), int.from_bytes(movie[6:8], "big")
@@ -44,14 +52,30 @@ def parts(movie: bytes) -> tuple[bytes, bytes, bytes, list[bytes]]:
     return movie[14 : 14 + length], movie[14 + length : inputs], movie[inputs:claims], records
 
 
-def make(program: str, movie: pathlib.Path, folder: pathlib.Path) -> list[bytes]:
-    """Makes a movie again, as 'made', with a checkpoint after every frame; leaves what other emulators play, and returns the states
-    before frame 1, 2, .. and after the last."""
-    cartridge, _, inputs, _ = parts(movie.read_bytes())
+def read(movie: pathlib.Path) -> bytes:
+    """A movie's bytes."""
+    try:
+        data = movie.read_bytes()
+    except OSError as error:
+        fail(f"cannot read {str(movie)!r}: {error.strerror}")
+    if data[:4] != b"A26M" or len(data) < 14 or len(data) < 14 + int.from_bytes(data[6:8], "big"):
+        fail(f"no movie: {str(movie)!r}")
+    return data
+
+
+def lay_out(movie: pathlib.Path, folder: pathlib.Path) -> None:
+    """Leaves what other emulators play of a movie."""
+    cartridge, _, inputs, _ = parts(read(movie))
     lines = ["%d %d %d\n" % tuple(inputs[at : at + 3]) for at in range(0, len(inputs), 3)]
     (folder / "cartridge.bin").write_bytes(cartridge)
     (folder / "made.inputs").write_bytes(inputs)
     (folder / "inputs").write_text("".join(lines))
+
+
+def make(program: str, movie: pathlib.Path, folder: pathlib.Path) -> list[bytes]:
+    """Makes a movie again, as 'made', with a checkpoint after every frame; leaves what other emulators play, and returns the states
+    before frame 1, 2, .. and after the last."""
+    lay_out(movie, folder)
     words = [program, "make", "cartridge.bin", "made.inputs", "--every", "1", "--out", "made"]
     made = subprocess.run(words, cwd=folder, capture_output=True, text=True)
     if made.returncode:

@@ -14,7 +14,7 @@ import movies
 STELLA = shutil.which("stella", path=f"{os.environ.get('PATH', '')}:/usr/games")
 SCREEN = shutil.which("xauth") and shutil.which("xvfb-run")
 # Seconds that Stella may take: to start, and for a frame. And the numbers of screens, one for each call.
-START, FRAME = 60, 0.5
+START, FRAME = 200, 2
 SCREENS = itertools.count(100 + os.getpid() % 5000 * 10)
 # Its time machine keeps the states, and with them the pictures.
 OPTIONS = {
@@ -36,8 +36,8 @@ FLAGS = {0: 0x80, 1: 0x40, 3: 0x08, 5: 0x02, 6: 0x01}
 # A saved state begins with the first of these; three pictures of 320 rows stand before the second, the whole one in the middle.
 STATE, MESSAGE = b"06070000state", b"\x04\x00\x00\x00step"
 ROWS, WIDTH = 320, 160
-# Its first row is one of the frame's first.
-MOST_ABOVE = 90
+# Its first row is one of the frame's first, and it has at least so many rows, black ones among them.
+MOST_ABOVE, SHOWN = 90, 190
 
 
 class Stella:
@@ -79,8 +79,9 @@ class Stella:
     def play(self) -> None:
         """Plays it."""
         self.write_scripts()
-        words = [SCREEN, "-a", "-n", str(next(SCREENS)), "timeout", str(START + FRAME * self.count), STELLA, "-debug", "-basedir", self.folder / "base"]
-        words += [*(str(it) for pair in OPTIONS.items() for it in pair), self.folder / "cartridge.bin"]
+        words = [SCREEN, "-a", "-n", str(next(SCREENS)), "timeout", str(START + FRAME * self.count)]
+        words += [STELLA, "-debug", "-basedir", self.folder / "base", *(str(it) for pair in OPTIONS.items() for it in pair)]
+        words += [self.folder / "cartridge.bin"]
         environment = os.environ | {"SDL_AUDIODRIVER": "dummy", "HOME": str(self.folder), "XDG_RUNTIME_DIR": str(self.folder)}
         said = subprocess.run(words, cwd=self.folder, env=environment, capture_output=True, text=True)
         # The cartridge's own name stands before it, if Stella knows one.
@@ -89,7 +90,8 @@ class Stella:
 
     def dumped(self, name: str, number: int) -> list[tuple[str, list[int]]]:
         """The lines of a dump: what stands before the colon, and the bytes after it."""
-        lines = [line.partition(":") for line in (self.folder / self.dumps[name.replace(" ", "-"), number]).read_text().splitlines() if ":" in line]
+        text = (self.folder / self.dumps[name.replace(" ", "-"), number]).read_text()
+        lines = [line.partition(":") for line in text.splitlines() if ":" in line]
         return [(head, [int(byte, 16) for byte in rest.split() if byte != "-"]) for head, _, rest in lines]
 
     def state(self, number: int) -> dict[str, int]:
@@ -134,4 +136,5 @@ def uses_port_b(records: list[bytes]) -> bool:
 def is_shown(theirs: list[bytes], ours: list[bytes]) -> bool:
     """Whether a picture of Stella's shows our rows, from some row on."""
     black = [bytes(WIDTH)] * (MOST_ABOVE + ROWS)
-    return any((ours + black)[above : above + len(theirs)] == theirs for above in range(MOST_ABOVE))
+    shown = theirs + black[: max(SHOWN - len(theirs), 0)]
+    return any((ours + black)[above : above + len(shown)] == shown for above in range(MOST_ABOVE))

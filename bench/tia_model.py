@@ -16,7 +16,7 @@ SIZES = (1, 1, 1, 1, 1, 2, 1, 4)  # pixels for each bit of a player, by its mode
 VSYNC, VBLANK, NUSIZ, COLUP, COLUPF, COLUBK, CTRLPF, REFP = 0x00, 0x01, 0x04, 0x06, 0x08, 0x09, 0x0A, 0x0B
 PF0, RESP0, RESBL, GRP0, GRP1, ENAM, ENABL, HMP0, VDELP, VDELBL = 0x0D, 0x10, 0x14, 0x1B, 0x1C, 0x1D, 0x1F, 0x20, 0x25, 0x27
 RESMP, HMOVE, HMCLR, CXCLR = 0x28, 0x2A, 0x2B, 0x2C
-MIRROR_BIT, FIRST_COPY = 0x40, 0x41  # beyond the registers: what a write does later
+MIRROR_BIT, BALL_SIZE, FIRST_COPY = 0x40, 0x41, 0x42  # beyond the registers: parts of CTRLPF, and what a write does later
 # The pairs of a state's 15 bits, from the highest on, by the numbers of objects: players, missiles, ball, playfield.
 PAIRS = ((2, 1), (2, 0), (3, 0), (3, 1), (0, 5), (0, 4), (1, 5), (1, 4), (2, 5), (2, 4), (3, 5), (3, 4), (4, 5), (0, 1), (2, 3))
 
@@ -32,13 +32,16 @@ class Rule(enum.Flag):
     FIRST = enum.auto()  # RESP and RESM outside of the blank: the first copy is shown from the next line on
     UNMET = enum.auto()  # no objects meet while VBLANK blanks
     COMB = enum.auto()  # no objects meet under the comb
+    NEXT_COMB = enum.auto()  # HMOVE in the last two cycles of a line gives the next line the comb
+    BALL = enum.auto()  # the ball's size acts a clock later
+    RELEASE = enum.auto()  # a released missile's copy is shown in this line only if it begins five pixels later or more
     SCORE = enum.auto()  # in score mode the playfield's left half is behind player 0, and its right half in front of player 1
     LATE_BLANK = enum.auto()  # VBLANK acts a clock later
 
 
 NONE = Rule(0)
-MAME = Rule.WIDE | Rule.GRAPHIC | Rule.ENABLE | Rule.PLAYFIELD | Rule.MIRROR | Rule.FIRST | Rule.UNMET
-STELLA = MAME | Rule.COMB | Rule.SCORE | Rule.LATE_BLANK
+MAME = Rule.WIDE | Rule.GRAPHIC | Rule.ENABLE | Rule.PLAYFIELD | Rule.MIRROR | Rule.FIRST | Rule.UNMET | Rule.NEXT_COMB
+STELLA = MAME | Rule.COMB | Rule.BALL | Rule.RELEASE | Rule.SCORE | Rule.LATE_BLANK
 
 
 class Write(NamedTuple):
@@ -85,10 +88,11 @@ class Tia:
 
     def __init__(self, rules: Rule) -> None:
         self.rules = rules
-        self.kept = [0] * 66
+        self.kept = [0] * 67
         self.at = [0] * 5  # the positions of players, missiles and ball
         self.old = [0, 0, 0]  # the old graphics and the ball's old enable
         self.hidden = [0] * 4  # up to which clock the first copy of a player or a missile isn't shown
+        self.gone: dict[tuple[int, int], set[int]] = {}  # pixels in which a missile isn't shown, by its number and the line
         self.clock, self.comb, self.met = 0, -1, 0  # the comb's line
         self.later: list[tuple[int, int, int]] = []  # what writes do later: the clock, the register, the byte
         self.lines: dict[int, bytearray] = {}
@@ -97,7 +101,7 @@ class Tia:
 
     def look(self) -> tuple[object, ...]:
         """All that a line depends on."""
-        kept, at = self.kept, self.at
+        kept, at, line = self.kept, self.at, self.clock // LINE
         modes = [kept[NUSIZ + it % 2] & 7 for it in range(4)]
         hides = [self.hidden[it] > self.clock for it in range(4)]
         shapes = []
@@ -108,9 +112,10 @@ class Tia:
         for it in (0, 1):
             is_shown = kept[ENAM + it] & 2 and not kept[RESMP + it] & 2
             size = 1 << (kept[NUSIZ + it] >> 4 & 3)
-            shapes.append(block(at[2 + it], modes[it], size, hides[2 + it]) if is_shown else frozenset())
+            shape = block(at[2 + it], modes[it], size, hides[2 + it]) if is_shown else frozenset()
+            shapes.append(shape - self.gone[it, line] if (it, line) in self.gone else shape)
         ball = self.old[2] if kept[VDELBL] & 1 else kept[ENABL]
-        shapes.append(block(at[4], 0, 1 << (kept[CTRLPF] >> 4 & 3), False) if ball & 2 else frozenset())
+        shapes.append(block(at[4], 0, 1 << kept[BALL_SIZE], False) if ball & 2 else frozenset())
         shapes.append(playfield(kept[PF0] & 0xF0, kept[PF0 + 1], kept[PF0 + 2], bool(kept[MIRROR_BIT])))
         return (*shapes, *(it & 0xFE for it in kept[COLUP : COLUBK + 1]), kept[CTRLPF] & 6)
 
@@ -142,7 +147,7 @@ class Tia:
             end = min(until - LINE * line, LINE)
             first, last = max(h - BLANK, 0), max(end - BLANK, 0)
             if first < last:
-                row, is_blanked = self.now or self.row(), self.kept[VBLANK] & 2
+                row, is_blanked = (not self.gone and self.now) or self.row(), self.kept[VBLANK] & 2
                 self.now, shown = row, max(first, 8) if self.comb == line else first
                 if row.meets and not (is_blanked and Rule.UNMET in self.rules):
                     for pairs in set(row.met[shown if Rule.COMB in self.rules else first : last]):
@@ -170,6 +175,8 @@ class Tia:
             return clock + (Rule.ENABLE in rules)
         if register == VBLANK:
             return clock + (Rule.LATE_BLANK in rules)
+        if register == BALL_SIZE:
+            return clock + (Rule.BALL in rules)
         if PF0 <= register <= PF0 + 2 and Rule.PLAYFIELD in rules:
             return clock + 2 + (-(x + 2) % 4 if x + 2 > 0 else 0)
         if register == MIRROR_BIT and Rule.MIRROR in rules and x > WIDTH // 2:
@@ -183,12 +190,24 @@ class Tia:
         if RESP0 <= register < RESBL and Rule.FIRST in self.rules and self.clock % LINE >= BLANK:
             self.hidden[register - RESP0] = self.clock + LINE
             self.later.append((self.clock + LINE, FIRST_COPY, 0))
-        for what, value in ((register, byte), (MIRROR_BIT, byte & 1))[: 2 if register == CTRLPF else 1]:
+        for what, value in ((register, byte), (MIRROR_BIT, byte & 1), (BALL_SIZE, byte >> 4 & 3))[: 3 if register == CTRLPF else 1]:
             if (at := self.acts_at(what)) == self.clock:
                 self.act(what, value)
             else:
                 self.later.append((at, what, value))
         self.later.sort()
+
+    def release(self, it: int) -> None:
+        """Notes the pixels in which a released missile isn't shown: those of copies that began before, or begin too soon."""
+        line, x = self.clock // LINE, max(self.clock % LINE - BLANK, 0)
+        nusiz = self.kept[NUSIZ + it]
+        self.gone = {key: those for key, those in self.gone.items() if key[1] >= line}
+        for begin in ((self.at[2 + it] + copy) % WIDTH for copy in COPIES[nusiz & 7]):
+            for pixel in range(begin, begin + (1 << (nusiz >> 4 & 3))):
+                if begin < x + 5:
+                    self.gone.setdefault((it, line + pixel // WIDTH), set()).add(pixel % WIDTH)
+                if pixel >= WIDTH:
+                    self.gone.setdefault((it, line), set()).add(pixel - WIDTH)
 
     def act(self, register: int, byte: int) -> None:
         """What a write does, at this clock."""
@@ -200,6 +219,7 @@ class Tia:
             motions = [it >> 4 for it in kept[HMP0 : HMP0 + 5]]
             self.at = [(it - (motion if motion < 8 else motion - 16)) % WIDTH for it, motion in zip(self.at, motions)]
             self.comb = self.clock // LINE if h < BLANK else self.comb
+            self.comb = self.clock // LINE + 1 if h >= LINE - 6 and Rule.NEXT_COMB in self.rules else self.comb
         elif register == HMCLR:
             kept[HMP0 : HMP0 + 5] = [0] * 5
         elif register == GRP0:
@@ -209,6 +229,8 @@ class Tia:
         elif register in (RESMP, RESMP + 1) and kept[register] & 2 and not byte & 2:
             it = register - RESMP
             self.at[2 + it] = (self.at[it] + 4 * SIZES[kept[NUSIZ + it] & 7]) % WIDTH
+            if Rule.RELEASE in self.rules:
+                self.release(it)
         elif register == CXCLR:
             self.met = 0
         kept[register] = byte
