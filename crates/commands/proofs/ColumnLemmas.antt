@@ -1,5 +1,5 @@
 -- Numbers in columns.
-use Rattle.std.proofs.Common.{◌≡◌, ℕ, ◌-◌, ◌^◌, List, [], ◌++◌, length, false, refl, ap, ◌∙◌, arith, append-nil}
+use Rattle.std.proofs.Common.{◌≡◌, ℕ, ◌-◌, ◌^◌, List, [], ◌++◌, length, false, ap, ◌∙◌, arith, append-nil}
 use Rattle.std.specs.Fmt.{format_spec, padded_integral, char_count}
 use Rattle.std.proofs.lemmas.Str.{encode_ascii}
 use Rattle.commands.specs.Columns.{blanks, right}

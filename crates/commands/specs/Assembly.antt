@@ -1,6 +1,6 @@
 -- Instructions as an assembler writes them: the names and the forms of operands are those of the MOS
 -- MCS6500 programming manual.
-use Rattle.std.specs.Prelude.{ℕ, ◌+◌, ◌*◌, ◌%◌, pos, ◌+ℤ◌, List, [], ◌∷◌, ◌++◌, codes}
+use Rattle.std.specs.Prelude.{ℕ, ◌+◌, ◌*◌, ◌%◌, pos, ◌+ℤ◌, List, [], ◌++◌, codes}
 use Rattle.mos_cpu.specs.Numbers.{modulo, signed}
 use Rattle.mos_cpu.specs.declared.mode.Mode.{Mode}
 use Rattle.mos_cpu.specs.declared.mode.Mode.TheVariants.{Implied, Accumulator, Immediate, ZeroPage}

@@ -1,5 +1,5 @@
 -- What each command does: the one table of commands and their answers. This project's own.
-use Rattle.std.specs.Prelude.{◌≡◌, ◌⊎◌, ◌≤◌, ℕ, List, [], Option}
+use Rattle.std.specs.Prelude.{◌≡◌, ◌≤◌, ℕ, List, [], Option}
 use Rattle.std.specs.NonZero.{non_zero_u32_get}
 use Rattle.std.specs.Io.KnownBytes.{Keeps}
 use Rattle.command_line.specs.Program.{program_name}

@@ -70,7 +70,16 @@ pub fn run_command<
         Command::Verify { plan } => run(rt, alloc, input, plan, text, file, gate),
         Command::Report { workers, notation } => {
             let plan = Plan::without_pictures(*workers);
-            run_report(rt, alloc, input, &plan, *notation, program_name(), text, gate)
+            run_report(
+                rt,
+                alloc,
+                input,
+                &plan,
+                *notation,
+                program_name(),
+                text,
+                gate,
+            )
         }
         Command::Make { form, every, .. } => {
             run_make(alloc, input, *form, inputs, every.get(), file, text)

@@ -8,16 +8,16 @@ ghost use Rattle.commands.specs.declared.line.Line.TheVariants.{Cut};
 ghost use Rattle.commands.specs.Streams.{ReadsAll, WritesPart, IsTooLong};
 ghost use Rattle.commands.specs.Cut.{Cuts, CutsOf};
 
-use crate::cutting::{CutError, cut};
-use movie_file::{Movie, MovieError, read_movie};
-use std::alloc::{AllocError, Global};
-use std::io::{Read, Write};
-use std::num::NonZeroU32;
 use crate::answer::Answer;
+use crate::cutting::{CutError, cut};
 use crate::line::Line;
 use crate::run_error::RunError;
 use crate::status::Status;
 use crate::streams::read_all;
+use movie_file::{Movie, MovieError, read_movie};
+use std::alloc::{AllocError, Global};
+use std::io::{Read, Write};
+use std::num::NonZeroU32;
 
 /// What is written of a cut.
 fn of_cut(alloc: Global, cut: &Movie) -> Result<Answer, AllocError>

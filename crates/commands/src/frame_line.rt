@@ -10,6 +10,7 @@ ghost use Rattle.run_cursor.specs.RunFaults.{FrameFails};
 ghost use Rattle.commands.specs.Frames.{byte_text, checkpoint_text, digests_text};
 ghost use Rattle.commands.specs.Frames.{ended_line, frame_line};
 
+use crate::line::Line;
 use hex::encode;
 use movie_file::{Movie, write_state};
 use picture_file::{HEADER_BYTES, ROW_BYTES, ppm};
@@ -17,7 +18,6 @@ use replay_plan::{Details, Watches};
 use run_cursor::Cursor;
 use sha2::{Digest, Sha256};
 use std::alloc::{AllocError, Global};
-use crate::line::Line;
 use vcs_machine::{FrameError, HexByte, Picture, State, TimedFrame};
 
 /// What a line says of the checkpoint after its frame, if one stands there. `next` is the index of the

@@ -1,5 +1,5 @@
 //! From the bytes of a movie to a line for each of some of its frames.
-ghost use Rattle.std.specs.Prelude.{◌≡◌, ◌≢◌, ◌≤◌, ◌<◌, ◌+◌, ◌-◌, ◌^◌, ◌⊎◌, List, ℕ, length, Ok, Some, IfOk};
+ghost use Rattle.std.specs.Prelude.{◌≡◌, ◌≢◌, ◌≤◌, ◌<◌, ◌+◌, ◌-◌, ◌⊎◌, List, ℕ, length, Ok, IfOk};
 ghost use Rattle.std.specs.Prelude.{IfErr, OnOk, OnErr};
 ghost use Rattle.std.specs.Io.KnownBytes.{Appends, Keeps};
 ghost use Rattle.std.specs.NonZero.{non_zero_u32_get};
@@ -14,7 +14,11 @@ ghost use Rattle.commands.specs.Stretches.{Ends, frames_asked, from_frames, last
 
 use crate::frame_line::played_line;
 use crate::last_line::write_last;
+use crate::line::Line;
+use crate::run_error::RunError;
+use crate::status::Status;
 use crate::stop::{Stop, WriteError};
+use crate::streams::read_all;
 use crate::stretch::{cursor_after, frames_asked};
 use movie_file::{Movie, MovieError, read_movie};
 use picture_file::write_bytes;
@@ -24,10 +28,6 @@ use run_cursor::Cursor;
 use std::alloc::Global;
 use std::io::{Read, Write};
 use std::num::NonZeroU32;
-use crate::line::Line;
-use crate::run_error::RunError;
-use crate::status::Status;
-use crate::streams::read_all;
 
 /// Writes the lines of the frames that follow, each as soon as it is played. It takes the memory of
 /// one frame at a time.

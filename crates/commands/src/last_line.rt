@@ -4,11 +4,11 @@ ghost use Rattle.std.specs.Io.KnownBytes.{Appends, Keeps};
 ghost use Rattle.picture_file.specs.Prefixes.{AppendsPrefix};
 ghost use Rattle.commands.specs.Lines.{line_bytes};
 
+use crate::line::Line;
 use crate::stop::WriteError;
 use picture_file::write_bytes;
 use std::alloc::Global;
 use std::io::Write;
-use crate::line::Line;
 
 /// Writes a line as the last one.
 pub(crate) fn write_last<L: Write>(

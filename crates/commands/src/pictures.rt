@@ -1,5 +1,5 @@
 //! From the bytes of a movie to the pictures of some of its frames.
-ghost use Rattle.std.specs.Prelude.{◌≡◌, ◌≢◌, ◌≤◌, ◌<◌, ◌+◌, ◌-◌, ◌⊎◌, List, ℕ, [], ◌∷◌, length, Ok, Some, IfOk, IfErr};
+ghost use Rattle.std.specs.Prelude.{◌≡◌, ◌≢◌, ◌≤◌, ◌<◌, ◌+◌, ◌-◌, ◌⊎◌, List, ℕ, length, Ok, IfOk, IfErr};
 ghost use Rattle.std.specs.Prelude.{OnOk, OnErr};
 ghost use Rattle.std.specs.Io.KnownBytes.{Appends, Keeps};
 ghost use Rattle.std.specs.NonZero.{non_zero_u32_get};
@@ -15,7 +15,11 @@ ghost use Rattle.commands.specs.Private.Stops.{StopsWriting, picture_of_frame};
 ghost use Rattle.commands.specs.Pictures.{AppendsSome, Draws, DrawsOf};
 ghost use Rattle.commands.specs.Stretches.{Ends, frames_asked, from_frames, last_asked};
 
+use crate::line::Line;
+use crate::run_error::RunError;
+use crate::status::Status;
 use crate::stop::{Stop, WriteError};
+use crate::streams::read_all;
 use crate::stretch::{cursor_after, frames_asked};
 use movie_file::{Movie, MovieError, read_movie};
 use picture_file::{WriteFault, ppm, write_bytes};
@@ -23,10 +27,6 @@ use run_cursor::Cursor;
 use std::alloc::Global;
 use std::io::{Read, Write};
 use std::num::NonZeroU32;
-use crate::line::Line;
-use crate::run_error::RunError;
-use crate::status::Status;
-use crate::streams::read_all;
 use vcs_machine::{FrameError, Picture};
 
 /// Plays the next frame, with its picture.

@@ -1,9 +1,9 @@
 //! Why what is asked for of a run is not all written.
 ghost use Rattle.std.specs.Prelude.{◌≡◌};
 
+use crate::run_error::RunError;
 use picture_file::WriteFault;
 use run_cursor::RunFault;
-use crate::run_error::RunError;
 use vcs_machine::{FaultKind, FrameError};
 
 /// Why nothing more is written of the frames of a run.

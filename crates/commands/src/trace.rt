@@ -14,18 +14,18 @@ ghost use Rattle.commands.specs.Private.Tracing.{stop_at};
 ghost use Rattle.commands.specs.Trace.{AppendsInstructions, Traces, TracesOf, lines_of};
 
 use crate::last_line::write_last;
+use crate::line::Line;
+use crate::run_error::RunError;
+use crate::status::Status;
 use crate::stop::WriteError;
+use crate::streams::read_all;
 use crate::stretch::cursor_after;
+use crate::trace_line::trace_line;
 use movie_file::{Movie, MovieError, read_movie};
 use picture_file::write_bytes;
 use std::alloc::Global;
 use std::io::{Read, Write};
 use std::num::NonZeroU32;
-use crate::trace_line::trace_line;
-use crate::line::Line;
-use crate::run_error::RunError;
-use crate::status::Status;
-use crate::streams::read_all;
 use vcs_machine::{Executed, FaultKind, State, Stepping};
 
 /// Writes the line of an instruction.

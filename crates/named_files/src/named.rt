@@ -8,9 +8,9 @@ ghost use Rattle.named_files.specs.declared.file_error.Reason.TheVariants.{Syste
 
 use crate::file_error::{FileError, Reason};
 use crate::replacing::Replacing;
+use commands::INPUT_LIMIT;
 use std::io::{self, Read, Write};
 use std::rt::Files;
-use commands::INPUT_LIMIT;
 
 /// A file or a standard stream with its name, which remembers how many bytes were read of it, and
 /// why it failed last.

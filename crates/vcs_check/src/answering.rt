@@ -188,12 +188,7 @@ fn answer<
 }
 
 /// Makes a movie of the files of a cartridge and of these inputs.
-fn make<
-    'a,
-    R: Files + Threads + Wait + Sync + AllocGlobal,
-    W: Write,
-    G: CountedGate + Sync,
->(
+fn make<'a, R: Files + Threads + Wait + Sync + AllocGlobal, W: Write, G: CountedGate + Sync>(
     rt: &R,
     line: &'a CommandLine,
     inputs: &'a str,
@@ -219,12 +214,7 @@ fn make<
 }
 
 /// Does what a command asks for with the movie of a file.
-fn answer_file<
-    'a,
-    R: Files + Threads + Wait + Sync + AllocGlobal,
-    W: Write,
-    G: CountedGate + Sync,
->(
+fn answer_file<'a, R: Files + Threads + Wait + Sync + AllocGlobal, W: Write, G: CountedGate + Sync>(
     rt: &R,
     line: &'a CommandLine,
     text: &mut W,
@@ -240,7 +230,15 @@ fn answer_file<
         Some(_) => Some(Identity::of(&movie)?),
         None => None,
     };
-    match answer(rt, line, &mut movie, &mut io::empty(), identity.as_slice(), text, gate) {
+    match answer(
+        rt,
+        line,
+        &mut movie,
+        &mut io::empty(),
+        identity.as_slice(),
+        text,
+        gate,
+    ) {
         Ok(status) => Ok(status),
         Err(failure) => Err(failure.by_input(movie.file_error())),
     }
@@ -269,7 +267,15 @@ fn answer_standard_input<
         Some(_) => Some(Identity::of_standard_input(rt)?),
         None => None,
     };
-    answer(rt, line, input, &mut io::empty(), identity.as_slice(), text, gate)
+    answer(
+        rt,
+        line,
+        input,
+        &mut io::empty(),
+        identity.as_slice(),
+        text,
+        gate,
+    )
 }
 
 /// Whether a command reads standard input: `-` is no name of a cartridge, nor of what `convert`

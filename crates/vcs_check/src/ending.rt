@@ -5,12 +5,12 @@ ghost use Rattle.vcs_check.specs.Endings.{IsReported, exit_code};
 
 use crate::failure::Failure;
 use command_line::LineFault;
+use commands::RunError;
 use named_files::{FileError, Quota, Reason, STANDARD_OUTPUT, sync_standard_output};
 use std::io::{self, Eprint, IsTerminal, Print};
 use std::process::ExitCode;
 use std::rt::Files;
 use thiserror::Error;
-use commands::RunError;
 
 /// The exit status of arguments that are no command.
 const USAGE: u8 = 4;

@@ -2,9 +2,9 @@
 ghost use Rattle.std.specs.Prelude.{◌≡◌};
 ghost use Rattle.vcs_check.specs.Private.FileErrors.{by_input, by_output, file_error_of};
 
+use commands::RunError;
 use named_files::{CreateError, FileError};
 use thiserror::Error;
-use commands::RunError;
 
 /// Why a command did not reach its end, as the program prints it after `error: `.
 #[derive(Clone, Copy, Debug, Error)]

@@ -1,11 +1,11 @@
 //! How far a judgement has come, on a terminal.
 
+use commands::{CountedGate, Gate, Ticket};
 use replay_segments::Piece;
 use std::io::Eprint;
 use std::rt::Clock;
 use std::sync::{Mutex, Wait};
 use terminal_text::{Notice, Stage};
-use commands::{CountedGate, Gate, Ticket};
 
 /// A gate that tells a stage what comes, and writes on standard error what the stage answers. A
 /// worker waits for another while that one counts, and not while it writes.

@@ -3,6 +3,7 @@
 
 use crate::answering::reads_standard_input;
 use command_line::{Command, CommandLine};
+use commands::{InputForm, Status, read_all};
 use movie_file::{read_inputs, read_movie};
 use movie_hints::{Hint, hint_of, hint_of_claims, hint_of_inputs, hint_of_rom, hint_of_text};
 use named_files::STANDARD_INPUT;
@@ -13,7 +14,6 @@ use std::io::{Eprint, IsTerminal};
 use std::num::NonZeroU32;
 use std::rt::Files;
 use terminal_text::Shown;
-use commands::{InputForm, Status, read_all};
 
 /// What a file holds, if it is a regular file, which can be read again.
 fn read_again<R: Files + AllocGlobal>(rt: &R, path: &str) -> Option<Vec<u8>> {

@@ -14,11 +14,10 @@ returns-in-Err g c =
     let one = c.file_error.result in
     let other = c.file_error-in-Err.result in
     let failure = c.in-Err.failure in
-    let quiet = c.in-Err.ensures.quiet in
-    (
+    let quiet = c.in-Err.ensures.quiet in (
       Err c.by_output-failure.result,
       grind (arith, c.report-in-Err.ensures),
       tt,
       rw (c.by_output-failure.ensures, c.by_input.ensures) (λ written few. quiet
-      (λ is. written (write_fault_stays failure one other is)) (λ is. few (no_memory_stays failure one other is))),
+          (λ is. written (write_fault_stays failure one other is)) (λ is. few (no_memory_stays failure one other is))),
     )

@@ -1,4 +1,4 @@
-use Rattle.std.proofs.Common.{◌≡◌, IfOk, codes, List, ◌++◌, ap, string_bytes}
+use Rattle.std.proofs.Common.{◌≡◌, IfOk, codes, ◌++◌, ap, string_bytes}
 use Rattle.mos_cpu.specs.Opcodes.{row_of}
 use Rattle.mos_cpu.specs.Registers.{Registers}
 use Rattle.vcs_machine.specs.Faults.{hex4}

@@ -1,4 +1,4 @@
-use Rattle.std.proofs.Common.{rules, ◌≡◌, ◌++◌, codes, List, [], ap, ◌∙◌, ℕ, ◌-◌, ◌^◌, false}
+use Rattle.std.proofs.Common.{rules, ◌++◌, codes, List, [], ap, ◌∙◌, ℕ, ◌-◌, ◌^◌, false}
 use Rattle.std.proofs.Output.{has_written_of_eq}
 use Rattle.std.specs.Fmt.{decimal, format_spec, padded_integral}
 use Rattle.commands.specs.Columns.{right}
