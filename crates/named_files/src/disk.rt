@@ -1,6 +1,7 @@
 //! Whether what was written is on the disk. A quota or a full disk may show only when that is asked.
-use std::fs::OpenFile;
+use std::fs::{self, OpenFile, OpenOptions};
 use std::io::{self, ErrorKind};
+use std::rt::Files;
 
 /// Whether the system can't sync a file of this kind, as a pipe, and so says nothing of its bytes.
 fn is_never_synced(error: io::Error) -> bool {
@@ -23,11 +24,14 @@ pub(crate) fn sync<F: OpenFile>(file: &F) -> io::Result<()> {
     settled(file.sync_all())
 }
 
-/// The same of standard output.
-pub fn sync_standard_output() -> io::Result<()> {
-    if libc::fsync(libc::STDOUT_FILENO) < 0 {
-        settled(Err(io::Error::from_raw_os_error(os::errno())))
-    } else {
-        Ok(())
+/// The same of standard output, which is opened a second time for it, if it is a file that has a name.
+pub fn sync_standard_output<R: Files>(rt: &R) -> io::Result<()> {
+    match fs::metadata(rt, "/dev/stdout") {
+        Ok(metadata) if metadata.is_file() => {}
+        _ => return Ok(()),
+    }
+    match OpenOptions::new().write(true).open(rt, "/dev/stdout") {
+        Ok(file) => sync(&file),
+        Err(_) => Ok(()),
     }
 }

@@ -192,7 +192,7 @@ impl<'a, R: Files> Replacing<'a, R> {
     ) -> Result<Replacing<'a, R>, AllocError> {
         let metadata = output.metadata();
         let quota = match &metadata {
-            Ok(metadata) if metadata.is_file() => Quota::after(0),
+            Ok(metadata) if metadata.is_file() => Quota::after(rt, 0),
             _ => Quota::UNLIMITED,
         };
         let paths = match metadata {

@@ -5,41 +5,32 @@ ghost use Rattle.std.specs.Io.{WritesAtMost};
 ghost use Rattle.std.specs.Io.KnownBytes.{WriteAppends};
 ghost use Rattle.named_files.specs.FileErrors.{HasRoom, left_after, within_quota};
 
-use libc::types::rlimit;
-use std::io::{self, Write};
+use std::io::{self, Read, Write};
 use std::rt::Files;
 use std::{fmt, fs};
 
 /// The system's number of the error that a file would be too large.
 const TOO_LARGE: i32 = 27;
 
-/// The system's number of the limit on the size of files.
-const FILE_SIZE: i32 = 1;
-
-/// The bytes that a file may have, if there is a limit.
-fn size_limit() -> Option<u64> {
-    let mut limit = rlimit {
-        rlim_cur: 0,
-        rlim_max: 0,
-    };
-    let is_known = libc::getrlimit(FILE_SIZE, &mut limit) == 0;
-    if is_known && limit.rlim_cur != u64::MAX {
-        Some(limit.rlim_cur)
-    } else {
-        None
-    }
-}
-
-/// How many bytes the file has that is open under a number, if it is a file that keeps them, which
-/// only those are that can be synced. For a system without `/proc`, where it has no name.
-fn length_by_number(number: i32) -> Option<u64> {
-    let place = libc::lseek(number, 0, libc::SEEK_CUR);
-    if place < 0 || libc::fsync(number) < 0 {
+/// The bytes that a file may have, if there is a limit. A system that has no such file as is read
+/// here says nothing of one.
+fn size_limit<R: Files>(rt: &R) -> Option<u64> {
+    let mut buffer = [0u8; 2048];
+    let Ok(mut file) = fs::open(rt, "/proc/self/limits") else {
         return None;
+    };
+    let Ok(length) = file.read(&mut buffer) else {
+        return None;
+    };
+    let Ok(text) = str::from_utf8(&buffer[..length]) else {
+        return None;
+    };
+    for line in text.lines() {
+        if let Some(numbers) = line.strip_prefix("Max file size") {
+            return numbers.split_ascii_whitespace().next()?.parse::<u64>().ok();
+        }
     }
-    let end = libc::lseek(number, 0, libc::SEEK_END);
-    let _place = libc::lseek(number, place, libc::SEEK_SET);
-    u64::try_from(end).ok()
+    None
 }
 
 /// How many bytes may still be written to a file, if there is a limit.
@@ -53,36 +44,28 @@ impl Quota {
     pub const UNLIMITED: Quota = Quota { left: None };
 
     /// Of a regular file in which so many bytes come before.
-    pub fn after(bytes: u64) -> Quota {
+    pub fn after<R: Files>(rt: &R, bytes: u64) -> Quota {
         Quota {
-            left: size_limit().map(|limit| limit.saturating_sub(bytes)),
+            left: size_limit(rt).map(|limit| limit.saturating_sub(bytes)),
         }
     }
 
-    /// Of a standard stream that is written, by its name and its number.
-    fn of_stream<R: Files>(rt: &R, name: &str, number: i32) -> Quota {
-        if size_limit().is_none() {
-            return Quota::UNLIMITED;
-        }
-        let length = match fs::metadata(rt, name) {
-            Ok(metadata) if metadata.is_file() => Some(metadata.len()),
-            Ok(_) => None,
-            Err(_) => length_by_number(number),
-        };
-        match length {
-            Some(length) => Quota::after(length),
-            None => Quota::UNLIMITED,
+    /// Of the file of this name, a standard stream that is written.
+    fn of_stream<R: Files>(rt: &R, name: &str) -> Quota {
+        match fs::metadata(rt, name) {
+            Ok(metadata) if metadata.is_file() => Quota::after(rt, metadata.len()),
+            _ => Quota::UNLIMITED,
         }
     }
 
     /// Of standard output.
     pub fn of_standard_output<R: Files>(rt: &R) -> Quota {
-        Quota::of_stream(rt, "/dev/stdout", libc::STDOUT_FILENO)
+        Quota::of_stream(rt, "/dev/stdout")
     }
 
     /// Of standard error.
     pub fn of_standard_error<R: Files>(rt: &R) -> Quota {
-        Quota::of_stream(rt, "/dev/stderr", libc::STDERR_FILENO)
+        Quota::of_stream(rt, "/dev/stderr")
     }
 
     /// Takes the room of so many bytes, if it is there.

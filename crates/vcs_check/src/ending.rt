@@ -53,7 +53,7 @@ fn print_whole<R: Files + Print>(rt: &R, text: &str) -> io::Result<()> {
         return Err(io::Error::from_raw_os_error(TOO_LARGE));
     }
     print!(rt; "{text}")?;
-    sync_standard_output()
+    sync_standard_output(rt)
 }
 
 impl Ending<'_> {

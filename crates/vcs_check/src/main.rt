@@ -86,7 +86,7 @@ fn carry_out<
         × KeepsQuiet line.now.command (W.contents text.old.stream) (W.contents text.new.stream) answer }
 {
     match answer_line(rt, line, input, text, gate) {
-        Ok(status) => match sync_standard_output() {
+        Ok(status) => match sync_standard_output(rt) {
             Ok(()) => {
                 remark(rt, standard_error, line, input.length(), status);
                 ExitCode::from(status.code())
