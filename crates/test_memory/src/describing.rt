@@ -2,10 +2,10 @@
 
 use crate::failure::{Failure, right};
 use crate::movies::two_frames;
+use commands::{RunError, Status, run_frames};
 use replay_plan::{Address, Details, Watches};
 use std::alloc::Global;
 use std::num::NonZeroU32;
-use commands::{RunError, Status, run_frames};
 
 /// The room for two lines with digests.
 const ROOM: usize = 512;

@@ -6,13 +6,16 @@ use crate::movies::{
     CONVERTED_LENGTH, LENGTH, conversion, two_frames, two_frames_to_the_end,
     two_frames_with_a_false_claim,
 };
+use commands::{
+    InputForm, NoGate, Notation, RunError, Status, run, run_convert, run_cut, run_info,
+    run_information, run_inputs, run_make, run_pictures, run_report,
+};
 use replay_plan::{Keep, Plan, Workers};
 use std::alloc::Global;
 use std::io::{self, Read};
 use std::num::NonZeroU32;
 use std::sync::Wait;
 use std::thread::Threads;
-use commands::{InputForm, NoGate, Notation, RunError, Status, run, run_convert, run_cut, run_info, run_information, run_inputs, run_make, run_pictures, run_report};
 
 /// The room for a line.
 const ROOM: usize = 64;

@@ -1,11 +1,11 @@
 //! Why a call is not right.
 
+use commands::RunError;
 use movie_file::{MakeError, MovieError};
 use replay_plan::BadKeep;
 use replay_segments::{BadCuts, GatherError};
 use std::alloc::{AllocError, AllocFailed};
 use thiserror::Error;
-use commands::RunError;
 use verify_pool::{NoThread, VerifyError};
 
 /// Why a call is not right, or not with a growth of its own refused.

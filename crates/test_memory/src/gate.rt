@@ -1,8 +1,8 @@
 //! A gate that counts its calls.
 
+use commands::CountedGate;
 use replay_segments::Piece;
 use std::sync::atomic::{AtomicU64, Ordering};
-use commands::CountedGate;
 use verify_pool::{Gate, Ticket};
 
 /// A gate that counts the judgements that begin and those that end.

@@ -25,6 +25,7 @@ mod tracing;
 mod workers;
 mod wrong_movies;
 
+use commands::InputForm;
 use failure::Failure;
 use growths::{REFUSED, grow};
 use std::alloc::Global;
@@ -32,7 +33,6 @@ use std::io::{self, Print, Read};
 use std::process::ExitCode;
 use std::sync::Wait;
 use std::thread::Threads;
-use commands::InputForm;
 use wrong_movies::WrongMovie;
 
 /// Tries a call about a movie or its segments; none has another name.

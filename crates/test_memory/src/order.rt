@@ -3,11 +3,11 @@
 
 use crate::failure::{Failure, OUT_OF_MEMORY};
 use crate::movies::{LENGTH, cartridge, two_frames};
+use commands::{RunError, Status, run_cut};
 use movie_file::{MakeError, MovieError, make_movie, read_inputs, read_movie};
 use std::alloc::Global;
 use std::io;
 use std::num::NonZeroU32;
-use commands::{RunError, Status, run_cut};
 use vcs_machine::{FrameError, Input, State, frame};
 
 /// The movie of two frames with 02, which is no opcode, where its program begins.

@@ -3,9 +3,9 @@
 use crate::describing::is_whole_lines;
 use crate::failure::{Failure, right};
 use crate::movies::two_frames;
+use commands::{RunError, Status, run_trace};
 use std::alloc::Global;
 use std::num::NonZeroU32;
-use commands::{RunError, Status, run_trace};
 
 /// The room for the lines.
 const ROOM: usize = 512;

@@ -3,10 +3,10 @@
 use crate::devices::{FailingReader, FailingWriter};
 use crate::expectation::expect_equal;
 use crate::movies::{first_of_two_false, two_frames};
+use commands::{RunError, Status, run_frames};
 use replay_plan::{Address, Details, Watches};
 use std::num::NonZeroU32;
 use std::test::Fail;
-use commands::{RunError, Status, run_frames};
 
 /// Of three frames, whose first checkpoint is false; the byte at 80 is told twice.
 const LINES: &str = "frame 1: 13 cycles, 1 rows, checkpoint 1 false, memory 80 02, memory 80 02

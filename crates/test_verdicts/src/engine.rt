@@ -4,6 +4,7 @@ use crate::devices::{FailingReader, FailingWriter, Zeros};
 use crate::expectation::expect_equal;
 use crate::gates::Counting;
 use crate::movies::{ENDLESS_FRAMES, run_of, two_frames};
+use commands::{NoGate, RunError, Status, rgb, run};
 use movie_file::write_movie;
 use replay_plan::{Keep, Plan, Workers};
 use std::alloc::Global;
@@ -12,7 +13,6 @@ use std::num::NonZeroU16;
 use std::sync::Wait;
 use std::test::Fail;
 use std::thread::Threads;
-use commands::{NoGate, RunError, Status, rgb, run};
 
 /// Two workers, and a cut at each checkpoint.
 fn plan() -> Plan {

@@ -1,9 +1,9 @@
 //! Gates that note which segments are replayed, and hold workers for a while.
 
+use commands::CountedGate;
 use replay_segments::Piece;
 use std::sync::atomic::{AtomicU64, Ordering};
 use std::thread;
-use commands::CountedGate;
 use verify_pool::{Gate, Ticket};
 
 /// How often the workers at a gate look, all together, before it gives up.

@@ -1,8 +1,8 @@
 //! Lines as the page of commands spells them.
 
 use crate::expectation::expect_equal;
-use std::test::Fail;
 use commands::{Line, Status};
+use std::test::Fail;
 use vcs_machine::FaultKind;
 
 #[test]

@@ -3,10 +3,10 @@
 use crate::devices::{FailingReader, FailingWriter};
 use crate::expectation::expect_equal;
 use crate::movies::{first_of_two_false, two_frames, two_frames_with_a_last_checkpoint};
+use commands::{RunError, Status, run_cut, run_pictures};
 use std::io;
 use std::num::NonZeroU32;
 use std::test::Fail;
-use commands::{RunError, Status, run_cut, run_pictures};
 
 /// The length of a picture of one row.
 const PICTURE: u64 = 13 + 480;

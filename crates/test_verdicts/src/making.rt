@@ -4,10 +4,10 @@
 use crate::devices::{FailingReader, FailingWriter, Zeros};
 use crate::expectation::expect_equal;
 use crate::movies::{ENDLESS_FRAMES, rom, two_frames_with_a_last_checkpoint};
+use commands::{InputForm, RunError, Status, run_info, run_make};
 use std::alloc::Global;
 use std::io;
 use std::test::Fail;
-use commands::{InputForm, RunError, Status, run_info, run_make};
 
 /// Two idle inputs.
 const TWO_INPUTS: [u8; 6] = [0xFF, 0x3F, 0, 0xFF, 0x3F, 0];

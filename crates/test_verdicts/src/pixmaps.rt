@@ -2,11 +2,11 @@
 
 use crate::expectation::expect_equal;
 use crate::movies::{COLOURED_FRAMES, run_of};
+use commands::{ppm, rgb};
 use replay_plan::Keep;
 use replay_segments::{Verdict, verify_one};
 use std::alloc::Global;
 use std::test::Fail;
-use commands::{ppm, rgb};
 
 /// The red, green and blue of each hue at luminance 0.
 const BASES: [[u8; 3]; 16] = [

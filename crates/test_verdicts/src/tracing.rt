@@ -3,9 +3,9 @@
 use crate::devices::{FailingReader, FailingWriter};
 use crate::expectation::expect_equal;
 use crate::movies::two_frames;
+use commands::{RunError, Status, run_trace};
 use std::num::NonZeroU32;
 use std::test::Fail;
-use commands::{RunError, Status, run_trace};
 
 /// The trace of the second of two frames.
 const LINES: &str = "  0 13  F00A  4C 00 F0  JMP $F000    A=00 X=00 Y=00 S=FF P=06
