@@ -1,6 +1,7 @@
 pub mod AccessTexts
 pub mod BytesRead
 pub mod ColumnLemmas
+pub mod CommandAnswers
 pub mod CutMovies
 pub mod CutParts
 pub mod RunFrames

@@ -17,8 +17,10 @@ use Rattle.picture_file.specs.PictureBytes.{pictures_bytes}
 use Rattle.replay_plan.specs.declared.watches.Details.{Details}
 use Rattle.replay_segments.specs.KeptPictures.{picture_after}
 use Rattle.commands.specs.Frames.{frame_line, played_line}
-use Rattle.commands.specs.Private.Stops.{picture_of_frame}
-use Rattle.commands.specs.Stretches.{from_frames}
+use Rattle.commands.specs.Private.Views.{bytes_shown, picture_of_frame}
+use Rattle.commands.specs.declared.asked.View.{View}
+use Rattle.commands.specs.declared.asked.View.TheVariants.{Line, Picture}
+use Rattle.commands.specs.Asked.{from_frames}
 use Rattle.run_cursor.proofs.CursorLemmas.{none_after}
 
 module _ {X : Type 0} (what : ℕ → List X) (from : ℕ) where
@@ -55,7 +57,7 @@ none_from m of none here f kind fault x le = elim (cases_lt f x) [
   | inr ge ↦ (let same : f ≡ x = omega arith in rw same at (here f kind fault))
 ]
 
-pub no_line : (m : MovieData) (details : Details) → EndsAtFault m (frame_line m details)
+no_line : (m : MovieData) (details : Details) → EndsAtFault m (frame_line m details)
 no_line m details = none_from m (λ x o. played_line m details (x + 1) o (slice_get m.inputs x)) (λ x. refl) here
   where
     here : (f : ℕ) (kind : FaultKind) → FaultsAt m m.start 0 f kind → frame_line m details f ≡ []
@@ -69,8 +71,12 @@ no_line m details = none_from m (λ x o. played_line m details (x + 1) o (slice_
             let is : frame_of m.cart state input ≡ Failed kind left = cc in
             rw is refl
 
-pub no_picture : (m : MovieData) → EndsAtFault m (picture_of_frame m)
+no_picture : (m : MovieData) → EndsAtFault m (picture_of_frame m)
 no_picture m = none_from m (λ x o. pictures_bytes (picture_after m x o)) (λ x. refl) here
   where
     here : (f : ℕ) (kind : FaultKind) → FaultsAt m m.start 0 f kind → picture_of_frame m f ≡ []
     here f kind (state, left, ran, fails) = let none : 0 + f ≡ f = omega arith in let at = rw none at fails in rw (ran, at) refl
+
+pub nothing_shown : (m : MovieData) (view : View) → EndsAtFault m (bytes_shown m view)
+nothing_shown m (Line details) = no_line m details.now
+nothing_shown m Picture = no_picture m

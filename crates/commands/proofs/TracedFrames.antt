@@ -20,25 +20,25 @@ use Rattle.commands.specs.Private.Stops.{of_writing}
 use Rattle.run_cursor.specs.RunFaults.{FaultsWithin}
 use Rattle.commands.specs.declared.stop.WriteError.{WriteError}
 use Rattle.commands.specs.declared.stop.WriteError.TheVariants as writes
-use Rattle.commands.specs.Trace.{BeginsIn, TracesOf, instructions, last_line, status_of}
+use Rattle.commands.specs.Trace.{BeginsIn, Traces, instructions, last_line, status_of}
 use Rattle.commands.specs.declared.line.Line.TheVariants as lines
 use Rattle.commands.proofs.TraceSteps.{lines_begin, stops_later}
 
 module _ (m : MovieData) (frame : ℕ) (state : StateFields) (input : InputData) (begins : BeginsIn m frame state input) where
   -- All instructions, and the line of the frame.
   pub traced : (count : ℕ) (stop : Stop Undrawn) → StopsAfter undrawn_rules (undrawn_of m.cart state input) count stop
-      → TracesOf m frame (status_of stop) (instructions m state input count ++ line_bytes (last_line frame (line_cycle_of state) stop))
+      → Traces m frame (status_of stop) (instructions m state input count ++ line_bytes (last_line frame (line_cycle_of state) stop))
   traced count stop stops = inr (inr (state, input, begins, record { count = count; stop = stop; stops = stops; text_is = refl; status_is = refl }))
 
   pub traced_fault : (count : ℕ) (kind : FaultKind) (here : Machine Undrawn)
       → StopsAfter undrawn_rules (undrawn_of m.cart state input) count (stop_with kind here)
-      → TracesOf m frame statuses.Fault (instructions m state input count ++ line_bytes (lines.Fault frame kind))
+      → Traces m frame statuses.Fault (instructions m state input count ++ line_bytes (lines.Fault frame kind))
   traced_fault count kinds.Overlong here stops = traced count (stop_with kinds.Overlong here) stops
   traced_fault count kind here stops = traced count (stop_with kind here) stops
 
   -- A part of the instructions is a part of the whole.
   pub traced_part : (count : ℕ) (here : Machine Undrawn) → Reaches undrawn_rules (undrawn_of m.cart state input) count here → (a b : Option (List ℕ))
-      → AppendsPrefix a b (instructions m state input count) → (status : Status) × (text : List ℕ) × TracesOf m frame status text × AppendsPrefix a b text
+      → AppendsPrefix a b (instructions m state input count) → (status : Status) × (text : List ℕ) × Traces m frame status text × AppendsPrefix a b text
   traced_part count here reaches a b part =
       let later = stops_later (undrawn_of m.cart state input) here count refl reaches in
       let more = lines_begin (has_banks (length m.cart)) (undrawn_of m.cart state input) count later.count later.later in (
@@ -50,7 +50,7 @@ module _ (m : MovieData) (frame : ℕ) (state : StateFields) (input : InputData)
 
 -- A fault before the frame.
 pub fault_before : (m : MovieData) (frame earlier : ℕ) (kind : FaultKind) → frame ≤ length m.inputs → FaultsWithin m (frame - 1) earlier kind
-    → TracesOf m frame statuses.Fault (line_bytes (lines.Fault earlier kind))
+    → Traces m frame statuses.Fault (line_bytes (lines.Fault earlier kind))
 fault_before m frame earlier kind there within = inr (inl (earlier, kind, there, within, refl, refl))
 
 pub only_write_fault : (e : WriteError) → of_writing e ≡ runs.WriteFault → e ≡ writes.WriteFault

@@ -1,15 +1,14 @@
 -- What is written of the pictures of a run.
-use Rattle.std.proofs.Common.{◌≡◌, ℕ, ◌+◌, ◌-◌, List, [], Option, Some, Result, Ok, Err, refl, sym, ◌∙◌, arith, inl, inr}
+use Rattle.std.proofs.Common.{◌≡◌, ℕ, ◌+◌, ◌-◌, List, Option, Some, refl, sym, arith, inl, inr}
 use Rattle.std.specs.Prelude.{slice_get}
 use Rattle.std.proofs.lemmas.List.{append-nil}
-use Rattle.std.specs.Io.KnownBytes.{Appends, Keeps}
+use Rattle.std.specs.Io.KnownBytes.{Appends}
 use Rattle.vcs_machine.specs.Inputs.{InputData}
 use Rattle.vcs_machine.specs.Outcomes.{Played, frame_of}
 use Rattle.vcs_machine.specs.Pictures.{Rows}
 use Rattle.vcs_machine.specs.declared.fields.StateFields.{StateFields}
 use Rattle.movie_file.specs.Movie.{MovieData}
 use Rattle.movie_file.specs.Run.{run}
-use Rattle.movie_file.specs.declared.error.MovieError.{MovieError}
 use Rattle.picture_file.specs.PictureBytes.{picture_bytes, pictures_bytes}
 use Rattle.picture_file.specs.Prefixes.{AppendsPrefix}
 use Rattle.replay_segments.specs.KeptPictures.{picture_after}
@@ -18,9 +17,9 @@ use Rattle.commands.specs.Answers.{AnswerData}
 use Rattle.commands.specs.Lines.{line_bytes, status_of}
 use Rattle.commands.specs.declared.line.Line.{Line}
 use Rattle.commands.specs.declared.line.Line.TheVariants as lines
-use Rattle.commands.specs.Pictures.{AppendsSome, drawn, Draws, DrawsOf}
-use Rattle.commands.specs.Private.Stops.{picture_of_frame}
-use Rattle.commands.specs.Stretches.{frames_asked, from_frames, pictures_after}
+use Rattle.commands.specs.Pictures.{AppendsPictures, drawn, Draws}
+use Rattle.commands.specs.Private.Views.{picture_of_frame}
+use Rattle.commands.specs.Asked.{frames_asked, from_frames, pictures_after}
 use Rattle.commands.proofs.RunFrames.{frames_flat}
 use Rattle.commands.proofs.WrittenFrames.{asked_ends_or_faults}
 
@@ -38,14 +37,14 @@ module _ (m : MovieData) (first count : ℕ) where
   pictures_are k = frames_flat (λ x. picture_after m x (run m m.start 0 x)) (first - 1) picture_bytes k
 
   module _ (a b : Option (List ℕ)) where
-    pub told : (line : Line) → DrawsOf m first count (drawn m first count line) → Appends a b (first_bytes (frames_asked m first count))
-        → (answer : AnswerData) × DrawsOf m first count answer × (status_of line ≡ answer.status) × (line_bytes line ≡ answer.line)
-        × Appends a b (pictures_bytes answer.pictures)
+    pub told : (line : Line) → Draws m first count (drawn m first count line) → Appends a b (first_bytes (frames_asked m first count))
+        → (answer : AnswerData) × Draws m first count answer × (status_of line ≡ answer.status) × (line_bytes line ≡ answer.text)
+        × Appends a b answer.file
     told line draws written = (drawn m first count line, draws, refl, refl, rw (pictures_are (frames_asked m first count)) written)
 
     -- whatever comes of the run, there is an answer
     pub told_in_part : AppendsPrefix a b (first_bytes (frames_asked m first count))
-        → (answer : AnswerData) × DrawsOf m first count answer × AppendsPrefix a b (pictures_bytes answer.pictures)
+        → (answer : AnswerData) × Draws m first count answer × AppendsPrefix a b answer.file
     told_in_part part =
         let bytes : AppendsPrefix a b (pictures_bytes (pictures_after m (first - 1) (frames_asked m first count))) =
         rw (pictures_are (frames_asked m first count)) part in
@@ -56,17 +55,12 @@ module _ (m : MovieData) (first count : ℕ) where
 
 -- ---- all of them are some
 
-keeps_of_nothing : (a b : Option (List ℕ)) → Appends a b [] → Keeps a b
-keeps_of_nothing (Some xs) (Some ys) h = h ∙ append-nil xs
-keeps_of_nothing a b h = h
-
-all_pictures : (m : MovieData) (first count : ℕ) (answer : AnswerData) → DrawsOf m first count answer
-    → answer.pictures ≡ pictures_after m (first - 1) (frames_asked m first count)
+all_pictures : (m : MovieData) (first count : ℕ) (answer : AnswerData) → Draws m first count answer
+    → answer.file ≡ pictures_bytes (pictures_after m (first - 1) (frames_asked m first count))
 all_pictures m first count answer (inl (ends, is)) = rw is refl
 all_pictures m first count answer (inr (frame, kind, faults, is)) = rw is refl
 
-pub all_are_some : (read : Result MovieData MovieError) (first count : ℕ) (answer : AnswerData) (a b : Option (List ℕ)) → Draws read first count answer
-    → Appends a b (pictures_bytes answer.pictures) → AppendsSome read first count a b
-all_are_some (Ok m) first count answer a b draws written =
+pub all_are_some : (m : MovieData) (first count : ℕ) (answer : AnswerData) (a b : Option (List ℕ)) → Draws m first count answer
+    → Appends a b answer.file → AppendsPictures m first count a b
+all_are_some m first count answer a b draws written =
     (frames_asked m first count, omega arith, rw (all_pictures m first count answer draws) at written)
-all_are_some (Err error) first count answer a b draws written = keeps_of_nothing a b (rw draws at written)

@@ -1,6 +1,6 @@
--- What a command writes of the bytes that it read, and its status. This project's own.
-use Rattle.std.specs.Prelude.{◌≡◌, ℕ, List, [], ◌∷◌, ◌++◌, codes, length}
-use Rattle.vcs_machine.specs.Pictures.{Rows}
+-- What a command answers: its status, the text that it writes, and what it writes to a file. This
+-- project's own.
+use Rattle.std.specs.Prelude.{ℕ, List, [], ◌∷◌, ◌++◌, codes, length}
 use Rattle.movie_file.specs.Movie.{MovieData}
 use Rattle.movie_file.specs.Spelling.{spelling}
 use Rattle.movie_file.specs.MovieError.{refusal_text}
@@ -11,33 +11,28 @@ use Rattle.commands.specs.Lines.{line_bytes, status_of}
 use Rattle.commands.specs.declared.line.Line.{Line}
 use Rattle.commands.specs.declared.line.Line.TheVariants as lines
 use Rattle.commands.specs.declared.status.Status.{Status}
+use Rattle.commands.specs.declared.status.Status.TheVariants as statuses
 
--- A status, a line with its end, the bytes of a movie, and pictures. If no movie or no picture
--- is written, that list is empty.
+-- If nothing is written to a file, that list is empty.
 pub record AnswerData : Type 0 where
   pub status : Status
-  pub line : List ℕ
-  pub movie : List ℕ
-  pub pictures : List Rows
+  pub text : List ℕ
+  pub file : List ℕ
 
--- A line alone,
+-- A text alone,
+abbrev pub text_answer : Status → List ℕ → AnswerData
+text_answer status text = record { status = status; text = text; file = [] }
+
+-- a line alone,
 abbrev pub line_answer : Line → AnswerData
-line_answer line = record { status = status_of line; line = line_bytes line; movie = []; pictures = [] }
+line_answer line = text_answer (status_of line) (line_bytes line)
 
--- the line that bytes are refused,
-abbrev pub refusal : MovieError → AnswerData
-refusal error = line_answer (lines.Refused error)
-
--- the same as an object of JSON,
+-- that bytes are refused, as a line or as an object of JSON,
 abbrev pub refusal_in : Notation → MovieError → AnswerData
-refusal_in Lines error = refusal error
+refusal_in Lines error = line_answer (lines.Refused error)
 refusal_in Json error =
-    record (refusal error) { line = codes "{\"verdict\":\"refused\",\"refusal\":\"" ++ (refusal_text error ++ (codes "\"}" ++ 10 ∷ [])) }
+    text_answer statuses.Refused (codes "{\"verdict\":\"refused\",\"refusal\":\"" ++ (refusal_text error ++ (codes "\"}" ++ 10 ∷ [])))
 
 -- and a movie with a line of how many frames and checkpoints it has.
 abbrev pub movie_answer : (ℕ → ℕ → Line) → MovieData → AnswerData
-movie_answer line m = record (line_answer (line (length m.inputs) (length m.checkpoints))) { movie = spelling m }
-
--- The status and the line of an answer.
-abbrev pub Shows : AnswerData → Status → List ℕ → Type 0
-Shows answer status line = (status ≡ answer.status) × (line ≡ answer.line)
+movie_answer line m = record (line_answer (line (length m.inputs) (length m.checkpoints))) { file = spelling m }

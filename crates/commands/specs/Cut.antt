@@ -1,16 +1,16 @@
 -- Cutting a movie: a movie of its own of some of its frames. This project's own.
-use Rattle.std.specs.Prelude.{◌≡◌, ◌⊎◌, ℕ, ◌+◌, ◌-◌, ◌*◌, ◌/◌, length, IsTrue, Result, Ok, Err, Some, slice_get}
+use Rattle.std.specs.Prelude.{◌≡◌, ◌⊎◌, ℕ, ◌+◌, ◌-◌, ◌*◌, ◌/◌, length, IsTrue, Some, slice_get}
 use Rattle.vcs_machine.specs.declared.fault.FaultKind.{FaultKind}
 use Rattle.movie_file.specs.Judgement.{IsGenuine}
 use Rattle.movie_file.specs.Making.{counts_fit, version_made}
 use Rattle.movie_file.specs.Movie.{MovieData, IsMovie}
 use Rattle.movie_file.specs.Run.{run}
 use Rattle.movie_file.specs.declared.checkpoint.Checkpoint.{Checkpoint}
-use Rattle.movie_file.specs.declared.error.MovieError.{MovieError}
 use Rattle.movie_file.specs.declared.error.MovieError.TheVariants.{BadCounts}
-use Rattle.commands.specs.Answers.{AnswerData, line_answer, movie_answer, refusal}
+use Rattle.replay_plan.specs.declared.notation.Notation.TheVariants.{Lines}
+use Rattle.commands.specs.Answers.{AnswerData, line_answer, movie_answer, refusal_in}
 use Rattle.run_cursor.specs.RunFaults.{FaultsWithin}
-use Rattle.commands.specs.Stretches.{inputs_asked, frames_asked, Ends}
+use Rattle.commands.specs.Asked.{inputs_asked, frames_asked, Ends}
 use Rattle.commands.specs.declared.line.Line.TheVariants as lines
 
 -- The movie `c` of those frames of `m`. It starts in the state of the run before the first of them,
@@ -33,15 +33,10 @@ pub record ClaimsEvery (m : MovieData) (every : ℕ) : Type 0 where
 
 -- What is written of a movie that is cut: the cut, which is genuine, or the first fault of a frame up
 -- to its last; or that the counts are refused.
-abbrev pub CutsOf : MovieData → ℕ → ℕ → ℕ → AnswerData → Type 0
-CutsOf m first count every answer =
+abbrev pub Cuts : MovieData → ℕ → ℕ → ℕ → AnswerData → Type 0
+Cuts m first count every answer =
     (IsTrue (counts_fit (frames_asked m first count) every)
     × (((c : MovieData) × IsMovie c × IsCutOf m first count every c × IsGenuine c × (answer ≡ movie_answer lines.Cut c))
     ⊎ ((frame : ℕ) × (kind : FaultKind) × FaultsWithin m (first - 1 + frames_asked m first count) frame kind
     × (answer ≡ line_answer (lines.Fault frame kind)))))
-    ⊎ ((¬ IsTrue (counts_fit (frames_asked m first count) every)) × (answer ≡ refusal BadCounts))
-
--- That of what reading found: of a movie by its run, of a refusal by its name.
-abbrev pub Cuts : Result MovieData MovieError → ℕ → ℕ → ℕ → AnswerData → Type 0
-Cuts (Ok m) first count every answer = CutsOf m first count every answer
-Cuts (Err error) first count every answer = answer ≡ refusal error
+    ⊎ ((¬ IsTrue (counts_fit (frames_asked m first count) every)) × (answer ≡ refusal_in Lines BadCounts))

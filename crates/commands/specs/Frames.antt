@@ -2,9 +2,8 @@
 -- project's own.
 use Rattle.std.specs.Prelude.{◌≡◌, ◌⊎◌, ◌≤◌, ℕ, ◌+◌, ◌-◌, ◌==◌, if◌then◌else◌, List, []}
 use Rattle.std.specs.Prelude.{◌∷◌, ◌++◌, length, codes, slice_get, slice_index, Option, Some, None}
-use Rattle.std.specs.Prelude.{Result, Ok, Err}
 use Rattle.std.specs.Fmt.{decimal}
-use Rattle.std.specs.Io.KnownBytes.{Appends, Keeps}
+use Rattle.std.specs.Io.KnownBytes.{Appends}
 use Rattle.std.specs.List.{flat_map, position_or_len}
 use Rattle.std.specs.Str.{bytes_eq}
 use Rattle.hex.specs.Hex.{encode_lower}
@@ -19,7 +18,6 @@ use Rattle.movie_file.specs.Movie.{MovieData}
 use Rattle.movie_file.specs.Record.{record_of}
 use Rattle.movie_file.specs.Run.{run}
 use Rattle.movie_file.specs.declared.checkpoint.Checkpoint.{Checkpoint}
-use Rattle.movie_file.specs.declared.error.MovieError.{MovieError}
 use Rattle.picture_file.specs.PictureBytes.{picture_bytes}
 use Rattle.replay_plan.specs.Limits.{first_address}
 use Rattle.replay_plan.specs.declared.watches.Address.{Address}
@@ -28,7 +26,7 @@ use Rattle.commands.specs.declared.status.Status.{Status}
 use Rattle.commands.specs.declared.status.Status.TheVariants as statuses
 use Rattle.commands.specs.Lines.{frame_text, line_bytes}
 use Rattle.run_cursor.specs.RunFaults.{FaultsWithin}
-use Rattle.commands.specs.Stretches.{frames_asked, from_frames, last_asked, Ends}
+use Rattle.commands.specs.Asked.{frames_asked, from_frames, last_asked, Ends}
 use Rattle.commands.specs.declared.line.Line.TheVariants as lines
 
 -- ---- one frame
@@ -90,19 +88,12 @@ lines_asked m details first count = first_lines m details first (frames_asked m 
 
 -- What is written of a movie: these lines, and after them nothing, if each frame up to the last one
 -- that is asked for ends, or the line of the fault. Frames after that one are not looked at.
-abbrev pub DescribesOf : MovieData → Details → ℕ → ℕ → Status → List ℕ → Type 0
-DescribesOf m details first count status text =
+abbrev pub Describes : MovieData → Details → ℕ → ℕ → Status → List ℕ → Type 0
+Describes m details first count status text =
     (Ends m (last_asked m first count) × (status ≡ statuses.Done) × (text ≡ lines_asked m details first count))
     ⊎ ((frame : ℕ) × (kind : FaultKind) × FaultsWithin m (last_asked m first count) frame kind × (status ≡ statuses.Fault)
     × (text ≡ lines_asked m details first count ++ line_bytes (lines.Fault frame kind)))
 
--- That of what reading found: of a movie its lines, of a refusal its name.
-abbrev pub Describes : Result MovieData MovieError → Details → ℕ → ℕ → Status → List ℕ → Type 0
-Describes (Ok m) details first count status text = DescribesOf m details first count status text
-Describes (Err error) details first count status text = (status ≡ statuses.Refused) × (text ≡ line_bytes (lines.Refused error))
-
 -- A writer has got the lines of the first so many of the frames that are asked for, each whole.
-abbrev pub AppendsLines : Result MovieData MovieError → Details → ℕ → ℕ → Option (List ℕ) → Option (List ℕ) → Type 0
-AppendsLines (Ok m) details first count old new =
-    (k : ℕ) × (k ≤ frames_asked m first count) × Appends old new (first_lines m details first k)
-AppendsLines (Err error) details first count old new = Keeps old new
+abbrev pub AppendsLines : MovieData → Details → ℕ → ℕ → Option (List ℕ) → Option (List ℕ) → Type 0
+AppendsLines m details first count old new = (k : ℕ) × (k ≤ frames_asked m first count) × Appends old new (first_lines m details first k)

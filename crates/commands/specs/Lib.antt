@@ -1,4 +1,5 @@
 pub mod Answers
+pub mod Asked
 pub mod Assembly
 pub mod Columns
 pub mod Commands
@@ -14,7 +15,6 @@ pub mod Private
 pub mod Report
 pub mod Status
 pub mod Streams
-pub mod Stretches
 pub mod Trace
 pub mod TraceLines
 pub mod Verify

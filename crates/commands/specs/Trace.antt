@@ -1,8 +1,8 @@
 -- What is written of the instructions of one frame of a movie's run, and the status: a line for each
 -- instruction, and one of the frame. This project's own.
 use Rattle.std.specs.Prelude.{◌≡◌, ◌⊎◌, ◌<◌, ◌≤◌, ℕ, ◌-◌, Bool, List, ◌++◌, length, slice_get, Some}
-use Rattle.std.specs.Prelude.{Option, Result, Ok, Err}
-use Rattle.std.specs.Io.KnownBytes.{Appends, Keeps}
+use Rattle.std.specs.Prelude.{Option}
+use Rattle.std.specs.Io.KnownBytes.{Appends}
 use Rattle.std.specs.List.{flat_map}
 use Rattle.riot_map.specs.Cart.{has_banks}
 use Rattle.vcs_machine.specs.Faults.{kind_of}
@@ -18,7 +18,6 @@ use Rattle.vcs_machine.specs.declared.fields.StateFields.{StateFields}
 use Rattle.commands.specs.TraceLines.{trace_line}
 use Rattle.movie_file.specs.Movie.{MovieData}
 use Rattle.movie_file.specs.Run.{run}
-use Rattle.movie_file.specs.declared.error.MovieError.{MovieError}
 use Rattle.commands.specs.declared.status.Status.{Status}
 use Rattle.commands.specs.declared.status.Status.TheVariants as statuses
 use Rattle.commands.specs.Lines.{line_bytes}
@@ -59,21 +58,15 @@ abbrev pub BeginsIn : MovieData → ℕ → StateFields → InputData → Type 0
 BeginsIn m frame state input = (run m m.start 0 (frame - 1) ≡ Some state) × (slice_get m.inputs (frame - 1) ≡ Some input)
 
 -- What is written of it: that the movie has fewer frames; the first fault before it; or its trace.
-abbrev pub TracesOf : MovieData → ℕ → Status → List ℕ → Type 0
-TracesOf m frame status text =
+abbrev pub Traces : MovieData → ℕ → Status → List ℕ → Type 0
+Traces m frame status text =
     ((length m.inputs < frame) × (status ≡ statuses.Refused) × (text ≡ line_bytes (lines.NoFrame frame)))
     ⊎ (((earlier : ℕ) × (kind : FaultKind) × (frame ≤ length m.inputs) × FaultsWithin m (frame - 1) earlier kind
     × (status ≡ statuses.Fault) × (text ≡ line_bytes (lines.Fault earlier kind)))
     ⊎ ((state : StateFields) × (input : InputData) × BeginsIn m frame state input × TracesFrame m frame state input status text))
 
--- That of what reading found: of a movie its trace, of a refusal its name.
-abbrev pub Traces : Result MovieData MovieError → ℕ → Status → List ℕ → Type 0
-Traces (Ok m) frame status text = TracesOf m frame status text
-Traces (Err error) frame status text = (status ≡ statuses.Refused) × (text ≡ line_bytes (lines.Refused error))
-
 -- A writer has got the lines of the frame's first so many instructions, each whole.
-abbrev pub AppendsInstructions : Result MovieData MovieError → ℕ → Option (List ℕ) → Option (List ℕ) → Type 0
-AppendsInstructions (Ok m) frame old new =
+abbrev pub AppendsInstructions : MovieData → ℕ → Option (List ℕ) → Option (List ℕ) → Type 0
+AppendsInstructions m frame old new =
     (state : StateFields) × (input : InputData) × (count : ℕ) × (here : Machine Undrawn) × BeginsIn m frame state input
     × Reaches undrawn_rules (undrawn_of m.cart state input) count here × Appends old new (instructions m state input count)
-AppendsInstructions (Err error) frame old new = Keeps old new

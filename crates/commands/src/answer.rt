@@ -1,75 +1,113 @@
 //! What a command answers.
-ghost use Rattle.std.specs.Prelude.{◌≡◌, IfOk, OnErr};
+ghost use Rattle.std.specs.Prelude.{◌≡◌, IfOk, OnOk, OnErr};
 ghost use Rattle.std.specs.Io.KnownBytes.{Appends};
-ghost use Rattle.picture_file.specs.PictureBytes.{pictures_bytes};
 ghost use Rattle.picture_file.specs.Prefixes.{AppendsPrefix};
 ghost use Rattle.commands.specs.Streams.{WritesPart};
 
 use crate::line::Line;
 use crate::status::Status;
-use movie_file::{Movie, write_movie};
+use movie_file::{Movie, MovieError, write_movie};
 use picture_file::{WriteFault, write_bytes, write_pictures};
+use replay_plan::Notation;
 use replay_segments::Verdict;
 use std::alloc::{AllocError, Global};
 use std::io::Write;
 use std::marker::Model;
 use vcs_machine::Pictures;
 
-/// A status, a text with its end, the bytes of a movie, and the kept pictures of a genuine movie.
-/// If no movie is written it has no bytes.
+/// What a command writes to a file: bytes, or none, or pictures.
 #[derive(Drop)]
-pub struct Answer {
+enum Contents {
+    Bytes(Vec<u8>),
+    Pictures(Pictures),
+}
+
+/// A status, a text with its end, and what a file gets.
+#[derive(Drop)]
+pub(crate) struct Answer {
     status: Status,
     text: String,
-    movie: Vec<u8>,
-    pictures: Option<Pictures>,
+    file: Contents,
 }
 
 impl Model for Answer {
-    ghost use Rattle.std.specs.Prelude.{[], string_bytes, unwrap_or};
+    ghost use Rattle.std.specs.Prelude.{string_bytes};
     ghost use Rattle.commands.specs.Answers.{AnswerData};
+    ghost use Rattle.commands.specs.Private.Contents.{contents_bytes};
 
     ghost Value = { AnswerData };
 
-    ghost view = { λ a. record { status = a.status; line = string_bytes a.text; movie = a.movie.items; pictures = unwrap_or a.pictures [] } };
+    ghost view = { λ a. record { status = a.status; text = string_bytes a.text; file = contents_bytes a.file } };
+}
+
+impl Contents {
+    ghost use Rattle.commands.specs.Private.Contents.{contents_bytes};
+
+    fn write<P: Write>(&self, file: &mut P) -> Result<(), WriteFault>
+        ensures ok { OnOk result (Appends (P.contents file.old) (P.contents file.new) (contents_bytes self.now)) }
+        ensures fault { OnErr result (AppendsPrefix (P.contents file.old) (P.contents file.new) (contents_bytes self.now)) }
+    {
+        match self {
+            Contents::Bytes(bytes) => write_bytes(bytes, file),
+            Contents::Pictures(pictures) => write_pictures(pictures, file),
+        }
+    }
 }
 
 impl Answer {
-    ghost use Rattle.std.specs.Prelude.{[], string_bytes};
+    ghost use Rattle.std.specs.Prelude.{string_bytes};
     ghost use Rattle.movie_file.specs.Spelling.{spelling};
-    ghost use Rattle.commands.specs.Answers.{line_answer};
+    ghost use Rattle.commands.specs.Answers.{line_answer, refusal_in, text_answer};
     ghost use Rattle.commands.specs.Verify.{verdict_answer};
 
     /// A text alone.
     pub(crate) fn of_text(alloc: Global, status: Status, text: String) -> Answer
-        ensures { result ≡ record { status = status; line = string_bytes text; movie = []; pictures = [] } }
+        ensures { result ≡ text_answer status (string_bytes text) }
     {
         Answer {
             status,
             text,
-            movie: Vec::new(alloc),
-            pictures: None,
+            file: Contents::Bytes(Vec::new(alloc)),
         }
     }
 
     /// A line alone, with its end.
-    pub fn of_line(alloc: Global, line: Line) -> Result<Answer, AllocError>
+    pub(crate) fn of_line(alloc: Global, line: Line) -> Result<Answer, AllocError>
         ensures { IfOk result (λ answer. answer ≡ line_answer line) }
     {
         let text = line.text(alloc)?;
         Ok(Answer::of_text(alloc, line.status(), text))
     }
 
+    /// That bytes are no movie.
+    pub(crate) fn of_refusal(
+        alloc: Global,
+        notation: Notation,
+        error: MovieError,
+    ) -> Result<Answer, AllocError>
+        ensures { IfOk result (λ answer. answer ≡ refusal_in notation error) }
+    {
+        match notation {
+            Notation::Lines => Answer::of_line(alloc, Line::Refused(error)),
+            Notation::Json => {
+                let text = format!(in alloc;
+                    "{{\"verdict\":\"refused\",\"refusal\":\"{error}\"}}\n"
+                )?;
+                Ok(Answer::of_text(alloc, Status::Refused, text))
+            }
+        }
+    }
+
     /// A movie, with this line.
-    pub fn of_movie(alloc: Global, movie: &Movie, line: Line) -> Result<Answer, AllocError>
-        ensures { IfOk result (λ answer. answer ≡ record (line_answer line) { movie = spelling movie.now }) }
+    pub(crate) fn of_movie(alloc: Global, movie: &Movie, line: Line) -> Result<Answer, AllocError>
+        ensures { IfOk result (λ answer. answer ≡ record (line_answer line) { file = spelling movie.now }) }
     {
         let mut bytes = Vec::new(alloc);
         if write_movie(movie, &mut bytes).is_err() {
             return Err(AllocError);
         }
         Ok(Answer {
-            movie: bytes,
+            file: Contents::Bytes(bytes),
             ..Answer::of_line(alloc, line)?
         })
     }
@@ -85,52 +123,50 @@ impl Answer {
         let answer = Answer::of_line(alloc, Line::of_verdict(movie, &verdict))?;
         match verdict {
             Verdict::Genuine { pictures } => Ok(Answer {
-                pictures: Some(pictures),
+                file: Contents::Pictures(pictures),
                 ..answer
             }),
             _ => Ok(answer),
         }
     }
 
-    /// Writes the text of an answer that has nothing else.
+    /// Writes the text of an answer whose file gets nothing.
     pub(crate) fn write_text<W: Write>(&self, text: &mut W) -> Result<Status, WriteFault>
-        ensures ok { IfOk result (λ status. (status ≡ self.now.status) × Appends (W.contents text.old) (W.contents text.new) self.now.line) }
-        ensures fault { OnErr result (AppendsPrefix (W.contents text.old) (W.contents text.new) self.now.line) }
+        ensures ok { IfOk result (λ status. (status ≡ self.now.status) × Appends (W.contents text.old) (W.contents text.new) self.now.text) }
+        ensures fault { OnErr result (AppendsPrefix (W.contents text.old) (W.contents text.new) self.now.text) }
     {
         write_bytes(self.text.as_bytes(), text)?;
         Ok(self.status)
     }
 
-    /// Writes the text, then the pictures.
-    pub(crate) fn write_pictures<W: Write, P: Write>(
+    /// Writes the text, then the file.
+    pub(crate) fn write_text_first<W: Write, P: Write>(
         &self,
         text: &mut W,
-        pictures: &mut P,
+        file: &mut P,
     ) -> Result<Status, WriteFault>
-        ensures ok { IfOk result (λ status. (status ≡ self.now.status) × Appends (W.contents text.old) (W.contents text.new) self.now.line
-            × Appends (P.contents pictures.old) (P.contents pictures.new) (pictures_bytes self.now.pictures)) }
-        ensures fault { OnErr result (WritesPart (W.contents text.old) (W.contents text.new) self.now.line
-            (P.contents pictures.old) (P.contents pictures.new) (pictures_bytes self.now.pictures)) }
+        ensures ok { IfOk result (λ status. (status ≡ self.now.status) × Appends (W.contents text.old) (W.contents text.new) self.now.text
+            × Appends (P.contents file.old) (P.contents file.new) self.now.file) }
+        ensures fault { OnErr result (WritesPart (W.contents text.old) (W.contents text.new) self.now.text
+            (P.contents file.old) (P.contents file.new) self.now.file) }
     {
         write_bytes(self.text.as_bytes(), text)?;
-        if let Some(kept) = &self.pictures {
-            write_pictures(kept, pictures)?;
-        }
+        self.file.write(file)?;
         Ok(self.status)
     }
 
-    /// Writes the movie, then the text.
-    pub fn write_movie<W: Write, L: Write>(
+    /// Writes the file, then the text.
+    pub(crate) fn write_file_first<P: Write, W: Write>(
         &self,
-        movie: &mut W,
-        text: &mut L,
+        file: &mut P,
+        text: &mut W,
     ) -> Result<Status, WriteFault>
-        ensures ok { IfOk result (λ status. (status ≡ self.now.status) × Appends (W.contents movie.old) (W.contents movie.new) self.now.movie
-            × Appends (L.contents text.old) (L.contents text.new) self.now.line) }
-        ensures fault { OnErr result (WritesPart (W.contents movie.old) (W.contents movie.new) self.now.movie
-            (L.contents text.old) (L.contents text.new) self.now.line) }
+        ensures ok { IfOk result (λ status. (status ≡ self.now.status) × Appends (P.contents file.old) (P.contents file.new) self.now.file
+            × Appends (W.contents text.old) (W.contents text.new) self.now.text) }
+        ensures fault { OnErr result (WritesPart (P.contents file.old) (P.contents file.new) self.now.file
+            (W.contents text.old) (W.contents text.new) self.now.text) }
     {
-        write_bytes(&self.movie, movie)?;
+        self.file.write(file)?;
         write_bytes(self.text.as_bytes(), text)?;
         Ok(self.status)
     }

@@ -1,27 +1,116 @@
 //! From a command to its answer.
 ghost use Rattle.std.specs.Prelude.{◌≡◌, ◌≢◌, ◌⊎◌, List, ℕ, IfOk, OnErr};
 ghost use Rattle.std.specs.Io.KnownBytes.{Appends, Keeps};
-ghost use Rattle.commands.specs.Commands.{HasBegun, IsAnswered, ReadsInputs, StartsThreads, WritesSome};
+ghost use Rattle.movie_file.specs.Movie.{MovieData};
+ghost use Rattle.movie_file.specs.Reading.{movie_at};
+ghost use Rattle.commands.specs.Answers.{AnswerData};
+ghost use Rattle.commands.specs.Commands.{Answers, HasBegun, IsAnswered, ReadsInputs, StartsThreads};
+ghost use Rattle.commands.specs.Commands.{WritesSome, notation_of};
+ghost use Rattle.commands.specs.Private.Groups.{IsAboutMovies, IsAtOnce};
 ghost use Rattle.commands.specs.Streams.{IsTooLong, ReadsAll};
 
-use crate::convert::run_convert;
+use crate::answer::Answer;
+use crate::convert::convert;
 use crate::counted_gate::CountedGate;
-use crate::cut::run_cut;
-use crate::frames::run_frames;
-use crate::info::run_information;
-use crate::inputs::run_inputs;
-use crate::make::run_make;
-use crate::pictures::run_pictures;
-use crate::report::run_report;
-use crate::run_error::RunError;
+use crate::cut::cut;
+use crate::frames::frames;
+use crate::info::info;
+use crate::inputs::inputs;
+use crate::make::make;
+use crate::pictures::pictures;
+use crate::report::report;
+use crate::run_error::{JudgeError, RunError};
 use crate::status::Status;
-use crate::trace::run_trace;
-use crate::verify::run;
-use command_line::{Command, program_name};
-use replay_plan::Plan;
+use crate::streams::{read_all, read_input};
+use crate::trace::trace;
+use crate::verify::verify;
+use command_line::Command;
+use movie_file::Movie;
+use replay_plan::Notation;
 use std::io::{Read, Write};
 use std::sync::Wait;
 use std::thread::Threads;
+
+/// In which notation a command says that bytes are no movie.
+fn notation_of(command: &Command) -> Notation
+    ensures { result ≡ notation_of command.now }
+{
+    match command {
+        Command::Report { notation, .. } | Command::Info { notation } => *notation,
+        _ => Notation::Lines,
+    }
+}
+
+/// The answer about a movie, which these bytes are, of a command that writes nothing before its
+/// answer is whole.
+fn answer<T: Threads + Wait + Sync + AllocGlobal, G: CountedGate + Sync>(
+    rt: &T,
+    command: &Command,
+    bytes: &[u8],
+    movie: Movie,
+    gate: &G,
+) -> Result<Answer, JudgeError>
+    requires { IsAtOnce command.now }
+    ensures answer { IfOk result (Answers command.now bytes.now movie) }
+    ensures no_thread { result ≡ Err JudgeError.NoThread → StartsThreads command.now }
+{
+    let alloc = rt.alloc();
+    match command {
+        Command::Verify { plan } => verify(rt, alloc, &movie, plan, gate),
+        Command::Report { workers, notation } => {
+            report(rt, alloc, bytes, &movie, *workers, *notation, gate)
+        }
+        Command::Info { notation } => Ok(info(alloc, *notation, &movie)?),
+        Command::Inputs => Ok(inputs(alloc, &movie)?),
+        Command::Convert => Ok(convert(alloc, movie)?),
+        Command::Cut {
+            first,
+            count,
+            every,
+        } => Ok(cut(alloc, &movie, *first, *count, every.get())?),
+        _ => unreachable!(),
+    }
+}
+
+/// Writes the answer about a movie, which these bytes are.
+fn answer_movie<T: Threads + Wait + Sync + AllocGlobal, W: Write, P: Write, G: CountedGate + Sync>(
+    rt: &T,
+    command: &Command,
+    bytes: &[u8],
+    movie: Movie,
+    text: &mut W,
+    file: &mut P,
+    gate: &G,
+) -> Result<Status, RunError>
+    requires { IsAboutMovies command.now }
+    ensures ok { IfOk result (λ status. (answer : AnswerData) × Answers command.now bytes.now movie answer × (status ≡ answer.status)
+        × Appends (W.contents text.old) (W.contents text.new) answer.text × Appends (P.contents file.old) (P.contents file.new) answer.file) }
+    ensures write_fault { result ≡ Err RunError.WriteFault → (answer : AnswerData) × Answers command.now bytes.now movie answer
+        × WritesSome command.now (W.contents text.old) (W.contents text.new) answer.text (P.contents file.old) (P.contents file.new) answer.file }
+    ensures quiet { OnErr result (result ≢ Err RunError.WriteFault → result ≢ Err RunError.NoMemory
+        → Keeps (W.contents text.old) (W.contents text.new) × Keeps (P.contents file.old) (P.contents file.new)) }
+    ensures memory { result ≡ Err RunError.NoMemory → (Keeps (W.contents text.old) (W.contents text.new) × Keeps (P.contents file.old) (P.contents file.new))
+        ⊎ HasBegun command.now movie (W.contents text.old) (W.contents text.new) (P.contents file.old) (P.contents file.new) }
+    ensures read { result ≢ Err RunError.TooLong }
+    ensures no_thread { result ≡ Err RunError.NoThread → StartsThreads command.now }
+{
+    let alloc = rt.alloc();
+    match command {
+        Command::Frames {
+            first,
+            count,
+            details,
+        } => Ok(frames(alloc, &movie, details, *first, *count, text)?),
+        Command::Pictures { first, count } => {
+            Ok(pictures(alloc, &movie, *first, *count, file, text)?)
+        }
+        Command::Trace { frame } => Ok(trace(alloc, &movie, *frame, text)?),
+        Command::Verify { .. } => {
+            Ok(answer(rt, command, bytes, movie, gate)?.write_text_first(text, file)?)
+        }
+        _ => Ok(answer(rt, command, bytes, movie, gate)?.write_file_first(file, text)?),
+    }
+}
 
 /// Does what a command asks for: reads its input, which is a movie, or of `make` a cartridge and
 /// then `inputs`, and writes a text, which ends with a line feed, and a file.
@@ -30,7 +119,7 @@ use std::thread::Threads;
 /// nothing was written. After NoMemory nothing was written either, or by `frames`, `pictures` and
 /// `trace` the first lines or pictures, each whole. `verify` writes its text before its file, and
 /// each other command after it. The gate is called around each replay of `verify` and `report`, and
-/// before and after all of them.
+/// before and after all of them. At most 16,777,217 reads of each input are made.
 pub fn run_command<
     T: Threads + Wait + Sync + AllocGlobal,
     R: Read,
@@ -60,46 +149,23 @@ pub fn run_command<
     ensures quiet { OnErr result (result ≢ Err RunError.WriteFault → result ≢ Err RunError.NoMemory
         → Keeps (W.contents text.old) (W.contents text.new) × Keeps (P.contents file.old) (P.contents file.new)) }
     ensures memory { result ≡ Err RunError.NoMemory → (Keeps (W.contents text.old) (W.contents text.new) × Keeps (P.contents file.old) (P.contents file.new))
-        ⊎ ((bytes : List ℕ) × ReadsAll (R.remaining input.old) (R.remaining input.new) bytes
-        × HasBegun command.now bytes (W.contents text.old) (W.contents text.new) (P.contents file.old) (P.contents file.new)) }
+        ⊎ ((bytes : List ℕ) × (m : MovieData) × ReadsAll (R.remaining input.old) (R.remaining input.new) bytes × (movie_at bytes ≡ Ok m)
+        × HasBegun command.now m (W.contents text.old) (W.contents text.new) (P.contents file.old) (P.contents file.new)) }
     ensures too_long { result ≡ Err RunError.TooLong → IsTooLong (R.remaining input.old) ⊎ (ReadsInputs command.now × IsTooLong (S.remaining inputs.old)) }
     ensures no_thread { result ≡ Err RunError.NoThread → StartsThreads command.now }
 {
     let alloc = rt.alloc();
-    match command {
-        Command::Verify { plan } => run(rt, alloc, input, plan, text, file, gate),
-        Command::Report { workers, notation } => {
-            let plan = Plan::without_pictures(*workers);
-            run_report(
-                rt,
-                alloc,
-                input,
-                &plan,
-                *notation,
-                program_name(),
-                text,
-                gate,
-            )
+    if let Command::Make { form, every, .. } = command {
+        let rom = read_all(alloc, input)?;
+        let answer = make(alloc, rom, *form, inputs, every.get())?;
+        return Ok(answer.write_file_first(file, text)?);
+    }
+    let (bytes, found) = read_input(alloc, input)?;
+    match found {
+        Ok(movie) => answer_movie(rt, command, &bytes, movie, text, file, gate),
+        Err(error) => {
+            let answer = Answer::of_refusal(alloc, notation_of(command), error)?;
+            Ok(answer.write_text(text)?)
         }
-        Command::Make { form, every, .. } => {
-            run_make(alloc, input, *form, inputs, every.get(), file, text)
-        }
-        Command::Info { notation } => run_information(alloc, *notation, input, text),
-        Command::Inputs => run_inputs(alloc, input, text),
-        Command::Convert => run_convert(alloc, input, file, text),
-        Command::Frames {
-            first,
-            count,
-            details,
-        } => run_frames(alloc, input, details, *first, *count, text),
-        Command::Pictures { first, count } => {
-            run_pictures(alloc, input, *first, *count, file, text)
-        }
-        Command::Cut {
-            first,
-            count,
-            every,
-        } => run_cut(alloc, input, *first, *count, every.get(), file, text),
-        Command::Trace { frame } => run_trace(alloc, input, *frame, text),
     }
 }

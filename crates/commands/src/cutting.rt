@@ -8,9 +8,9 @@ ghost use Rattle.movie_file.specs.ClaimedStates.{Claims};
 ghost use Rattle.run_cursor.specs.RunFaults.{FaultsWithin};
 ghost use Rattle.commands.specs.Cut.{IsCutOf};
 ghost use Rattle.commands.specs.Private.CutErrors.{Explains};
-ghost use Rattle.commands.specs.Stretches.{Ends, frames_asked};
+ghost use Rattle.commands.specs.Asked.{Ends, frames_asked};
 
-use crate::stretch::{cursor_after, frames_asked};
+use crate::asked::{cursor_after, frames_asked};
 use movie_file::{Checkpoint, Movie, claim, do_counts_fit, movie_of, version_made};
 use riot_map::Cart;
 use run_cursor::{Cursor, RunFault};
@@ -96,7 +96,7 @@ fn checkpoints_after(
 ///
 /// `BadCounts` comes first, before any frame is run. `Fault` names the first of the frames up to
 /// the last one of the cut that faults, with its number in the movie.
-pub(crate) fn cut(
+pub(crate) fn cut_movie(
     alloc: Global,
     movie: &Movie,
     first: NonZeroU32,

@@ -1,8 +1,10 @@
 //! Reading an input to its end.
 ghost use Rattle.std.specs.Prelude.{◌≡◌, ◌≤◌, IfOk, length};
+ghost use Rattle.movie_file.specs.Reading.{movie_at};
 ghost use Rattle.commands.specs.Streams.{ReadsAll, IsTooLong, input_limit};
 
 use crate::run_error::ReadError;
+use movie_file::{Movie, MovieError, read_movie};
 use std::alloc::Global;
 use std::io::Read;
 
@@ -37,4 +39,20 @@ pub fn read_all<R: Read>(alloc: Global, reader: &mut R) -> Result<Vec<u8>, ReadE
         }
     }
     unreachable!()
+}
+
+/// All bytes of an input, and the movie that they are, or why they are none.
+pub(crate) fn read_input<R: Read>(
+    alloc: Global,
+    reader: &mut R,
+) -> Result<(Vec<u8>, Result<Movie, MovieError>), ReadError>
+    ensures all { IfOk result (λ read. ReadsAll (R.remaining reader.old) (R.remaining reader.new) read.0.items) }
+    ensures found { IfOk result (λ read. read.1 ≡ movie_at read.0.items) }
+    ensures too_long { result ≡ Err ReadError.TooLong → IsTooLong (R.remaining reader.old) }
+{
+    let bytes = read_all(alloc, reader)?;
+    match read_movie(alloc, &bytes) {
+        Err(MovieError::NoMemory) => Err(ReadError::NoMemory),
+        found => Ok((bytes, found)),
+    }
 }

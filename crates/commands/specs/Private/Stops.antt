@@ -4,14 +4,11 @@ use Rattle.std.specs.Io.KnownBytes.{Appends}
 use Rattle.vcs_machine.specs.declared.fault.FrameError.{FrameError}
 use Rattle.vcs_machine.specs.declared.fault.FrameError.TheVariants as frames
 use Rattle.movie_file.specs.Movie.{MovieData}
-use Rattle.picture_file.specs.PictureBytes.{pictures_bytes}
 use Rattle.picture_file.specs.Prefixes.{AppendsPrefix}
 use Rattle.commands.specs.declared.run_error.RunError.{RunError}
 use Rattle.commands.specs.declared.run_error.RunError.TheVariants as runs
-use Rattle.replay_segments.specs.KeptPictures.{picture_after}
-use Rattle.movie_file.specs.Run.{run}
 use Rattle.run_cursor.specs.RunFaults.{FaultsWithin}
-use Rattle.commands.specs.Stretches.{from_frames}
+use Rattle.commands.specs.Asked.{from_frames}
 use Rattle.commands.specs.declared.stop.WriteError.{WriteError}
 use Rattle.commands.specs.declared.stop.WriteError.TheVariants as writes
 use Rattle.commands.specs.declared.stop.Stop.{Stop}
@@ -21,10 +18,6 @@ use Rattle.commands.specs.declared.stop.Stop.TheVariants.{Fault, NoMemory, Write
 abbrev pub stop_of : ℕ → FrameError → Stop
 stop_of frame (frames.Fault kind) = Fault frame kind
 stop_of frame frames.NoMemory = NoMemory
-
--- the bytes of the picture of frame k + 1
-abbrev pub picture_of_frame : MovieData → ℕ → List ℕ
-picture_of_frame m k = pictures_bytes (picture_after m k (run m m.start 0 k))
 
 -- Why no more is written of the `len` frames that follow frame `from`, up to the last frame of a run,
 -- of each of which `text` is to be written; and what a writer has got.

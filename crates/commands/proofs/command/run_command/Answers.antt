@@ -1,68 +1,62 @@
-use Rattle.std.proofs.Common.{[], refl, inr}
+use Rattle.std.proofs.Common.{◌≡◌, Ok, Err, inl, inr, refl, rules, sym}
 use Rattle.std.proofs.lemmas.Result.{IfOk-weaker}
 use Rattle.movie_file.specs.Reading.{movie_at}
-use Rattle.picture_file.proofs.BytesWritten.{appends_nothing, keeps_same}
-use Rattle.picture_file.specs.PictureBytes.{pictures_bytes}
-use Rattle.commands.specs.Convert.{conversion_of}
-use Rattle.commands.specs.Info.{information_in}
+use Rattle.picture_file.proofs.BytesWritten.{appends_nothing}
+use Rattle.commands.specs.Private.Groups.{IsAboutMovies}
+use Rattle.commands.proofs.CommandAnswers.{of_movie, of_refusal, text_in_part}
 use Rattle.commands.proofs.command.run_command.Goals as goal
 
-pub returns-in-Verify-clause-write_fault : goal.returns-in-Verify-clause-write_fault
-returns-in-Verify-clause-write_fault g c = rw c.in-Verify.is (λ is.
-    let h = c.run.ensures.write_fault is in
-    (h.0, h.1.status, h.1.line, pictures_bytes h.1.pictures, h.2, (keeps_same _, (h.1, h.3, (refl, refl), refl)), h.4))
+pub returns-in_err-write_file_first-clause-write_fault : goal.returns-in_err-write_file_first-clause-write_fault
+returns-in_err-write_file_first-clause-write_fault g c = λ is.
+    let answer = c.in_ok-answer.answer in
+    let makes = rw c.get.ensures.value at c.in_ok-answer.ensures.makes in
+    rw c.in-Make.is (c.in_ok-rom.rom.items, answer.status, answer.text, answer.file, c.in_ok-rom.ensures.all, makes, c.in_err-write_file_first.ensures.fault)
 
-pub returns-in-Report-clause-ok : goal.returns-in-Report-clause-ok
-returns-in-Report-clause-ok g c = rw (c.in-Report.is, ← c.program_name.ensures) (
-    IfOk-weaker c.run_report.result _ _ (λ status h. (h.0, h.1, [], h.2, (keeps_same _, h.3, refl), h.4, appends_nothing _)) c.run_report.ensures.ok)
+pub returns-in-Ok-clause-ok : goal.returns-in-Ok-clause-ok
+returns-in-Ok-clause-ok g c =
+    let bytes = c.in_ok-bytes.bytes.items in
+    let about : IsAboutMovies c.args.command.now = search rules in
+    let read : movie_at bytes ≡ Ok c.in-Ok.movie = rw c.in-Ok.is at (sym c.in_ok-bytes.ensures.found) in
+    IfOk-weaker c.answer_movie.result _ _
+    (λ status h. (bytes, h.0.text, h.0.file, c.in_ok-bytes.ensures.all, of_movie _ bytes _ status h.0 about h.2 _ read h.1, h.3, h.4))
+    (rw c.deref.ensures.value at c.answer_movie.ensures.ok)
 
-pub returns-in-Report-clause-write_fault : goal.returns-in-Report-clause-write_fault
-returns-in-Report-clause-write_fault g c = rw (c.in-Report.is, ← c.program_name.ensures) (λ is.
-    let h = c.run_report.ensures.write_fault is in
-    (h.0, h.1, h.2, [], h.3, (keeps_same _, h.4, refl), inr (appends_nothing _, h.5)))
+pub returns-in-Ok-clause-write_fault : goal.returns-in-Ok-clause-write_fault
+returns-in-Ok-clause-write_fault g c = λ is.
+    let bytes = c.in_ok-bytes.bytes.items in
+    let about : IsAboutMovies c.args.command.now = search rules in
+    let read : movie_at bytes ≡ Ok c.in-Ok.movie = rw c.in-Ok.is at (sym c.in_ok-bytes.ensures.found) in
+    let h = (rw c.deref.ensures.value at c.answer_movie.ensures.write_fault) is in
+    (bytes, h.0.status, h.0.text, h.0.file, c.in_ok-bytes.ensures.all, of_movie _ bytes _ _ h.0 about refl _ read h.1, h.2)
 
-pub returns-in-Make-clause-ok : goal.returns-in-Make-clause-ok
-returns-in-Make-clause-ok g c = rw (c.in-Make.is, ← c.get.ensures.value) (
-    IfOk-weaker c.run_make.result _ _ (λ status h. (h.0, h.1.line, h.1.movie, h.2, (h.1, h.3, (h.4, refl), refl), h.6, h.5)) c.run_make.ensures.ok)
+pub returns-in-Ok-clause-memory : goal.returns-in-Ok-clause-memory
+returns-in-Ok-clause-memory g c = λ is.
+    let bytes = c.in_ok-bytes.bytes.items in
+    let read : movie_at bytes ≡ Ok c.in-Ok.movie = rw c.in-Ok.is at (sym c.in_ok-bytes.ensures.found) in
+    elim (c.answer_movie.ensures.memory is) [ inl quiet ↦ inl quiet | inr begun ↦ inr (bytes, c.in-Ok.movie, c.in_ok-bytes.ensures.all, read, begun) ]
 
-pub returns-in-Make-clause-write_fault : goal.returns-in-Make-clause-write_fault
-returns-in-Make-clause-write_fault g c = rw (c.in-Make.is, ← c.get.ensures.value) (λ is.
-    let h = c.run_make.ensures.write_fault is in
-    (h.0, h.1.status, h.1.line, h.1.movie, h.2, (h.1, h.3, (refl, refl), refl), h.4))
+pub returns-in_err-write_text-in-Err-clause-write_fault : goal.returns-in_err-write_text-in-Err-clause-write_fault
+returns-in_err-write_text-in-Err-clause-write_fault g c = λ is.
+    let bytes = c.in_ok-bytes.bytes.items in
+    let answer = c.in_ok-answer-in-Err.answer in
+    let about : IsAboutMovies c.args.command.now = search rules in
+    let read : movie_at bytes ≡ Err c.in-Err.error = rw c.in-Err.is at (sym c.in_ok-bytes.ensures.found) in
+    let told = rw c.notation_of.ensures at c.in_ok-answer-in-Err.ensures in (
+      bytes,
+      answer.status,
+      answer.text,
+      _,
+      c.in_ok-bytes.ensures.all,
+      of_refusal _ bytes _ _ answer about refl _ read told,
+      text_in_part c.args.command.now _ _ _ _ c.in_err-write_text-in-Err.ensures.fault,
+    )
 
-pub returns-in-Info-clause-write_fault : goal.returns-in-Info-clause-write_fault
-returns-in-Info-clause-write_fault g c = rw c.in-Info.is (λ is.
-    let h = c.run_information.ensures.write_fault is in
-    let answer = information_in c.in-Info.notation (movie_at h.0) in
-    (h.0, answer.status, answer.line, [], h.1, (keeps_same _, (refl, refl), refl), inr (appends_nothing _, h.2)))
-
-pub returns-in-Inputs-clause-write_fault : goal.returns-in-Inputs-clause-write_fault
-returns-in-Inputs-clause-write_fault g c = rw c.in-Inputs.is (λ is.
-    let h = c.run_inputs.ensures.write_fault is in
-    (h.0, h.1, h.2, [], h.3, (keeps_same _, h.4, refl), inr (appends_nothing _, h.5)))
-
-pub returns-in-Convert-clause-write_fault : goal.returns-in-Convert-clause-write_fault
-returns-in-Convert-clause-write_fault g c = rw c.in-Convert.is (λ is.
-    let h = c.run_convert.ensures.write_fault is in
-    let answer = conversion_of (movie_at h.0) in
-    (h.0, answer.status, answer.line, answer.movie, h.1, (keeps_same _, (refl, refl), refl), h.2))
-
-pub returns-in-Frames-clause-write_fault : goal.returns-in-Frames-clause-write_fault
-returns-in-Frames-clause-write_fault g c = rw c.in-Frames.is (λ is.
-    let h = c.run_frames.ensures.write_fault is in
-    (h.0, h.1, h.2, [], h.3, (keeps_same _, h.4, refl), inr (appends_nothing _, h.5)))
-
-pub returns-in-Pictures-clause-write_fault : goal.returns-in-Pictures-clause-write_fault
-returns-in-Pictures-clause-write_fault g c = rw c.in-Pictures.is (λ is.
-    let h = c.run_pictures.ensures.write_fault is in
-    (h.0, h.1.status, h.1.line, pictures_bytes h.1.pictures, h.2, (keeps_same _, (h.1, h.3, (refl, refl), refl)), h.4))
-
-pub returns-in-Cut-clause-write_fault : goal.returns-in-Cut-clause-write_fault
-returns-in-Cut-clause-write_fault g c = rw (c.in-Cut.is, ← c.get-in-Cut.ensures.value) (λ is.
-    let h = c.run_cut.ensures.write_fault is in
-    (h.0, h.1.status, h.1.line, h.1.movie, h.2, (keeps_same _, (h.1, h.3, (refl, refl), refl)), h.4))
-
-pub returns-in-Trace-clause-write_fault : goal.returns-in-Trace-clause-write_fault
-returns-in-Trace-clause-write_fault g c = rw c.in-Trace.is (λ is.
-    let h = c.run_trace.ensures.write_fault is in
-    (h.0, h.1, h.2, [], h.3, (keeps_same _, h.4, refl), inr (appends_nothing _, h.5)))
+pub returns-clause-ok : goal.returns-clause-ok
+returns-clause-ok g c =
+    let bytes = c.in_ok-bytes.bytes.items in
+    let answer = c.in_ok-answer-in-Err.answer in
+    let about : IsAboutMovies c.args.command.now = search rules in
+    let read : movie_at bytes ≡ Err c.in-Err.error = rw c.in-Err.is at (sym c.in_ok-bytes.ensures.found) in
+    let told = rw c.notation_of.ensures at c.in_ok-answer-in-Err.ensures in
+    let wrote = c.in_ok-write_text-in-Err.ensures.ok in
+    (bytes, answer.text, _, c.in_ok-bytes.ensures.all, of_refusal _ bytes _ _ answer about wrote.0 _ read told, wrote.1, appends_nothing _)

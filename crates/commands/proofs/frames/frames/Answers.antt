@@ -1,10 +1,11 @@
-use Rattle.std.proofs.Common.{refl, inr, Err, ap}
+use Rattle.std.proofs.Common.{Err, ap, arith, inr, refl}
 use Rattle.std.specs.NonZero.{non_zero_u32_get}
-use Rattle.picture_file.proofs.BytesWritten.{appends_then, prefix_after}
+use Rattle.picture_file.proofs.BytesWritten.{appends_kept, appends_then, prefix_after}
+use Rattle.commands.specs.Asked.{frames_asked}
 use Rattle.commands.specs.declared.status.Status.TheVariants as statuses
 use Rattle.commands.proofs.WrittenLines.{lines_in_part}
 use Rattle.commands.proofs.WrittenFrames.{the_error}
-use Rattle.commands.proofs.frames.describe.Goals as goal
+use Rattle.commands.proofs.frames.frames.Goals as goal
 
 pub returns-in_ok-write_last-in-Err-Fault-clause-ok : goal.returns-in_ok-write_last-in-Err-Fault-clause-ok
 returns-in_ok-write_last-in-Err-Fault-clause-ok g c =
@@ -25,3 +26,10 @@ pub returns-in-Err-WriteFault-clause-fault : goal.returns-in-Err-WriteFault-clau
 returns-in-Err-WriteFault-clause-fault g c = λ is.
     lines_in_part c.args.movie.now c.args.details.now (non_zero_u32_get c.args.first) c.args.count _ _
     (rw c.in-Err-WriteFault.field-0-is at c.in-Err-WriteFault.ensures.err)
+
+pub returns-in_err-write_last-in-Err-Fault-clause-memory : goal.returns-in_err-write_last-in-Err-Fault-clause-memory
+returns-in_err-write_last-in-Err-Fault-clause-memory g c = λ is.
+    let error = the_error c.from_residual.result _ _ c.from_residual.ensures.1 is in
+    let stop = rw c.in-Err-Fault.field-0-is at c.in-Err-Fault.ensures.err in
+    let kept = c.in_err-write_last-in-Err-Fault.ensures.memory (ap Err error) in
+    (frames_asked c.args.movie.now (non_zero_u32_get c.args.first) c.args.count, omega arith, appends_kept _ _ (g.L.Write.contents c.write_last.new.lines) _ stop.1 kept)

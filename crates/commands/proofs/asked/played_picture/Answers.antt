@@ -1,6 +1,6 @@
 use Rattle.std.proofs.Common.{◌≡◌}
 use Rattle.commands.proofs.WrittenPictures.{drawn_by}
-use Rattle.commands.proofs.pictures.picture_of.Goals as goal
+use Rattle.commands.proofs.asked.played_picture.Goals as goal
 
 pub returns-clause-picture : goal.returns-clause-picture
 returns-clause-picture c =

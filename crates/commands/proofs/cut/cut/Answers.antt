@@ -1,7 +1,7 @@
 use Rattle.std.proofs.Common.{inl}
 use Rattle.std.proofs.lemmas.Result.{IfOk-weaker}
 use Rattle.commands.proofs.CutMovies.{genuine}
-use Rattle.commands.proofs.cut.of_movie.Goals as goal
+use Rattle.commands.proofs.cut.cut.Goals as goal
 
 pub returns-in-Ok : goal.returns-in-Ok
 returns-in-Ok c =

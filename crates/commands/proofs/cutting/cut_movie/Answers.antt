@@ -5,7 +5,7 @@ use Rattle.movie_file.specs.Making.{counts_fit}
 use Rattle.movie_file.specs.Movie.{IsState}
 use Rattle.movie_file.specs.Run.{run}
 use Rattle.commands.proofs.CutParts.{IsCutOf-parts, IsMovie-cut}
-use Rattle.commands.proofs.cutting.cut.Goals as goal
+use Rattle.commands.proofs.cutting.cut_movie.Goals as goal
 
 pub movie_of-requires : goal.movie_of-requires
 movie_of-requires c =

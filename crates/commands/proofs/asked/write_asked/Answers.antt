@@ -1,10 +1,10 @@
 use Rattle.std.proofs.Common.{◌-◌}
 use Rattle.std.specs.NonZero.{non_zero_u32_get}
 use Rattle.std.proofs.lemmas.Result.{err_from_is_err_and}
-use Rattle.commands.specs.Private.Stops.{picture_of_frame}
-use Rattle.commands.proofs.RunFrames.{no_picture}
+use Rattle.commands.specs.Private.Views.{bytes_shown}
+use Rattle.commands.proofs.RunFrames.{nothing_shown}
 use Rattle.commands.proofs.WrittenFrames.{last_is, none_asked, stops_before}
-use Rattle.commands.proofs.pictures.write_asked.Goals as goal
+use Rattle.commands.proofs.asked.write_asked.Goals as goal
 
 pub returns-then-frames-eq0-clause-ends : goal.returns-then-frames-eq0-clause-ends
 returns-then-frames-eq0-clause-ends g c =
@@ -12,19 +12,19 @@ returns-then-frames-eq0-clause-ends g c =
 
 pub returns-in_err-cursor-clause-err : goal.returns-in_err-cursor-clause-err
 returns-in_err-cursor-clause-err g c =
-    let first = c.get-from.ensures.value in
+    let first = c.get.ensures.value in
     let frames = c.frames_asked-frames.ensures.value in
     let last = last_is c.args.movie.now _ c.args.count _ _ first frames c.if-frames-eq0.false in
     let p = err_from_is_err_and c.from_residual.result c.from_residual.ensures.1 in
-    let stops = stops_before c.args.movie.now (picture_of_frame c.args.movie.now)
-    (no_picture c.args.movie.now) (c.get-from.result - 1) c.frames_asked-frames.result
-    _ _ (g.P.Write.contents c.args.pictures.now) c.in_err-cursor.ensures.err in
+    let stops = stops_before c.args.movie.now (bytes_shown c.args.movie.now c.args.view)
+    (nothing_shown c.args.movie.now c.args.view) (c.get.result - 1) c.frames_asked-frames.result
+    _ _ (g.W.Write.contents c.args.writer.now) c.in_err-cursor.ensures.err in
     rw (p.1, p.2) (rw (last, first, frames) at stops)
 
 pub returns-in_err-write_frames-clause-err : goal.returns-in_err-write_frames-clause-err
 returns-in_err-write_frames-clause-err g c =
     let at = c.in_ok-cursor.ensures.ok in
-    let first = c.get-from.ensures.value in
+    let first = c.get.ensures.value in
     let frames = c.frames_asked-frames.ensures.value in
     let last = last_is c.args.movie.now _ c.args.count _ _ first frames c.if-frames-eq0.false in
     let p = err_from_is_err_and c.from_residual-in_err-write_frames.result c.from_residual-in_err-write_frames.ensures.1 in
@@ -33,10 +33,10 @@ returns-in_err-write_frames-clause-err g c =
 pub returns-clause-ends : goal.returns-clause-ends
 returns-clause-ends g c =
     let at = c.in_ok-cursor.ensures.ok in
-    let last = last_is c.args.movie.now _ c.args.count _ _ c.get-from.ensures.value c.frames_asked-frames.ensures.value c.if-frames-eq0.false in
+    let last = last_is c.args.movie.now _ c.args.count _ _ c.get.ensures.value c.frames_asked-frames.ensures.value c.if-frames-eq0.false in
     rw (at.movie_is, at.frame_is, last) at c.in_ok-write_frames.ensures.ends
 
 pub returns-clause-ok : goal.returns-clause-ok
 returns-clause-ok g c =
     let at = c.in_ok-cursor.ensures.ok in
-    rw (at.movie_is, at.frame_is, c.get-from.ensures.value, c.frames_asked-frames.ensures.value) at c.in_ok-write_frames.ensures.ok
+    rw (at.movie_is, at.frame_is, c.get.ensures.value, c.frames_asked-frames.ensures.value) at c.in_ok-write_frames.ensures.ok

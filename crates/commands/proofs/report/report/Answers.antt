@@ -1,0 +1,12 @@
+use Rattle.std.proofs.Common.{refl, string_bytes}
+use Rattle.commands.proofs.report.report.Goals as goal
+
+pub returns-clause-answer : goal.returns-clause-answer
+returns-clause-answer g c =
+    rw (c.of_text.ensures, c.status-status.ensures, c.of_verdict.ensures, c.in_ok-text.ensures) (
+      c.in_ok-verdict.verdict,
+      string_bytes c.in_ok-facts.facts,
+      (c.without_pictures-plan.result.keep, c.in_ok-verdict.ensures.verdict),
+      rw c.program_name.ensures at c.in_ok-facts.ensures,
+      refl,
+    )

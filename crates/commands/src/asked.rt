@@ -1,0 +1,164 @@
+//! The frames of a movie that a command asks for, and what is written of each.
+ghost use Rattle.std.specs.Prelude.{◌≡◌, ◌≤◌, ◌<◌, ◌+◌, ◌-◌, ◌^◌, length, IfOk, IfErr, OnOk, OnErr};
+ghost use Rattle.std.specs.Io.KnownBytes.{Appends};
+ghost use Rattle.std.specs.NonZero.{non_zero_u32_get};
+ghost use Rattle.movie_file.specs.Movie.{IsMovie};
+ghost use Rattle.picture_file.specs.PictureBytes.{picture_bytes};
+ghost use Rattle.picture_file.specs.Prefixes.{AppendsPrefix};
+ghost use Rattle.replay_segments.specs.NextCheckpoint.{IsNext};
+ghost use Rattle.run_cursor.specs.Cursor.{IsAt};
+ghost use Rattle.run_cursor.specs.RunFaults.{FaultsWithin, FrameFails};
+ghost use Rattle.commands.specs.Asked.{Ends, frames_asked, from_frames, last_asked};
+ghost use Rattle.commands.specs.Private.Stops.{StopsWriting};
+ghost use Rattle.commands.specs.Private.Views.{bytes_shown, picture_of_frame, shown_bytes};
+
+use crate::frame_line::played_line;
+use crate::stop::Stop;
+use movie_file::Movie;
+use picture_file::{WriteFault, ppm, write_bytes};
+use replay_plan::Details;
+use replay_segments::checkpoints_before;
+use run_cursor::{Cursor, RunFault};
+use std::alloc::Global;
+use std::io::Write;
+use std::num::NonZeroU32;
+use vcs_machine::{FrameError, Picture};
+
+/// What is written of a frame.
+#[derive(Clone, Copy)]
+pub(crate) enum View<'a> {
+    /// Its line, with these details.
+    Line(&'a Details),
+    /// Its picture, as a file.
+    Picture,
+}
+
+/// That of a frame that was played.
+#[derive(Drop)]
+enum Shown {
+    Line(String),
+    Picture(Picture),
+}
+
+impl Shown {
+    fn write<W: Write>(&self, writer: &mut W) -> Result<(), WriteFault>
+        ensures ok { OnOk result (Appends (W.contents writer.old) (W.contents writer.new) (shown_bytes self.now)) }
+        ensures err { OnErr result (AppendsPrefix (W.contents writer.old) (W.contents writer.new) (shown_bytes self.now)) }
+    {
+        match self {
+            Shown::Line(line) => write_bytes(line.as_bytes(), writer),
+            Shown::Picture(picture) => ppm(picture, writer),
+        }
+    }
+}
+
+/// How many frames are asked for: `count` from `first` on, as many as the movie has.
+pub(crate) fn frames_asked(movie: &Movie, first: NonZeroU32, count: u32) -> u32
+    ensures value { result ≡ frames_asked movie.now (non_zero_u32_get first) count }
+    ensures within { 0 < result → non_zero_u32_get first - 1 + result ≤ length movie.now.inputs }
+    ensures fits { non_zero_u32_get first - 1 + result < 2 ^ 32 }
+    ensures lawful { IsMovie movie.now }
+{
+    count.min(movie.frames().saturating_sub(first.get() - 1))
+}
+
+/// A cursor after so many frames of the run, or the first fault of these. It takes no memory.
+pub(crate) fn cursor_after(movie: &Movie, frames: u32) -> Result<Cursor<'_>, RunFault>
+    requires { frames ≤ length movie.now.inputs }
+    ensures ok { IfOk result (IsAt movie.now frames) }
+    ensures err { IfErr result (λ fault. FaultsWithin movie.now frames fault.frame fault.kind) }
+{
+    let mut cursor = Cursor::at_start(movie);
+    match cursor.advance_to(frames) {
+        Ok(()) => Ok(cursor),
+        Err(fault) => Err(fault),
+    }
+}
+
+/// Plays the next frame; the answer is its picture.
+fn played_picture(alloc: Global, cursor: &mut Cursor<'_>) -> Result<Picture, FrameError>
+    requires more { cursor.old.frame < length cursor.old.movie.inputs }
+    ensures ok { OnOk result (IsAt cursor.old.movie (cursor.old.frame + 1) cursor.new) }
+    ensures picture { IfOk result (λ rows. picture_bytes rows ≡ picture_of_frame cursor.old.movie cursor.old.frame) }
+    ensures err { IfErr result (FrameFails cursor.old.movie cursor.old.frame) }
+{
+    let timed = cursor.advance_timed(alloc, true)?;
+    Ok(timed.picture.unwrap())
+}
+
+/// Plays the next frame; the answer is what is written of it. `next` is the index of the first
+/// checkpoint that is not before that frame.
+fn play(
+    alloc: Global,
+    view: View<'_>,
+    next: u16,
+    cursor: &mut Cursor<'_>,
+) -> Result<Shown, FrameError>
+    requires more { cursor.old.frame < length cursor.old.movie.inputs }
+    requires next { IsNext cursor.old.movie next (cursor.old.frame + 1) }
+    ensures ok { OnOk result (IsAt cursor.old.movie (cursor.old.frame + 1) cursor.new) }
+    ensures shown { IfOk result (λ shown. shown_bytes shown ≡ bytes_shown cursor.old.movie view.entry cursor.old.frame) }
+    ensures err { IfErr result (FrameFails cursor.old.movie cursor.old.frame) }
+{
+    match view {
+        View::Line(details) => Ok(Shown::Line(played_line(alloc, details, next, cursor)?)),
+        View::Picture => Ok(Shown::Picture(played_picture(alloc, cursor)?)),
+    }
+}
+
+/// Writes what is asked of the frames that follow, each as soon as it is played. It takes the memory
+/// of one frame at a time.
+fn write_frames<W: Write>(
+    alloc: Global,
+    view: View<'_>,
+    cursor: &mut Cursor<'_>,
+    frames: u32,
+    writer: &mut W,
+) -> Result<(), Stop>
+    requires within { cursor.old.frame + frames ≤ length cursor.old.movie.inputs }
+    ensures ends { OnOk result (Ends cursor.old.movie (cursor.old.frame + frames)) }
+    ensures ok { OnOk result (Appends (W.contents writer.old) (W.contents writer.new)
+        (from_frames (bytes_shown cursor.old.movie view.entry) cursor.old.frame frames)) }
+    ensures err { IfErr result (StopsWriting cursor.old.movie (bytes_shown cursor.old.movie view.entry) (cursor.old.frame + frames)
+        cursor.old.frame frames (W.contents writer.old) (W.contents writer.new)) }
+{
+    let movie = cursor.movie();
+    let from = cursor.frame();
+    let mut next = 0;
+    for k in 0..frames {
+        let frame = from + k + 1;
+        next = checkpoints_before(movie, next, frame);
+        match play(alloc, view, next, cursor) {
+            Ok(shown) => shown.write(writer)?,
+            Err(error) => return Err(Stop::of_frame(frame, error)),
+        }
+    }
+    Ok(())
+}
+
+/// Runs a movie up to the last of the frames that are asked for, `count` from `first` on, as many as
+/// it has, and writes what is asked of them. The answer is how many they are.
+pub(crate) fn write_asked<W: Write>(
+    alloc: Global,
+    movie: &Movie,
+    view: View<'_>,
+    first: NonZeroU32,
+    count: u32,
+    writer: &mut W,
+) -> Result<u32, Stop>
+    ensures frames { IfOk result (λ frames. frames ≡ frames_asked movie.now (non_zero_u32_get first) count) }
+    ensures ends { OnOk result (Ends movie.now (last_asked movie.now (non_zero_u32_get first) count)) }
+    ensures ok { OnOk result (Appends (W.contents writer.old) (W.contents writer.new)
+        (from_frames (bytes_shown movie.now view.entry) (non_zero_u32_get first - 1) (frames_asked movie.now (non_zero_u32_get first) count))) }
+    ensures err { IfErr result (StopsWriting movie.now (bytes_shown movie.now view.entry)
+        (last_asked movie.now (non_zero_u32_get first) count) (non_zero_u32_get first - 1)
+        (frames_asked movie.now (non_zero_u32_get first) count) (W.contents writer.old) (W.contents writer.new)) }
+{
+    let frames = frames_asked(movie, first, count);
+    if frames == 0 {
+        return Ok(frames);
+    }
+    let mut cursor = cursor_after(movie, first.get() - 1)?;
+    write_frames(alloc, view, &mut cursor, frames, writer)?;
+    Ok(frames)
+}
