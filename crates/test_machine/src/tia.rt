@@ -28,8 +28,8 @@ const INPT4: u8 = 0x0C;
 
 /// A line's pixels, as they were put last.
 #[derive(Clone, Copy)]
-struct Row {
-    pixels: [u8; 160],
+pub(crate) struct Row {
+    pub pixels: [u8; 160],
 }
 
 impl Paint for Row {
