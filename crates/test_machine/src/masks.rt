@@ -1,8 +1,8 @@
 //! Worked examples of masks, and of clocks in one call and in many.
 ghost use Rattle.std.specs.Prelude.{◌≤◌};
 
+use crate::Row;
 use crate::expectation::expect_equal;
-use crate::tia::Row;
 use std::test::Fail;
 use tia_core::{Mask, Tia, TiaFields};
 
@@ -122,15 +122,13 @@ fn one_call_is_as_many(rt: HostRuntime) -> Result<(), Fail> {
         fields.ctrlpf = ctrlpf;
         let mut one = tia_of(fields)?;
         let mut many = tia_of(fields)?;
-        let mut row = Row {
-            pixels: [0xFF; 160],
-        };
+        let mut row = Row::of(0xFF);
         let mut other = row;
         one.clocks(228, &mut row);
         for _clock in 0..228u8 {
             many.clocks(1, &mut other);
         }
-        assert!(rt; row.pixels == other.pixels);
+        assert!(rt; row == other);
         assert!(rt; one.fields() == many.fields());
         assert!(rt; one.fields() != fields);
         expect_equal(&rt, one.line(), many.line());
