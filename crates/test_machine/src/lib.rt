@@ -1,6 +1,6 @@
 //! Worked examples of the processor, the TIA, the RIOT, the address map and whole frames, and what
-//! `test_manuals` needs too: a bus that keeps a log, and a row of pixels. They stand apart from those
-//! crates, since a crate with tests is proved twice, and all else waits for these.
+//! `test_manuals` needs too: a bus that keeps a log, and a row of pixels. They stand apart from
+//! those crates, since a crate with tests is proved twice, and all else waits for these.
 #![tactic(auto)]
 
 #[cfg(test)]

@@ -44,8 +44,8 @@ pub(crate) fn answer_to<T: Threads + Wait + Sync + AllocGlobal, R: Read>(
 }
 
 impl Answer {
-    /// Right where the status and what was written is wanted. But for a failed write, nothing may be
-    /// written before an error.
+    /// Right where the status and what was written are wanted. But for a failed write, nothing may
+    /// be written before an error.
     pub(crate) fn is(&self, status: Status, text: &[u8], file: &[u8]) -> Result<(), Failure> {
         self.judged(
             status,

@@ -112,9 +112,9 @@ pub(crate) fn is_listed<R: Threads + Wait + Sync + AllocGlobal>(rt: &R) -> Resul
     answer_to(rt, &Command::Inputs, &mut two_frames().as_slice()).is(Status::Done, b"2\n", &[])
 }
 
-/// The length of the report of two frames without the name of the program: a line of the verdict, one
-/// for the length of the cartridge, three digests, its bank scheme, six lines of the start and the
-/// checkpoints, and five of the movie.
+/// The length of the report of two frames without the name of the program: a line of the verdict,
+/// one for the length of the cartridge, three digests, its bank scheme, six lines of the start and
+/// the checkpoints, and five of the movie.
 const REPORT: usize = 33
     + 22
     + 38
