@@ -1,5 +1,5 @@
-//! Making movies and telling what they hold, over devices that fail. What else is written, `ci/cases`
-//! compares.
+//! Making movies and telling what they hold, over devices that fail. What else is written is
+//! compared by `ci/cases`.
 
 use crate::answer::{Answer, answer_into, expect_beginning, expect_nothing};
 use crate::devices::{FailingReader, FailingWriter, Zeros};
