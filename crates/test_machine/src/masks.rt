@@ -1,25 +1,10 @@
 //! Worked examples of masks, and of clocks in one call and in many.
-ghost use Rattle.std.specs.Prelude.{◌≡◌, ◌≤◌, nat_lt, slice_set, if◌then◌else◌};
+ghost use Rattle.std.specs.Prelude.{◌≤◌};
 
+use crate::Row;
 use crate::expectation::expect_equal;
 use std::test::Fail;
-use tia_core::{Mask, Paint, Tia, TiaFields};
-
-/// A line's pixels, as they were put last.
-#[derive(Clone, Copy)]
-struct Row {
-    pixels: [u8; 160],
-}
-
-impl Paint for Row {
-    ghost drawn = { λ s _ x c. if nat_lt x 160 then record { pixels = slice_set s.pixels x c } else s };
-
-    fn put(&mut self, _line: u16, x: u8, colour: u8) {
-        if x < 160 {
-            self.pixels[x as usize] = colour;
-        }
-    }
-}
+use tia_core::{Mask, Tia, TiaFields};
 
 /// The pixels that a mask covers.
 fn row_of(mask: &Mask) -> [bool; 160] {
@@ -137,15 +122,13 @@ fn one_call_is_as_many(rt: HostRuntime) -> Result<(), Fail> {
         fields.ctrlpf = ctrlpf;
         let mut one = tia_of(fields)?;
         let mut many = tia_of(fields)?;
-        let mut row = Row {
-            pixels: [0xFF; 160],
-        };
+        let mut row = Row::of(0xFF);
         let mut other = row;
         one.clocks(228, &mut row);
         for _clock in 0..228u8 {
             many.clocks(1, &mut other);
         }
-        assert!(rt; row.pixels == other.pixels);
+        assert!(rt; row == other);
         assert!(rt; one.fields() == many.fields());
         assert!(rt; one.fields() != fields);
         expect_equal(&rt, one.line(), many.line());

@@ -1,8 +1,8 @@
 //! Worked examples, whose results were written down by hand.
-ghost use Rattle.std.specs.Prelude.{◌≡◌, nat_lt, slice_set, if◌then◌else◌};
 
+use crate::Row;
 use crate::expectation::expect_equal;
-use tia_core::{Effect, Paint, Tia};
+use tia_core::{Effect, Tia};
 
 const VBLANK: u8 = 0x01;
 
@@ -26,27 +26,9 @@ const CXP0FB: u8 = 0x02;
 
 const INPT4: u8 = 0x0C;
 
-/// A line's pixels, as they were put last.
-#[derive(Clone, Copy)]
-struct Row {
-    pixels: [u8; 160],
-}
-
-impl Paint for Row {
-    ghost drawn = { λ s _ x c. if nat_lt x 160 then record { pixels = slice_set s.pixels x c } else s };
-
-    fn put(&mut self, _line: u16, x: u8, colour: u8) {
-        if x < 160 {
-            self.pixels[x as usize] = colour;
-        }
-    }
-}
-
 /// The pixels of `n` clocks, over a row of FF.
 fn draw(tia: &mut Tia, n: u8) -> [u8; 160] {
-    let mut row = Row {
-        pixels: [0xFF; 160],
-    };
+    let mut row = Row::of(0xFF);
     tia.clocks(n, &mut row);
     row.pixels
 }

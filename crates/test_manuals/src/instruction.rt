@@ -3,7 +3,7 @@
 use arrayvec::ArrayVec;
 use mos_cpu::{Cpu, step};
 use std::str::SplitWhitespace;
-use test_processor::{Event, LogBus};
+use test_machine::{Event, LogBus};
 
 /// No page of the address space, so that each byte can be fetched.
 const NO_PAGE: u16 = 256;

@@ -1,53 +1,28 @@
-//! A line's pixels.
-ghost use Rattle.std.specs.Prelude.{◌≡◌, nat_lt, slice_set, if◌then◌else◌};
+//! Rows of pixels as the cases spell them.
 
 use crate::step::{byte, place};
+use test_machine::Row;
 use tia_core::Paint;
 
-/// A line's pixels, as they were put last.
-#[derive(Clone, Copy, PartialEq, Eq)]
-pub(crate) struct Row {
-    pixels: [u8; 160],
+/// The row of a text as `00 40-47:1E 50:1E`: the background's colour, then stretches of other
+/// colours, each from its first pixel to its last.
+pub(crate) fn parse_row(text: &str) -> Option<Row> {
+    let (background, stretches) = text.split_once(' ').unwrap_or((text, ""));
+    let mut row = Row::of(byte(background)?);
+    for stretch in stretches.split_whitespace() {
+        add_stretch(&mut row, stretch)?;
+    }
+    Some(row)
 }
 
-impl Paint for Row {
-    ghost drawn = { λ s _ x c. if nat_lt x 160 then record { pixels = slice_set s.pixels x c } else s };
-
-    fn put(&mut self, _line: u16, x: u8, colour: u8) {
-        if x < 160 {
-            self.pixels[x as usize] = colour;
-        }
+fn add_stretch(row: &mut Row, stretch: &str) -> Option<()> {
+    let (pixels, colour) = stretch.split_once(':')?;
+    let (first, last) = pixels.split_once('-').unwrap_or((pixels, pixels));
+    let first = place(first)?;
+    let last = place(last)?;
+    if first > last || last >= 160 {
+        return None;
     }
-}
-
-impl Row {
-    /// Pixels of one colour.
-    pub(crate) fn of(colour: u8) -> Row {
-        Row {
-            pixels: [colour; 160],
-        }
-    }
-
-    /// The row of a text as `00 40-47:1E 50:1E`: the background's colour, then stretches of other
-    /// colours, each from its first pixel to its last.
-    pub(crate) fn parse(text: &str) -> Option<Row> {
-        let (background, stretches) = text.split_once(' ').unwrap_or((text, ""));
-        let mut row = Row::of(byte(background)?);
-        for stretch in stretches.split_whitespace() {
-            row.add(stretch)?;
-        }
-        Some(row)
-    }
-
-    fn add(&mut self, stretch: &str) -> Option<()> {
-        let (pixels, colour) = stretch.split_once(':')?;
-        let (first, last) = pixels.split_once('-').unwrap_or((pixels, pixels));
-        let first = place(first)?;
-        let last = place(last)?;
-        if first > last || last >= 160 {
-            return None;
-        }
-        self.put_run(0, first, last + 1, byte(colour)?);
-        Some(())
-    }
+    row.put_run(0, first, last + 1, byte(colour)?);
+    Some(())
 }

@@ -1,7 +1,8 @@
 //! The steps of a case, as its lines say them.
 
 use crate::registers::address_of;
-use crate::row::Row;
+use crate::row::parse_row;
+use test_machine::Row;
 use tia_core::Effect;
 
 /// One of the objects that have a position.
@@ -50,7 +51,7 @@ impl Step {
             "read" => read(rest),
             "clocks" => Some(Step::Clocks(count(rest)?)),
             "cycles" => Some(Step::Cycles(count(rest)?)),
-            "row" => Some(Step::Row(Row::parse(rest)?)),
+            "row" => Some(Step::Row(parse_row(rest)?)),
             "beam" => Some(Step::Beam(place(rest)?)),
             "put" => {
                 let (object, pixel) = object_and_pixel(rest)?;

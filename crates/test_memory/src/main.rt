@@ -2,9 +2,10 @@
 //! one growth of memory refused. It is a program, since the growth that is refused is chosen for a
 //! whole process.
 //!
-//! Each line of standard input names a call, and is answered by a line: the call is right, or
-//! failed with out of memory or another error, or is wrong, which means any other value, or
-//! something written where nothing was to be.
+//! A line of standard input that begins with `vcs_check` is a command line, whose words stand one
+//! space apart: the answer is the command that it is. Each other line names a call, and is answered
+//! by a line: the call is right, or failed with out of memory or another error, or is wrong, which
+//! means any other value, or something written where nothing was to be.
 //!
 //! A line `CALL N` is for a process whose thousandth growth is refused (`rt try --fail-alloc
 //! 1000`). The program makes so many growths before the call that it is the call's N-th one, and
@@ -13,15 +14,16 @@
 //! contracts and are not.
 #![tactic(auto)]
 
-mod describing;
-mod engine;
+mod answer;
+mod arguments;
 mod failure;
+mod frames;
 mod gate;
 mod growths;
 mod movies;
 mod order;
+mod run;
 mod segments;
-mod tracing;
 mod workers;
 mod wrong_movies;
 
@@ -100,36 +102,39 @@ fn outcome_of_wrong_movies<R: Threads + Wait + Sync>(
 }
 
 /// Tries what a command does; none has another name.
-fn outcome_of_commands<R: Threads + Wait + Sync>(
+fn outcome_of_commands<R: Threads + Wait + Sync + AllocGlobal>(
     rt: &R,
     alloc: Global,
     call: &str,
 ) -> Option<Result<(), Failure>> {
     Some(match call {
-        "run" => engine::is_judged(rt, alloc, 1),
-        "run_by_two" => engine::is_judged(rt, alloc, 2),
-        "run_of_9_megabytes" => engine::is_refused(rt, alloc),
-        "run_make" => engine::is_made(alloc, InputForm::Bytes),
-        "run_make_of_text" => engine::is_made(alloc, InputForm::Text),
-        "run_inputs" => engine::is_listed(alloc),
-        "run_report" => engine::is_reported(rt, alloc, 1),
-        "run_report_by_two" => engine::is_reported(rt, alloc, 2),
-        "run_report_of_false" => engine::is_reported_false(rt, alloc),
-        "run_info" => engine::is_told(alloc),
-        "run_information" => engine::is_told_as_json(alloc),
-        "run_convert" => engine::is_converted(alloc),
-        "run_frames" => describing::is_described(alloc, false),
-        "run_frames_with_digests" => describing::is_described(alloc, true),
-        "run_trace" => tracing::is_traced(alloc),
-        "run_pictures" => engine::is_drawn(alloc),
-        "run_cut" => engine::is_cut_out(alloc),
-        "run_cut_with_fault" => order::is_faulty_cut(alloc),
+        "command" => arguments::are_command(alloc),
+        "usage" => arguments::are_usage(alloc),
+        "help" => arguments::are_help(alloc),
+        "run" => run::is_judged(rt, alloc, 1),
+        "run_by_two" => run::is_judged(rt, alloc, 2),
+        "run_of_9_megabytes" => run::is_refused(rt),
+        "run_make" => run::is_made(alloc, InputForm::Bytes),
+        "run_make_of_text" => run::is_made(alloc, InputForm::Text),
+        "run_inputs" => run::is_listed(rt),
+        "run_report" => run::is_reported(rt, 1),
+        "run_report_by_two" => run::is_reported(rt, 2),
+        "run_report_of_false" => run::is_reported_false(rt),
+        "run_info" => run::is_told(alloc),
+        "run_information" => run::is_told_as_json(rt),
+        "run_convert" => run::is_converted(alloc),
+        "run_frames" => frames::are_told(rt, false),
+        "run_frames_with_digests" => frames::are_told(rt, true),
+        "run_trace" => frames::is_traced(rt),
+        "run_pictures" => run::is_drawn(rt),
+        "run_cut" => run::is_cut_out(rt),
+        "run_cut_with_fault" => order::is_faulty_cut(rt),
         _ => return None,
     })
 }
 
 /// Tries a call; none has another name.
-fn outcome_of<R: Threads + Wait + Sync>(
+fn outcome_of<R: Threads + Wait + Sync + AllocGlobal>(
     rt: &R,
     alloc: Global,
     call: &str,
@@ -147,7 +152,14 @@ fn outcome_of<R: Threads + Wait + Sync>(
 }
 
 /// Does what a line asks for, and prints the answer.
-fn answer<R: Threads + Wait + Sync + Print>(rt: &R, alloc: Global, line: &str) -> io::Result<()> {
+fn tell_outcome<R: Threads + Wait + Sync + AllocGlobal + Print>(
+    rt: &R,
+    line: &str,
+) -> io::Result<()> {
+    let alloc = rt.alloc();
+    if line.starts_with("vcs_check") {
+        return arguments::tell(rt, alloc, line);
+    }
     let (call, number) = match line.split_once(' ') {
         Some((call, number)) => (call, number.parse::<usize>().ok()),
         None => (line, None),
@@ -170,7 +182,7 @@ fn answer<R: Threads + Wait + Sync + Print>(rt: &R, alloc: Global, line: &str) -
 }
 
 fn main(rt: HostRuntime) -> ExitCode {
-    let mut room = [0u8; 2048];
+    let mut room = [0u8; 8192];
     let Ok(length) = rt.stdin().read(&mut room) else {
         return ExitCode::FAILURE;
     };
@@ -178,7 +190,7 @@ fn main(rt: HostRuntime) -> ExitCode {
         return ExitCode::FAILURE;
     };
     for line in text.lines() {
-        if answer(&rt, rt.alloc(), line).is_err() {
+        if tell_outcome(&rt, line).is_err() {
             return ExitCode::FAILURE;
         }
     }

@@ -1,13 +1,16 @@
 //! What is refused for another reason where memory is there: a call takes its room before it looks
 //! at what it may refuse, so a refused growth is the answer whatever is wrong behind it.
 
+use crate::answer::answer_to;
 use crate::failure::{Failure, OUT_OF_MEMORY};
 use crate::movies::{LENGTH, cartridge, two_frames};
-use commands::{RunError, Status, run_cut};
+use command_line::Command;
+use commands::Status;
 use movie_file::{MakeError, MovieError, make_movie, read_inputs, read_movie};
 use std::alloc::Global;
-use std::io;
 use std::num::NonZeroU32;
+use std::sync::Wait;
+use std::thread::Threads;
 use vcs_machine::{FrameError, Input, State, frame};
 
 /// The movie of two frames with 02, which is no opcode, where its program begins.
@@ -67,20 +70,12 @@ pub(crate) fn is_faulty_frame(alloc: Global) -> Result<(), Failure> {
 
 /// A cut from the second frame on of a movie whose first frame faults. It takes no room for its
 /// checkpoints, since the frames before it come first.
-pub(crate) fn is_faulty_cut(alloc: Global) -> Result<(), Failure> {
-    let second = NonZeroU32::new(2).ok_or(Failure::Wrong)?;
-    let status = run_cut(
-        alloc,
-        &mut without_opcode().as_slice(),
-        second,
-        1,
-        1,
-        &mut io::sink(),
-        &mut io::sink(),
-    );
-    match status {
-        Ok(Status::Fault) => Ok(()),
-        Err(RunError::NoMemory) => Err(OUT_OF_MEMORY),
-        _ => Err(Failure::Wrong),
-    }
+pub(crate) fn is_faulty_cut<R: Threads + Wait + Sync + AllocGlobal>(rt: &R) -> Result<(), Failure> {
+    let cut = Command::Cut {
+        first: NonZeroU32::MIN.saturating_add(1),
+        count: 1,
+        every: NonZeroU32::MIN,
+    };
+    let wanted = b"fault at frame 1: bad opcode 02 at F000\n";
+    answer_to(rt, &cut, &mut without_opcode().as_slice()).is(Status::Fault, wanted, &[])
 }

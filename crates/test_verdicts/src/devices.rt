@@ -1,5 +1,6 @@
 //! Readers and writers that give and take little at a time, and fail.
 
+use std::alloc::Global;
 use std::io;
 use std::io::{Read, Write};
 
@@ -44,7 +45,15 @@ impl Read for FailingReader<'_> {
 #[derive(Drop)]
 pub(crate) struct FailingWriter {
     pub taken: Vec<u8>,
-    pub left: u64,
+    pub left: usize,
+}
+
+impl FailingWriter {
+    /// A writer that takes so many bytes.
+    pub(crate) fn new(alloc: Global, left: usize) -> FailingWriter {
+        let taken = Vec::new(alloc);
+        FailingWriter { taken, left }
+    }
 }
 
 impl Write for FailingWriter {

@@ -24,6 +24,26 @@ fn comes(counter: &AtomicU64, to: u64, looks: &AtomicU64) -> bool {
     false
 }
 
+/// Four counters.
+fn counters() -> [AtomicU64; 4] {
+    [
+        AtomicU64::new(0),
+        AtomicU64::new(0),
+        AtomicU64::new(0),
+        AtomicU64::new(0),
+    ]
+}
+
+/// What four counters show.
+fn shown(counters: &[AtomicU64; 4]) -> [u64; 4] {
+    [
+        counters[0].load(Ordering::SeqCst),
+        counters[1].load(Ordering::SeqCst),
+        counters[2].load(Ordering::SeqCst),
+        counters[3].load(Ordering::SeqCst),
+    ]
+}
+
 /// A gate that counts how often each of the first three segments was entered and left, and how
 /// often a further one was.
 #[derive(Drop)]
@@ -35,39 +55,19 @@ pub(crate) struct Counts {
 impl Counts {
     pub(crate) fn new() -> Counts {
         Counts {
-            entered: [
-                AtomicU64::new(0),
-                AtomicU64::new(0),
-                AtomicU64::new(0),
-                AtomicU64::new(0),
-            ],
-            left: [
-                AtomicU64::new(0),
-                AtomicU64::new(0),
-                AtomicU64::new(0),
-                AtomicU64::new(0),
-            ],
+            entered: counters(),
+            left: counters(),
         }
     }
 
     /// How often segments 0, 1, 2 and further ones were entered.
     pub(crate) fn entries(&self) -> [u64; 4] {
-        [
-            self.entered[0].load(Ordering::SeqCst),
-            self.entered[1].load(Ordering::SeqCst),
-            self.entered[2].load(Ordering::SeqCst),
-            self.entered[3].load(Ordering::SeqCst),
-        ]
+        shown(&self.entered)
     }
 
     /// How often they were left.
     pub(crate) fn leaves(&self) -> [u64; 4] {
-        [
-            self.left[0].load(Ordering::SeqCst),
-            self.left[1].load(Ordering::SeqCst),
-            self.left[2].load(Ordering::SeqCst),
-            self.left[3].load(Ordering::SeqCst),
-        ]
+        shown(&self.left)
     }
 }
 

@@ -3,15 +3,15 @@
 #![tactic(auto)]
 
 #[cfg(test)]
-mod describing;
+mod answer;
 #[cfg(test)]
 mod desk;
 #[cfg(test)]
 mod devices;
 #[cfg(test)]
-mod engine;
-#[cfg(test)]
 mod expectation;
+#[cfg(test)]
+mod frames;
 #[cfg(test)]
 mod gates;
 #[cfg(test)]
@@ -19,7 +19,7 @@ mod lines;
 #[cfg(test)]
 mod looking;
 #[cfg(test)]
-mod making;
+mod make;
 #[cfg(test)]
 mod movies;
 #[cfg(test)]
@@ -31,8 +31,10 @@ mod reports;
 #[cfg(test)]
 mod segments;
 #[cfg(test)]
-mod tracing;
+mod trace;
 #[cfg(test)]
 mod verdicts;
+#[cfg(test)]
+mod verify;
 #[cfg(test)]
 mod workers;

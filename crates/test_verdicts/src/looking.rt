@@ -1,55 +1,52 @@
-//! The engines that look into a run, over memory and over devices that fail.
+//! What is written of some frames, and of a movie that can't be read.
 
-use crate::devices::{FailingReader, FailingWriter};
+use crate::answer::{answer_into, answer_to, expect_beginning, expect_nothing};
+use crate::devices::FailingReader;
 use crate::expectation::expect_equal;
 use crate::movies::{first_of_two_false, two_frames, two_frames_with_a_last_checkpoint};
-use commands::{RunError, Status, run_cut, run_pictures};
-use std::io;
+use crate::pixmaps::two_black_pictures;
+use command_line::Command;
+use commands::{RunError, Status};
+use replay_plan::{Details, Watches};
 use std::num::NonZeroU32;
 use std::test::Fail;
 
 /// The length of a picture of one row.
-const PICTURE: u64 = 13 + 480;
+const PICTURE: usize = 13 + 480;
+
+/// The command that writes the pictures of two frames.
+const PICTURES: Command = Command::Pictures {
+    first: NonZeroU32::MIN,
+    count: 2,
+};
+
+/// The command that makes a movie of two frames with a checkpoint after the second.
+fn cut() -> Command {
+    Command::Cut {
+        first: NonZeroU32::MIN,
+        count: 2,
+        every: NonZeroU32::MIN.saturating_add(1),
+    }
+}
 
 #[test]
 fn false_movie_is_cut(rt: HostRuntime) -> Result<(), Fail> {
     let bytes = first_of_two_false(rt.alloc())?;
-    let mut movie = Vec::new(rt.alloc());
-    let mut line = Vec::new(rt.alloc());
-    let status = run_cut(
-        rt.alloc(),
-        &mut bytes.as_slice(),
-        NonZeroU32::MIN,
-        2,
-        2,
-        &mut movie,
-        &mut line,
-    );
-    expect_equal(&rt, status, Ok(Status::Done));
-    assert!(rt; movie == two_frames_with_a_last_checkpoint(rt.alloc())?);
-    assert!(rt; line.as_slice() == b"cut: 2 frames, 1 checkpoints\n".as_slice());
+    let answer = answer_to(&rt, &cut(), &mut bytes.as_slice());
+    expect_equal(&rt, answer.status, Ok(Status::Done));
+    assert!(rt; answer.file == two_frames_with_a_last_checkpoint(rt.alloc())?);
+    assert!(rt; answer.text.as_slice() == b"cut: 2 frames, 1 checkpoints\n".as_slice());
     Ok(())
 }
 
 #[test]
 fn line_of_a_cut_comes_after_the_movie(rt: HostRuntime) -> Result<(), Fail> {
     let bytes = two_frames(rt.alloc())?;
-    for left in [0u64, 2445] {
-        let taken = Vec::new(rt.alloc());
-        let mut movie = FailingWriter { taken, left };
-        let mut line = Vec::new(rt.alloc());
-        let status = run_cut(
-            rt.alloc(),
-            &mut bytes.as_slice(),
-            NonZeroU32::MIN,
-            2,
-            2,
-            &mut movie,
-            &mut line,
-        );
-        expect_equal(&rt, status, Err(RunError::WriteFault));
-        expect_equal(&rt, movie.taken.len() as u64, left);
-        assert!(rt; line.is_empty());
+    let wanted = two_frames_with_a_last_checkpoint(rt.alloc())?;
+    for left in [0, 2445] {
+        let answer = answer_into(&rt, &cut(), &mut bytes.as_slice(), usize::MAX, left);
+        expect_beginning(&rt, answer.status, &answer.file, &wanted, left);
+        assert!(rt; answer.text.is_empty());
     }
     Ok(())
 }
@@ -57,21 +54,11 @@ fn line_of_a_cut_comes_after_the_movie(rt: HostRuntime) -> Result<(), Fail> {
 #[test]
 fn line_of_pictures_comes_after_them(rt: HostRuntime) -> Result<(), Fail> {
     let bytes = two_frames(rt.alloc())?;
-    for left in [0u64, PICTURE, PICTURE + 13, 2 * PICTURE - 1] {
-        let taken = Vec::new(rt.alloc());
-        let mut pictures = FailingWriter { taken, left };
-        let mut line = Vec::new(rt.alloc());
-        let status = run_pictures(
-            rt.alloc(),
-            &mut bytes.as_slice(),
-            NonZeroU32::MIN,
-            2,
-            &mut pictures,
-            &mut line,
-        );
-        expect_equal(&rt, status, Err(RunError::WriteFault));
-        expect_equal(&rt, pictures.taken.len() as u64, left);
-        assert!(rt; line.is_empty());
+    let wanted = two_black_pictures(rt.alloc())?;
+    for left in [0, PICTURE, PICTURE + 13, 2 * PICTURE - 1] {
+        let answer = answer_into(&rt, &PICTURES, &mut bytes.as_slice(), usize::MAX, left);
+        expect_beginning(&rt, answer.status, &answer.file, &wanted, left);
+        assert!(rt; answer.text.is_empty());
     }
     Ok(())
 }
@@ -79,65 +66,39 @@ fn line_of_pictures_comes_after_them(rt: HostRuntime) -> Result<(), Fail> {
 #[test]
 fn line_that_fails_leaves_the_pictures(rt: HostRuntime) -> Result<(), Fail> {
     let bytes = two_frames(rt.alloc())?;
-    let mut pictures = Vec::new(rt.alloc());
-    let taken = Vec::new(rt.alloc());
-    let mut line = FailingWriter { taken, left: 9 };
-    let status = run_pictures(
-        rt.alloc(),
-        &mut bytes.as_slice(),
-        NonZeroU32::MIN,
-        2,
-        &mut pictures,
-        &mut line,
-    );
-    expect_equal(&rt, status, Err(RunError::WriteFault));
-    expect_equal(&rt, pictures.len() as u64, 2 * PICTURE);
-    assert!(rt; line.taken.as_slice() == b"pictures:".as_slice());
+    let answer = answer_into(&rt, &PICTURES, &mut bytes.as_slice(), 9, usize::MAX);
+    expect_beginning(&rt, answer.status, &answer.text, b"pictures: 2 frames\n", 9);
+    expect_equal(&rt, answer.file.len(), 2 * PICTURE);
     Ok(())
 }
 
-#[test]
-fn failed_read_shows_nothing(rt: HostRuntime) -> Result<(), Fail> {
-    let bytes = two_frames(rt.alloc())?;
-    for left in [0u64, 3] {
-        let mut reader = FailingReader {
-            bytes: &bytes,
-            left,
-        };
-        let mut pictures = Vec::new(rt.alloc());
-        let mut line = Vec::new(rt.alloc());
-        let status = run_pictures(
-            rt.alloc(),
-            &mut reader,
-            NonZeroU32::MIN,
-            2,
-            &mut pictures,
-            &mut line,
-        );
-        expect_equal(&rt, status, Err(RunError::ReadFault));
-        assert!(rt; pictures.is_empty() && line.is_empty());
+/// Details without digests, of no addresses.
+fn no_details() -> Details {
+    Details {
+        watches: Watches::none(),
+        digests: false,
     }
-    Ok(())
 }
 
 #[test]
-fn failed_read_cuts_nothing(rt: HostRuntime) -> Result<(), Fail> {
+fn failed_read_writes_nothing(rt: HostRuntime) -> Result<(), Fail> {
     let bytes = two_frames(rt.alloc())?;
-    let mut reader = FailingReader {
-        bytes: &bytes,
-        left: 3,
+    let first = NonZeroU32::MIN;
+    let frames = Command::Frames {
+        first,
+        count: 2,
+        details: no_details(),
     };
-    let mut line = Vec::new(rt.alloc());
-    let status = run_cut(
-        rt.alloc(),
-        &mut reader,
-        NonZeroU32::MIN,
-        2,
-        2,
-        &mut io::sink(),
-        &mut line,
-    );
-    expect_equal(&rt, status, Err(RunError::ReadFault));
-    assert!(rt; line.is_empty());
+    let trace = Command::Trace { frame: first };
+    for command in [frames, PICTURES, cut(), trace] {
+        for left in [0, 3] {
+            let mut reader = FailingReader {
+                bytes: &bytes,
+                left,
+            };
+            let answer = answer_to(&rt, &command, &mut reader);
+            expect_nothing(&rt, &answer, RunError::ReadFault);
+        }
+    }
     Ok(())
 }

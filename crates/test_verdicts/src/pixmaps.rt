@@ -42,6 +42,23 @@ fn luminance_is_in_bits_3_to_1(rt: HostRuntime) {
     }
 }
 
+#[test]
+fn colours_of_the_palette(rt: HostRuntime) {
+    expect_equal(&rt, rgb(0x00), [0, 0, 0]);
+    expect_equal(&rt, rgb(0x1E), [232, 232, 168]);
+    expect_equal(&rt, rgb(0x8E), [168, 168, 255]);
+}
+
+/// The bytes of two pictures of one row of zeros each.
+pub(crate) fn two_black_pictures(alloc: Global) -> Result<Vec<u8>, Fail> {
+    let mut bytes = Vec::new(alloc);
+    for _picture in 0..2 {
+        bytes.extend_from_slice(b"P6\n160 1\n255\n")?;
+        bytes.extend_from_slice(&[0; 480])?;
+    }
+    Ok(bytes)
+}
+
 /// The file of the picture of coloured frame 8: line 0 has colour 10, which is hue 1 without
 /// luminance, and line 1 is reached in its blank alone.
 fn file_of_frame_8(alloc: Global) -> Result<Vec<u8>, Fail> {

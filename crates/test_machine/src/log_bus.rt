@@ -1,7 +1,7 @@
 //! A bus that keeps a log.
 
 ghost use Rattle.std.specs.Prelude.{◌≡◌, [], fold, replicate};
-ghost use Rattle.test_processor.specs.Trace.{with_byte};
+ghost use Rattle.test_machine.specs.Trace.{with_byte};
 
 use crate::event::Event;
 use arrayvec::ArrayVec;
@@ -42,7 +42,7 @@ impl LogBus {
 }
 
 impl Bus for LogBus {
-    ghost use Rattle.test_processor.specs.Trace.{Trace, trace_meaning};
+    ghost use Rattle.test_machine.specs.Trace.{Trace, trace_meaning};
 
     ghost State = { Trace };
 

@@ -2,8 +2,8 @@
 use Rattle.std.specs.Prelude.{ℕ, ◌+◌, ◌/◌, ◌%◌, ◌^◌, ◌==◌, nat_lt, if◌then◌else◌, List, [], ◌∷◌}
 use Rattle.std.specs.Prelude.{◌++◌, length, Some, None, slice_index, slice_set}
 use Rattle.mos_cpu.specs.Buses.{Meaning}
-use Rattle.test_processor.specs.declared.event.Event.{Event}
-use Rattle.test_processor.specs.declared.event.Event.TheVariants.{Read, Write}
+use Rattle.test_machine.specs.declared.event.Event.{Event}
+use Rattle.test_machine.specs.declared.event.Event.TheVariants.{Read, Write}
 
 -- A memory of 65,536 bytes, the cycles that passed modulo 2 ^ 32, the first eight accesses, and the
 -- page in which a device is.

@@ -1,6 +1,6 @@
 use Rattle.std.proofs.Common.{◌≡◌, fold, replicate, take}
-use Rattle.test_processor.specs.Trace.{with_byte}
-use Rattle.test_processor.proofs.log_bus.LogBus.holding.Given as goal
+use Rattle.test_machine.specs.Trace.{with_byte}
+use Rattle.test_machine.proofs.log_bus.LogBus.holding.Given as goal
 
 -- the bytes so far stand in the memory
 abbrev pub invariant-loop-address : goal.invariant-loop-address

@@ -1,0 +1,83 @@
+//! What commands answer and write, without memory of their own.
+
+use crate::failure::{Failure, right};
+use arrayvec::ArrayVec;
+use command_line::Command;
+use commands::{NoGate, RunError, Status, run_command};
+use std::io::{self, Read};
+use std::sync::Wait;
+use std::thread::Threads;
+
+/// The room for a text.
+pub(crate) type Text = ArrayVec<u8, 1024>;
+
+/// The room for a file.
+pub(crate) type File = ArrayVec<u8, 4096>;
+
+/// What a command answered, and what it wrote.
+#[derive(Drop)]
+pub(crate) struct Answer {
+    pub status: Result<Status, RunError>,
+    pub text: Text,
+    pub file: File,
+}
+
+/// The answer to a command over this input. Its second input is empty.
+pub(crate) fn answer_to<T: Threads + Wait + Sync + AllocGlobal, R: Read>(
+    rt: &T,
+    command: &Command,
+    input: &mut R,
+) -> Answer {
+    let mut text = Text::new();
+    let mut file = File::new();
+    let mut inputs = io::empty();
+    let status = run_command(
+        rt,
+        command,
+        input,
+        &mut inputs,
+        &mut text,
+        &mut file,
+        &NoGate,
+    );
+    Answer { status, text, file }
+}
+
+impl Answer {
+    /// Right where the status and what was written are wanted. But for a failed write, nothing may
+    /// be written before an error.
+    pub(crate) fn is(&self, status: Status, text: &[u8], file: &[u8]) -> Result<(), Failure> {
+        self.judged(
+            status,
+            self.text.as_slice() == text && self.file.as_slice() == file,
+            self.text.is_empty() && self.file.is_empty(),
+        )
+    }
+
+    /// The same where some of the text's lines may be written before an error, each whole.
+    pub(crate) fn is_in_lines(&self, status: Status, text: &[u8]) -> Result<(), Failure> {
+        let written = self.text.as_slice();
+        self.judged(
+            status,
+            written == text && self.file.is_empty(),
+            text.starts_with(written) && (written.is_empty() || written.ends_with(b"\n")),
+        )
+    }
+
+    /// Right where the status is wanted, and what was written. But for a failed write, an error is
+    /// wrong after what may not be written before it.
+    pub(crate) fn judged(
+        &self,
+        status: Status,
+        is_wanted: bool,
+        is_beginning: bool,
+    ) -> Result<(), Failure> {
+        match self.status {
+            Ok(found) => right(found == status && is_wanted),
+            Err(error) if is_beginning || error == RunError::WriteFault => {
+                Err(Failure::Run(error))
+            }
+            Err(_) => Err(Failure::Wrong),
+        }
+    }
+}

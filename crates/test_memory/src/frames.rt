@@ -1,0 +1,61 @@
+//! What the program tells of frames and of instructions, over bytes in place of files.
+
+use crate::answer::answer_to;
+use crate::failure::Failure;
+use crate::movies::two_frames;
+use command_line::Command;
+use commands::Status;
+use replay_plan::{Address, Details, Watches};
+use std::num::NonZeroU32;
+use std::sync::Wait;
+use std::thread::Threads;
+
+/// The lines of the two frames, with the byte at 80.
+const LINES: &str = "frame 1: 13 cycles, 1 rows, checkpoint 1 true, memory 80 02
+frame 2: 16 cycles, 1 rows, memory 80 02
+";
+
+/// The same with digests: of the records of 188 bytes, and of a picture's file with a row of zeros.
+const LINES_WITH_DIGESTS: &str =
+    "frame 1: 13 cycles, 1 rows, checkpoint 1 true, memory 80 02, state 02a4b0a7ede45c26b131b7877dd25eaaf9bc28859b4c95bd0c3a3d226318cf60, picture 4409125736b791ebfbe7f4b5965102771b94973613b155995c4cb26f34875114
+frame 2: 16 cycles, 1 rows, memory 80 02, state f2a70320d91e4670e162fcbe768faf0da7e880d9031e2c58461dc2d3a3ff6b53, picture 4409125736b791ebfbe7f4b5965102771b94973613b155995c4cb26f34875114
+";
+
+/// The lines about two frames.
+pub(crate) fn are_told<R: Threads + Wait + Sync + AllocGlobal>(
+    rt: &R,
+    digests: bool,
+) -> Result<(), Failure> {
+    let wanted = if digests { LINES_WITH_DIGESTS } else { LINES };
+    let mut watches = Watches::none();
+    let address = Address::new(0x80).ok_or(Failure::Wrong)?;
+    if watches.add(address).is_err() {
+        return Err(Failure::Wrong);
+    }
+    let frames = Command::Frames {
+        first: NonZeroU32::MIN,
+        count: 3,
+        details: Details { watches, digests },
+    };
+    answer_to(rt, &frames, &mut two_frames().as_slice()).is_in_lines(
+        Status::Done,
+        wanted.as_bytes(),
+    )
+}
+
+/// The trace of the first of two frames.
+const TRACE: &str = "  0  0  F000  A9 02     LDA #$02     A=00 X=00 Y=00 S=FF P=04
+  0  2  F002  85 80     STA $80      A=02 X=00 Y=00 S=FF P=04  write 0080 02
+  0  5  F004  85 00     STA $00      A=02 X=00 Y=00 S=FF P=04  write 0000 02
+  0  8  F006  A9 00     LDA #$00     A=02 X=00 Y=00 S=FF P=04
+  0 10  F008  85 00     STA $00      A=00 X=00 Y=00 S=FF P=06  write 0000 00
+frame 1: 13 cycles, 1 rows
+";
+
+/// The trace of a frame.
+pub(crate) fn is_traced<R: Threads + Wait + Sync + AllocGlobal>(rt: &R) -> Result<(), Failure> {
+    let trace = Command::Trace {
+        frame: NonZeroU32::MIN,
+    };
+    answer_to(rt, &trace, &mut two_frames().as_slice()).is_in_lines(Status::Done, TRACE.as_bytes())
+}

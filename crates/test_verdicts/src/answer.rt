@@ -1,0 +1,79 @@
+//! What commands answer over readers and writers.
+
+use crate::devices::FailingWriter;
+use crate::expectation::expect_equal;
+use command_line::Command;
+use commands::{NoGate, RunError, Status, run_command};
+use std::io::{self, Read};
+use std::process::Abort;
+use std::sync::Wait;
+use std::thread::Threads;
+
+/// What a command answered, and what its writers took.
+#[derive(Drop)]
+pub(crate) struct Answer {
+    pub status: Result<Status, RunError>,
+    pub text: Vec<u8>,
+    pub file: Vec<u8>,
+}
+
+/// The answer to a command whose text's writer and whose file's writer take so many bytes each.
+pub(crate) fn answer_into<T: Threads + Wait + Sync + AllocGlobal, R: Read>(
+    rt: &T,
+    command: &Command,
+    input: &mut R,
+    text: usize,
+    file: usize,
+) -> Answer {
+    let mut text = FailingWriter::new(rt.alloc(), text);
+    let mut file = FailingWriter::new(rt.alloc(), file);
+    let mut inputs = io::empty();
+    let status = run_command(
+        rt,
+        command,
+        input,
+        &mut inputs,
+        &mut text,
+        &mut file,
+        &NoGate,
+    );
+    Answer {
+        status,
+        text: text.taken,
+        file: file.taken,
+    }
+}
+
+/// The answer to a command whose writers take all.
+pub(crate) fn answer_to<T: Threads + Wait + Sync + AllocGlobal, R: Read>(
+    rt: &T,
+    command: &Command,
+    input: &mut R,
+) -> Answer {
+    answer_into(rt, command, input, usize::MAX, usize::MAX)
+}
+
+/// Ends the test unless the command is done and wrote this text, and no file.
+pub(crate) fn expect_text(rt: &impl Abort, answer: &Answer, text: &[u8]) {
+    expect_equal(rt, answer.status, Ok(Status::Done));
+    assert!(rt; answer.text.as_slice() == text && answer.file.is_empty());
+}
+
+/// Ends the test unless the command failed with this error before it wrote anything.
+pub(crate) fn expect_nothing(rt: &impl Abort, answer: &Answer, error: RunError) {
+    expect_equal(rt, answer.status, Err(error));
+    assert!(rt; answer.text.is_empty() && answer.file.is_empty());
+}
+
+/// Ends the test unless a write failed after so many bytes of what was wanted.
+pub(crate) fn expect_beginning(
+    rt: &impl Abort,
+    status: Result<Status, RunError>,
+    taken: &[u8],
+    wanted: &[u8],
+    count: usize,
+) {
+    expect_equal(rt, status, Err(RunError::WriteFault));
+    expect_equal(rt, taken.len(), count);
+    assert!(rt; wanted.starts_with(taken));
+}
