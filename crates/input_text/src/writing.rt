@@ -81,16 +81,16 @@ pub fn write_numbered(
     first: NonZeroU32,
     inputs: &[Input],
 ) -> Result<String, AllocError>
-    ensures { IfOk result (λ text. IsNumbered (non_zero_u32_get first) inputs.now (string_bytes text)) }
+    ensures { IfOk result (λ listing. IsNumbered (non_zero_u32_get first) inputs.now (string_bytes listing)) }
 {
-    let mut text = String::new(alloc);
+    let mut listing = String::new(alloc);
     let mut frame = u64::from(first.get());
     let mut rest = inputs;
     while let Some((stretch, after)) = first_stretch(rest) {
-        write!(text, "{frame}: ")?;
+        write!(listing, "{frame}: ")?;
         frame += stretch.count;
-        put_line(&mut text, stretch)?;
+        put_line(&mut listing, stretch)?;
         rest = after;
     }
-    Ok(text)
+    Ok(listing)
 }

@@ -12,4 +12,4 @@ loop-stretch-preserved c =
 pub returns : goal.returns
 returns c =
     let done = rw c.in_default.ensures.stretch at c.loop-stretch.invariant in
-    numbered_all (non_zero_u32_get c.args.first) c.args.inputs.now c.loop-stretch.frame (string_bytes c.loop-stretch.text) done
+    numbered_all (non_zero_u32_get c.args.first) c.args.inputs.now c.loop-stretch.frame (string_bytes c.loop-stretch.listing) done
