@@ -32,7 +32,8 @@ IsAnswered (Make inputs form every) bytes old new status text file =
     (answer : AnswerData) × Makes form bytes old new (non_zero_u32_get every) answer × Shows answer status text × (file ≡ answer.movie)
 IsAnswered (Info notation) bytes old new status text file =
     Keeps old new × Shows (information_in notation (movie_at bytes)) status text × (file ≡ [])
-IsAnswered Inputs bytes old new status text file = Keeps old new × Lists (movie_at bytes) status text × (file ≡ [])
+IsAnswered (Inputs first count numbers) bytes old new status text file =
+    Keeps old new × Lists (movie_at bytes) (non_zero_u32_get first) count numbers status text × (file ≡ [])
 IsAnswered Convert bytes old new status text file =
     Keeps old new × Shows (conversion_of (movie_at bytes)) status text × (file ≡ (conversion_of (movie_at bytes)).movie)
 IsAnswered (Frames first count details) bytes old new status text file =

@@ -85,7 +85,11 @@ pub fn run_command<
             run_make(alloc, input, *form, inputs, every.get(), file, text)
         }
         Command::Info { notation } => run_information(alloc, *notation, input, text),
-        Command::Inputs => run_inputs(alloc, input, text),
+        Command::Inputs {
+            first,
+            count,
+            numbers,
+        } => run_inputs(alloc, input, *first, *count, *numbers, text),
         Command::Convert => run_convert(alloc, input, file, text),
         Command::Frames {
             first,

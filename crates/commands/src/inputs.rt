@@ -5,24 +5,52 @@ ghost use Rattle.movie_file.specs.Reading.{movie_at};
 ghost use Rattle.picture_file.specs.Prefixes.{AppendsPrefix};
 ghost use Rattle.commands.specs.Inputs.{Lists};
 ghost use Rattle.commands.specs.Streams.{ReadsAll, IsTooLong};
+ghost use Rattle.commands.specs.Stretches.{inputs_asked};
+ghost use Rattle.std.specs.NonZero.{non_zero_u32_get};
 
 use crate::answer::Answer;
 use crate::line::Line;
 use crate::run_error::RunError;
 use crate::status::Status;
 use crate::streams::read_all;
-use input_text::write_text;
-use movie_file::{MovieError, read_movie};
+use crate::stretch::frames_asked;
+use input_text::{write_numbered, write_text};
+use movie_file::{Movie, MovieError, read_movie};
 use std::alloc::{AllocError, Global};
 use std::io::{Read, Write};
+use std::num::NonZeroU32;
+use vcs_machine::Input;
+
+/// The inputs of `count` frames from `first` on, as many as the movie has.
+fn inputs_asked(movie: &Movie, first: NonZeroU32, count: u32) -> &[Input]
+    ensures { result.now ≡ inputs_asked movie.now (non_zero_u32_get first) count }
+{
+    let frames = frames_asked(movie, first, count) as usize;
+    if frames == 0 {
+        return &[];
+    }
+    let from = (first.get() - 1) as usize;
+    &movie.inputs()[from..from + frames]
+}
 
 /// What is answered to the bytes of a movie.
-fn of_bytes(alloc: Global, bytes: &[u8]) -> Result<Answer, AllocError>
-    ensures { IfOk result (λ answer. Lists (movie_at bytes.now) answer.status answer.line) }
+fn of_bytes(
+    alloc: Global,
+    bytes: &[u8],
+    first: NonZeroU32,
+    count: u32,
+    numbers: bool,
+) -> Result<Answer, AllocError>
+    ensures { IfOk result (λ answer. Lists (movie_at bytes.now) (non_zero_u32_get first) count numbers answer.status answer.line) }
 {
     match read_movie(alloc, bytes) {
         Ok(movie) => {
-            let text = write_text(alloc, movie.inputs())?;
+            let inputs = inputs_asked(&movie, first, count);
+            let text = if numbers {
+                write_numbered(alloc, first, inputs)?
+            } else {
+                write_text(alloc, inputs)?
+            };
             Ok(Answer::of_text(alloc, Status::Done, text))
         }
         Err(MovieError::NoMemory) => Err(AllocError),
@@ -30,7 +58,8 @@ fn of_bytes(alloc: Global, bytes: &[u8]) -> Result<Answer, AllocError>
     }
 }
 
-/// Reads a movie, and writes its inputs as text. The movie is not replayed.
+/// Reads a movie, and writes the inputs of `count` frames from `first` on, as many as it has, as text:
+/// each line with the number of its first frame, or as `make` reads it. The movie is not replayed.
 ///
 /// A movie that is refused is a line and `Status::Refused`. After ReadFault, TooLong and NoMemory
 /// nothing was written; after WriteFault the writer has got a prefix of the text. At most
@@ -38,13 +67,16 @@ fn of_bytes(alloc: Global, bytes: &[u8]) -> Result<Answer, AllocError>
 pub fn run_inputs<R: Read, W: Write>(
     alloc: Global,
     movie: &mut R,
+    first: NonZeroU32,
+    count: u32,
+    numbers: bool,
     text: &mut W,
 ) -> Result<Status, RunError>
     // The output is that of the bytes read, and nothing else.
     ensures ok { IfOk result (λ status. (input : List ℕ) × (output : List ℕ) × ReadsAll (R.remaining movie.old) (R.remaining movie.new) input
-        × Lists (movie_at input) status output × Appends (W.contents text.old) (W.contents text.new) output) }
+        × Lists (movie_at input) (non_zero_u32_get first) count numbers status output × Appends (W.contents text.old) (W.contents text.new) output) }
     ensures write_fault { result ≡ Err RunError.WriteFault → (input : List ℕ) × (status : Status) × (output : List ℕ)
-        × ReadsAll (R.remaining movie.old) (R.remaining movie.new) input × Lists (movie_at input) status output
+        × ReadsAll (R.remaining movie.old) (R.remaining movie.new) input × Lists (movie_at input) (non_zero_u32_get first) count numbers status output
         × AppendsPrefix (W.contents text.old) (W.contents text.new) output }
 
     // What was written after the other errors.
@@ -53,6 +85,6 @@ pub fn run_inputs<R: Read, W: Write>(
     ensures no_thread { result ≢ Err RunError.NoThread }
 {
     let bytes = read_all(alloc, movie)?;
-    let answer = of_bytes(alloc, &bytes)?;
+    let answer = of_bytes(alloc, &bytes, first, count, numbers)?;
     Ok(answer.write_text(text)?)
 }

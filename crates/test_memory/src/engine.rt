@@ -123,14 +123,24 @@ pub(crate) fn is_told(alloc: Global) -> Result<(), Failure> {
 }
 
 /// The inputs of two frames in which nothing is held.
-pub(crate) fn is_listed(alloc: Global) -> Result<(), Failure> {
+pub(crate) fn is_listed(alloc: Global, numbers: bool) -> Result<(), Failure> {
+    let wanted = if numbers { "1: 2\n" } else { "2\n" };
     let mut text = [0u8; ROOM];
     let mut left = text.as_mut_slice();
-    let answer = run_inputs(alloc, &mut two_frames().as_slice(), &mut left);
+    let answer = run_inputs(
+        alloc,
+        &mut two_frames().as_slice(),
+        NonZeroU32::MIN,
+        2,
+        numbers,
+        &mut left,
+    );
     let is_untouched = left.len() == ROOM;
-    let is_whole = left.len() == ROOM - 2;
+    let is_whole = left.len() + wanted.len() == ROOM;
     match answer {
-        Ok(status) => right(status == Status::Done && is_whole && text.starts_with(b"2\n")),
+        Ok(status) => right(
+            status == Status::Done && is_whole && text.starts_with(wanted.as_bytes()),
+        ),
         Err(error) => Err(failure(error, is_untouched)),
     }
 }

@@ -5,6 +5,7 @@ use crate::expectation::expect_equal;
 use crate::movies::{first_of_two_false, two_frames};
 use commands::{RunError, Status, run_frames};
 use replay_plan::{Address, Details, Watches};
+use std::alloc::{AllocError, Global};
 use std::num::NonZeroU32;
 use std::test::Fail;
 
@@ -32,6 +33,7 @@ fn byte_80_twice() -> Details {
     }
     Details {
         watches,
+        memory: false,
         digests: false,
     }
 }
@@ -59,6 +61,7 @@ fn digest_of_a_record_has_its_bank_in_version_1(rt: HostRuntime) -> Result<(), F
     let mut lines = Vec::new(rt.alloc());
     let details = Details {
         watches: Watches::none(),
+        memory: false,
         digests: true,
     };
     let status = run_frames(
@@ -72,6 +75,42 @@ fn digest_of_a_record_has_its_bank_in_version_1(rt: HostRuntime) -> Result<(), F
     let wanted = format!(in rt.alloc();
         "frame 1: 13 cycles, 1 rows, checkpoint 1 true, state {STATE}, picture {PICTURE}\n\
          frame 2: 16 cycles, 1 rows, state {NEXT_STATE}, picture {PICTURE}\n"
+    )?;
+    expect_equal(&rt, status, Ok(Status::Done));
+    assert!(rt; lines.as_slice() == wanted.as_bytes());
+    Ok(())
+}
+
+/// The bytes at 81 to FF after a frame.
+fn zeros(alloc: Global) -> Result<String, AllocError> {
+    let mut zeros = String::new(alloc);
+    for _byte in 0x81..=0xFF {
+        zeros.push_str("00")?;
+    }
+    Ok(zeros)
+}
+
+#[test]
+fn memory_stands_between_watched_bytes_and_digests(rt: HostRuntime) -> Result<(), Fail> {
+    let bytes = two_frames(rt.alloc())?;
+    let mut lines = Vec::new(rt.alloc());
+    let details = Details {
+        memory: true,
+        digests: true,
+        ..byte_80_twice()
+    };
+    let status = run_frames(
+        rt.alloc(),
+        &mut bytes.as_slice(),
+        &details,
+        NonZeroU32::MIN,
+        1,
+        &mut lines,
+    );
+    let zeros = zeros(rt.alloc())?;
+    let wanted = format!(in rt.alloc();
+        "frame 1: 13 cycles, 1 rows, checkpoint 1 true, memory 80 02, memory 80 02, memory 02{zeros}, \
+         state {STATE}, picture {PICTURE}\n"
     )?;
     expect_equal(&rt, status, Ok(Status::Done));
     assert!(rt; lines.as_slice() == wanted.as_bytes());
