@@ -1,11 +1,15 @@
 -- What the answer is if the words are no command. This project's own.
-use Rattle.std.specs.Prelude.{◌≡◌, ◌≢◌, ◌⊎◌, List, IsSomeAnd}
+use Rattle.std.specs.Prelude.{◌≡◌, ◌≢◌, ◌⊎◌, ◌++◌, ℕ, Bool, false, not, nat_le, List, Option, Some, None, Result, Ok, Err}
+use Rattle.std.specs.Prelude.{IsSomeAnd, codes, find, length, slice_index, string_bytes}
+use Rattle.std.specs.Fmt.{decimal}
 use Rattle.clap.specs.Words.{IsAmong, Row, Text, fault_of, subcommand_of}
 use Rattle.clap.specs.declared.error.kind.ErrorKind.{ErrorKind}
 use Rattle.clap.specs.declared.error.kind.ErrorKind.TheVariants.{DisplayHelp, DisplayVersion}
 use Rattle.clap.specs.declared.error.kind.ErrorKind.TheVariants.{OutOfMemory}
-use Rattle.command_line.specs.Meanings.{HasAddresses}
-use Rattle.command_line.specs.Table.{frames_listed, program_app}
+use Rattle.hex.specs.declared.error.FromHexError.{FromHexError}
+use Rattle.replay_plan.specs.Limits.{first_address}
+use Rattle.command_line.specs.Meanings.{HasAddresses, byte_in, words_of}
+use Rattle.command_line.specs.Table.{frames_listed, program_app, watch_row}
 use Rattle.command_line.specs.declared.command.LineFault.{LineFault}
 use Rattle.command_line.specs.declared.command.LineFault.TheVariants.{Usage, Help, Memory}
 
@@ -17,10 +21,29 @@ IsAnswerTo kind (Usage text) =
 IsAnswerTo kind (Help text) = (kind ≡ DisplayHelp) ⊎ (kind ≡ DisplayVersion)
 IsAnswerTo kind Memory = Unit {0}
 
+-- A byte that was read is an address of the memory.
+abbrev pub is_in_memory : Result (List ℕ) FromHexError → Bool
+is_in_memory (Ok bytes) = nat_le first_address (slice_index bytes 0)
+is_in_memory (Err error) = false
+
+-- The first word that writes no address of the memory.
+abbrev pub first_no_address : List Text → Option Text
+first_no_address words = find (λ word. not (is_in_memory (byte_in word))) words
+
+-- What is said of such a word, or if there is none, of so many words.
+abbrev pub no_address_text : Option Text → ℕ → Text
+no_address_text (Some word) count =
+    codes "error: invalid value '" ++ (word ++ codes "' for '--watch <AA>': an address of the memory is 80 to FF, or $80 to $FF\n")
+no_address_text None count =
+    codes "error: '--watch <AA>' stands " ++ (decimal count ++ codes " times: at most 16, and --memory shows all bytes\n")
+
+abbrev pub watch_mistake : List Text → Text
+watch_mistake words = no_address_text (first_no_address words) (length words)
+
 -- The answer to the values of `frames` of which a word writes no address, or there are too many
 -- addresses.
 abbrev pub IsNoFrames : List Row → LineFault → Type 0
-IsNoFrames rows (Usage text) = HasAddresses rows → ⊥
+IsNoFrames rows (Usage text) = (HasAddresses rows → ⊥) × (string_bytes text ≡ watch_mistake (words_of watch_row rows))
 IsNoFrames rows (Help text) = ⊥
 IsNoFrames rows Memory = Unit {0}
 

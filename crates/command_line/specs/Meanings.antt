@@ -1,10 +1,12 @@
 -- Which command the words of a command line are. This project's own.
 use Rattle.std.specs.Prelude.{◌≡◌, ◌↔◌, ◌≤◌, ℕ, false, true, List, [], ◌∷◌, Option, Some, None, codes}
-use Rattle.std.specs.Prelude.{Ok, is_some, length, map, option_map, string_bytes, unwrap_or}
+use Rattle.std.specs.Prelude.{Ok, Result, if◌then◌else◌, ◌==◌, is_some, length, map, option_map, string_bytes}
+use Rattle.std.specs.Prelude.{unwrap_or}
 use Rattle.std.specs.NonZero.{non_zero_u16_get, non_zero_u32_get}
 use Rattle.std.specs.Str.Parse.{digits_value, without_leading_plus}
 use Rattle.clap.specs.Words.{Row, Text, all_of, first_of, one_of}
 use Rattle.hex.specs.Hex.{decode_sized}
+use Rattle.hex.specs.declared.error.FromHexError.{FromHexError}
 use Rattle.replay_plan.specs.Limits.{most_watches}
 use Rattle.replay_plan.specs.declared.input_form.InputForm.TheVariants as forms
 use Rattle.replay_plan.specs.declared.notation.Notation.TheVariants.{Json}
@@ -14,7 +16,7 @@ use Rattle.replay_plan.specs.declared.watches.Details.{Details}
 use Rattle.command_line.specs.Table.{Argument, asked_row, checkpoints_row}
 use Rattle.command_line.specs.Table.{count_row}
 use Rattle.command_line.specs.Table.{cuts_row, digests_row, file_row, first_row, frame_row}
-use Rattle.command_line.specs.Table.{inputs_row, json_row, new_row}
+use Rattle.command_line.specs.Table.{inputs_row, json_row, memory_row, new_row, numbers_row}
 use Rattle.command_line.specs.Table.{old_row, watch_row}
 use Rattle.command_line.specs.Table.{out_row, pictures_row, rom_row}
 use Rattle.command_line.specs.Table.{text_row, workers_row}
@@ -48,14 +50,23 @@ pub record IsPlan (rows : List Row) (plan : Plan) : Type 0 where
 abbrev pub words_of : Argument → List Row → List Text
 words_of argument rows = unwrap_or (all_of argument.name rows) []
 
--- Words that write these addresses, each in two hexadecimal digits. That each is one of the memory
--- is in its type.
+-- A word without the dollar sign with which it may begin.
+abbrev pub without_dollar : Text → Text
+without_dollar [] = []
+without_dollar (first ∷ rest) = if first == 36 then rest else first ∷ rest
+
+-- The byte that a word writes in two hexadecimal digits, which may follow a dollar sign.
+abbrev pub byte_in : Text → Result (List ℕ) FromHexError
+byte_in word = decode_sized (without_dollar word) 1
+
+-- Words that write these addresses. That each is one of the memory is in its type.
 abbrev pub AreAddresses : List Text → List Address → Type 0
-AreAddresses words addresses = map (λ word. decode_sized word 1) words ≡ map (λ (a : Address). Ok (a.number ∷ [])) addresses
+AreAddresses words addresses = map byte_in words ≡ map (λ (a : Address). Ok (a.number ∷ [])) addresses
 
 -- What `frames` tells of each frame.
 pub record AreDetails (rows : List Row) (details : Details) : Type 0 where
   pub watches : AreAddresses (words_of watch_row rows) details.watches
+  pub memory : (details.memory ≡ true) ↔ (one_of memory_row.name rows ≡ Some (codes "true"))
   pub digests : (details.digests ≡ true) ↔ (one_of digests_row.name rows ≡ Some (codes "true"))
 
 -- The command of this name, of which `clap` found these values.
@@ -70,7 +81,10 @@ IsCommandAt name rows (Make inputs form every) =
     × (number_of checkpoints_row rows ≡ Some (non_zero_u32_get every))
 IsCommandAt name rows (Info notation) =
     (name ≡ codes "info") × ((notation ≡ Json) ↔ (one_of json_row.name rows ≡ Some (codes "true")))
-IsCommandAt name rows Inputs = name ≡ codes "inputs"
+IsCommandAt name rows (Inputs first count numbers) =
+    (name ≡ codes "inputs") × (number_of first_row rows ≡ Some (non_zero_u32_get first))
+    × (number_of asked_row rows ≡ Some count)
+    × ((numbers ≡ true) ↔ (one_of numbers_row.name rows ≡ Some (codes "true")))
 IsCommandAt name rows Convert = name ≡ codes "convert"
 IsCommandAt name rows (Frames first count details) =
     (name ≡ codes "frames") × (number_of first_row rows ≡ Some (non_zero_u32_get first))

@@ -81,8 +81,14 @@ new_row = record { name = codes "new"; kind = operand }
 abbrev pub watch_row : Argument
 watch_row = record { name = codes "watch"; kind = repeated_word }
 
+abbrev pub memory_row : Argument
+memory_row = record { name = codes "memory"; kind = switch }
+
 abbrev pub digests_row : Argument
 digests_row = record { name = codes "digests"; kind = switch }
+
+abbrev pub numbers_row : Argument
+numbers_row = record { name = codes "numbers"; kind = switch }
 
 abbrev pub json_row : Argument
 json_row = record { name = codes "json"; kind = switch }
@@ -107,7 +113,10 @@ abbrev pub info_listed : Listed
 info_listed = record { name = codes "info"; arguments = file_row ∷ json_row ∷ [] }
 
 abbrev pub listing_listed : Listed
-listing_listed = record { name = codes "inputs"; arguments = file_row ∷ [] }
+listing_listed = record {
+  name = codes "inputs";
+  arguments = file_row ∷ numbers_row ∷ first_row ∷ asked_row ∷ [];
+}
 
 abbrev pub convert_listed : Listed
 convert_listed = record { name = codes "convert"; arguments = old_row ∷ new_row ∷ [] }
@@ -115,7 +124,7 @@ convert_listed = record { name = codes "convert"; arguments = old_row ∷ new_ro
 abbrev pub frames_listed : Listed
 frames_listed = record {
   name = codes "frames";
-  arguments = file_row ∷ first_row ∷ asked_row ∷ watch_row ∷ digests_row ∷ [];
+  arguments = file_row ∷ first_row ∷ asked_row ∷ watch_row ∷ memory_row ∷ digests_row ∷ [];
 }
 
 abbrev pub drawing_listed : Listed

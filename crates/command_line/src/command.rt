@@ -33,8 +33,15 @@ pub enum Command {
     Info {
         notation: Notation,
     },
-    /// Print its inputs as text.
-    Inputs,
+    /// Print the inputs of some of its frames as text.
+    Inputs {
+        /// The first of the frames, counted from 1.
+        first: NonZeroU32,
+        /// How many they are; the movie may have fewer.
+        count: u32,
+        /// Whether each line begins with the number of its first frame.
+        numbers: bool,
+    },
     /// Convert it to version 2.
     Convert,
     /// Say of some of its frames how long they were, and where its checkpoints are false.

@@ -1,15 +1,14 @@
 //! From the arguments of `frames` to its command.
-ghost use Rattle.std.specs.Prelude.{◌≡◌, ◌≤◌, List, [], ◌∷◌, length, map, codes, Ok};
-ghost use Rattle.std.specs.Prelude.{IfErr, IfNone, IfOk, IfSome};
+ghost use Rattle.std.specs.Prelude.{◌≡◌, ◌≤◌, List, [], ◌∷◌, length, map, option_map, codes, Ok};
+ghost use Rattle.std.specs.Prelude.{IfErr, IfNone, IfOk, IfSome, is_some, string_bytes};
 ghost use Rattle.clap.specs.Words.{found_of, rows_of};
-ghost use Rattle.hex.specs.Hex.{decode_sized};
 ghost use Rattle.replay_plan.specs.Limits.{most_watches};
 ghost use Rattle.replay_plan.specs.declared.watches.Address.{Address};
-ghost use Rattle.command_line.specs.Faults.{IsNoFrames};
-ghost use Rattle.command_line.specs.Private.Mistakes.{IsMistake};
+ghost use Rattle.command_line.specs.Faults.{IsNoFrames, first_no_address, is_in_memory};
+ghost use Rattle.command_line.specs.Faults.{watch_mistake};
 ghost use Rattle.command_line.specs.Private.Numbers.{HasNumbers};
-ghost use Rattle.command_line.specs.Meanings.{AreAddresses, HasAddresses, IsCommandAt};
-ghost use Rattle.command_line.specs.Meanings.{words_of};
+ghost use Rattle.command_line.specs.Meanings.{AreAddresses, IsCommandAt, byte_in};
+ghost use Rattle.command_line.specs.Meanings.{without_dollar, words_of};
 ghost use Rattle.command_line.specs.Table.{frames_listed, watch_row};
 
 use crate::command::{Command, LineFault};
@@ -17,14 +16,23 @@ use crate::line::{is_given, number_at, number_from_one};
 use clap::ArgMatches;
 use hex::FromHex;
 use replay_plan::{Address, Details, Watches};
-use std::alloc::Global;
+use std::alloc::{AllocError, Global};
 
-/// The address of the memory that a word writes in two hexadecimal digits.
-fn address_in(word: &str) -> Option<Address>
-    ensures some { IfSome result (λ address. decode_sized word.now 1 ≡ Ok (address.number ∷ [])) }
-    ensures none { IfNone result ((a : Address) → decode_sized word.now 1 ≡ Ok (a.number ∷ []) → ⊥) }
+/// A word without the dollar sign with which it may begin.
+fn without_dollar(word: &str) -> &str
+    ensures { result.now ≡ without_dollar word.now }
 {
-    let Ok(bytes) = <[u8; 1] as FromHex>::from_hex(word) else {
+    word.strip_prefix('$').unwrap_or(word)
+}
+
+/// The address of the memory that a word writes in two hexadecimal digits, which may follow a dollar
+/// sign.
+fn address_in(word: &str) -> Option<Address>
+    ensures whether { is_some result ≡ is_in_memory (byte_in word.now) }
+    ensures some { IfSome result (λ address. byte_in word.now ≡ Ok (address.number ∷ [])) }
+    ensures none { IfNone result ((a : Address) → byte_in word.now ≡ Ok (a.number ∷ []) → ⊥) }
+{
+    let Ok(bytes) = <[u8; 1] as FromHex>::from_hex(without_dollar(word)) else {
         return None;
     };
     Address::new(bytes[0])
@@ -46,25 +54,43 @@ fn addresses_in(words: &[&str]) -> Option<Watches>
     Some(watches)
 }
 
-/// The addresses that are asked for.
-fn watches_of(matches: &ArgMatches<'_>) -> Option<Watches>
-    ensures some { IfSome result (AreAddresses (words_of watch_row (rows_of (found_of matches.now)))) }
-    ensures none { IfNone result (HasAddresses (rows_of (found_of matches.now)) → ⊥) }
+/// The first word that writes no address of the memory.
+fn first_no_address<'a>(words: &[&'a str]) -> Option<&'a str>
+    ensures { option_map (λ word. word.now) result ≡ first_no_address (map (λ word. word.now) words.now) }
 {
-    match matches.get_strs("watch") {
-        Some(words) => addresses_in(words),
-        None => Some(Watches::none()),
+    words
+        .iter()
+        .find(|word| address_in(word).is_none())
+        .copied()
+}
+
+/// What is said of words that aren't addresses: the first that writes none, or else how many there
+/// are.
+fn told_words(alloc: Global, words: &[&str]) -> Result<String, AllocError>
+    ensures { IfOk result (λ text. string_bytes text ≡ watch_mistake (map (λ word. word.now) words.now)) }
+{
+    match first_no_address(words) {
+        Some(word) => format!(in alloc;
+            "error: invalid value '{word}' for '--watch <AA>': an address of the memory is 80 to FF, or $80 to $FF\n"
+        ),
+        None => format!(in alloc;
+            "error: '--watch <AA>' stands {} times: at most 16, and --memory shows all bytes\n",
+            words.len()
+        ),
     }
 }
 
-/// A word after `--watch` that writes no address of the memory, or one too many.
-fn no_addresses(alloc: Global) -> LineFault
-    ensures { IsMistake result }
+/// The addresses that are asked for.
+fn watches_of(alloc: Global, matches: &ArgMatches<'_>) -> Result<Watches, LineFault>
+    ensures ok { IfOk result (AreAddresses (words_of watch_row (rows_of (found_of matches.now)))) }
+    ensures err { IfErr result (IsNoFrames (rows_of (found_of matches.now))) }
 {
-    let text = "error: --watch AA is an address of the memory, 80 to FF, at most 16 times\n";
-    match String::from_str(alloc, text) {
-        Ok(text) => LineFault::Usage { text },
-        Err(_) => LineFault::Memory,
+    let words = matches.get_strs("watch").unwrap_or(&[]);
+    match addresses_in(words) {
+        Some(watches) => Ok(watches),
+        None => Err(LineFault::Usage {
+            text: told_words(alloc, words)?,
+        }),
     }
 }
 
@@ -74,13 +100,16 @@ pub(crate) fn frames_of(alloc: Global, matches: &ArgMatches<'_>) -> Result<Comma
     ensures ok { IfOk result (IsCommandAt (codes "frames") (rows_of (found_of matches.now))) }
     ensures err { IfErr result (IsNoFrames (rows_of (found_of matches.now))) }
 {
-    let Some(watches) = watches_of(matches) else {
-        return Err(no_addresses(alloc));
-    };
+    let watches = watches_of(alloc, matches)?;
+    let memory = is_given(matches, "memory");
     let digests = is_given(matches, "digests");
     Ok(Command::Frames {
         first: number_from_one(matches, "first"),
         count: number_at(matches, "count"),
-        details: Details { watches, digests },
+        details: Details {
+            watches,
+            memory,
+            digests,
+        },
     })
 }

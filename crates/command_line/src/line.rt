@@ -12,7 +12,7 @@ ghost use Rattle.command_line.specs.Private.Numbers.{HasNumbers, HasNumbersOf, I
 ghost use Rattle.command_line.specs.Private.Numbers.{Suits};
 ghost use Rattle.command_line.specs.declared.command.LineFault.TheVariants.{Memory};
 ghost use Rattle.command_line.specs.Table.{commands, program_app, verify_listed, report_listed};
-ghost use Rattle.command_line.specs.Table.{make_listed};
+ghost use Rattle.command_line.specs.Table.{listing_listed, make_listed};
 ghost use Rattle.command_line.specs.Table.{workers_row, cuts_row, first_row, count_row};
 ghost use Rattle.command_line.specs.Table.{asked_row, checkpoints_row, cut_listed, drawing_listed};
 ghost use Rattle.command_line.specs.Table.{frame_row, json_row, pictures_row, text_row, trace_listed};
@@ -203,6 +203,18 @@ fn make_of(alloc: Global, matches: &ArgMatches<'_>) -> Result<Command, AllocErro
     })
 }
 
+/// The command `inputs`.
+fn listing_of(matches: &ArgMatches<'_>) -> Command
+    requires { HasNumbers listing_listed (rows_of (found_of matches.now)) }
+    ensures { IsCommandAt (codes "inputs") (rows_of (found_of matches.now)) result }
+{
+    Command::Inputs {
+        first: number_from_one(matches, "first"),
+        count: number_at(matches, "count"),
+        numbers: is_given(matches, "numbers"),
+    }
+}
+
 /// The command `pictures`.
 fn pictures_of(matches: &ArgMatches<'_>) -> Command
     requires { HasNumbers drawing_listed (rows_of (found_of matches.now)) }
@@ -265,7 +277,7 @@ fn command_of(alloc: Global, name: &str, matches: &ArgMatches<'_>) -> Result<Com
         "info" => Ok(Command::Info {
             notation: notation_of(matches),
         }),
-        "inputs" => Ok(Command::Inputs),
+        "inputs" => Ok(listing_of(matches)),
         "convert" => Ok(Command::Convert),
         "frames" => frames_of(alloc, matches),
         "pictures" => Ok(pictures_of(matches)),

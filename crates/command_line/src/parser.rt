@@ -8,7 +8,7 @@ ghost use Rattle.command_line.specs.Table.{inputs_row, text_row, checkpoints_row
 ghost use Rattle.command_line.specs.Table.{old_row, new_row, verify_listed, report_listed};
 ghost use Rattle.command_line.specs.Table.{make_listed, info_listed, listing_listed};
 ghost use Rattle.command_line.specs.Table.{asked_row, convert_listed, cut_listed, drawing_listed};
-ghost use Rattle.command_line.specs.Table.{json_row};
+ghost use Rattle.command_line.specs.Table.{json_row, memory_row, numbers_row};
 ghost use Rattle.command_line.specs.Table.{digests_row, frame_row, frames_listed, program_app};
 ghost use Rattle.command_line.specs.Table.{trace_listed, watch_row, rule_for, Adds, judging, making, looking};
 
@@ -228,13 +228,27 @@ fn info<'a>(alloc: Global) -> Result<Command<'a>, AllocError>
     and(info, json(alloc))
 }
 
-/// `inputs FILE`.
+/// `--numbers` of `inputs`.
+fn numbers<'a>(alloc: Global) -> Arg<'a>
+    ensures { IsRow numbers_row result }
+{
+    Arg::new(alloc, "numbers")
+        .long("numbers")
+        .help("Begin each line with the number of its first frame; make --text doesn't read it")
+        .action(ArgAction::SetTrue)
+}
+
+/// `inputs FILE`, with its options.
 fn inputs<'a>(alloc: Global) -> Result<Command<'a>, AllocError>
     ensures { IfOk result (IsListed listing_listed) }
 {
-    Command::new(alloc, "inputs")
-        .about("Print the inputs of a movie as text, which make --text reads")
-        .arg(movie(alloc))
+    let inputs = Command::new(alloc, "inputs").about(
+        "Print the inputs of a movie as text, which make --text reads",
+    );
+    let inputs = and(Ok(inputs), movie(alloc));
+    let inputs = and(inputs, numbers(alloc));
+    let inputs = and(inputs, from(alloc));
+    and(inputs, asked(alloc))
 }
 
 /// `OLD` of `convert`.
@@ -268,7 +282,7 @@ fn convert<'a>(alloc: Global) -> Result<Command<'a>, AllocError>
     and(convert, new(alloc))
 }
 
-/// `--first F` of `frames`, `pictures` and `cut`.
+/// `--first F` of `inputs`, `frames`, `pictures` and `cut`.
 fn from<'a>(alloc: Global) -> Arg<'a>
     ensures { IsRow first_row result }
 {
@@ -280,7 +294,7 @@ fn from<'a>(alloc: Global) -> Arg<'a>
         .default_value("1")
 }
 
-/// `--count N` of `frames`, `pictures` and `cut`.
+/// `--count N` of `inputs`, `frames`, `pictures` and `cut`.
 fn asked<'a>(alloc: Global) -> Arg<'a>
     ensures { IsRow asked_row result }
 {
@@ -299,8 +313,20 @@ fn watch<'a>(alloc: Global) -> Arg<'a>
     Arg::new(alloc, "watch")
         .long("watch")
         .value_name("AA")
-        .help("Show the byte at address AA of the memory, 80 to FF; at most 16 times")
+        .help(
+            "Show the byte at address AA of the memory, 80 to FF or '$80' to '$FF'; at most 16 times",
+        )
         .action(ArgAction::Append)
+}
+
+/// `--memory` of `frames`.
+fn memory<'a>(alloc: Global) -> Arg<'a>
+    ensures { IsRow memory_row result }
+{
+    Arg::new(alloc, "memory")
+        .long("memory")
+        .help("Show all 128 bytes of the memory, those at 80 to FF")
+        .action(ArgAction::SetTrue)
 }
 
 /// `--digests` of `frames`.
@@ -324,6 +350,7 @@ fn frames_of<'a>(alloc: Global) -> Result<Command<'a>, AllocError>
     let frames = and(frames, from(alloc));
     let frames = and(frames, asked(alloc));
     let frames = and(frames, watch(alloc));
+    let frames = and(frames, memory(alloc));
     and(frames, digests(alloc))
 }
 

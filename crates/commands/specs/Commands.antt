@@ -31,7 +31,7 @@ Answers (Verify plan) bytes m answer = Verifies plan.keep m answer
 Answers (Report workers notation) bytes m answer = Reports notation program_name bytes m answer
 Answers (Make inputs form every) bytes m answer = ⊥
 Answers (Info notation) bytes m answer = answer ≡ information_in notation m
-Answers Inputs bytes m answer = Lists m answer
+Answers (Inputs first count numbers) bytes m answer = Lists m (non_zero_u32_get first) count numbers answer
 Answers Convert bytes m answer = answer ≡ conversion_of m
 Answers (Frames first count details) bytes m answer =
     Describes m details (non_zero_u32_get first) count answer.status answer.text × (answer.file ≡ [])

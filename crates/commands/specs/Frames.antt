@@ -6,7 +6,7 @@ use Rattle.std.specs.Fmt.{decimal}
 use Rattle.std.specs.Io.KnownBytes.{Appends}
 use Rattle.std.specs.List.{flat_map, position_or_len}
 use Rattle.std.specs.Str.{bytes_eq}
-use Rattle.hex.specs.Hex.{encode_lower}
+use Rattle.hex.specs.Hex.{encode_lower, encode_upper}
 use Rattle.sha2.specs.Sha256.{sha256}
 use Rattle.vcs_machine.specs.Faults.{hex2}
 use Rattle.vcs_machine.specs.Inputs.{InputData}
@@ -48,6 +48,10 @@ checkpoint_text cs frame state =
 abbrev pub byte_text : StateFields → Address → List ℕ
 byte_text state a = codes ", memory " ++ (hex2 a.number ++ (codes " " ++ hex2 (slice_index state.riot.ram (a.number - first_address))))
 
+-- All bytes of the memory, in the order of their addresses.
+abbrev pub memory_text : StateFields → List ℕ
+memory_text state = codes ", memory " ++ encode_upper state.riot.ram
+
 -- The SHA-256 of the state's record and of the picture's file.
 abbrev pub digests_text : StateFields → Rows → List ℕ
 digests_text state picture =
@@ -58,7 +62,9 @@ abbrev pub ended_line : List Checkpoint → Details → ℕ → ℕ → StateFie
 ended_line cs details frame cycles state picture =
     frame_text frame cycles (length picture)
     ++ (checkpoint_text cs frame state
-    ++ (flat_map (byte_text state) details.watches ++ ((if details.digests then digests_text state picture else []) ++ 10 ∷ [])))
+    ++ (flat_map (byte_text state) details.watches
+    ++ ((if details.memory then memory_text state else [])
+    ++ ((if details.digests then digests_text state picture else []) ++ 10 ∷ []))))
 
 -- The same of a frame from its outcome. One that faults has none.
 abbrev pub outcome_line : List Checkpoint → Details → ℕ → ℕ → FrameOutcome → List ℕ

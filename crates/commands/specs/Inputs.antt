@@ -1,10 +1,18 @@
 -- What is written of the inputs of a movie, which is not replayed. This project's own.
-use Rattle.std.specs.Prelude.{◌≡◌, ℕ, List}
-use Rattle.input_text.specs.Stretches.{IsPrinted}
+use Rattle.std.specs.Prelude.{◌≡◌, ℕ, Bool, true, false, List}
+use Rattle.vcs_machine.specs.Inputs.{InputData}
+use Rattle.input_text.specs.Stretches.{IsNumbered, IsPrinted}
 use Rattle.movie_file.specs.Movie.{MovieData}
 use Rattle.commands.specs.Answers.{AnswerData, text_answer}
+use Rattle.commands.specs.Asked.{inputs_asked}
 use Rattle.commands.specs.declared.status.Status.TheVariants.{Done}
 
--- The text of its inputs.
-abbrev pub Lists : MovieData → AnswerData → Type 0
-Lists m answer = (text : List ℕ) × IsPrinted m.inputs text × (answer ≡ text_answer Done text)
+-- The text of these inputs, of which the first is that of this frame: with the numbers of frames, or
+-- as `make` reads it.
+abbrev pub IsListing : Bool → ℕ → List InputData → List ℕ → Type 0
+IsListing true first inputs text = IsNumbered first inputs text
+IsListing false first inputs text = IsPrinted inputs text
+
+-- That of the frames that are asked for.
+abbrev pub Lists : MovieData → (first count : ℕ) → Bool → AnswerData → Type 0
+Lists m first count numbers answer = (text : List ℕ) × IsListing numbers first (inputs_asked m first count) text × (answer ≡ text_answer Done text)

@@ -61,7 +61,11 @@ fn answer<T: Threads + Wait + Sync + AllocGlobal, G: CountedGate + Sync>(
             report(rt, alloc, bytes, &movie, *workers, *notation, gate)
         }
         Command::Info { notation } => Ok(info(alloc, *notation, &movie)?),
-        Command::Inputs => Ok(inputs(alloc, &movie)?),
+        Command::Inputs {
+            first,
+            count,
+            numbers,
+        } => Ok(inputs(alloc, &movie, *first, *count, *numbers)?),
         Command::Convert => Ok(convert(alloc, movie)?),
         Command::Cut {
             first,

@@ -8,10 +8,10 @@ ghost use Rattle.replay_segments.specs.NextCheckpoint.{IsNext};
 ghost use Rattle.run_cursor.specs.Cursor.{IsAt};
 ghost use Rattle.run_cursor.specs.RunFaults.{FrameFails};
 ghost use Rattle.commands.specs.Frames.{byte_text, checkpoint_text, digests_text};
-ghost use Rattle.commands.specs.Frames.{ended_line, frame_line};
+ghost use Rattle.commands.specs.Frames.{ended_line, frame_line, memory_text};
 
 use crate::line::Line;
-use hex::encode;
+use hex::{encode, encode_upper};
 use movie_file::{Movie, write_state};
 use picture_file::{HEADER_BYTES, ROW_BYTES, ppm};
 use replay_plan::{Details, Watches};
@@ -49,8 +49,8 @@ fn told_checkpoint(
     }
 }
 
-/// What a line says of the memory.
-fn told_memory(alloc: Global, watches: &Watches, state: &State) -> Result<String, AllocError>
+/// What a line says of the bytes of the memory that are watched.
+fn told_bytes(alloc: Global, watches: &Watches, state: &State) -> Result<String, AllocError>
     ensures { IfOk result (λ text. string_bytes text ≡ flat_map (byte_text state.now) watches.now) }
 {
     let ram = state.fields().riot.ram;
@@ -61,6 +61,14 @@ fn told_memory(alloc: Global, watches: &Watches, state: &State) -> Result<String
         text.push_str(&part)?;
     }
     Ok(text)
+}
+
+/// What a line says of the whole memory.
+fn told_memory(alloc: Global, state: &State) -> Result<String, AllocError>
+    ensures { IfOk result (λ text. string_bytes text ≡ memory_text state.now) }
+{
+    let digits = encode_upper(alloc, state.fields().riot.ram)?;
+    format!(in alloc; ", memory {digits}")
 }
 
 /// The file of a picture.
@@ -108,12 +116,17 @@ fn line_of(
         rows: timed.rows,
     };
     let checkpoint = told_checkpoint(alloc, movie, next, frame, state)?;
-    let memory = told_memory(alloc, &details.watches, state)?;
+    let bytes = told_bytes(alloc, &details.watches, state)?;
+    let memory = if details.memory {
+        told_memory(alloc, state)?
+    } else {
+        String::new(alloc)
+    };
     let digests = match &timed.picture {
         Some(picture) => told_digests(alloc, state, picture)?,
         None => String::new(alloc),
     };
-    format!(in alloc; "{length}{checkpoint}{memory}{digests}\n")
+    format!(in alloc; "{length}{checkpoint}{bytes}{memory}{digests}\n")
 }
 
 /// Plays the next frame; the answer is its line, with its end. `next` is the index of the first

@@ -1,8 +1,9 @@
 -- Printed inputs: one list of stretches, and so one text.
-use Rattle.std.proofs.Common.{◌≡◌, ◌≢◌, ◌≤◌, ℕ, ◌+◌, ◌<◌, zero, suc, true, false, cond, List, [], ◌∷◌, ◌++◌}
-use Rattle.std.proofs.Common.{length, get_or, take, drop, replicate, Some, None, sym, refl, ap, ◌∙◌}
+use Rattle.std.proofs.Common.{◌≡◌, ◌≤◌, ℕ, ◌+◌, ◌<◌, zero, suc, true, false, cond, List, [], ◌∷◌, ◌++◌}
+use Rattle.std.proofs.Common.{length, get_or, take, drop, replicate, Some, sym, refl, ap, ◌∙◌}
 use Rattle.std.proofs.Common.{subst, arith, add-one, append_assoc, length-drop, drop-cons}
-use Rattle.std.specs.Prelude.{slice_get, filter}
+use Rattle.std.specs.Prelude.{codes, slice_get, filter}
+use Rattle.std.specs.Fmt.{decimal}
 use Rattle.std.specs.List.{flat_map}
 use Rattle.std.proofs.lemmas.List.{append-nil, length-take, length-replicate}
 use Rattle.vcs_machine.specs.Inputs.{InputData}
@@ -10,7 +11,7 @@ use Rattle.input_text.specs.declared.stretch.Stretch.{Stretch}
 use Rattle.input_text.specs.declared.name.Name.{Name}
 use Rattle.input_text.specs.declared.name.Name.TheVariants.{Up0}
 use Rattle.input_text.specs.Names.{bit_of_name, names, is_held}
-use Rattle.input_text.specs.Stretches.{BeginWith, AreStretches, IsPrinted, line_of, name_after_space}
+use Rattle.input_text.specs.Stretches.{BeginWith, AreStretches, IsNumbered, IsPrinted, line_of, name_after_space}
 
 -- what is left of a line, from a place of the table of names on
 abbrev pub left_of_line : InputData → ℕ → List ℕ
@@ -34,27 +35,43 @@ pub record PrintedUpTo (inputs rest : List InputData) (text : List ℕ) : Type 0
   pub left : length rest ≤ length inputs
   pub more : (others : List ℕ) → IsPrinted rest others → IsPrinted inputs (text ++ others)
 
-some_equal : (rest : List InputData) (n : ℕ) (first : InputData) → slice_get rest 0 ≡ Some first → slice_get rest n ≢ Some first → 1 ≤ n
-some_equal rest zero first e h = absurd (h e)
-some_equal rest (suc n) first e h = omega arith
-
-pub printed_more : (inputs rest : List InputData) (text : List ℕ) (s : Stretch) → slice_get rest 0 ≡ Some s.input
-    → take s.count rest ≡ replicate s.count s.input → slice_get rest s.count ≢ Some s.input
-    → PrintedUpTo inputs rest text → PrintedUpTo inputs (drop s.count rest) (text ++ line_of s)
-printed_more inputs rest text s first equal longest so = record {
+pub printed_more : (inputs rest : List InputData) (text : List ℕ) (s : Stretch) → BeginWith s rest → PrintedUpTo inputs rest text
+    → PrintedUpTo inputs (drop s.count rest) (text ++ line_of s)
+printed_more inputs rest text s begins so = record {
   left = omega (arith, so.left, length-drop s.count rest);
   more = λ others after.
       rw append_assoc (so.more (line_of s ++ others) (record {
         stretches = s ∷ after.stretches;
-        inputs_are = (record { some = some_equal rest s.count s.input first longest; equal = equal; longest = longest }, after.inputs_are);
+        inputs_are = (begins, after.inputs_are);
         text_is = ap (λ (lines : List ℕ). line_of s ++ lines) after.text_is;
       }));
 }
 
-pub printed_all : (inputs rest : List InputData) (text : List ℕ) → slice_get rest 0 ≡ None → PrintedUpTo inputs rest text
-    → IsPrinted inputs text
-printed_all inputs (i ∷ rest) text e so = cc
-printed_all inputs [] text e so = rw append-nil at (so.more [] (record { stretches = []; inputs_are = refl; text_is = refl }))
+pub printed_all : (inputs : List InputData) (text : List ℕ) → PrintedUpTo inputs [] text → IsPrinted inputs text
+printed_all inputs text so = rw append-nil at (so.more [] (record { stretches = []; inputs_are = refl; text_is = refl }))
+
+-- the same of lines with the numbers of their frames, of which the rest begins with this one
+pub record NumberedUpTo (first : ℕ) (inputs : List InputData) (frame : ℕ) (rest : List InputData) (text : List ℕ) : Type 0 where
+  pub frame_is : frame + length rest ≡ first + length inputs
+  pub more : (others : List ℕ) → IsNumbered frame rest others → IsNumbered first inputs (text ++ others)
+
+pub numbered_more : (first : ℕ) (inputs : List InputData) (frame : ℕ) (rest : List InputData) (text : List ℕ) (s : Stretch) → BeginWith s rest
+    → s.count ≤ length rest → NumberedUpTo first inputs frame rest text
+    → NumberedUpTo first inputs (frame + s.count) (drop s.count rest) ((text ++ (decimal frame ++ codes ": ")) ++ line_of s)
+numbered_more first inputs frame rest text s begins within so = record {
+  frame_is = omega (arith, so.frame_is, length-drop s.count rest);
+  more = λ others after.
+      let line : List ℕ = (decimal frame ++ codes ": ") ++ line_of s in
+      subst (IsNumbered first inputs) (simp append_assoc) (so.more (line ++ others) (record {
+        stretches = s ∷ after.stretches;
+        inputs_are = (begins, after.inputs_are);
+        text_is = ap (λ (lines : List ℕ). line ++ lines) after.text_is ∙ simp append_assoc;
+      }));
+}
+
+pub numbered_all : (first : ℕ) (inputs : List InputData) (frame : ℕ) (text : List ℕ) → NumberedUpTo first inputs frame [] text
+    → IsNumbered first inputs text
+numbered_all first inputs frame text so = rw append-nil at (so.more [] (record { stretches = []; inputs_are = refl; text_is = refl }))
 
 -- each of the first inputs is that of the stretch
 pub input_at : (inputs : List InputData) (n k : ℕ) (input : InputData) → take n inputs ≡ replicate n input → k < n

@@ -1,6 +1,6 @@
 -- Inputs as they are printed: a line for each stretch of equal ones. This project's own.
-use Rattle.std.specs.Prelude.{◌≡◌, ◌≢◌, ℕ, ◌≤◌, List, [], ◌∷◌, ◌++◌, take, drop, replicate, Some}
-use Rattle.std.specs.Prelude.{slice_get}
+use Rattle.std.specs.Prelude.{◌≡◌, ◌≢◌, ℕ, ◌+◌, ◌≤◌, List, [], ◌∷◌, ◌++◌, take, drop, replicate, Some}
+use Rattle.std.specs.Prelude.{codes, slice_get}
 use Rattle.std.specs.Fmt.{decimal}
 use Rattle.std.specs.List.{flat_map}
 use Rattle.vcs_machine.specs.Inputs.{InputData}
@@ -32,3 +32,15 @@ pub record IsPrinted (inputs : List InputData) (text : List ℕ) : Type 0 where
   pub stretches : List Stretch
   pub inputs_are : AreStretches inputs stretches
   pub text_is : text ≡ flat_map line_of stretches
+
+-- The lines of stretches that follow one another from this frame on, each after the number of its
+-- first frame, a colon and a space.
+abbrev pub numbered_lines : ℕ → List Stretch → List ℕ
+numbered_lines frame [] = []
+numbered_lines frame (s ∷ more) = decimal frame ++ codes ": " ++ line_of s ++ numbered_lines (frame + s.count) more
+
+-- the text is those of the stretches that the inputs are, of which the first is that of this frame
+pub record IsNumbered (first : ℕ) (inputs : List InputData) (text : List ℕ) : Type 0 where
+  pub stretches : List Stretch
+  pub inputs_are : AreStretches inputs stretches
+  pub text_is : text ≡ numbered_lines first stretches

@@ -18,4 +18,4 @@ pub use error::TextError;
 pub use held::is_idle;
 pub use laws::{law_of_held_names, law_of_one_text, law_of_printed_inputs};
 pub use reading::read_text;
-pub use writing::write_text;
+pub use writing::{write_numbered, write_text};

@@ -47,6 +47,8 @@ pub struct TooManyWatches;
 pub struct Details {
     /// The addresses whose bytes are shown.
     pub watches: Watches,
+    /// Whether all bytes of the memory are shown.
+    pub memory: bool,
     /// Whether the digests of its state and its picture are shown.
     pub digests: bool,
 }

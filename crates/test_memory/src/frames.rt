@@ -35,11 +35,49 @@ pub(crate) fn are_told<R: Threads + Wait + Sync + AllocGlobal>(
     let frames = Command::Frames {
         first: NonZeroU32::MIN,
         count: 3,
-        details: Details { watches, digests },
+        details: Details {
+            watches,
+            memory: false,
+            digests,
+        },
     };
     answer_to(rt, &frames, &mut two_frames().as_slice()).is_in_lines(
         Status::Done,
         wanted.as_bytes(),
+    )
+}
+
+/// How the first line with the memory begins.
+const FIRST: &[u8] = b"frame 1: 13 cycles, 1 rows, checkpoint 1 true, memory 020000";
+
+/// The length of what a line says of the whole memory, with its end.
+const MEMORY: usize = 9 + 256 + 1;
+
+/// The lengths of the first line with the memory, and of both.
+const FIRST_LINE: usize = 45 + MEMORY;
+
+const BOTH_LINES: usize = FIRST_LINE + 26 + MEMORY;
+
+/// The lines about two frames with the whole memory, of which only the byte at 80 isn't 0. Some of them
+/// may be there before an error, each whole.
+pub(crate) fn are_told_with_memory<R: Threads + Wait + Sync + AllocGlobal>(
+    rt: &R,
+) -> Result<(), Failure> {
+    let frames = Command::Frames {
+        first: NonZeroU32::MIN,
+        count: 3,
+        details: Details {
+            watches: Watches::none(),
+            memory: true,
+            digests: false,
+        },
+    };
+    let answer = answer_to(rt, &frames, &mut two_frames().as_slice());
+    let (text, file) = (answer.text.as_slice(), answer.file.as_slice());
+    answer.judged(
+        Status::Done,
+        text.len() == BOTH_LINES && text.starts_with(FIRST) && file.is_empty(),
+        matches!(text.len(), 0 | FIRST_LINE | BOTH_LINES),
     )
 }
 

@@ -108,8 +108,17 @@ pub(crate) fn is_converted(alloc: Global) -> Result<(), Failure> {
 }
 
 /// The inputs of two frames in which nothing is held.
-pub(crate) fn is_listed<R: Threads + Wait + Sync + AllocGlobal>(rt: &R) -> Result<(), Failure> {
-    answer_to(rt, &Command::Inputs, &mut two_frames().as_slice()).is(Status::Done, b"2\n", &[])
+pub(crate) fn is_listed<R: Threads + Wait + Sync + AllocGlobal>(
+    rt: &R,
+    numbers: bool,
+) -> Result<(), Failure> {
+    let inputs = Command::Inputs {
+        first: NonZeroU32::MIN,
+        count: 2,
+        numbers,
+    };
+    let wanted = if numbers { b"1: 2\n".as_slice() } else { b"2\n" };
+    answer_to(rt, &inputs, &mut two_frames().as_slice()).is(Status::Done, wanted, &[])
 }
 
 /// The length of the report of two frames without the name of the program: a line of the verdict,

@@ -1,8 +1,9 @@
 //! Worked rows: texts with their inputs, by hand from the rule that `Names` and `Texts` in the
 //! definitions of `input_text` say.
 
-use input_text::{TextError, read_text, write_text};
+use input_text::{TextError, read_text, write_numbered, write_text};
 use std::alloc::{AllocError, Global};
+use std::num::NonZeroU32;
 use std::test::Fail;
 use vcs_machine::Input;
 
@@ -99,6 +100,23 @@ const PRINTED: &[(&[(usize, [u8; 3])], &str)] = &[
     ),
 ];
 
+/// The number of the first frame, its input and those after it, and the text that is printed of them with
+/// numbers.
+const NUMBERED: &[(u32, &[(usize, [u8; 3])], &str)] = &[
+    (1, &[], ""),
+    (1, &[(60, IDLE)], "1: 60\n"),
+    (
+        9,
+        &[(1, [0x7F, 0x3F, 0x01]), (2, [0xFE, 0x3F, 0x00]), (1, IDLE)],
+        "9: 1 right0 fire0\n10: 2 up1\n12: 1\n",
+    ),
+    (
+        u32::MAX,
+        &[(2, IDLE), (1, [0xFF, 0x3E, 0x00])],
+        "4294967295: 2\n4294967297: 1 reset\n",
+    ),
+];
+
 fn inputs_of(alloc: Global, stretches: &[(usize, [u8; 3])]) -> Result<Vec<Input>, AllocError> {
     let mut inputs = Vec::new(alloc);
     for (count, bytes) in stretches {
@@ -167,6 +185,17 @@ fn printed_inputs(rt: HostRuntime) -> Result<(), Fail> {
     for (stretches, text) in PRINTED {
         let inputs = inputs_of(rt.alloc(), stretches)?;
         let printed = write_text(rt.alloc(), inputs.as_slice())?;
+        assert!(rt; printed.as_str() == *text, "{text}");
+    }
+    Ok(())
+}
+
+#[test]
+fn numbered_inputs(rt: HostRuntime) -> Result<(), Fail> {
+    for (first, stretches, text) in NUMBERED {
+        let first = NonZeroU32::new(*first).expect(&rt, "a frame's number");
+        let inputs = inputs_of(rt.alloc(), stretches)?;
+        let printed = write_numbered(rt.alloc(), first, inputs.as_slice())?;
         assert!(rt; printed.as_str() == *text, "{text}");
     }
     Ok(())

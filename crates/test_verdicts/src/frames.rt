@@ -4,6 +4,7 @@ use crate::answer::{answer_into, answer_to, expect_beginning, expect_text};
 use crate::movies::{first_of_two_false, two_frames};
 use command_line::Command;
 use replay_plan::{Address, Details, Watches};
+use std::alloc::{AllocError, Global};
 use std::num::NonZeroU32;
 use std::test::Fail;
 
@@ -34,6 +35,7 @@ fn byte_80_twice(count: u32) -> Command {
         count,
         details: Details {
             watches,
+            memory: false,
             digests: false,
         },
     }
@@ -55,12 +57,48 @@ fn digest_of_a_record_has_its_bank_in_version_1(rt: HostRuntime) -> Result<(), F
         count: 2,
         details: Details {
             watches: Watches::none(),
+            memory: false,
             digests: true,
         },
     };
     let wanted = format!(in rt.alloc();
         "frame 1: 13 cycles, 1 rows, checkpoint 1 true, state {STATE}, picture {PICTURE}\n\
          frame 2: 16 cycles, 1 rows, state {NEXT_STATE}, picture {PICTURE}\n"
+    )?;
+    let answer = answer_to(&rt, &command, &mut bytes.as_slice());
+    expect_text(&rt, &answer, wanted.as_bytes());
+    Ok(())
+}
+
+/// The bytes at 81 to FF after a frame.
+fn zeros(alloc: Global) -> Result<String, AllocError> {
+    let mut zeros = String::new(alloc);
+    for _byte in 0x81..=0xFF {
+        zeros.push_str("00")?;
+    }
+    Ok(zeros)
+}
+
+#[test]
+fn memory_stands_between_watched_bytes_and_digests(rt: HostRuntime) -> Result<(), Fail> {
+    let bytes = two_frames(rt.alloc())?;
+    let mut watches = Watches::none();
+    if let Some(address) = Address::new(0x80) {
+        let _first = watches.add(address);
+    }
+    let command = Command::Frames {
+        first: NonZeroU32::MIN,
+        count: 1,
+        details: Details {
+            watches,
+            memory: true,
+            digests: true,
+        },
+    };
+    let zeros = zeros(rt.alloc())?;
+    let wanted = format!(in rt.alloc();
+        "frame 1: 13 cycles, 1 rows, checkpoint 1 true, memory 80 02, memory 02{zeros}, \
+         state {STATE}, picture {PICTURE}\n"
     )?;
     let answer = answer_to(&rt, &command, &mut bytes.as_slice());
     expect_text(&rt, &answer, wanted.as_bytes());

@@ -1,7 +1,7 @@
 use Rattle.std.proofs.Common.{◌≡◌, [], take, rules, string_bytes}
 use Rattle.std.proofs.lemmas.List.{flat_map_more, take_more}
 use Rattle.commands.specs.Frames.{byte_text}
-use Rattle.commands.proofs.frame_line.told_memory.Goals as goal
+use Rattle.commands.proofs.frame_line.told_bytes.Goals as goal
 
 pub loop-watched-preserved : goal.loop-watched-preserved
 loop-watched-preserved c =
