@@ -1,7 +1,8 @@
-//! What a terminal is told after an answer: why something was refused, and what no checkpoint
-//! claims. Files are read again for it, so that nothing before is another on a terminal.
+//! What is told after an answer where reasons are wanted: why something was refused, and what no
+//! checkpoint claims. Files are read again for it, so that nothing before is another then.
 
 use crate::answering::reads_standard_input;
+use crate::reasons::write_reason;
 use command_line::{Command, CommandLine};
 use commands::{InputForm, Status, read_all};
 use movie_file::{read_inputs, read_movie};
@@ -9,11 +10,23 @@ use movie_hints::{Hint, hint_of, hint_of_claims, hint_of_inputs, hint_of_rom, hi
 use named_files::STANDARD_INPUT;
 use riot_map::Cart;
 use std::alloc::Global;
-use std::fs;
-use std::io::{Eprint, IsTerminal};
+use std::{fmt, fs};
+use std::io::Eprint;
 use std::num::NonZeroU32;
 use std::rt::Files;
 use terminal_text::Shown;
+
+/// A file, and what is to be said of it.
+struct Told<'a> {
+    name: &'a str,
+    hint: Hint,
+}
+
+impl fmt::Display for Told<'_> {
+    fn fmt<W: fmt::Write>(&self, f: &mut fmt::Formatter<W>) -> fmt::Result {
+        write!(f, "{}: {}", Shown::name(self.name), self.hint)
+    }
+}
 
 /// What a file holds, if it is a regular file, which can be read again.
 fn read_again<R: Files + AllocGlobal>(rt: &R, path: &str) -> Option<Vec<u8>> {
@@ -130,26 +143,20 @@ fn hint_of_output<'a, R: Files + AllocGlobal>(
     Some((output, hint_of_claims(&bytes, every)?))
 }
 
-/// Tells a terminal which file was refused and why, and which frames of a movie that was written no
-/// checkpoint follows. Of standard input so many bytes were read. If standard error is no terminal
-/// nothing is read or written.
-pub(crate) fn remark<R: Files + AllocGlobal + Eprint, E: IsTerminal>(
+/// Says which file was refused and why, and which frames of a movie that was written no checkpoint
+/// follows. Of standard input so many bytes were read.
+pub(crate) fn remark<R: Files + AllocGlobal + Eprint>(
     rt: &R,
-    standard_error: &E,
     line: &CommandLine,
     length: u64,
     status: Status,
 ) {
-    if !standard_error.is_terminal() {
-        return;
-    }
     let found = match status {
         Status::Refused => hint_of_refusal(rt, line, length),
         Status::Done => hint_of_output(rt, line),
         Status::False | Status::Fault => None,
     };
     if let Some((name, hint)) = found {
-        let name = Shown::name(name);
-        let _printed = eprintln!(rt; "{name}: {hint}");
+        write_reason(rt, Told { name, hint });
     }
 }
