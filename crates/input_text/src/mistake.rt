@@ -1,11 +1,9 @@
-//! Why a line of a text can't be read, and which name was meant.
-ghost use Rattle.std.specs.Prelude.{◌≡◌, ◌↔◌, ◌-◌, ◌≤◌, map, not, true, find, is_some, option_map, slice_get};
-ghost use Rattle.std.specs.Char.{to_ascii_lowercase};
-ghost use Rattle.input_text.specs.Mistakes.{IsMeant, IsMistake, IsNear, small};
+//! Why a line of a text can't be read.
+ghost use Rattle.std.specs.Prelude.{◌≡◌, ◌-◌, find, is_some, not, option_map, slice_get};
+ghost use Rattle.input_text.specs.Mistakes.{IsMistake};
 ghost use Rattle.input_text.specs.Texts.{name_of};
 ghost use Rattle.input_text.specs.Words.{lines_of, words_in, words_of};
 
-use crate::name::NAMES;
 use crate::reading::{count_in, name_in};
 use crate::words::{first_line, first_word, without_comment};
 
@@ -22,11 +20,10 @@ pub enum Mistake<'a> {
 
 /// A line of a text, by its number from 1, or `None` after the last one.
 pub fn line_at(text: &[u8], number: u64) -> Option<&[u8]>
-    requires { 1 ≤ number }
     ensures { option_map (λ line. line.now) result ≡ slice_get (lines_of text.now) (number - 1) }
 {
     let mut rest = Some(text);
-    let mut before = number - 1;
+    let mut before = number.saturating_sub(1);
     while let Some(left) = rest {
         let (line, after) = first_line(left);
         if before == 0 {
@@ -66,19 +63,5 @@ pub fn mistake_in(line: &[u8]) -> Mistake<'_>
     match first_unnamed(rest) {
         Some(word) => Mistake::NoName(word),
         None => Mistake::TooManyFrames,
-    }
-}
-
-/// Whether words of which the first letters differ, or one is empty, are one edit apart.
-fn is_near_here(word: &[u8], name: &[u8]) -> bool {
-    match (word, name) {
-        ([], []) => true,
-        ([], [_, after @ ..]) | ([_, after @ ..], []) => after.is_empty(),
-        ([a, word_after @ ..], [b, name_after @ ..]) => {
-            word.eq_ignore_ascii_case(name_after)
-                || word_after.eq_ignore_ascii_case(name)
-                || word_after.eq_ignore_ascii_case(name_after)
-                || is_exchanged(*a, word_after, *b, name_after)
-        }
     }
 }
