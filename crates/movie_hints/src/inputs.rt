@@ -1,8 +1,9 @@
 //! What is wrong with a ROM or with inputs that are refused.
-ghost use Rattle.std.specs.Prelude.{◌≡◌, IfSome};
+ghost use Rattle.std.specs.Prelude.{◌≡◌, find, None, IfNone, IfSome};
 ghost use Rattle.std.specs.NonZero.{non_zero_u32_get};
 ghost use Rattle.movie_hints.specs.Hints.{IsTrueOf};
 ghost use Rattle.movie_hints.specs.Counts.{IsCountsHint};
+ghost use Rattle.movie_hints.specs.Looks.{is_like, looks};
 
 use crate::hint::Hint;
 use crate::look::Look;
@@ -14,7 +15,8 @@ use std::num::NonZeroU32;
 
 /// What the bytes of a ROM or of inputs look like that are none.
 pub(crate) fn look_of(bytes: &[u8]) -> Option<Hint>
-    ensures { IfSome result (IsTrueOf bytes.now) }
+    ensures some { IfSome result (IsTrueOf bytes.now) }
+    ensures none { IfNone result (find (is_like bytes.now) looks ≡ None) }
 {
     if bytes.starts_with(b"A26M") {
         return Some(Hint::LooksLikeMovie);

@@ -1,6 +1,6 @@
 //! What a file is by its first bytes.
 ghost use Rattle.std.specs.Prelude.{◌≡◌, find};
-ghost use Rattle.movie_hints.specs.Looks.{has_at, is_like, looks};
+ghost use Rattle.movie_hints.specs.Looks.{has_at, has_first_part, is_like, looks};
 
 use std::fmt;
 
@@ -44,7 +44,9 @@ fn has_at(bytes: &[u8], place: usize, wanted: &[u8]) -> bool
 }
 
 /// Whether bytes begin as a zip file whose first part has a name of so many bytes.
-fn has_first_part(bytes: &[u8], name: &[u8], length: u8) -> bool {
+fn has_first_part(bytes: &[u8], name: &[u8], length: u8) -> bool
+    ensures { result ≡ has_first_part bytes.now name.now length }
+{
     has_at(bytes, 26, &[length, 0]) && has_at(bytes, 30, name)
 }
 
