@@ -8,6 +8,7 @@ use std::io::Eprint;
 use std::rt::Files;
 
 /// A text and a line feed.
+#[derive(Drop)]
 struct Line<D> {
     text: D,
 }
