@@ -29,7 +29,7 @@ use named_files::{
     Limited, Named, Quota, STANDARD_INPUT, STANDARD_OUTPUT, null_if_closed, sync_standard_output,
 };
 use progress::Progress;
-use reasons::has_explain;
+use reasons::{has_explain, is_explained, write_reason};
 use remarks::remark;
 use std::alloc::{AllocError, Global};
 use std::env::{self, Env};
@@ -133,12 +133,15 @@ fn main(rt: HostRuntime) -> ExitCode {
     let is_terminal = rt.stderr().is_terminal();
     let words = match words_of_program(&rt) {
         Ok(words) => words,
-        Err(ending) => return ending.report(&rt, is_terminal),
+        Err(ending) => return ending.report(&rt, is_terminal || is_explained(&rt)),
     };
     let line = match line_of_words(rt.alloc(), &words) {
         Ok(line) => line,
         Err(ending) => return ending.report(&rt, is_terminal || has_explain(&words)),
     };
+    if words.len() < 2 && rt.stdin().is_terminal() {
+        write_reason(&rt, "reads a movie from standard input; vcs_check --help says more");
+    }
     let mut input = Named::new(STANDARD_INPUT, rt.stdin());
     let quota = Quota::of_standard_output(&rt);
     let mut text = Named::new(STANDARD_OUTPUT, Limited::new(io::writer(&rt), quota));

@@ -1,8 +1,11 @@
 //! The second line on standard error, which says why.
-ghost use Rattle.std.specs.Prelude.{◌≡◌, ◌↔◌, true};
+ghost use Rattle.std.specs.Prelude.{◌≡◌, ◌↔◌, codes, position, string_bytes, true};
+ghost use Rattle.std.specs.List.{before_first};
+ghost use Rattle.std.specs.Str.{bytes_eq};
 ghost use Rattle.vcs_check.specs.Reasons.{HasExplain};
 
 use named_files::Quota;
+use std::env::{Env, FillError};
 use std::fmt;
 use std::io::Eprint;
 use std::rt::Files;
@@ -27,15 +30,45 @@ pub(crate) fn write_reason<R: Files + Eprint, D: fmt::Display + Drop>(rt: &R, te
     }
 }
 
+/// Whether `--explain` is among the arguments of the program, of which one is no text.
+pub(crate) fn is_explained<R: Env>(rt: &R) -> bool {
+    let mut room = [0u8; 16];
+    for number in 1..usize::MAX {
+        match rt.arg(number, &mut room) {
+            Ok(length) => match room.get(..length) {
+                Some(b"--explain") => return true,
+                Some(b"--") => return false,
+                _ => {}
+            },
+            Err(FillError::TooLong) => {}
+            Err(FillError::NotPresent) => return false,
+        }
+    }
+    false
+}
+
 /// The place of the word after which no word is an option.
-fn end_of_options(words: &[String]) -> Option<usize> {
+fn end_of_options(words: &[String]) -> Option<usize>
+    ensures { result ≡ position (λ word. bytes_eq (string_bytes word) (codes "--")) words.now }
+{
     words.iter().position(|word| word.as_str() == "--")
+}
+
+/// The words among which options are.
+fn options_of(words: &[String]) -> &[String]
+    ensures { result.now ≡ before_first (λ word. bytes_eq (string_bytes word) (codes "--")) words.now }
+{
+    match end_of_options(words) {
+        Some(end) => &words[..end],
+        None => words,
+    }
 }
 
 /// Whether `--explain` is among the words of a command line, be they a command or not.
 pub(crate) fn has_explain(words: &[String]) -> bool
     ensures { (result ≡ true) ↔ HasExplain words.now }
 {
-    let end = end_of_options(words).unwrap_or(words.len());
-    words[..end].iter().any(|word| word.as_str() == "--explain")
+    options_of(words)
+        .iter()
+        .any(|word| word.as_str() == "--explain")
 }
