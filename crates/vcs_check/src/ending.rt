@@ -73,10 +73,16 @@ impl Ending<'_> {
     fn explain<R: Files + Eprint>(&self, rt: &R) {
         match self {
             Ending::Usage { text } if text.contains("'-o'") => {
-                write_reason(rt, "-o: --out names what is written, and --pictures of verify");
+                write_reason(
+                    rt,
+                    "-o: --out names what is written, and --pictures of verify",
+                );
             }
             Ending::NotUtf8 => {
-                write_reason(rt, "a file of any name can be standard input, as in verify - < FILE");
+                write_reason(
+                    rt,
+                    "a file of any name can be standard input, as in verify - < FILE",
+                );
             }
             Ending::Failed(failure) => {
                 if let Some(file_error) = failure.file_error() {

@@ -140,7 +140,10 @@ fn main(rt: HostRuntime) -> ExitCode {
         Err(ending) => return ending.report(&rt, is_terminal || has_explain(&words)),
     };
     if words.len() < 2 && rt.stdin().is_terminal() {
-        write_reason(&rt, "reads a movie from standard input; vcs_check --help says more");
+        write_reason(
+            &rt,
+            "reads a movie from standard input; vcs_check --help says more",
+        );
     }
     let mut input = Named::new(STANDARD_INPUT, rt.stdin());
     let quota = Quota::of_standard_output(&rt);

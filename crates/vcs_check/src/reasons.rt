@@ -35,11 +35,15 @@ pub(crate) fn is_explained<R: Env>(rt: &R) -> bool {
     let mut room = [0u8; 16];
     for number in 1..usize::MAX {
         match rt.arg(number, &mut room) {
-            Ok(length) => match room.get(..length) {
-                Some(b"--explain") => return true,
-                Some(b"--") => return false,
-                _ => {}
-            },
+            Ok(length) => {
+                let word = room.get(..length).unwrap_or(&[]);
+                if word == b"--explain".as_slice() {
+                    return true;
+                }
+                if word == b"--".as_slice() {
+                    return false;
+                }
+            }
             Err(FillError::TooLong) => {}
             Err(FillError::NotPresent) => return false,
         }
