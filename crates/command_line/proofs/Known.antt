@@ -1,13 +1,14 @@
 -- What `clap` says of the program's own command, and of its answers.
-use Rattle.std.proofs.Common.{◌≡◌, ◌∙◌, ◌⊎◌, List, [], Option, Some, None, Result, Ok, Err, true, option_map, sym, subst, refl, inl, inr, IfOk}
-use Rattle.clap.specs.Words.{App, HasKind, HasMatchesOf, IsAmong, Row, Text, fault_of, is_simple, is_simple_and_free, subcommand_of, subcommand_rows_of}
+use Rattle.std.proofs.Common.{◌≡◌, ◌∙◌, ◌⊎◌, ◌↔◌, Bool, List, [], Option, Some, None, Result, Ok, Err, true, option_map, sym, subst, refl, inl, inr, IfOk}
+use Rattle.clap.specs.Words.{App, HasKind, HasMatchesOf, IsAmong, Row, Text, fault_of, found_of, is_simple, is_simple_and_free, matches_of, rows_of, subcommand_of, subcommand_rows_of}
 use Rattle.clap.specs.declared.ArgMatches.{ArgMatches}
 use Rattle.clap.specs.declared.error.Error.{Error}
 use Rattle.clap.specs.declared.error.ErrorKind.{ErrorKind}
 use Rattle.clap.specs.declared.error.ErrorKind.TheVariants.{DisplayHelp, DisplayVersion, OutOfMemory}
 use Rattle.clap.proofs.OnLiterals.{clap_on_literals}
 use Rattle.command_line.specs.Faults.{HasBadValue, IsAnswerTo, IsRefusal}
-use Rattle.command_line.specs.Table.{program_app}
+use Rattle.command_line.specs.Meanings.{AsksForReasons, IsGiven}
+use Rattle.command_line.specs.Table.{explain_row, program_app}
 use Rattle.command_line.specs.declared.command.LineFault.{LineFault}
 use Rattle.command_line.specs.declared.command.LineFault.TheVariants.{Usage, Help, Memory}
 
@@ -29,6 +30,32 @@ failing app words error is kinds = subst (λ (a : App). is_simple_and_free a ≡
 pub meets : (app : App) (words : List Text) (m : ArgMatches) → app ≡ program_app → HasMatchesOf app words m
     → subcommand_rows_of m ≡ subcommand_of program_app words
 meets app words m is has = (subst (λ (a : App). HasMatchesOf a words m) is has program_is_simple).1
+
+pub meets_before : (app : App) (words : List Text) (m : ArgMatches) → app ≡ program_app → HasMatchesOf app words m
+    → rows_of (found_of m) ≡ matches_of program_app words
+meets_before app words m is has = (subst (λ (a : App). HasMatchesOf a words m) is has program_is_simple).0
+
+-- The reasons are asked for before the command's name or after it.
+module _ (before : List Row) (first asks : Bool) (top : (first ≡ true) ↔ IsGiven explain_row before) where
+  pub asks_after : (met : Option (Text × List Row)) (name : Text) (rows : List Row) → met ≡ Some (name, rows)
+      → (asks ≡ true) ↔ ((first ≡ true) ⊎ IsGiven explain_row rows) → (asks ≡ true) ↔ AsksForReasons before met
+  asks_after met name rows is own = subst (λ (o : Option (Text × List Row)). (asks ≡ true) ↔ AsksForReasons before o) (sym is) (λ h. given (own.0 h), λ h. own.1 (asked h))
+    where
+      given : (first ≡ true) ⊎ IsGiven explain_row rows → IsGiven explain_row before ⊎ IsGiven explain_row rows
+      given (inl here) = inl (top.0 here)
+      given (inr later) = inr later
+
+      asked : IsGiven explain_row before ⊎ IsGiven explain_row rows → (first ≡ true) ⊎ IsGiven explain_row rows
+      asked (inl here) = inl (top.1 here)
+      asked (inr later) = inr later
+
+  pub asks_alone : (met : Option (Text × List Row)) → met ≡ None → asks ≡ first → (asks ≡ true) ↔ AsksForReasons before met
+  asks_alone met is same = subst (λ (o : Option (Text × List Row)). (asks ≡ true) ↔ AsksForReasons before o) (sym is)
+      (λ h. inl (top.0 (sym same ∙ h)), λ h. same ∙ top.1 (only h))
+    where
+      only : IsGiven explain_row before ⊎ ⊥ → IsGiven explain_row before
+      only (inl here) = here
+      only (inr none) = absurd none
 
 -- A name and a value of the same thing.
 abbrev pub pair_of : {B X Y : Type 0} → (B → X) → (B → Y) → B → X × Y

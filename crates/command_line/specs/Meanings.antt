@@ -1,6 +1,6 @@
 -- Which command the words of a command line are. This project's own.
-use Rattle.std.specs.Prelude.{◌≡◌, ◌↔◌, ◌≤◌, ℕ, false, true, List, [], ◌∷◌, Option, Some, None, codes}
-use Rattle.std.specs.Prelude.{Ok, Result, if◌then◌else◌, ◌==◌, is_some, length, map, option_map, string_bytes}
+use Rattle.std.specs.Prelude.{◌≡◌, ◌⊎◌, ◌↔◌, ◌≤◌, ℕ, IsSomeAnd, false, true, List, [], ◌∷◌, Option, Some, None}
+use Rattle.std.specs.Prelude.{Ok, Result, if◌then◌else◌, ◌==◌, codes, is_some, length, map, option_map, string_bytes}
 use Rattle.std.specs.Prelude.{unwrap_or}
 use Rattle.std.specs.NonZero.{non_zero_u16_get, non_zero_u32_get}
 use Rattle.std.specs.Str.Parse.{digits_value, without_leading_plus}
@@ -15,7 +15,7 @@ use Rattle.replay_plan.specs.declared.watches.Address.{Address}
 use Rattle.replay_plan.specs.declared.watches.Details.{Details}
 use Rattle.command_line.specs.Table.{Argument, asked_row, checkpoints_row}
 use Rattle.command_line.specs.Table.{count_row}
-use Rattle.command_line.specs.Table.{cuts_row, digests_row, file_row, first_row, frame_row}
+use Rattle.command_line.specs.Table.{cuts_row, digests_row, explain_row, file_row, first_row, frame_row}
 use Rattle.command_line.specs.Table.{inputs_row, json_row, memory_row, new_row, numbers_row}
 use Rattle.command_line.specs.Table.{old_row, watch_row}
 use Rattle.command_line.specs.Table.{out_row, pictures_row, rom_row}
@@ -134,6 +134,14 @@ abbrev pub IsLine : Option (Text × List Row) → CommandLine → Type 0
 IsLine None line =
     IsPlainVerify line.command × (string_bytes line.input ≡ codes "-") × (line.output ≡ None)
 IsLine (Some met) line = IsLineAt met.0 met.1 line
+
+-- An option without a word is there.
+abbrev pub IsGiven : Argument → List Row → Type 0
+IsGiven argument rows = one_of argument.name rows ≡ Some (codes "true")
+
+-- The reasons are asked for: before the command's name, or after it.
+abbrev pub AsksForReasons : List Row → Option (Text × List Row) → Type 0
+AsksForReasons before met = IsGiven explain_row before ⊎ IsSomeAnd met (λ met. IsGiven explain_row met.1)
 
 -- Each word after `--watch` writes an address of the memory, and there are at most 16 of them.
 abbrev pub HasAddresses : List Row → Type 0

@@ -93,6 +93,10 @@ numbers_row = record { name = codes "numbers"; kind = switch }
 abbrev pub json_row : Argument
 json_row = record { name = codes "json"; kind = switch }
 
+-- The option that every command has, as its last one, and that may stand before the command's name.
+abbrev pub explain_row : Argument
+explain_row = record { name = codes "explain"; kind = switch }
+
 -- The commands, with their rows in the order of help.
 abbrev pub verify_listed : Listed
 verify_listed = record {
@@ -186,17 +190,24 @@ rule_for argument = rule_as argument.kind argument.name
 abbrev pub IsRow : Argument → Arg → Type 0
 IsRow argument given = (rule_of given ≡ rule_for argument) × (given.global ≡ false)
 
--- A command of the table.
+-- A command of the table without the option that all have, and with it.
+abbrev pub shape_without : Listed → Shape
+shape_without listed = record (new_shape listed.name) { rules = map rule_for listed.arguments }
+
 abbrev pub shape_for : Listed → Shape
-shape_for listed = record (new_shape listed.name) { rules = map rule_for listed.arguments }
+shape_for listed = record (new_shape listed.name) { rules = map rule_for listed.arguments ++ rule_for explain_row ∷ [] }
 
 -- The command is this one, and none of its arguments goes on to commands below it.
 abbrev pub IsApp : App → Command → Type 0
 IsApp app command = (app_of command ≡ app) × ((out-Command command).has_globals ≡ false)
 
--- The command is one of the table.
+-- The command is one of the table, without the option that all have, and with it.
 abbrev pub IsListed : Listed → Command → Type 0
 IsListed listed command =
+    (shape_of command ≡ shape_without listed) × ((out-Command command).has_globals ≡ false)
+
+abbrev pub IsWhole : Listed → Command → Type 0
+IsWhole listed command =
     (shape_of command ≡ shape_for listed) × ((out-Command command).has_globals ≡ false)
 
 -- A program with more commands of the table.
@@ -210,10 +221,11 @@ Adds listed old new =
     (app_of new ≡ with_listed (app_of old) listed)
     × ((out-Command old).has_globals ≡ false → (out-Command new).has_globals ≡ false)
 
--- The program: its commands, and two texts for its version.
+-- The program: its commands, the option that stands before them, and two texts for its version.
 abbrev pub program_app : App
 program_app = record {
   top = record (new_shape (codes "vcs_check")) {
+    rules = rule_for explain_row ∷ [];
     is_leaf = false;
     has_version = true;
     has_long_version = true;

@@ -84,6 +84,8 @@ pub struct CommandLine {
     pub input: String,
     /// The file that takes a movie that is made, or pictures.
     pub output: Option<String>,
+    /// Whether reasons are written whatever standard error is. Else a terminal alone gets them.
+    pub explain: bool,
 }
 
 /// Why there is no command.

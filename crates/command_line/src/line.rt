@@ -1,11 +1,11 @@
 //! From arguments to a command.
-ghost use Rattle.std.specs.Prelude.{◌≡◌, ◌↔◌, false, true, [], map, codes, is_some, option_map, unwrap_or};
+ghost use Rattle.std.specs.Prelude.{◌≡◌, ◌⊎◌, ◌↔◌, false, true, [], map, codes, is_some, option_map, unwrap_or};
 ghost use Rattle.std.specs.Prelude.{IfErr, IfOk, IfNone, IfSome, string_bytes};
 ghost use Rattle.std.specs.NonZero.{non_zero_u16_get, non_zero_u32_get};
-ghost use Rattle.clap.specs.Words.{fault_of as faults_at, found_of, kind_of, rows_of, subcommand_of};
+ghost use Rattle.clap.specs.Words.{fault_of as faults_at, found_of, kind_of, matches_of, rows_of, subcommand_of};
 ghost use Rattle.clap.specs.Words.{first_of, one_of};
 ghost use Rattle.command_line.specs.Faults.{HasBadValue, IsAnswerTo, IsRefusal};
-ghost use Rattle.command_line.specs.Meanings.{IsCommandAt, IsLine, IsLineAt, input_row};
+ghost use Rattle.command_line.specs.Meanings.{AsksForReasons, IsCommandAt, IsGiven, IsLine, IsLineAt, input_row};
 ghost use Rattle.command_line.specs.Meanings.{number_in, number_of, output_word, word_of};
 ghost use Rattle.command_line.specs.Private.Names.{IsUnlisted};
 ghost use Rattle.command_line.specs.Private.Numbers.{HasNumbers, HasNumbersOf, IsNumberIn};
@@ -15,7 +15,7 @@ ghost use Rattle.command_line.specs.Table.{commands, program_app, verify_listed,
 ghost use Rattle.command_line.specs.Table.{listing_listed, make_listed};
 ghost use Rattle.command_line.specs.Table.{workers_row, cuts_row, first_row, count_row};
 ghost use Rattle.command_line.specs.Table.{asked_row, checkpoints_row, cut_listed, drawing_listed};
-ghost use Rattle.command_line.specs.Table.{frame_row, json_row, pictures_row, text_row, trace_listed};
+ghost use Rattle.command_line.specs.Table.{explain_row, frame_row, json_row, pictures_row, text_row, trace_listed};
 ghost use Rattle.replay_plan.specs.declared.input_form.InputForm.TheVariants.{Text};
 ghost use Rattle.replay_plan.specs.declared.notation.Notation.TheVariants.{Json};
 
@@ -322,11 +322,19 @@ fn output_of(
     }
 }
 
-/// The command of this name, as `command_of` has it, with its files.
-fn line_of(alloc: Global, name: &str, matches: &ArgMatches<'_>) -> Result<CommandLine, LineFault>
+/// The command of this name, as `command_of` has it, with its files, and whether the reasons are
+/// asked for before it or after it.
+fn line_of(
+    alloc: Global,
+    name: &str,
+    matches: &ArgMatches<'_>,
+    explain: bool,
+) -> Result<CommandLine, LineFault>
     requires numbers { HasNumbersOf name.now (rows_of (found_of matches.now)) }
     requires listed { IsUnlisted name.now commands → ⊥ }
     ensures ok { IfOk result (IsLineAt name.now (rows_of (found_of matches.now))) }
+    ensures explain { IfOk result (λ line. (line.explain ≡ true)
+        ↔ ((explain ≡ true) ⊎ IsGiven explain_row (rows_of (found_of matches.now)))) }
     ensures err { IfErr result (HasBadValue name.now (rows_of (found_of matches.now))) }
 {
     let command = command_of(alloc, name, matches)?;
@@ -336,12 +344,14 @@ fn line_of(alloc: Global, name: &str, matches: &ArgMatches<'_>) -> Result<Comman
         command,
         input,
         output,
+        explain: explain || is_given(matches, "explain"),
     })
 }
 
-/// The command of no arguments: `verify -` by one worker.
-fn line_of_no_words(alloc: Global) -> Result<CommandLine, LineFault>
+/// The command of no arguments, and of `--explain` alone: `verify -` by one worker.
+fn line_of_no_words(alloc: Global, explain: bool) -> Result<CommandLine, LineFault>
     ensures ok { IfOk result (IsLine None) }
+    ensures explain { IfOk result (λ line. line.explain ≡ explain) }
     ensures err { IfErr result (λ fault. fault ≡ Memory) }
 {
     let plan = Plan::without_pictures(Workers::ONE);
@@ -349,6 +359,7 @@ fn line_of_no_words(alloc: Global) -> Result<CommandLine, LineFault>
         command: Command::Verify { plan },
         input: String::from_str(alloc, "-")?,
         output: None,
+        explain,
     })
 }
 
@@ -359,6 +370,9 @@ fn line_of_no_words(alloc: Global) -> Result<CommandLine, LineFault>
 pub fn parse_line<S: AsStr>(alloc: Global, words: &[S]) -> Result<CommandLine, LineFault>
     ensures taken { IfOk result (λ _. faults_at program_app (map S.text words.now) ≡ []) }
     ensures ok { IfOk result (IsLine (subcommand_of program_app (map S.text words.now))) }
+    ensures explain { IfOk result (λ line. (line.explain ≡ true)
+        ↔ AsksForReasons (matches_of program_app (map S.text words.now))
+            (subcommand_of program_app (map S.text words.now))) }
     ensures err { IfErr result (IsRefusal (map S.text words.now)) }
 {
     let program = program(alloc)?;
@@ -366,8 +380,9 @@ pub fn parse_line<S: AsStr>(alloc: Global, words: &[S]) -> Result<CommandLine, L
         Ok(matches) => matches,
         Err(error) => return Err(fault_of(alloc, &error)),
     };
+    let explain = is_given(&matches, "explain");
     match matches.subcommand() {
-        Some((name, inner)) => line_of(alloc, name, inner),
-        None => line_of_no_words(alloc),
+        Some((name, inner)) => line_of(alloc, name, inner, explain),
+        None => line_of_no_words(alloc, explain),
     }
 }

@@ -8,7 +8,7 @@ ghost use Rattle.command_line.specs.Table.{inputs_row, text_row, checkpoints_row
 ghost use Rattle.command_line.specs.Table.{old_row, new_row, verify_listed, report_listed};
 ghost use Rattle.command_line.specs.Table.{make_listed, info_listed, listing_listed};
 ghost use Rattle.command_line.specs.Table.{asked_row, convert_listed, cut_listed, drawing_listed};
-ghost use Rattle.command_line.specs.Table.{json_row, memory_row, numbers_row};
+ghost use Rattle.command_line.specs.Table.{IsWhole, explain_row, json_row, memory_row, numbers_row};
 ghost use Rattle.command_line.specs.Table.{digests_row, frame_row, frames_listed, program_app};
 ghost use Rattle.command_line.specs.Table.{trace_listed, watch_row, rule_for, Adds, judging, making, looking};
 
@@ -63,6 +63,16 @@ fn json<'a>(alloc: Global) -> Arg<'a>
     Arg::new(alloc, "json")
         .long("json")
         .help("Write one object of JSON in place of lines")
+        .action(ArgAction::SetTrue)
+}
+
+/// `--explain` of every command, and before its name.
+fn explain<'a>(alloc: Global) -> Arg<'a>
+    ensures { IsRow explain_row result }
+{
+    Arg::new(alloc, "explain")
+        .long("explain")
+        .help("Say why something is refused or fails, also where standard error is no terminal")
         .action(ArgAction::SetTrue)
 }
 
@@ -438,43 +448,55 @@ fn trace<'a>(alloc: Global) -> Result<Command<'a>, AllocError>
     and(trace, frame(alloc))
 }
 
+/// A command of the table, with the option that all have.
+fn whole<'a>(
+    alloc: Global,
+    command: Result<Command<'a>, AllocError>,
+) -> Result<Command<'a>, AllocError>
+    ensures { (listed : Listed) → IfOk command.entry (IsListed listed) → IfOk result (IsWhole listed) }
+{
+    command?.arg(explain(alloc))
+}
+
 /// A program with one more command of the table.
 fn with<'a>(
+    alloc: Global,
     program: Command<'a>,
     command: Result<Command<'a>, AllocError>,
 ) -> Result<Command<'a>, AllocError>
     ensures { (start : OneCommand) (done : List Listed) (listed : Listed) → Adds done start program.entry → IfOk command.entry (IsListed listed)
         → IfOk result (Adds (done ++ listed ∷ []) start) }
 {
-    program.subcommand(command?)
+    let command = whole(alloc, command)?;
+    program.subcommand(command)
 }
 
 /// The commands that judge a movie.
 fn with_judging<'a>(alloc: Global, program: Command<'a>) -> Result<Command<'a>, AllocError>
     ensures { IfOk result (Adds judging program.entry) }
 {
-    let program = with(program, verify(alloc))?;
-    with(program, report(alloc))
+    let program = with(alloc, program, verify(alloc))?;
+    with(alloc, program, report(alloc))
 }
 
 /// The commands that make a movie, or say what one holds.
 fn with_making<'a>(alloc: Global, program: Command<'a>) -> Result<Command<'a>, AllocError>
     ensures { IfOk result (Adds making program.entry) }
 {
-    let program = with(program, make(alloc))?;
-    let program = with(program, info(alloc))?;
-    let program = with(program, inputs(alloc))?;
-    with(program, convert(alloc))
+    let program = with(alloc, program, make(alloc))?;
+    let program = with(alloc, program, info(alloc))?;
+    let program = with(alloc, program, inputs(alloc))?;
+    with(alloc, program, convert(alloc))
 }
 
 /// The commands that look into a run.
 fn with_looking<'a>(alloc: Global, program: Command<'a>) -> Result<Command<'a>, AllocError>
     ensures { IfOk result (Adds looking program.entry) }
 {
-    let program = with(program, frames_of(alloc))?;
-    let program = with(program, pictures_of(alloc))?;
-    let program = with(program, cut(alloc))?;
-    with(program, trace(alloc))
+    let program = with(alloc, program, frames_of(alloc))?;
+    let program = with(alloc, program, pictures_of(alloc))?;
+    let program = with(alloc, program, cut(alloc))?;
+    with(alloc, program, trace(alloc))
 }
 
 /// The program with all of its commands. Without one it judges standard input.
@@ -486,6 +508,7 @@ pub(crate) fn program<'a>(alloc: Global) -> Result<Command<'a>, AllocError>
         .long_version(VERSIONS)
         .about("Judge movies of the Atari 2600")
         .after_help(MORE);
+    let program = program.arg(explain(alloc))?;
     let program = with_judging(alloc, program)?;
     let program = with_making(alloc, program)?;
     with_looking(alloc, program)

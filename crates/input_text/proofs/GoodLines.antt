@@ -3,9 +3,9 @@ use Rattle.std.proofs.Common.{◌≡◌, ℕ, ◌+◌, ◌<◌, ◌≤◌, Bool,
 use Rattle.std.proofs.Common.{◌∷◌, ◌++◌, length, get_or, take, drop, replicate, Option, Some, None}
 use Rattle.std.proofs.Common.{Ok, Err, sym, refl, ap, ◌∙◌, arith, append_assoc}
 use Rattle.std.proofs.Common.{length-append, Bor}
-use Rattle.std.specs.Prelude.{not, find, sum_by, nat_le, ◌&&◌}
+use Rattle.std.specs.Prelude.{not, find, if◌then◌else◌, sum_by, nat_le, ◌&&◌}
 use Rattle.std.specs.Option.{option_map_or}
-use Rattle.std.specs.List.{flat_map, range_with_len}
+use Rattle.std.specs.List.{flat_map, list_all, range_with_len}
 use Rattle.std.proofs.lemmas.Bool.{and_parts}
 use Rattle.std.proofs.lemmas.Bool.{leb-true}
 use Rattle.std.proofs.lemmas.Bool.Decides.{nat_tests}
@@ -125,3 +125,13 @@ module _ (text line : List ℕ) (number : ℕ) (inputs : List InputData) (rest a
 
 pub read_all : (text : List ℕ) (number : ℕ) (inputs : List InputData) → ReadSoFar text number inputs None → inputs_in text ≡ Ok inputs
 read_all text number inputs so = grind (arith, append-nil, said)
+
+-- Where no word is other than named, all are named.
+pub all_named : (p : List ℕ → Bool) (words : List (List ℕ)) → find (λ word. not (p word)) words ≡ None → list_all p words ≡ true
+all_named p [] none = refl
+all_named p (word ∷ words) none = go (p word) (λ more. all_named p words more) none
+  where
+    go : (b : Bool) → (find (λ word. not (p word)) words ≡ None → list_all p words ≡ true)
+        → (if not b then Some word else find (λ word. not (p word)) words) ≡ None → (b && list_all p words) ≡ true
+    go true later more = later more
+    go false later more = cc

@@ -8,7 +8,9 @@
 mod error;
 mod held;
 mod laws;
+mod mistake;
 mod name;
+mod near;
 mod reading;
 mod stretch;
 mod words;
@@ -17,5 +19,7 @@ mod writing;
 pub use error::TextError;
 pub use held::is_idle;
 pub use laws::{law_of_held_names, law_of_one_text, law_of_printed_inputs};
+pub use mistake::{Mistake, line_at, mistake_in};
+pub use near::meant_by;
 pub use reading::read_text;
 pub use writing::{write_numbered, write_text};

@@ -19,7 +19,7 @@ use vcs_machine::Input;
 const TOO_MANY: u64 = MOST_FRAMES as u64 + 1;
 
 /// How many frames a word says. Each number above the most counts as `TOO_MANY`.
-fn count_in(word: &[u8]) -> Option<u64>
+pub(crate) fn count_in(word: &[u8]) -> Option<u64>
     ensures readable { is_some result ≡ is_count word.now }
     ensures value { IfSome result (λ count. count ≡ min (number_of word.now) TOO_MANY) }
 {
@@ -34,7 +34,7 @@ fn count_in(word: &[u8]) -> Option<u64>
 }
 
 /// The name that a word is.
-fn name_in(word: &[u8]) -> Option<Name>
+pub(crate) fn name_in(word: &[u8]) -> Option<Name>
     ensures { result ≡ name_of word.now }
 {
     NAMES

@@ -50,7 +50,7 @@ pub(crate) fn without_comment(line: &[u8]) -> &[u8]
 }
 
 /// All bytes but the first, if there is one.
-fn without_first(bytes: &[u8]) -> &[u8]
+pub(crate) fn without_first(bytes: &[u8]) -> &[u8]
     ensures { result.now ≡ drop 1 bytes.now }
 {
     match bytes {

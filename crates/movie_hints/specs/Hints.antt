@@ -1,12 +1,23 @@
 -- What a hint says of the bytes that were refused. This project's own.
-use Rattle.std.specs.Prelude.{◌≡◌, ◌≢◌, ◌<◌, ◌≤◌, ◌+◌, ◌%◌, ◌==◌, ◌||◌, ◌⊎◌, ℕ, Bool, true, false}
-use Rattle.std.specs.Prelude.{List, [], ◌∷◌, length, slice_index, bit_and, Option, Some, None}
+use Rattle.std.specs.Prelude.{◌≡◌, ◌≢◌, ◌<◌, ◌≤◌, ◌+◌, ◌-◌, ◌%◌, ◌==◌, ◌&&◌, ◌||◌, ◌⊎◌, ℕ, Bool, true, false}
+use Rattle.std.specs.Prelude.{List, [], ◌∷◌, find, length, nat_le, nat_lt, not, slice_get, slice_index}
+use Rattle.std.specs.Prelude.{bit_and, Option, Some, None, IfSome, Err, IsOk}
 use Rattle.std.specs.Int.{w16, w32, from_be_bytes}
-use Rattle.std.specs.List.{list_any, starts_with}
+use Rattle.std.specs.List.{list_all, list_any, starts_with}
+use Rattle.input_text.specs.Mistakes.{IsMeant, IsMistake}
+use Rattle.input_text.specs.Texts.{inputs_in}
+use Rattle.input_text.specs.Words.{lines_of, words_of}
+use Rattle.input_text.specs.declared.mistake.Mistake.{Mistake}
+use Rattle.input_text.specs.declared.mistake.Mistake.TheVariants.{NoCount, NoName, TooManyFrames}
+use Rattle.vcs_machine.specs.Inputs.{InputData}
+use Rattle.movie_file.specs.InputLists.{SpellsInputs}
+use Rattle.movie_hints.specs.Looks.{is_like, looks}
 use Rattle.riot_map.specs.Cart.{is_cart_length}
 use Rattle.movie_file.specs.Format.{magic, most_checkpoints}
 use Rattle.movie_hints.specs.declared.hint.Hint.{Hint}
 use Rattle.movie_hints.specs.declared.hint.Hint.TheVariants as hints
+use Rattle.movie_hints.specs.declared.texts.TextHint.{TextHint}
+use Rattle.movie_hints.specs.declared.texts.TextHint.TheVariants as texts
 
 -- The number of two bytes at a place, and of four. The first weighs most, and each after the last
 -- byte is 0.
@@ -37,13 +48,23 @@ Unclaims frames every (Some other) = ⊥
 abbrev pub Holds : List ℕ → ℕ → ℕ → Type 0
 Holds bytes at found = found ≡ slice_index bytes at
 
+-- A printed character of ASCII, a tab or a line end; and a text of these alone.
+abbrev pub is_printed : ℕ → Bool
+is_printed byte = (nat_le 0x20 byte && nat_lt byte 0x7F) || (nat_le 9 byte && nat_lt byte 14)
+
+abbrev pub is_text : List ℕ → Bool
+is_text bytes = not (length bytes == 0) && list_all is_printed bytes
+
 -- The numbers in a hint are those of the bytes, what was found is not what was expected, and what
--- bytes look like is how they begin or which are among them.
+-- bytes look like is how they begin or which are among them. A reading that is named succeeds. Of
+-- what a file looks like the first is said that it does.
 abbrev pub IsTrueOf : List ℕ → Hint → Type 0
 IsTrueOf bytes (hints.InHeader found) = (found ≡ length bytes) × (found < 14)
 IsTrueOf bytes (hints.Missing missing said found) = (found ≡ length bytes) × (found < said) × (found + missing ≡ said)
 IsTrueOf bytes (hints.Extra extra said found) = (found ≡ length bytes) × (said + extra ≡ found)
-IsTrueOf bytes (hints.Magic found) = found ≡ four_at bytes 0
+IsTrueOf bytes (hints.Magic found) =
+    (found ≡ four_at bytes 0) × (find (is_like bytes) looks ≡ None) × (is_text bytes ≡ false)
+    × (is_cart_length (length bytes) ≡ false)
 IsTrueOf bytes (hints.Version found) = found ≡ two_at bytes 4
 IsTrueOf bytes (hints.Cartridge found) = found ≡ two_at bytes 6
 IsTrueOf bytes (hints.Frames most found) = found ≡ four_at bytes 8
@@ -56,13 +77,29 @@ IsTrueOf bytes (hints.Bank at found) = Holds bytes at found × (found ≢ 0)
 IsTrueOf bytes (hints.Switches at found) = Holds bytes at found × (bit_and found 0x34 ≢ 0x34)
 IsTrueOf bytes (hints.Buttons at found) = Holds bytes at found
 IsTrueOf bytes (hints.Order at before last found) = found ≡ four_at bytes at
-IsTrueOf bytes hints.Gzip = two_at bytes 0 ≡ 0x1F8B
-IsTrueOf bytes hints.LooksLikeCartridge = is_cart_length (length bytes) ≡ true
+IsTrueOf bytes (hints.Looks look) = find (is_like bytes) looks ≡ Some look
+IsTrueOf bytes hints.Text = (find (is_like bytes) looks ≡ None) × (is_text bytes ≡ true)
+IsTrueOf bytes hints.LooksLikeCartridge =
+    (find (is_like bytes) looks ≡ None) × (is_text bytes ≡ false) × (is_cart_length (length bytes) ≡ true)
 IsTrueOf bytes hints.LooksLikeMovie = Begins bytes magic
 IsTrueOf bytes (hints.NoCartridge found) = found ≡ length bytes
-IsTrueOf bytes hints.LooksLikeBytes = (has_byte bytes 0 || has_byte bytes 0xFF) ≡ true
+IsTrueOf bytes hints.LooksLikeText = IsOk (inputs_in bytes)
+IsTrueOf bytes hints.LooksLikeBytes = (inputs : List InputData) × SpellsInputs bytes inputs
 IsTrueOf bytes hints.ByteOrderMark = Begins bytes (0xEF ∷ 0xBB ∷ 0xBF ∷ [])
 IsTrueOf bytes hints.Utf16 = Begins bytes (0xFF ∷ 0xFE ∷ []) ⊎ Begins bytes (0xFE ∷ 0xFF ∷ [])
 IsTrueOf bytes hints.CarriageReturns = (has_byte bytes 13 ≡ true) × (has_byte bytes 10 ≡ false)
 IsTrueOf bytes (hints.OddLength extra found) = (found ≡ length bytes) × (extra ≡ found % 3)
 IsTrueOf bytes other = Unit {0}
+
+-- The line of this number, from 1, is the first bad one of a text, and this is what is wrong with it.
+abbrev pub IsBadLine : List ℕ → ℕ → Mistake → Type 0
+IsBadLine text line mistake =
+    (inputs_in text ≡ Err line) × IfSome (slice_get (lines_of text) (line - 1)) (λ bytes. IsMistake (words_of bytes) mistake)
+
+-- The same of a hint at a text. A name is said to be meant if one is near to the word.
+abbrev pub IsTrueOfText : List ℕ → TextHint → Type 0
+IsTrueOfText text (texts.Whole hint) = IsTrueOf text hint
+IsTrueOfText text (texts.NoCount line word) = IsBadLine text line (NoCount word.bytes)
+IsTrueOfText text (texts.NoName line word) = IsBadLine text line (NoName word.bytes) × IsMeant word.bytes.now None
+IsTrueOfText text (texts.Meant line word name) = IsBadLine text line (NoName word.bytes) × IsMeant word.bytes.now (Some name)
+IsTrueOfText text (texts.TooManyFrames line) = IsBadLine text line TooManyFrames

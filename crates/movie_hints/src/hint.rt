@@ -1,5 +1,6 @@
 //! What was expected of bytes, and what they are.
 
+use crate::look::Look;
 use thiserror::Error;
 
 /// What was expected of bytes and what they are, or what they look like. Places are counted from 0.
@@ -81,8 +82,10 @@ pub enum Hint {
         last: u32,
         found: u32,
     },
-    #[error("looks like a gzip file: unpack it first")]
-    Gzip,
+    #[error("looks like {0}")]
+    Looks(Look),
+    #[error("looks like text")]
+    Text,
     #[error("looks like a cartridge, of which make makes a movie")]
     LooksLikeCartridge,
     #[error("looks like a movie")]
@@ -106,10 +109,20 @@ pub enum Hint {
         extra: usize,
         length: usize,
     },
-    #[error("has {frames} frames: expected 1 to 262143, and with --every {every} at most 4095 checkpoints")]
-    Counts {
-        frames: usize,
-        every: u32,
+    #[error("no frames")]
+    NoFrames,
+    #[error("{frames} frames, at most 262143")]
+    ManyFrames {
+        frames: u64,
+    },
+    #[error("{checkpoints} checkpoints, at most 4095: --every {every} or more")]
+    ManyCheckpoints {
+        checkpoints: u64,
+        every: u64,
+    },
+    #[error("has {frames} frames")]
+    HasFrames {
+        frames: u32,
     },
     #[error("has version {version} and {frames} frames")]
     Holds {

@@ -6,10 +6,18 @@
 
 mod claims;
 mod hint;
+mod inputs;
+mod look;
 mod places;
 mod refusals;
 mod state_rules;
+mod texts;
+mod word;
 
 pub use claims::hint_of_claims;
 pub use hint::Hint;
-pub use refusals::{hint_of, hint_of_inputs, hint_of_rom, hint_of_text};
+pub use inputs::{hint_of_counts, hint_of_inputs, hint_of_rom};
+pub use look::Look;
+pub use refusals::hint_of;
+pub use texts::{TextHint, hint_of_text};
+pub use word::Word;

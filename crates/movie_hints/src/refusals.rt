@@ -1,28 +1,37 @@
 //! What is wrong with refused bytes.
-ghost use Rattle.std.specs.Prelude.{◌≡◌, ◌⊎◌, ℕ, true, None, IfSome};
+ghost use Rattle.std.specs.Prelude.{◌≡◌, ◌⊎◌, ℕ, None, IfSome};
 ghost use Rattle.movie_file.specs.declared.error.MovieError.TheVariants.{NoMemory, BadState};
-ghost use Rattle.movie_hints.specs.Hints.{IsTrueOf};
-ghost use Rattle.movie_hints.specs.declared.hint.Hint.TheVariants.{Gzip};
+ghost use Rattle.movie_hints.specs.Hints.{IsTrueOf, is_printed, is_text};
 
 use crate::hint::Hint;
+use crate::look::Look;
 use crate::places::{Places, byte_at, four_at, two_at};
 use crate::state_rules::broken_number;
 use movie_file::{HEADER_LENGTH, MOST_CHECKPOINTS, MovieError, most_frames};
 use riot_map::Cart;
 
-/// Whether bytes begin as a gzip file does.
-fn is_gzip(bytes: &[u8]) -> bool
-    ensures { result ≡ true → IsTrueOf bytes.now Gzip }
+/// Whether a byte is a printed character of ASCII, a tab or a line end.
+fn is_printed(byte: u8) -> bool
+    ensures { result ≡ is_printed byte }
 {
-    two_at(bytes, 0) == 0x1F8B
+    (0x20..0x7F).contains(&byte) || (9..14).contains(&byte)
+}
+
+/// Whether bytes look like a text: none is a control character but tabs and line ends.
+pub(crate) fn is_text(bytes: &[u8]) -> bool
+    ensures { result ≡ is_text bytes.now }
+{
+    !bytes.is_empty() && bytes.iter().all(|byte| is_printed(*byte))
 }
 
 /// What a file looks like that doesn't begin as a movie does.
 fn without_magic(bytes: &[u8]) -> Hint
     ensures { IsTrueOf bytes.now result }
 {
-    if is_gzip(bytes) {
-        Hint::Gzip
+    if let Some(look) = Look::of(bytes) {
+        Hint::Looks(look)
+    } else if is_text(bytes) {
+        Hint::Text
     } else if Cart::is_length(bytes.len()) {
         Hint::LooksLikeCartridge
     } else {
@@ -54,6 +63,16 @@ fn wrong_length(bytes: &[u8]) -> Hint
     }
 }
 
+/// What is wrong with a file that is too short, be it for a header.
+fn too_short(bytes: &[u8]) -> Hint
+    ensures { IsTrueOf bytes.now result }
+{
+    match Look::of(bytes) {
+        Some(look) => Hint::Looks(look),
+        None => wrong_length(bytes),
+    }
+}
+
 /// Which of the counts of a header is wrong.
 fn wrong_count(bytes: &[u8]) -> Hint
     ensures { IsTrueOf bytes.now result }
@@ -81,7 +100,7 @@ fn wrong_state(bytes: &[u8], number: u16) -> Option<Hint>
 }
 
 /// Which byte of the input of a frame is wrong, counted from 1.
-fn wrong_input(bytes: &[u8], first: usize) -> Hint
+pub(crate) fn wrong_input(bytes: &[u8], first: usize) -> Hint
     ensures { IsTrueOf bytes.now result }
 {
     let switches = first.saturating_add(1);
@@ -124,8 +143,8 @@ pub fn hint_of(bytes: &[u8], error: MovieError) -> Option<Hint>
 {
     let places = Places::of(bytes);
     match error {
-        MovieError::Short if is_gzip(bytes) => Some(Hint::Gzip),
-        MovieError::Short | MovieError::Trailing => Some(wrong_length(bytes)),
+        MovieError::Short => Some(too_short(bytes)),
+        MovieError::Trailing => Some(wrong_length(bytes)),
         MovieError::BadMagic => Some(without_magic(bytes)),
         MovieError::BadVersion => Some(Hint::Version(places.version)),
         MovieError::BadCartSize => Some(Hint::Cartridge(places.cartridge)),
@@ -137,78 +156,5 @@ pub fn hint_of(bytes: &[u8], error: MovieError) -> Option<Hint>
         }
         MovieError::BadOrder(number) => Some(wrong_order(bytes, number)),
         MovieError::NoMemory => None,
-    }
-}
-
-/// Whether bytes look like a text: none is a control character but tabs and line ends.
-fn is_text(bytes: &[u8]) -> bool {
-    !bytes.is_empty()
-        && bytes.iter().all(|byte| (0x20..0x7F).contains(byte) || (9..14).contains(byte))
-}
-
-/// What the bytes of a ROM or of inputs look like that are none.
-fn look_of(bytes: &[u8]) -> Option<Hint>
-    ensures { IfSome result (IsTrueOf bytes.now) }
-{
-    if is_gzip(bytes) {
-        Some(Hint::Gzip)
-    } else if bytes.starts_with(b"A26M") {
-        Some(Hint::LooksLikeMovie)
-    } else {
-        None
-    }
-}
-
-/// What is wrong with inputs as text that are refused.
-pub fn hint_of_text(bytes: &[u8]) -> Option<Hint>
-    ensures { IfSome result (IsTrueOf bytes.now) }
-{
-    if let Some(hint) = look_of(bytes) {
-        return Some(hint);
-    }
-    if bytes.starts_with(&[0xEF, 0xBB, 0xBF]) {
-        Some(Hint::ByteOrderMark)
-    } else if bytes.starts_with(&[0xFF, 0xFE]) || bytes.starts_with(&[0xFE, 0xFF]) {
-        Some(Hint::Utf16)
-    } else if bytes.contains(&b'\r') && !bytes.contains(&b'\n') {
-        Some(Hint::CarriageReturns)
-    } else if bytes.contains(&0) || bytes.contains(&0xFF) {
-        Some(Hint::LooksLikeBytes)
-    } else {
-        None
-    }
-}
-
-/// What is wrong with the bytes of inputs that are refused so.
-pub fn hint_of_inputs(bytes: &[u8], error: MovieError) -> Option<Hint>
-    ensures { IfSome result (IsTrueOf bytes.now) }
-{
-    if let Some(hint) = look_of(bytes) {
-        return Some(hint);
-    }
-    if is_text(bytes) || bytes.starts_with(&[0xEF, 0xBB, 0xBF]) {
-        return Some(Hint::LooksLikeText);
-    }
-    let length = bytes.len();
-    match error {
-        MovieError::Short => Some(Hint::OddLength {
-            extra: length % 3,
-            length,
-        }),
-        MovieError::BadInput(number) => {
-            let before = number.saturating_sub(1) as usize;
-            Some(wrong_input(bytes, before.saturating_mul(3)))
-        }
-        _ => None,
-    }
-}
-
-/// What is wrong with the bytes of a ROM that is no cartridge.
-pub fn hint_of_rom(bytes: &[u8]) -> Hint
-    ensures { IsTrueOf bytes.now result }
-{
-    match look_of(bytes) {
-        Some(hint) => hint,
-        None => Hint::NoCartridge(bytes.len()),
     }
 }

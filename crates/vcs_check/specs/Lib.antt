@@ -1,4 +1,5 @@
 pub mod Failures
 pub mod Commands
 pub mod Endings
+pub mod Reasons
 pub mod Private

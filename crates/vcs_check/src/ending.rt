@@ -4,10 +4,11 @@ ghost use Rattle.std.specs.Process.{exit_status};
 ghost use Rattle.vcs_check.specs.Endings.{IsReported, exit_code};
 
 use crate::failure::Failure;
+use crate::reasons::write_reason;
 use command_line::LineFault;
 use commands::RunError;
 use named_files::{FileError, Quota, Reason, STANDARD_OUTPUT, sync_standard_output};
-use std::io::{self, Eprint, IsTerminal, Print};
+use std::io::{self, Eprint, Print};
 use std::process::ExitCode;
 use std::rt::Files;
 use thiserror::Error;
@@ -68,35 +69,34 @@ impl Ending<'_> {
         }
     }
 
-    /// Says more on a terminal: a file's error, or what to write in place of the arguments.
-    fn show<R: Eprint>(&self, rt: &R) {
-        if let Ending::Usage { text } = self {
-            if text.contains("'-o'") {
-                let _printed = eprintln!(rt;
-                    "-o: --out names what is written, and --pictures of verify"
+    /// Says the reason: a file's error, or what to write in place of the arguments.
+    fn explain<R: Files + Eprint>(&self, rt: &R) {
+        match self {
+            Ending::Usage { text } if text.contains("'-o'") => {
+                write_reason(
+                    rt,
+                    "-o: --out names what is written, and --pictures of verify",
                 );
             }
-        }
-        if let Ending::NotUtf8 = self {
-            let _printed = eprintln!(rt;
-                "a file of any name can be standard input, as in verify - < FILE"
-            );
-        }
-        if let Ending::Failed(failure) = self {
-            if let Some(file_error) = failure.file_error() {
-                let _printed = eprintln!(rt; "{file_error}");
+            Ending::NotUtf8 => {
+                write_reason(
+                    rt,
+                    "a file of any name can be standard input, as in verify - < FILE",
+                );
             }
+            Ending::Failed(failure) => {
+                if let Some(file_error) = failure.file_error() {
+                    write_reason(rt, file_error);
+                }
+            }
+            _ => {}
         }
     }
 
     /// Prints it, help on standard output and all else on standard error, and answers the exit
-    /// status. If standard error is a terminal, it may have a second line. A text for which a file
-    /// has no room isn't begun.
-    pub(crate) fn report<R: Files + Print + Eprint, E: IsTerminal>(
-        self,
-        rt: &R,
-        standard_error: &E,
-    ) -> ExitCode
+    /// status. If reasons are wanted it may have a second line. A text for which a file has no room
+    /// isn't begun.
+    pub(crate) fn report<R: Files + Print + Eprint>(self, rt: &R, explain: bool) -> ExitCode
         ensures { IsReported self.entry (exit_status result) }
     {
         let ending = match self {
@@ -109,8 +109,8 @@ impl Ending<'_> {
         if Quota::of_standard_error(rt).has_room(&ending) {
             let _printed = eprint!(rt; "{ending}");
         }
-        if standard_error.is_terminal() {
-            ending.show(rt);
+        if explain {
+            ending.explain(rt);
         }
         ExitCode::from(ending.code())
     }

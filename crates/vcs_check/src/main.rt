@@ -10,26 +10,29 @@ mod answering;
 mod ending;
 mod failure;
 mod progress;
+mod reasons;
 mod remarks;
 
 ghost use Rattle.vcs_check.specs.Commands.{IsAnswered, KeepsQuiet, Writes};
 ghost use Rattle.vcs_check.specs.Endings.{code_of};
-ghost use Rattle.vcs_check.specs.declared.failure.Failure.{Failure};
+ghost use Rattle.vcs_check.specs.declared.failure.Failure.{Failure as WhyNot};
 ghost use Rattle.commands.specs.declared.status.Status.{Status};
 ghost use Rattle.std.specs.Prelude.{◌≡◌, Result};
 ghost use Rattle.std.specs.Process.{exit_status};
 
 use answering::{STDIN, answer_line};
 use command_line::{CommandLine, LineFault, parse_line};
-use commands::{CountedGate, Status};
+use commands::{CountedGate, RunError, Status};
 use ending::{Ending, not_written};
+use failure::Failure;
 use named_files::{
     Limited, Named, Quota, STANDARD_INPUT, STANDARD_OUTPUT, null_if_closed, sync_standard_output,
 };
 use progress::Progress;
+use reasons::{has_explain, is_explained, write_reason};
 use remarks::remark;
 use std::alloc::{AllocError, Global};
-use std::env::{self, Args, Env};
+use std::env::{self, Env};
 use std::io::{self, Eprint, IsTerminal, Print, Read, Write};
 use std::process::ExitCode;
 use std::rt::Files;
@@ -53,59 +56,67 @@ fn fault_of_shown(alloc: Global, words: &[String]) -> Result<LineFault, AllocErr
     }
 }
 
-/// The command line of the arguments. No text about them has a character of theirs that isn't shown
-/// as it is.
-fn line_of(alloc: Global, arguments: Args) -> Result<CommandLine, LineFault> {
-    let words: Vec<String> = arguments.collect(alloc)?;
-    let answer = parse_line(alloc, &words);
+/// The command line of some words. No text about them has a character of theirs that isn't shown as
+/// it is.
+fn line_of(alloc: Global, words: &[String]) -> Result<CommandLine, LineFault> {
+    let answer = parse_line(alloc, words);
     let is_plain = words.iter().all(|word| Shown::name(word).is_all_plain());
     match answer {
-        Err(LineFault::Usage { .. }) if !is_plain => Err(fault_of_shown(alloc, &words)?),
+        Err(LineFault::Usage { .. }) if !is_plain => Err(fault_of_shown(alloc, words)?),
         answer => answer,
     }
 }
 
-/// Does what a command asks for, tells a terminal what more there is to say, and answers the exit
-/// status.
+/// Does what a command asks for, says the reason if reasons are wanted, and answers the exit status.
 fn carry_out<
     R: Files + Threads + Wait + Sync + AllocGlobal + Print + Eprint,
-    E: IsTerminal,
     I: Read,
     W: Write,
     G: CountedGate + Sync,
 >(
     rt: &R,
-    standard_error: &E,
+    explain: bool,
     input: &mut Named<'_, I>,
     text: &mut Named<'_, W>,
     line: &CommandLine,
     gate: &G,
 ) -> ExitCode
-    ensures { (answer : Result Status Failure) × (exit_status result ≡ code_of answer)
+    ensures { (answer : Result Status WhyNot) × (exit_status result ≡ code_of answer)
         × Writes (W.contents text.old.stream) (W.contents text.new.stream) (IsAnswered line.now (I.remaining input.old.stream) (I.remaining input.new.stream)) answer
         × KeepsQuiet line.now.command (W.contents text.old.stream) (W.contents text.new.stream) answer }
 {
     match answer_line(rt, line, input, text, gate) {
         Ok(status) => match sync_standard_output(rt) {
             Ok(()) => {
-                remark(rt, standard_error, line, input.length(), status);
+                if explain {
+                    remark(rt, line, input.length(), status);
+                }
                 ExitCode::from(status.code())
             }
-            Err(error) => not_written(error).report(rt, standard_error),
+            Err(error) => not_written(error).report(rt, explain),
         },
         Err(failure) => {
             let failure = failure
                 .by_input(input.file_error())
                 .by_output(text.file_error());
-            Ending::Failed(failure).report(rt, standard_error)
+            Ending::Failed(failure).report(rt, explain)
         }
     }
 }
 
-/// The command line of the program's arguments. `-` is the name of an input alone.
-fn line_of_program<R: Env + AllocGlobal>(rt: &R) -> Result<CommandLine, Ending<'static>> {
+/// The program's arguments.
+fn words_of_program<R: Env + AllocGlobal>(rt: &R) -> Result<Vec<String>, Ending<'static>> {
     let arguments = env::args(rt)?;
-    let line = line_of(rt.alloc(), arguments)?;
+    let words: Result<Vec<String>, AllocError> = arguments.collect(rt.alloc());
+    match words {
+        Ok(words) => Ok(words),
+        Err(_) => Err(Ending::Failed(Failure::from(RunError::NoMemory))),
+    }
+}
+
+/// The command line of some words. `-` is the name of an input alone.
+fn line_of_words(alloc: Global, words: &[String]) -> Result<CommandLine, Ending<'static>> {
+    let line = line_of(alloc, words)?;
     if line.output.as_deref() == Some(STDIN) {
         return Err(Ending::Dash);
     }
@@ -119,21 +130,25 @@ fn main(rt: HostRuntime) -> ExitCode {
         null_if_closed(&rt, "/dev/stdout", false),
         null_if_closed(&rt, "/dev/stderr", false),
     );
-    let line = match line_of_program(&rt) {
-        Ok(line) => line,
-        Err(ending) => return ending.report(&rt, &rt.stderr()),
+    let is_terminal = rt.stderr().is_terminal();
+    let words = match words_of_program(&rt) {
+        Ok(words) => words,
+        Err(ending) => return ending.report(&rt, is_terminal || is_explained(&rt)),
     };
+    let line = match line_of_words(rt.alloc(), &words) {
+        Ok(line) => line,
+        Err(ending) => return ending.report(&rt, is_terminal || has_explain(&words)),
+    };
+    if words.len() < 2 && rt.stdin().is_terminal() {
+        write_reason(
+            &rt,
+            "reads a movie from standard input; vcs_check --help says more",
+        );
+    }
     let mut input = Named::new(STANDARD_INPUT, rt.stdin());
     let quota = Quota::of_standard_output(&rt);
     let mut text = Named::new(STANDARD_OUTPUT, Limited::new(io::writer(&rt), quota));
-    let standard_error = rt.stderr();
-    let progress = Progress::new(&rt, standard_error.is_terminal());
-    carry_out(
-        &rt,
-        &standard_error,
-        &mut input,
-        &mut text,
-        &line,
-        &progress,
-    )
+    let progress = Progress::new(&rt, is_terminal);
+    let explain = is_terminal || line.explain;
+    carry_out(&rt, explain, &mut input, &mut text, &line, &progress)
 }

@@ -1,19 +1,57 @@
-//! What a terminal is told after an answer: why something was refused, and what no checkpoint
-//! claims. Files are read again for it, so that nothing before is another on a terminal.
+//! What is told after an answer where reasons are wanted: why something was refused, and what no
+//! checkpoint claims. Files are read again for it, so that nothing before is another then.
 
 use crate::answering::reads_standard_input;
+use crate::reasons::write_reason;
 use command_line::{Command, CommandLine};
 use commands::{InputForm, Status, read_all};
-use movie_file::{read_inputs, read_movie};
-use movie_hints::{Hint, hint_of, hint_of_claims, hint_of_inputs, hint_of_rom, hint_of_text};
+use input_text::read_text;
+use movie_file::{Movie, read_inputs, read_movie};
+use movie_hints::{
+    Hint, TextHint, hint_of, hint_of_claims, hint_of_counts, hint_of_inputs, hint_of_rom,
+    hint_of_text,
+};
 use named_files::STANDARD_INPUT;
 use riot_map::Cart;
 use std::alloc::Global;
-use std::fs;
-use std::io::{Eprint, IsTerminal};
+use std::io::Eprint;
 use std::num::NonZeroU32;
 use std::rt::Files;
+use std::{fmt, fs};
 use terminal_text::Shown;
+
+/// A file, and what is to be said of it.
+#[derive(Drop)]
+struct Told<'a> {
+    name: &'a str,
+    hint: TextHint<'a>,
+}
+
+impl fmt::Display for Told<'_> {
+    fn fmt<W: fmt::Write>(&self, f: &mut fmt::Formatter<W>) -> fmt::Result {
+        write!(f, "{}: {}", Shown::name(self.name), self.hint)
+    }
+}
+
+/// Says this of a file.
+fn tell<R: Files + Eprint>(rt: &R, name: &str, hint: Option<TextHint<'_>>) {
+    if let Some(hint) = hint {
+        write_reason(rt, Told { name, hint });
+    }
+}
+
+/// Says this of a file as a whole.
+fn tell_whole<R: Files + Eprint>(rt: &R, name: &str, hint: Option<Hint>) {
+    if let Some(hint) = hint {
+        write_reason(
+            rt,
+            Told {
+                name,
+                hint: TextHint::Whole(hint),
+            },
+        );
+    }
+}
 
 /// What a file holds, if it is a regular file, which can be read again.
 fn read_again<R: Files + AllocGlobal>(rt: &R, path: &str) -> Option<Vec<u8>> {
@@ -29,127 +67,161 @@ fn read_again<R: Files + AllocGlobal>(rt: &R, path: &str) -> Option<Vec<u8>> {
     read_all(rt.alloc(), &mut file).ok()
 }
 
-/// What is wrong with the bytes of a movie. Of those that can be read it is what they hold.
-fn hint_of_bytes(alloc: Global, bytes: &[u8]) -> Option<Hint> {
-    match read_movie(alloc, bytes) {
-        Ok(movie) => Some(Hint::Holds {
+/// What keeps frames of a movie from being cut: frames from the first on, so many at most.
+fn hint_of_part(movie: &Movie, first: NonZeroU32, count: u32, every: NonZeroU32) -> Option<Hint> {
+    let frames = movie.frames();
+    let left = (frames + 1).saturating_sub(first.get());
+    if left == 0 {
+        return Some(Hint::HasFrames { frames });
+    }
+    hint_of_counts(u64::from(left.min(count)), every)
+}
+
+/// What keeps a command from being done with a movie that can be read.
+fn hint_of_command(command: &Command, movie: &Movie) -> Option<Hint> {
+    match command {
+        Command::Cut {
+            first,
+            count,
+            every,
+        } => hint_of_part(movie, *first, *count, *every),
+        Command::Trace { .. } => Some(Hint::HasFrames {
+            frames: movie.frames(),
+        }),
+        _ => Some(Hint::Holds {
             version: movie.version(),
             frames: movie.frames(),
         }),
+    }
+}
+
+/// What is wrong with the bytes of a movie, or keeps a command from being done with it.
+fn hint_of_bytes(alloc: Global, command: &Command, bytes: &[u8]) -> Option<Hint> {
+    match read_movie(alloc, bytes) {
+        Ok(movie) => hint_of_command(command, &movie),
         Err(error) => hint_of(bytes, error),
     }
 }
 
 /// What is wrong with the movie of a file.
-fn hint_of_movie<R: Files + AllocGlobal>(rt: &R, path: &str) -> Option<Hint> {
+fn hint_of_movie<R: Files + AllocGlobal>(rt: &R, command: &Command, path: &str) -> Option<Hint> {
     let bytes = read_again(rt, path)?;
-    hint_of_bytes(rt.alloc(), &bytes)
+    hint_of_bytes(rt.alloc(), command, &bytes)
 }
 
 /// What is wrong with the movie of standard input, of which so many bytes were read, up to its end.
 /// These are the last ones of its file: what came before them was read by somebody else.
-fn hint_of_standard_input<R: Files + AllocGlobal>(rt: &R, length: u64) -> Option<Hint> {
+fn hint_of_standard_input<R: Files + AllocGlobal>(
+    rt: &R,
+    command: &Command,
+    length: u64,
+) -> Option<Hint> {
     let bytes = read_again(rt, "/dev/stdin")?;
     let before = (bytes.len() as u64).checked_sub(length)?;
-    hint_of_bytes(rt.alloc(), bytes.get(before as usize..)?)
+    hint_of_bytes(rt.alloc(), command, bytes.get(before as usize..)?)
 }
 
-/// What is wrong with inputs of a cartridge.
-fn hint_of_list<R: Files + AllocGlobal>(
+/// What is wrong with inputs as text: they can't be read, or are too many.
+fn hint_of_lines(alloc: Global, bytes: &[u8], every: NonZeroU32) -> Option<TextHint<'_>> {
+    match read_text(alloc, bytes) {
+        Ok(inputs) => {
+            let hint = hint_of_counts(inputs.len() as u64, every)?;
+            Some(TextHint::Whole(hint))
+        }
+        Err(_) => hint_of_text(alloc, bytes),
+    }
+}
+
+/// What is wrong with inputs as bytes.
+fn hint_of_triples(alloc: Global, bytes: &[u8], every: NonZeroU32) -> Option<Hint> {
+    match read_inputs(alloc, bytes) {
+        Ok(inputs) => hint_of_counts(inputs.len() as u64, every),
+        Err(error) => hint_of_inputs(alloc, bytes, error),
+    }
+}
+
+/// Says what is wrong with inputs of a cartridge.
+fn tell_of_inputs<R: Files + AllocGlobal + Eprint>(
     rt: &R,
     path: &str,
     form: InputForm,
     every: NonZeroU32,
-) -> Option<Hint> {
-    let bytes = read_again(rt, path)?;
+) {
+    let Some(bytes) = read_again(rt, path) else {
+        return;
+    };
     match form {
-        InputForm::Text => hint_of_text(&bytes),
-        InputForm::Bytes => match read_inputs(rt.alloc(), &bytes) {
-            Ok(inputs) => Some(Hint::Counts {
-                frames: inputs.len(),
-                every: every.get(),
-            }),
-            Err(error) => hint_of_inputs(&bytes, error),
-        },
+        InputForm::Text => tell(rt, path, hint_of_lines(rt.alloc(), &bytes, every)),
+        InputForm::Bytes => tell_whole(rt, path, hint_of_triples(rt.alloc(), &bytes, every)),
     }
 }
 
-/// The file that keeps a movie from being made, and what is wrong with it.
-fn hint_of_making<'a, R: Files + AllocGlobal>(
+/// Says which file keeps a movie from being made, and what is wrong with it.
+fn tell_of_making<R: Files + AllocGlobal + Eprint>(
     rt: &R,
-    rom: &'a str,
-    inputs: &'a str,
+    rom: &str,
+    inputs: &str,
     form: InputForm,
     every: NonZeroU32,
-) -> Option<(&'a str, Hint)> {
-    let cartridge = read_again(rt, rom)?;
+) {
+    let Some(cartridge) = read_again(rt, rom) else {
+        return;
+    };
     if Cart::is_length(cartridge.len()) {
-        let hint = hint_of_list(rt, inputs, form, every)?;
-        return Some((inputs, hint));
+        return tell_of_inputs(rt, inputs, form, every);
     }
     match fs::metadata(rt, inputs) {
         Ok(metadata) if Cart::is_length(metadata.len() as usize) => {
-            Some((inputs, Hint::Exchanged))
+            tell_whole(rt, inputs, Some(Hint::Exchanged));
         }
-        _ => Some((rom, hint_of_rom(&cartridge))),
+        _ => tell_whole(rt, rom, Some(hint_of_rom(&cartridge))),
     }
 }
 
-/// Which file of a command was refused, and what is wrong with it. Of standard input so many bytes
-/// were read.
-fn hint_of_refusal<'a, R: Files + AllocGlobal>(
-    rt: &R,
-    line: &'a CommandLine,
-    length: u64,
-) -> Option<(&'a str, Hint)> {
+/// Says which file of a command was refused, and what is wrong with it. Of standard input so many
+/// bytes were read.
+fn tell_of_refusal<R: Files + AllocGlobal + Eprint>(rt: &R, line: &CommandLine, length: u64) {
+    let command = &line.command;
     if let Command::Make {
         inputs,
         form,
         every,
-    } = &line.command
+    } = command
     {
-        return hint_of_making(rt, &line.input, inputs, *form, *every);
+        return tell_of_making(rt, &line.input, inputs, *form, *every);
     }
     if reads_standard_input(line) {
-        return Some((STANDARD_INPUT, hint_of_standard_input(rt, length)?));
+        let hint = hint_of_standard_input(rt, command, length);
+        return tell_whole(rt, STANDARD_INPUT, hint);
     }
-    Some((&line.input, hint_of_movie(rt, &line.input)?))
+    tell_whole(rt, &line.input, hint_of_movie(rt, command, &line.input));
 }
 
-/// Which frames at the end of a movie that was written no checkpoint follows, if any.
-fn hint_of_output<'a, R: Files + AllocGlobal>(
-    rt: &R,
-    line: &'a CommandLine,
-) -> Option<(&'a str, Hint)> {
+/// Says which frames at the end of a movie that was written no checkpoint follows, if any.
+fn tell_of_output<R: Files + AllocGlobal + Eprint>(rt: &R, line: &CommandLine) {
     let every = match line.command {
         Command::Make { every, .. } | Command::Cut { every, .. } => every,
-        _ => return None,
+        _ => return,
     };
-    let output = line.output.as_deref()?;
-    let bytes = read_again(rt, output)?;
-    Some((output, hint_of_claims(&bytes, every)?))
+    let Some(output) = line.output.as_deref() else {
+        return;
+    };
+    if let Some(bytes) = read_again(rt, output) {
+        tell_whole(rt, output, hint_of_claims(&bytes, every));
+    }
 }
 
-/// Tells a terminal which file was refused and why, and which frames of a movie that was written no
-/// checkpoint follows. Of standard input so many bytes were read. If standard error is no terminal
-/// nothing is read or written.
-pub(crate) fn remark<R: Files + AllocGlobal + Eprint, E: IsTerminal>(
+/// Says which file was refused and why, and which frames of a movie that was written no checkpoint
+/// follows. Of standard input so many bytes were read.
+pub(crate) fn remark<R: Files + AllocGlobal + Eprint>(
     rt: &R,
-    standard_error: &E,
     line: &CommandLine,
     length: u64,
     status: Status,
 ) {
-    if !standard_error.is_terminal() {
-        return;
-    }
-    let found = match status {
-        Status::Refused => hint_of_refusal(rt, line, length),
-        Status::Done => hint_of_output(rt, line),
-        Status::False | Status::Fault => None,
-    };
-    if let Some((name, hint)) = found {
-        let name = Shown::name(name);
-        let _printed = eprintln!(rt; "{name}: {hint}");
+    match status {
+        Status::Refused => tell_of_refusal(rt, line, length),
+        Status::Done => tell_of_output(rt, line),
+        Status::False | Status::Fault => {}
     }
 }

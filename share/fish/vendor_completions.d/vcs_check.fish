@@ -16,6 +16,7 @@ complete -c vcs_check -n __fish_use_subcommand -f -a trace -d 'print the instruc
 complete -c vcs_check -n __fish_use_subcommand -f -a help -d 'print help'
 complete -c vcs_check -n __fish_use_subcommand -s V -l version -d 'print version'
 complete -c vcs_check -s h -l help -d 'print help'
+complete -c vcs_check -l explain -d 'say why, also where standard error is no terminal'
 __vcs_check_option verify,report -l workers -x -d 'threads, 1 to 64'
 __vcs_check_option report,info -l json -d 'write JSON'
 __vcs_check_option verify -l every -x -d 'cut at every N-th checkpoint'

@@ -1,0 +1,85 @@
+//! What is wrong with a ROM or with inputs that are refused.
+ghost use Rattle.std.specs.Prelude.{◌≡◌, find, None, IfNone, IfSome};
+ghost use Rattle.std.specs.NonZero.{non_zero_u32_get};
+ghost use Rattle.movie_hints.specs.Hints.{IsTrueOf};
+ghost use Rattle.movie_hints.specs.Counts.{IsCountsHint};
+ghost use Rattle.movie_hints.specs.Looks.{is_like, looks};
+
+use crate::hint::Hint;
+use crate::look::Look;
+use crate::refusals::{is_text, wrong_input};
+use input_text::read_text;
+use movie_file::{MOST_CHECKPOINTS, MOST_FRAMES, MovieError};
+use std::alloc::Global;
+use std::num::NonZeroU32;
+
+/// What the bytes of a ROM or of inputs look like that are none.
+pub(crate) fn look_of(bytes: &[u8]) -> Option<Hint>
+    ensures some { IfSome result (IsTrueOf bytes.now) }
+    ensures none { IfNone result (find (is_like bytes.now) looks ≡ None) }
+{
+    if bytes.starts_with(b"A26M") {
+        return Some(Hint::LooksLikeMovie);
+    }
+    match Look::of(bytes) {
+        Some(look) => Some(Hint::Looks(look)),
+        None => None,
+    }
+}
+
+/// What is wrong with the bytes of inputs that are refused so.
+pub fn hint_of_inputs(alloc: Global, bytes: &[u8], error: MovieError) -> Option<Hint>
+    ensures { IfSome result (IsTrueOf bytes.now) }
+{
+    if let Some(hint) = look_of(bytes) {
+        return Some(hint);
+    }
+    if !bytes.is_empty() && read_text(alloc, bytes).is_ok() {
+        return Some(Hint::LooksLikeText);
+    }
+    if is_text(bytes) {
+        return Some(Hint::Text);
+    }
+    let length = bytes.len();
+    match error {
+        MovieError::Short => Some(Hint::OddLength {
+            extra: length % 3,
+            length,
+        }),
+        MovieError::BadInput(number) => {
+            let before = number.saturating_sub(1) as usize;
+            Some(wrong_input(bytes, before.saturating_mul(3)))
+        }
+        _ => None,
+    }
+}
+
+/// What is wrong with the bytes of a ROM that is no cartridge.
+pub fn hint_of_rom(bytes: &[u8]) -> Hint
+    ensures { IsTrueOf bytes.now result }
+{
+    match look_of(bytes) {
+        Some(hint) => hint,
+        None => Hint::NoCartridge(bytes.len()),
+    }
+}
+
+/// What keeps so many frames, with a checkpoint after every so many, from being a movie.
+pub fn hint_of_counts(frames: u64, every: NonZeroU32) -> Option<Hint>
+    ensures { IsCountsHint frames (non_zero_u32_get every) result }
+{
+    let most = u64::from(MOST_CHECKPOINTS);
+    let checkpoints = frames / u64::from(every.get());
+    if frames == 0 {
+        Some(Hint::NoFrames)
+    } else if frames > MOST_FRAMES as u64 {
+        Some(Hint::ManyFrames { frames })
+    } else if checkpoints > most {
+        Some(Hint::ManyCheckpoints {
+            checkpoints,
+            every: frames / (most + 1) + 1,
+        })
+    } else {
+        None
+    }
+}

@@ -1,0 +1,99 @@
+//! What a file is by its first bytes.
+ghost use Rattle.std.specs.Prelude.{◌≡◌, find};
+ghost use Rattle.movie_hints.specs.Looks.{has_at, has_first_part, is_like, looks};
+
+use std::fmt;
+
+/// What a file is that holds something else, by the bytes with which such files begin.
+#[derive(Clone, Copy, Debug, PartialEq, Eq)]
+pub enum Look {
+    Gzip,
+    Xz,
+    Zstd,
+    Bzip2,
+    /// A zip file of which the first part is one of a movie of BizHawk.
+    BizHawkMovie,
+    Zip,
+    Tar,
+    Png,
+    /// What MAME records.
+    MameInputs,
+    /// An input log of BizHawk.
+    InputLog,
+}
+
+/// What is looked for, in this order.
+const LOOKS: [Look; 10] = [
+    Look::Gzip,
+    Look::Xz,
+    Look::Zstd,
+    Look::Bzip2,
+    Look::BizHawkMovie,
+    Look::Zip,
+    Look::Tar,
+    Look::Png,
+    Look::MameInputs,
+    Look::InputLog,
+];
+
+/// Whether bytes have these at a place.
+fn has_at(bytes: &[u8], place: usize, wanted: &[u8]) -> bool
+    ensures { result ≡ has_at bytes.now place wanted.now }
+{
+    bytes.get(place..).unwrap_or(&[]).starts_with(wanted)
+}
+
+/// Whether bytes begin as a zip file whose first part has a name of so many bytes.
+fn has_first_part(bytes: &[u8], name: &[u8], length: u8) -> bool
+    ensures { result ≡ has_first_part bytes.now name.now length }
+{
+    has_at(bytes, 26, &[length, 0]) && has_at(bytes, 30, name)
+}
+
+impl Look {
+    /// Whether bytes begin as such files do.
+    fn is_like(self, bytes: &[u8]) -> bool
+        ensures { result ≡ is_like bytes.now self }
+    {
+        match self {
+            Look::Gzip => has_at(bytes, 0, &[0x1F, 0x8B]),
+            Look::Xz => has_at(bytes, 0, &[0xFD, 0x37, 0x7A, 0x58, 0x5A, 0x00]),
+            Look::Zstd => has_at(bytes, 0, &[0x28, 0xB5, 0x2F, 0xFD]),
+            Look::Bzip2 => has_at(bytes, 0, b"BZh"),
+            Look::BizHawkMovie => {
+                has_at(bytes, 0, &[0x50, 0x4B, 0x03, 0x04])
+                    && (has_first_part(bytes, b"Header.txt", 10)
+                        || has_first_part(bytes, b"Input Log.txt", 13))
+            }
+            Look::Zip => has_at(bytes, 0, &[0x50, 0x4B, 0x03, 0x04]),
+            Look::Tar => has_at(bytes, 257, b"ustar"),
+            Look::Png => has_at(bytes, 0, &[0x89, 0x50, 0x4E, 0x47, 0x0D, 0x0A, 0x1A, 0x0A]),
+            Look::MameInputs => has_at(bytes, 0, b"MAMEINP"),
+            Look::InputLog => has_at(bytes, 0, b"[Input]") || has_at(bytes, 0, b"LogKey:"),
+        }
+    }
+
+    /// What bytes begin as, if they begin as any of these.
+    pub(crate) fn of(bytes: &[u8]) -> Option<Look>
+        ensures { result ≡ find (is_like bytes.now) looks }
+    {
+        LOOKS.iter().find(|look| look.is_like(bytes)).copied()
+    }
+}
+
+impl fmt::Display for Look {
+    fn fmt<W: fmt::Write>(&self, f: &mut fmt::Formatter<W>) -> fmt::Result {
+        f.write_str(match self {
+            Look::Gzip => "a gzip file: unpack it first",
+            Look::Xz => "an xz file: unpack it first",
+            Look::Zstd => "a zstd file: unpack it first",
+            Look::Bzip2 => "a bzip2 file: unpack it first",
+            Look::BizHawkMovie => "a BizHawk movie: see vcs_import",
+            Look::Zip => "a zip file: unpack it first",
+            Look::Tar => "a tar file: unpack it first",
+            Look::Png => "a PNG image",
+            Look::MameInputs => "a MAME input file",
+            Look::InputLog => "an input log of BizHawk: see vcs_import",
+        })
+    }
+}

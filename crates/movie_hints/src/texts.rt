@@ -1,0 +1,107 @@
+//! What is wrong with inputs as text that are refused.
+ghost use Rattle.std.specs.Prelude.{◌≡◌, IfSome, Err};
+ghost use Rattle.input_text.specs.Texts.{inputs_in};
+ghost use Rattle.movie_hints.specs.Hints.{IsTrueOf, IsTrueOfText};
+
+use crate::hint::Hint;
+use crate::inputs::look_of;
+use crate::word::Word;
+use input_text::{Mistake, TextError, line_at, meant_by, mistake_in, read_text};
+use movie_file::read_inputs;
+use std::alloc::Global;
+use thiserror::Error;
+
+/// What is wrong with a text of inputs, or with the first of its lines that is bad, by its number
+/// from 1.
+#[derive(Clone, Copy, Debug, Error)]
+pub enum TextHint<'a> {
+    #[error("{0}")]
+    Whole(Hint),
+    #[error("line {line}: '{word}' is no number of frames from 1 to 262143")]
+    NoCount {
+        line: u64,
+        word: Word<'a>,
+    },
+    #[error("line {line}: '{word}' is no word of an input")]
+    NoName {
+        line: u64,
+        word: Word<'a>,
+    },
+    #[error("line {line}: '{word}' is no word of an input; did you mean '{name}'?")]
+    Meant {
+        line: u64,
+        word: Word<'a>,
+        name: &'static str,
+    },
+    #[error("line {line}: more than 262143 frames")]
+    TooManyFrames {
+        line: u64,
+    },
+}
+
+/// How a text is stored that can't be read so.
+fn storage_of(bytes: &[u8]) -> Option<Hint>
+    ensures { IfSome result (IsTrueOf bytes.now) }
+{
+    if bytes.starts_with(&[0xEF, 0xBB, 0xBF]) {
+        Some(Hint::ByteOrderMark)
+    } else if bytes.starts_with(&[0xFF, 0xFE]) || bytes.starts_with(&[0xFE, 0xFF]) {
+        Some(Hint::Utf16)
+    } else if bytes.contains(&b'\r') && !bytes.contains(&b'\n') {
+        Some(Hint::CarriageReturns)
+    } else {
+        None
+    }
+}
+
+/// What is wrong with a text as a whole.
+fn hint_of_whole(alloc: Global, bytes: &[u8]) -> Option<Hint>
+    ensures { IfSome result (IsTrueOf bytes.now) }
+{
+    if let Some(hint) = look_of(bytes) {
+        return Some(hint);
+    }
+    if read_inputs(alloc, bytes).is_ok() {
+        return Some(Hint::LooksLikeBytes);
+    }
+    storage_of(bytes)
+}
+
+/// What is wrong with the line of this number, the first bad one of a text.
+fn hint_of_line(text: &[u8], number: u64) -> Option<TextHint<'_>>
+    requires { inputs_in text.now ≡ Err number }
+    ensures { IfSome result (IsTrueOfText text.now) }
+{
+    let line = line_at(text, number)?;
+    match mistake_in(line) {
+        Mistake::NoCount(word) => Some(TextHint::NoCount {
+            line: number,
+            word: Word { bytes: word },
+        }),
+        Mistake::NoName(word) => match meant_by(word) {
+            Some(name) => Some(TextHint::Meant {
+                line: number,
+                word: Word { bytes: word },
+                name,
+            }),
+            None => Some(TextHint::NoName {
+                line: number,
+                word: Word { bytes: word },
+            }),
+        },
+        Mistake::TooManyFrames => Some(TextHint::TooManyFrames { line: number }),
+    }
+}
+
+/// What is wrong with inputs as text that are refused.
+pub fn hint_of_text(alloc: Global, bytes: &[u8]) -> Option<TextHint<'_>>
+    ensures { IfSome result (IsTrueOfText bytes.now) }
+{
+    if let Some(hint) = hint_of_whole(alloc, bytes) {
+        return Some(TextHint::Whole(hint));
+    }
+    match read_text(alloc, bytes) {
+        Err(TextError::BadLine(number)) => hint_of_line(bytes, number),
+        _ => None,
+    }
+}
