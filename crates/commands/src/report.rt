@@ -66,7 +66,8 @@ fn of_bytes<T: Threads + Wait + Sync, G: CountedGate + Sync>(
         Err(error) => return Ok(refusal_of(alloc, notation, error)?),
     };
     let verdict = verdict_of(rt, alloc, &movie, plan, gate)?;
-    let facts = report(alloc, notation, program, bytes, &movie, &verdict)?;
+    let workers = plan.workers;
+    let facts = report(rt, alloc, notation, program, bytes, &movie, &verdict, workers)?;
     let status = Line::of_verdict(&movie, &verdict).status();
     let text = text_of(alloc, &movie, &verdict, notation, facts)?;
     Ok(Answer::of_text(alloc, status, text))
