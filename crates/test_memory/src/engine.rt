@@ -135,10 +135,11 @@ pub(crate) fn is_listed(alloc: Global) -> Result<(), Failure> {
     }
 }
 
-/// The length of the report of two frames: a line of the verdict, one for the length of the
+/// The length of the report of two frames: a line of the verdict, a note, one for the length of the
 /// cartridge, three digests, its bank scheme, six lines of the start and the checkpoints, and five of
 /// the movie.
 const REPORT: usize = 33
+    + 41
     + 22
     + 38
     + 47
@@ -186,7 +187,7 @@ pub(crate) fn is_reported<R: Threads + Wait + Sync>(
             status == Status::Done
                 && is_whole
                 && text.starts_with(
-                    b"genuine: 2 frames, 1 checkpoints\ncartridge: 2048 bytes\nmd5: 2062825b",
+                    b"genuine: 2 frames, 1 checkpoints\nnote: 1 frames after the last checkpoint\ncartridge: 2048 bytes\nmd5: 2062825b",
                 ),
         ),
         Err(error) => Err(failure(error, is_untouched)),
@@ -218,10 +219,7 @@ pub(crate) fn is_reported_false<R: Threads + Wait + Sync>(
         Ok(status) => right(
             status == Status::False
                 && written.starts_with(
-                    b"{\"verdict\":\"false checkpoint\",\"checkpoint\":1,\"frame\":1,\"cartridge\":2048,",
-                )
-                && written.ends_with(
-                    b",\"differs\":[{\"number\":\"memory 80\",\"claimed\":\"07\",\"found\":\"02\"}],\"segments\":\"X.\"}\n",
+                    b"{\"verdict\":\"false checkpoint\",\"checkpoint\":1,\"frame\":1,\"differs\":[{\"number\":\"memory 80\",\"claimed\":\"07\",\"found\":\"02\"}],\"segments\":\"X.\",\"reason\":\"the inputs of segment 1 don't lead from the start to the first claim\",\"notes\":[\"1 frames after the last checkpoint\"],\"cartridge\":2048,",
                 ),
         ),
         Err(error) => Err(failure(error, left == REPORT_ROOM)),
