@@ -15,11 +15,21 @@ def lines():
             yield f"false checkpoint {facts['checkpoint']} at frame {facts['frame']}"
         case "fault":
             yield f"fault at frame {facts['frame']}: {facts['fault']}"
+    for it in facts.get("differs", []):
+        yield f"{it['number']}: claimed {it['claimed']}, found {it['found']}"
+    if registers := facts.get("registers"):
+        yield "registers: " + ", ".join(f"{name} {registers[name]}" for name in ("A", "X", "Y", "S", "P", "PC"))
+        yield f"beam: scanline {facts['scanline']}, cycle {facts['cycle']}"
+    signs = facts.get("segments", "")
+    for at in range(0, len(signs), 64):
+        yield f"segments: {signs[at:at + 64]}"
+    if "reason" in facts:
+        yield facts["reason"]
+    for note in facts["notes"]:
+        yield f"note: {note}"
     yield f"cartridge: {facts['cartridge']} bytes"
     for name in "md5", "sha1", "sha256", "banks", "start":
         yield f"{name}: {facts[name]}"
-    for it in facts.get("start_differs", []):
-        yield f"start {it['number']}: {it['start']}, at power-on {it['power_on']}"
     yield f"checkpoints: {facts['checkpoints']}"
     if facts["checkpoints"]:
         yield f"first checkpoint: frame {facts['first_checkpoint']}"
@@ -31,14 +41,8 @@ def lines():
     yield f"movie sha256: {facts['movie_sha256']}"
     yield "last input: " + ("none" if facts["last_input"] is None else f"frame {facts['last_input']}")
     yield f"program: {facts['program']}"
-    for it in facts.get("differs", []):
-        yield f"{it['number']}: claimed {it['claimed']}, found {it['found']}"
-    if registers := facts.get("registers"):
-        yield "registers: " + ", ".join(f"{name} {registers[name]}" for name in ("A", "X", "Y", "S", "P", "PC"))
-        yield f"beam: scanline {facts['scanline']}, cycle {facts['cycle']}"
-    signs = facts.get("segments", "")
-    for at in range(0, len(signs), 64):
-        yield f"segments: {signs[at:at + 64]}"
+    for it in facts.get("start_differs", []):
+        yield f"start {it['number']}: {it['start']}, at power-on {it['power_on']}"
 
 
 print("\n".join(lines()))

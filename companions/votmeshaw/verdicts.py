@@ -54,7 +54,7 @@ FACTS: dict[str, tuple[str, ...]] = {
 # The types of facts; one without a type here may be anything.
 NUMBERS = ("cartridge", "checkpoints", "first_checkpoint", "last_checkpoint", "largest_gap", "after_last_checkpoint", "version",
            "frames", "scanline", "cycle", "checkpoint", "frame")
-TEXTS = ("md5", "sha1", "sha256", "banks", "start", "movie_sha256", "program", "segments", "fault", "refusal")
+TEXTS = ("md5", "sha1", "sha256", "banks", "start", "movie_sha256", "program", "segments", "reason", "fault", "refusal")
 LISTS = {"differs": {"number", "claimed", "found"}, "start_differs": {"number", "start", "power_on"}}
 
 

@@ -56,7 +56,16 @@ pub(crate) fn report<T: Threads + Wait + Sync, G: CountedGate + Sync>(
 {
     let plan = Plan::without_pictures(workers);
     let verdict = verdict_of(rt, alloc, movie, &plan, gate)?;
-    let facts = movie_report::report(alloc, notation, program_name(), bytes, movie, &verdict)?;
+    let facts = movie_report::report(
+        rt,
+        alloc,
+        notation,
+        program_name(),
+        bytes,
+        movie,
+        &verdict,
+        workers,
+    )?;
     let status = Line::of_verdict(movie, &verdict).status();
     let text = text_of(alloc, movie, &verdict, notation, facts)?;
     Ok(Answer::of_text(alloc, status, text))

@@ -2,15 +2,15 @@
 use Rattle.std.proofs.Common.{◌≡◌, ℕ, ◌+◌, ◌<◌, ◌≤◌, List, [], ◌∷◌, ◌++◌, length, refl, arith, ap}
 use Rattle.std.proofs.Common.{◌∙◌, sym, add-one, take, drop, append_assoc, append-nil, drop-drop}
 use Rattle.std.proofs.Common.{inl, inr}
-use Rattle.std.specs.Prelude.{Bool, true, false, if◌then◌else◌}
+use Rattle.std.specs.Prelude.{Bool, true, false, cond, count_by, not, if◌then◌else◌}
 use Rattle.std.specs.Str.{bytes_eq}
 use Rattle.std.specs.List.{flat_map}
-use Rattle.std.proofs.lemmas.List.Sums.{sum_by-append}
+use Rattle.std.proofs.lemmas.List.Sums.{sum_by-append, sum_by-cons}
 use Rattle.std.proofs.Math.Seq.{drop-cons, drop-length}
 use Rattle.movie_file.specs.Format.{state_length}
 use Rattle.movie_report.specs.declared.numbers.TheConstants.{COUNT}
 use Rattle.movie_report.specs.Differences.{Pair, number_pairs, text_if_different, pairs_text}
-use Rattle.movie_report.specs.Differences.{difference_text}
+use Rattle.movie_report.specs.Differences.{difference_count, difference_text, is_different}
 use Rattle.movie_report.specs.Numbers.{NumberData, state_names}
 use Rattle.movie_report.specs.Private.Places.{state_number_at, no_place}
 use Rattle.movie_report.specs.declared.differences.Comparison.{Comparison}
@@ -59,8 +59,35 @@ pub rest_text-end : (notation : Notation) (comparison : Comparison) (a b : List 
 unfolding rest_text
 rest_text-end notation comparison a b place at e = rw (e, ← length-numbers, drop-length) refl
 
--- A text, number by number.
-pub ruleset number_by_number = (bytes_from-next, bytes_from-start, rest_text-next, rest_text-start, rest_text-end, append-nil, append_assoc)
+-- In how many of those numbers they differ.
+pub rest_count : List ℕ → List ℕ → ℕ → ℕ → ℕ
+rest_count a b place at = count_by is_different (number_pairs (drop place state_names) (drop at a) (drop at b))
+
+by_bit : (same : Bool) → ◌≡◌ {A = ℕ} (cond (not same) 1 0) (if same then 0 else 1)
+by_bit true = refl
+by_bit false = refl
+
+count-cons : (pair : Pair) (pairs : List Pair)
+    → count_by is_different (pair ∷ pairs) ≡ (if bytes_eq pair.first pair.second then 0 else 1) + count_by is_different pairs
+count-cons pair pairs = rw sum_by-cons (ap (λ (n : ℕ). n + count_by is_different pairs) (by_bit (bytes_eq pair.first pair.second)))
+
+pub rest_count-next : (a b : List ℕ) (place at : ℕ) → place < COUNT
+    → rest_count a b place at ≡ (if bytes_eq (take (state_number_at place).length (drop at a)) (take (state_number_at place).length (drop at b)) then 0 else 1)
+    + rest_count a b (place + 1) (at + (state_number_at place).length)
+unfolding rest_count
+rest_count-next a b place at low =
+    rw (next_number place low, count-cons) (simp drop-drop)
+
+pub rest_count-start : (a b : List ℕ) → rest_count a b 0 0 ≡ difference_count a b
+unfolding rest_count difference_count
+rest_count-start a b = refl
+
+pub rest_count-end : (a b : List ℕ) (place at : ℕ) → place ≡ COUNT → rest_count a b place at ≡ 0
+unfolding rest_count
+rest_count-end a b place at e = rw (e, ← length-numbers, drop-length) refl
+
+-- A text, or a count, number by number.
+pub ruleset number_by_number = (rest_count-next, rest_count-start, rest_count-end, bytes_from-next, bytes_from-start, rest_text-next, rest_text-start, rest_text-end, append-nil, append_assoc)
 
 -- The elements of an array.
 AreElements-more : (comparison : Comparison) (pair : Pair) (same : Bool) (rest : List ℕ) → AreElements rest

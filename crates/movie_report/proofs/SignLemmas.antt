@@ -1,23 +1,27 @@
 -- The signs of segments.
 use Rattle.std.proofs.Common.{◌≡◌, ℕ, ◌+◌, ◌-◌, List, [], ◌∷◌, ◌++◌, length}
-use Rattle.std.proofs.Common.{slice_get, take, drop, arith, length-append, length-drop, ap}
+use Rattle.std.proofs.Common.{slice_get, take, drop, arith, length-append, length-drop, ap, zero, suc, get_or, inl, inr, replicate, subst, ◌<◌, ◌≤◌}
 use Rattle.std.proofs.Common.{append-nil, ◌∙◌, sym, min}
-use Rattle.std.specs.Prelude.{IfSome, Some, nat_eq}
+use Rattle.std.specs.Prelude.{IfSome, if◌then◌else◌}
 use Rattle.std.specs.List.{flat_map, range_with_len}
-use Rattle.std.proofs.lemmas.Bool.{cond_both, eqb-true}
-use Rattle.std.proofs.lemmas.List.{take_min}
+use Rattle.std.proofs.lemmas.Bool.Decides.{nat_tests}
+use Rattle.std.proofs.lemmas.Option.{slice_get_cases}
+use Rattle.std.proofs.lemmas.List.{length-replicate, take_min}
 use Rattle.std.proofs.lemmas.List.FromFn.{map-range_with_len_more}
 use Rattle.std.proofs.lemmas.List.Folds.{flat_map-map}
 use Rattle.std.proofs.lemmas.List.Concat.{flat_map-append}
 use Rattle.movie_file.specs.Movie.{MovieData}
 use Rattle.replay_plan.specs.declared.keep.Keep.{Keep}
-use Rattle.replay_segments.specs.Pieces.{IsOutcome, IsPiece, PieceData, job_of}
+use Rattle.replay_segments.specs.Pieces.{HasKept, IsOutcome, IsPiece, PieceData, job_of}
 use Rattle.replay_segments.specs.Segments.{IsSegment}
 use Rattle.replay_segments.specs.declared.outcome.Outcome.TheVariants.{Judged}
 use Rattle.replay_segments.specs.declared.verdict.Verdict.{Verdict}
-use Rattle.movie_report.specs.Segments.{HasSign, sign_of}
+use Rattle.replay_segments.specs.Cuts.{Fits, IsEvery}
+use Rattle.movie_report.specs.Private.FirstSigns.{IsFirst, IsFirstIn}
+use Rattle.movie_report.specs.Segments.{AreSigns, HasSign, ends_with_checkpoint, sign_of}
 use Rattle.movie_report.specs.declared.segments.Sign.{Sign}
-use Rattle.movie_report.proofs.ListLemmas.{slice_get-push}
+use Rattle.movie_report.specs.declared.segments.Sign.TheVariants.{Passes}
+use Rattle.movie_report.proofs.FirstSignLemmas.{signs_least}
 
 -- A piece has the sign of its segment.
 pub HasSign-piece : (m : MovieData) (cuts : List ℕ) (keep : Keep) (p : PieceData) (i : ℕ) (verdict : Verdict) (sign : Sign) → IsPiece p → p.number ≡ i
@@ -27,18 +31,48 @@ HasSign-piece m cuts keep p i verdict sign is number job outcome same =
     let judged : IsSegment m cuts keep i verdict = rw (outcome, number, job) at said in
     (keep, verdict, judged, same)
 
--- The signs of the segments before a number.
-pub record AreSignsBefore (m : MovieData) (cuts : List ℕ) (number : ℕ) (signs : List Sign) : Type 0 where
-  pub count : length signs ≡ number
-  pub each : (i : ℕ) → IfSome (slice_get signs i) (HasSign m cuts i)
+-- What holds of the element at a place, if there is one.
+pub IfSome-each : {A : Type 0} (xs : List A) (i : ℕ) (P : A → Type 0) → ((d : A) → i < length xs → P (get_or xs i d)) → IfSome (slice_get xs i) P
+IfSome-each xs i P each = elim (slice_get_cases xs i).1 [
+  | inl w ↦ rw w.2 (subst P w.3 (each w.0 w.1))
+  | inr w ↦ rw w.1 tt
+]
 
-pub AreSignsBefore-next : (m : MovieData) (cuts : List ℕ) (number : ℕ) (signs : List Sign) (sign : Sign) → AreSignsBefore m cuts number signs
-    → HasSign m cuts number sign → AreSignsBefore m cuts (number + 1) (signs ++ sign ∷ [])
-AreSignsBefore-next m cuts number signs sign is has = record {
-  count = omega (arith, length-append signs (sign ∷ []), is.count);
-  each = λ (i : ℕ). rw (slice_get-push signs sign i) (cond_both (nat_eq i (length signs)) (Some sign) (slice_get signs i) (λ o. IfSome o (HasSign m cuts i))
-      (λ e. rw (eqb-true i (length signs) e, is.count) has) (λ _. is.each i));
-}
+-- No frame is kept, so a replay takes no memory.
+pub HasKept-none : (m : MovieData) (cuts : List ℕ) (keep : Keep) (number : ℕ) → keep.first ≡ 1 → keep.count ≡ 0
+    → HasKept (job_of m cuts keep) number → ⊥
+HasKept-none m cuts keep number first count (frame, from, to, kept) = grind (arith, nat_tests)
+
+-- What holds of each of these signs and its place, if it holds of so many that pass, of the one after them, and of the others.
+pub each_sign : (P : ℕ → Sign → Type 0) (before : ℕ) (sign : Sign) (later : List Sign) → ((i : ℕ) → i < before → P i Passes) → P before sign
+    → ((i : ℕ) → IfSome (slice_get later i) (P (before + 1 + i))) → (i : ℕ)
+    → IfSome (slice_get (replicate before Passes ++ (sign ∷ later)) i) (P i)
+each_sign P zero sign later passed next each zero = next
+each_sign P zero sign later passed next each (suc i) =
+    let same : 0 + 1 + i ≡ suc i = omega arith in subst (λ (j : ℕ). IfSome (slice_get later i) (P j)) same (each i)
+each_sign P (suc before) sign later passed next each zero = passed 0 (omega arith)
+each_sign P (suc before) sign later passed next each (suc i) =
+    each_sign (λ (j : ℕ) (s : Sign). P (suc j) s) before sign later (λ j less. passed (suc j) (omega arith)) next
+    (λ j. let same : suc before + 1 + j ≡ suc (before + 1 + j) = omega arith in subst (λ (x : ℕ). IfSome (slice_get later j) (P x)) same (each j)) i
+
+pub AreSigns-parts : (m : MovieData) (cuts : List ℕ) (before : ℕ) (sign : Sign) (later signs : List Sign) → (fits : Fits cuts m)
+    → (every : IsEvery 1 (length m.checkpoints) cuts) → IsFirst m before sign
+    → length later ≡ length cuts + 1 - (if ends_with_checkpoint m then 1 else 0) - (before + 1)
+    → ((i : ℕ) → IfSome (slice_get later i) (HasSign m cuts (before + 1 + i))) → signs ≡ replicate before Passes ++ (sign ∷ later) → AreSigns m signs
+AreSigns-parts m cuts before sign later signs fits every first count each is =
+    let known : IsFirstIn m cuts before sign = first cuts fits every in
+    let long : length signs ≡ before + (1 + length later) =
+    rw is (omega (arith, length-append (replicate before Passes) (sign ∷ later), length-replicate before Passes)) in
+    record {
+      cuts = cuts;
+      fit = fits;
+      every = every;
+      count = omega (arith, long, count, known.within);
+      each = λ (i : ℕ). rw is (each_sign (λ (j : ℕ) (s : Sign). HasSign m cuts j s) before sign later known.passed known.next each i);
+    }
+
+pub AreSigns-least : (m : MovieData) (signs : List Sign) → AreSigns m signs → length m.checkpoints ≤ length signs
+AreSigns-least m signs are = signs_least m are.cuts are.fit are.every (length signs) are.count
 
 -- The signs of a line, of which the last one may have fewer than 64.
 pub line_of_signs : (signs : List Sign) (from to : ℕ) → to ≡ min (length signs) (from + 64) → take (to - from) (drop from signs) ≡ take 64 (drop from signs)

@@ -1,5 +1,5 @@
 -- The numbers in which two state records differ. This project's own.
-use Rattle.std.specs.Prelude.{ℕ, List, [], ◌∷◌, ◌++◌, codes, take, drop, if◌then◌else◌}
+use Rattle.std.specs.Prelude.{ℕ, Bool, not, List, [], ◌∷◌, ◌++◌, codes, count_by, take, drop, if◌then◌else◌}
 use Rattle.std.specs.List.{flat_map}
 use Rattle.std.specs.Str.{bytes_eq}
 use Rattle.hex.specs.Hex.{encode_upper}
@@ -33,6 +33,13 @@ difference_text Json Start pair =
 difference_text Json Claim pair =
     codes ",{\"number\":\"" ++ (pair.name ++ (codes "\",\"claimed\":\"" ++ (encode_upper pair.first
     ++ (codes "\",\"found\":\"" ++ (encode_upper pair.second ++ codes "\"}")))))
+
+abbrev pub is_different : Pair → Bool
+is_different pair = not (bytes_eq pair.first pair.second)
+
+-- In how many numbers two records differ.
+unfoldable pub difference_count : List ℕ → List ℕ → ℕ
+difference_count a b = count_by is_different (number_pairs state_names a b)
 
 -- If its bytes are the same, nothing.
 abbrev pub text_if_different : Notation → Comparison → Pair → List ℕ

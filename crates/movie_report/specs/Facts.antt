@@ -1,6 +1,5 @@
 -- The facts of a movie and its verdict. This project's own.
-use Rattle.std.specs.Prelude.{◌≡◌, ℕ, ◌+◌, ◌-◌, ◌==◌, List, [], ◌∷◌, ◌++◌, length, codes, Option, Some, None}
-use Rattle.std.specs.Prelude.{slice_get, if◌then◌else◌}
+use Rattle.std.specs.Prelude.{◌≡◌, ℕ, ◌+◌, ◌==◌, List, [], ◌∷◌, ◌++◌, length, codes, if◌then◌else◌}
 use Rattle.std.specs.Fmt.{decimal}
 use Rattle.std.specs.Str.{bytes_eq}
 use Rattle.hex.specs.Hex.{encode_lower}
@@ -8,26 +7,21 @@ use Rattle.input_text.specs.Names.{is_idle}
 use Rattle.md5.specs.Md5.{md5}
 use Rattle.sha1.specs.Sha1.{sha1}
 use Rattle.sha2.specs.Sha256.{sha256}
-use Rattle.mos_cpu.specs.Registers.{Registers}
 use Rattle.riot_map.specs.Cart.{has_banks}
-use Rattle.vcs_machine.specs.Faults.{fault_text, hex2, hex4}
+use Rattle.vcs_machine.specs.Faults.{fault_text}
 use Rattle.vcs_machine.specs.Inputs.{InputData}
-use Rattle.vcs_machine.specs.States.{state_at_power_on, line_cycle_of}
-use Rattle.vcs_machine.specs.declared.fields.StateFields.{StateFields}
+use Rattle.vcs_machine.specs.States.{state_at_power_on}
 use Rattle.movie_file.specs.Movie.{MovieData}
 use Rattle.movie_file.specs.Record.{record_of}
-use Rattle.movie_file.specs.Run.{run}
-use Rattle.movie_file.specs.declared.checkpoint.Checkpoint.{Checkpoint}
-use Rattle.replay_segments.specs.RunStates.{left_at}
-use Rattle.replay_segments.specs.declared.run_states.LeftState.{LeftState}
 use Rattle.replay_segments.specs.declared.verdict.Verdict.{Verdict}
 use Rattle.replay_segments.specs.declared.verdict.Verdict.TheVariants.{Genuine, FalseCheckpoint}
 use Rattle.replay_segments.specs.declared.verdict.Verdict.TheVariants.{Fault}
 use Rattle.movie_report.specs.CheckpointFacts.{checkpoints_text}
 use Rattle.movie_report.specs.Differences.{differences_text}
+use Rattle.movie_report.specs.FailureFacts.{HasFailure}
 use Rattle.movie_report.specs.Notations.{number_fact, word_fact}
-use Rattle.movie_report.specs.Segments.{HasSegments}
-use Rattle.movie_report.specs.declared.differences.Comparison.TheVariants.{Start, Claim}
+use Rattle.movie_report.specs.Notes.{notes_of, notes_text}
+use Rattle.movie_report.specs.declared.differences.Comparison.TheVariants.{Start}
 use Rattle.replay_plan.specs.declared.notation.Notation.{Notation}
 use Rattle.replay_plan.specs.declared.notation.Notation.TheVariants.{Lines, Json}
 
@@ -44,12 +38,14 @@ cartridge_text notation cart =
     ++ (word_fact notation (codes "sha256") (codes "sha256: ") (encode_lower (sha256 cart))
     ++ word_fact notation (codes "banks") (codes "banks: ") (banks_of cart))))
 
--- Whether a start state is that of power-on, and in which numbers it differs from that: of the
--- records of both.
+-- Whether a start state is that of power-on: of the records of both.
 abbrev pub start_text : Notation → List ℕ → List ℕ → List ℕ
 start_text notation start power =
-    if bytes_eq start power then word_fact notation (codes "start") (codes "start: ") (codes "power-on")
-    else word_fact notation (codes "start") (codes "start: ") (codes "not power-on") ++ differences_text notation Start start power
+    word_fact notation (codes "start") (codes "start: ") (if bytes_eq start power then codes "power-on" else codes "not power-on")
+
+-- In which numbers it differs from that, if it does.
+abbrev pub start_differences_text : Notation → List ℕ → List ℕ → List ℕ
+start_differences_text notation start power = if bytes_eq start power then [] else differences_text notation Start start power
 
 -- The number of the last of some frames in which anything is held, if the first of them has number
 -- `before` + 1; `last` if there is none.
@@ -74,37 +70,6 @@ movie_text notation program bytes m =
     ++ (held_text notation (last_held 0 0 m.inputs)
     ++ word_fact notation (codes "program") (codes "program: ") program)))
 
--- In which numbers a claimed state differs from that of the run.
-abbrev pub claim_text : Notation → Option Checkpoint → Option StateFields → List ℕ
-claim_text notation (Some c) (Some found) = differences_text notation Claim (record_of c.state) (record_of found)
-claim_text notation c None = []
-claim_text notation None found = []
-
--- The processor's registers, with the flags as in a state record.
-abbrev pub registers_text : Notation → Registers → List ℕ
-registers_text Lines c =
-    codes "registers: A " ++ (hex2 c.a ++ (codes ", X " ++ (hex2 c.x ++ (codes ", Y " ++ (hex2 c.y ++ (codes ", S " ++ (hex2 c.s
-    ++ (codes ", P " ++ (hex2 c.p ++ (codes ", PC " ++ (hex4 c.pc ++ 10 ∷ [])))))))))))
-registers_text Json c =
-    codes ",\"registers\":{\"A\":\"" ++ (hex2 c.a ++ (codes "\",\"X\":\"" ++ (hex2 c.x ++ (codes "\",\"Y\":\"" ++ (hex2 c.y
-    ++ (codes "\",\"S\":\"" ++ (hex2 c.s ++ (codes "\",\"P\":\"" ++ (hex2 c.p ++ (codes "\",\"PC\":\"" ++ (hex4 c.pc ++ codes "\"}")))))))))))
-
--- The place of the beam: the scanline of the frame, and the cycle of that.
-abbrev pub beam_text : Notation → ℕ → ℕ → List ℕ
-beam_text Lines scanline cycle = codes "beam: scanline " ++ (decimal scanline ++ (codes ", cycle " ++ (decimal cycle ++ 10 ∷ [])))
-beam_text Json scanline cycle = codes ",\"scanline\":" ++ (decimal scanline ++ (codes ",\"cycle\":" ++ decimal cycle))
-
--- What a frame left that faults: the registers, and where the beam is.
-abbrev pub left_text : Notation → Option LeftState → List ℕ
-left_text notation None = []
-left_text notation (Some left) = registers_text notation left.state.cpu ++ beam_text notation left.scanline (line_cycle_of left.state)
-
--- What is to be said of a verdict.
-abbrev pub verdict_text : Notation → MovieData → Verdict → List ℕ
-verdict_text notation m (Genuine kept) = []
-verdict_text notation m (FalseCheckpoint number frame) = claim_text notation (slice_get m.checkpoints (number - 1)) (run m m.start 0 frame)
-verdict_text notation m (Fault frame kind) = left_text notation (left_at m frame)
-
 -- How a report begins: lines follow the line of the verdict, and an object names it.
 abbrev pub head_text : Notation → Verdict → List ℕ
 head_text Lines verdict = []
@@ -119,10 +84,21 @@ abbrev pub end_text : Notation → List ℕ
 end_text Lines = []
 end_text Json = codes "}" ++ 10 ∷ []
 
+-- What a movie is, whatever its verdict: the cartridge, whether it starts at power-on, its checkpoints and its file.
+abbrev pub facts_text : Notation → List ℕ → List ℕ → MovieData → List ℕ → List ℕ → List ℕ
+facts_text notation program bytes m start power =
+    cartridge_text notation m.cart ++ (start_text notation start power ++ (checkpoints_text notation m ++ movie_text notation program bytes m))
+
+-- What follows what went wrong: the notes, the facts, and last the numbers of a start that isn't power-on. With the records of
+-- the start state and of power-on.
+abbrev pub notes_and_facts_text : Notation → List ℕ → List ℕ → MovieData → List ℕ → List ℕ → List ℕ
+notes_and_facts_text notation program bytes m start power =
+    notes_text notation (notes_of m start power)
+    ++ (facts_text notation program bytes m start power ++ start_differences_text notation start power)
+
 -- A report of the movie that these bytes are and of its verdict, by a program of this name.
 abbrev pub IsReport : Notation → List ℕ → List ℕ → MovieData → Verdict → List ℕ → Type 0
 IsReport notation program bytes m verdict text =
-    (segments : List ℕ) × HasSegments notation m verdict segments
-    × (text ≡ head_text notation verdict ++ (cartridge_text notation m.cart
-    ++ (start_text notation (record_of m.start) (record_of (state_at_power_on m.cart))
-    ++ (checkpoints_text notation m ++ (movie_text notation program bytes m ++ (verdict_text notation m verdict ++ (segments ++ end_text notation)))))))
+    (failure : List ℕ) × HasFailure notation m verdict failure
+    × (text ≡ head_text notation verdict ++ (failure
+    ++ (notes_and_facts_text notation program bytes m (record_of m.start) (record_of (state_at_power_on m.cart)) ++ end_text notation)))

@@ -1,7 +1,10 @@
 pub mod CheckpointFacts
 pub mod Differences
+pub mod FailureFacts
 pub mod Facts
 pub mod Notations
+pub mod Notes
 pub mod Numbers
 pub mod Private
+pub mod Reasons
 pub mod Segments

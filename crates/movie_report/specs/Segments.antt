@@ -52,10 +52,3 @@ signs_line signs k = codes "segments: " ++ (map character_of (take 64 (drop (64 
 abbrev pub signs_text : Notation → List Sign → List ℕ
 signs_text Lines signs = flat_map (signs_line signs) (range_with_len 0 ((length signs + 63) / 64))
 signs_text Json signs = codes ",\"segments\":\"" ++ (map character_of signs ++ codes "\"")
-
--- What is said of the segments of a movie with this verdict: of a genuine one nothing, since each
--- of its segments passes.
-abbrev pub HasSegments : Notation → MovieData → Verdict → List ℕ → Type 0
-HasSegments notation m (Genuine kept) text = text ≡ []
-HasSegments notation m (FalseCheckpoint number frame) text = (signs : List Sign) × AreSigns m signs × (text ≡ signs_text notation signs)
-HasSegments notation m (Fault frame kind) text = (signs : List Sign) × AreSigns m signs × (text ≡ signs_text notation signs)

@@ -1,7 +1,8 @@
 //! The numbers in which two state records differ.
 ghost use Rattle.std.specs.Prelude.{◌≡◌, ◌<◌, IfOk, string_bytes, drop};
 ghost use Rattle.movie_report.specs.Differences.{array_name, difference_text, differences_text};
-ghost use Rattle.movie_report.specs.Differences.{pairs_text, text_if_different};
+ghost use Rattle.movie_report.specs.Differences.{difference_count, pairs_text};
+ghost use Rattle.movie_report.specs.Differences.{text_if_different};
 ghost use Rattle.movie_report.specs.Private.Elements.{AreElements};
 ghost use Rattle.movie_report.specs.Private.Places.{state_number_at};
 
@@ -105,8 +106,26 @@ fn pairs(
     Ok(text)
 }
 
+/// In how many numbers two records differ.
+#[tactic(auto, using(crate::proofs::DifferenceLemmas::number_by_number))]
+pub(crate) fn difference_count(first: &[u8; STATE_LENGTH], second: &[u8; STATE_LENGTH]) -> usize
+    ensures { result ≡ difference_count first.now second.now }
+{
+    let mut count = 0;
+    let mut at = 0;
+    for place in 0..COUNT {
+        let end = at + Number::at(place).len();
+        prove!(end <= STATE_LENGTH);
+        if first[at..end] != second[at..end] {
+            count += 1;
+        }
+        at = end;
+    }
+    count
+}
+
 /// Elements of an array, without the comma before the first.
-fn without_comma(text: &str) -> &str
+pub(crate) fn without_comma(text: &str) -> &str
     requires { AreElements text.now }
     ensures { result.now ≡ drop 1 text.now }
 {

@@ -1,32 +1,29 @@
-//! The facts of a movie and its verdict.
-ghost use Rattle.std.specs.Prelude.{◌≡◌, ◌-◌, IfOk, string_bytes, slice_get};
+//! The facts of a movie, and its report.
+ghost use Rattle.std.specs.Prelude.{◌≡◌, IfOk, string_bytes};
 ghost use Rattle.vcs_machine.specs.States.{state_at_power_on};
 ghost use Rattle.movie_file.specs.Record.{record_of};
-ghost use Rattle.movie_file.specs.Run.{run};
-ghost use Rattle.replay_segments.specs.RunStates.{left_at};
 ghost use Rattle.replay_segments.specs.Verdicts.{HasVerdict};
-ghost use Rattle.replay_segments.specs.declared.verdict.Verdict.TheVariants.{FalseCheckpoint};
-ghost use Rattle.replay_segments.specs.declared.verdict.Verdict.TheVariants.{Fault};
-ghost use Rattle.movie_report.specs.Facts.{beam_text, cartridge_text, claim_text, end_text};
-ghost use Rattle.movie_report.specs.Facts.{head_text, held_text, last_held, left_text, movie_text};
-ghost use Rattle.movie_report.specs.Facts.{registers_text, start_text, verdict_text, IsReport};
+ghost use Rattle.movie_report.specs.Facts.{cartridge_text, end_text, facts_text, head_text};
+ghost use Rattle.movie_report.specs.Facts.{held_text, last_held, movie_text, notes_and_facts_text};
+ghost use Rattle.movie_report.specs.Facts.{start_differences_text, start_text, IsReport};
 
 use crate::checkpoints::checkpoint_facts;
 use crate::differences::{Comparison, differences};
+use crate::failure::failure_facts;
 use crate::notation::{NumberFact, WordFact};
-use crate::segments::segment_facts;
+use crate::notes::notes;
 use hex::encode;
 use input_text::is_idle;
 use md5::Md5;
-use mos_cpu::Cpu;
-use movie_file::{Movie, write_state};
-use replay_plan::Notation;
-use replay_segments::{LeftState, Verdict, found_state, left_state};
+use movie_file::{Movie, STATE_LENGTH, write_state};
+use replay_plan::{Notation, Workers};
+use replay_segments::Verdict;
 use riot_map::Cart;
 use sha1::Sha1;
 use sha2::Sha256;
 use std::alloc::{AllocError, Global};
-use vcs_machine::{FaultKind, HexByte, HexWord, State};
+use std::thread::Threads;
+use vcs_machine::State;
 
 /// A cartridge's length, digests and bank scheme.
 fn cartridge_facts(alloc: Global, notation: Notation, cart: &Cart) -> Result<String, AllocError>
@@ -48,20 +45,32 @@ fn cartridge_facts(alloc: Global, notation: Notation, cart: &Cart) -> Result<Str
     )
 }
 
-/// Whether the start state is that of power-on.
-fn start_facts(alloc: Global, notation: Notation, movie: &Movie) -> Result<String, AllocError>
-    ensures { IfOk result (λ text. string_bytes text
-        ≡ start_text notation (record_of movie.now.start) (record_of (state_at_power_on movie.now.cart))) }
+/// Whether a start state is that of power-on: of the records of both.
+fn start_fact(
+    alloc: Global,
+    notation: Notation,
+    start: &[u8; STATE_LENGTH],
+    power_on: &[u8; STATE_LENGTH],
+) -> Result<String, AllocError>
+    ensures { IfOk result (λ text. string_bytes text ≡ start_text notation start.now power_on.now) }
 {
-    let start = write_state(movie.start());
-    let power_on = write_state(&State::power_on(movie.cart()));
+    let word = if start == power_on { "power-on" } else { "not power-on" };
+    format!(in alloc; "{}", WordFact(notation, "start", "start: ", word))
+}
+
+/// In which numbers it differs from that, if it does.
+fn start_differences(
+    alloc: Global,
+    notation: Notation,
+    start: &[u8; STATE_LENGTH],
+    power_on: &[u8; STATE_LENGTH],
+) -> Result<String, AllocError>
+    ensures { IfOk result (λ text. string_bytes text ≡ start_differences_text notation start.now power_on.now) }
+{
     if start == power_on {
-        let fact = WordFact(notation, "start", "start: ", "power-on");
-        return format!(in alloc; "{fact}");
+        return Ok(String::new(alloc));
     }
-    let fact = WordFact(notation, "start", "start: ", "not power-on");
-    let differences = differences(alloc, notation, Comparison::Start, &start, &power_on)?;
-    format!(in alloc; "{fact}{differences}")
+    differences(alloc, notation, Comparison::Start, start, power_on)
 }
 
 /// The last frame of a movie in which anything is held, or 0.
@@ -113,86 +122,6 @@ fn movie_facts(
     )
 }
 
-/// The numbers in which the first false checkpoint differs from the run.
-fn claim_facts(
-    alloc: Global,
-    notation: Notation,
-    movie: &Movie,
-    number: u16,
-    frame: u32,
-) -> Result<String, AllocError>
-    requires { HasVerdict movie.now (FalseCheckpoint number frame) }
-    ensures { IfOk result (λ text. string_bytes text
-        ≡ claim_text notation (slice_get movie.now.checkpoints (number - 1)) (run movie.now movie.now.start 0 frame)) }
-{
-    let _ = movie.frames();
-    let claimed = write_state(&movie.checkpoint(number).state);
-    let found = write_state(&found_state(movie, number, frame));
-    differences(alloc, notation, Comparison::Claim, &claimed, &found)
-}
-
-/// The processor's registers.
-fn registers(alloc: Global, notation: Notation, cpu: &Cpu) -> Result<String, AllocError>
-    ensures { IfOk result (λ text. string_bytes text ≡ registers_text notation cpu.now) }
-{
-    let (a, x, y) = (HexByte(cpu.a), HexByte(cpu.x), HexByte(cpu.y));
-    let (s, p, pc) = (HexByte(cpu.s), HexByte(cpu.p), HexWord(cpu.pc));
-    match notation {
-        Notation::Lines => format!(in alloc;
-            "registers: A {a}, X {x}, Y {y}, S {s}, P {p}, PC {pc}\n"
-        ),
-        Notation::Json => format!(in alloc;
-            ",\"registers\":{{\"A\":\"{a}\",\"X\":\"{x}\",\"Y\":\"{y}\",\"S\":\"{s}\",\"P\":\"{p}\",\"PC\":\"{pc}\"}}"
-        ),
-    }
-}
-
-/// The place of the beam.
-fn beam(alloc: Global, notation: Notation, scanline: u64, cycle: u8) -> Result<String, AllocError>
-    ensures { IfOk result (λ text. string_bytes text ≡ beam_text notation scanline cycle) }
-{
-    match notation {
-        Notation::Lines => format!(in alloc; "beam: scanline {scanline}, cycle {cycle}\n"),
-        Notation::Json => format!(in alloc; ",\"scanline\":{scanline},\"cycle\":{cycle}"),
-    }
-}
-
-/// What the frame left that faults.
-fn fault_facts(
-    alloc: Global,
-    notation: Notation,
-    movie: &Movie,
-    frame: u32,
-    kind: FaultKind,
-) -> Result<String, AllocError>
-    requires { HasVerdict movie.now (Fault frame kind) }
-    ensures { IfOk result (λ text. string_bytes text ≡ left_text notation (left_at movie.now frame)) }
-{
-    let LeftState { state, scanline } = left_state(movie, frame, kind);
-    let registers = registers(alloc, notation, &state.fields().cpu)?;
-    let beam = beam(alloc, notation, scanline, state.line_cycle())?;
-    format!(in alloc; "{registers}{beam}")
-}
-
-/// What went wrong.
-fn verdict_facts(
-    alloc: Global,
-    notation: Notation,
-    movie: &Movie,
-    verdict: &Verdict,
-) -> Result<String, AllocError>
-    requires { HasVerdict movie.now verdict.now }
-    ensures { IfOk result (λ text. string_bytes text ≡ verdict_text notation movie.now verdict.now) }
-{
-    match verdict {
-        Verdict::Genuine { .. } => Ok(String::new(alloc)),
-        Verdict::FalseCheckpoint { number, frame } => {
-            claim_facts(alloc, notation, movie, *number, *frame)
-        }
-        Verdict::Fault { frame, kind } => fault_facts(alloc, notation, movie, *frame, *kind),
-    }
-}
-
 /// How a report of this verdict begins.
 fn head(alloc: Global, notation: Notation, verdict: &Verdict) -> Result<String, AllocError>
     ensures { IfOk result (λ text. string_bytes text ≡ head_text notation verdict.now) }
@@ -221,34 +150,79 @@ fn end(notation: Notation) -> &'static str
     }
 }
 
-/// The facts of a movie, of whose file these are the bytes, and of its verdict, by a program of
+/// What a movie is, whatever its verdict, with the records of its start state and of power-on.
+fn facts(
+    alloc: Global,
+    notation: Notation,
+    program: &str,
+    bytes: &[u8],
+    movie: &Movie,
+    start: &[u8; STATE_LENGTH],
+    power_on: &[u8; STATE_LENGTH],
+) -> Result<String, AllocError>
+    ensures { IfOk result (λ text. string_bytes text
+        ≡ facts_text notation program.now bytes.now movie.now start.now power_on.now) }
+{
+    let cartridge = cartridge_facts(alloc, notation, movie.cart())?;
+    let start = start_fact(alloc, notation, start, power_on)?;
+    let checkpoints = checkpoint_facts(alloc, notation, movie)?;
+    let contents = movie_facts(alloc, notation, program, bytes, movie)?;
+    format!(in alloc; "{cartridge}{start}{checkpoints}{contents}")
+}
+
+/// The notes and the facts, and the numbers of a start that isn't power-on.
+fn notes_and_facts(
+    alloc: Global,
+    notation: Notation,
+    program: &str,
+    bytes: &[u8],
+    movie: &Movie,
+) -> Result<String, AllocError>
+    ensures { IfOk result (λ text. string_bytes text ≡ notes_and_facts_text notation program.now bytes.now movie.now
+        (record_of movie.now.start) (record_of (state_at_power_on movie.now.cart))) }
+{
+    let start = write_state(movie.start());
+    let power_on = write_state(&State::power_on(movie.cart()));
+    let notes = notes(alloc, notation, movie, &start, &power_on)?;
+    let facts = facts(alloc, notation, program, bytes, movie, &start, &power_on)?;
+    let differences = start_differences(alloc, notation, &start, &power_on)?;
+    format!(in alloc; "{notes}{facts}{differences}")
+}
+
+/// What a judge asks after a verdict, of a movie, of whose file these are the bytes, by a program of
 /// this name: lines that follow the line of the verdict, or an object of JSON and a line feed.
 ///
-/// They are the cartridge's length, digests and bank scheme, whether the start state is that of
-/// power-on, where checkpoints stand, and what the movie is. Of a false checkpoint follow the
-/// numbers in which the claimed state differs from that of the run, and of a fault the registers
-/// and the beam's place that its frame left; for these so much of the movie is replayed as lies
-/// between the place and the last checkpoint before it. Of both follows which segments between
-/// checkpoints reach their claims, for which the whole movie is replayed on the calling thread.
+/// First comes what went wrong, if the movie isn't genuine. Of a false checkpoint these are the
+/// numbers in which the claimed state differs from that of the run, and of a fault the registers and
+/// the beam's place that its frame left; for these so much of the movie is replayed as lies between
+/// the place and the last checkpoint before it. Of both follows which segments between checkpoints
+/// reach their claims: the verdict says it of the first that doesn't and of those before it, and the
+/// others are replayed. Of a false checkpoint a sentence says what the signs show; for that at most
+/// two segments more are replayed. Then come notes, and the facts: the cartridge's length, digests
+/// and bank scheme, whether the start state is that of power-on, where checkpoints stand, and what
+/// the movie is. The numbers of a start that isn't power-on are the last.
+///
+/// As many workers replay the segments, one on the calling thread and each other one in a thread of
+/// its own, which is joined. Where the start of a thread is refused, the calling thread does its
+/// work too, so the only error is that memory was refused. One worker starts no thread, and a
+/// genuine movie none.
 /// The program's name has no quotation mark, backslash or control character.
-pub fn report(
+pub fn report<R: Threads + Sync>(
+    rt: &R,
     alloc: Global,
     notation: Notation,
     program: &str,
     bytes: &[u8],
     movie: &Movie,
     verdict: &Verdict,
+    workers: Workers,
 ) -> Result<String, AllocError>
     requires { HasVerdict movie.now verdict.now }
     ensures { IfOk result (λ text. IsReport notation program.now bytes.now movie.now verdict.now (string_bytes text)) }
 {
     let head = head(alloc, notation, verdict)?;
-    let cartridge = cartridge_facts(alloc, notation, movie.cart())?;
-    let start = start_facts(alloc, notation, movie)?;
-    let checkpoints = checkpoint_facts(alloc, notation, movie)?;
-    let contents = movie_facts(alloc, notation, program, bytes, movie)?;
-    let wrong = verdict_facts(alloc, notation, movie, verdict)?;
-    let segments = segment_facts(alloc, notation, movie, verdict)?;
+    let failure = failure_facts(rt, alloc, notation, movie, verdict, workers)?;
+    let rest = notes_and_facts(alloc, notation, program, bytes, movie)?;
     let end = end(notation);
-    format!(in alloc; "{head}{cartridge}{start}{checkpoints}{contents}{wrong}{segments}{end}")
+    format!(in alloc; "{head}{failure}{rest}{end}")
 }

@@ -4,8 +4,11 @@
 mod checkpoints;
 mod differences;
 mod facts;
+mod failure;
 mod notation;
+mod notes;
 mod numbers;
+mod reason;
 mod segments;
 
 pub use facts::report;

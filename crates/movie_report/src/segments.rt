@@ -1,14 +1,19 @@
 //! Which segments of a movie reach the claim at their end.
-ghost use Rattle.std.specs.Prelude.{◌≡◌, ◌+◌, ◌<◌, length, map, IfOk, string_bytes};
+ghost use Rattle.std.specs.Prelude.{◌≡◌, ℕ, ◌+◌, ◌-◌, ◌<◌, ◌≤◌, length, map, slice_get, IfOk, IfSome};
+ghost use Rattle.std.specs.Prelude.{string_bytes, if◌then◌else◌};
 ghost use Rattle.replay_segments.specs.Cuts.{Fits};
-ghost use Rattle.movie_report.specs.Segments.{AreSigns, HasSegments, HasSign, character_of};
+ghost use Rattle.movie_report.specs.Private.FirstSigns.{IsFirst};
+ghost use Rattle.movie_report.specs.Reasons.{breaks};
+ghost use Rattle.movie_report.specs.Segments.{AreSigns, HasSign, character_of};
 ghost use Rattle.movie_report.specs.Segments.{ends_with_checkpoint, sign_of, signs_text};
 
 use movie_file::Movie;
-use replay_plan::{Keep, Notation};
+use replay_plan::{Keep, Notation, Workers};
 use replay_segments::{Cuts, Verdict, replay};
 use std::alloc::{AllocError, Global};
 use std::num::NonZeroU16;
+use std::thread;
+use std::thread::Threads;
 
 /// The signs in a line.
 const LINE_SIGNS: usize = 64;
@@ -36,6 +41,13 @@ impl Sign {
         }
     }
 
+    /// Whether its segment doesn't reach the claim at its end.
+    pub(crate) fn breaks(self) -> bool
+        ensures { result ≡ breaks self }
+    {
+        !matches!(self, Sign::Passes)
+    }
+
     /// As a report shows it.
     fn character(self) -> char
         ensures { result ≡ character_of self }
@@ -60,29 +72,104 @@ fn ends_with_checkpoint(movie: &Movie) -> bool
     movie.checkpoint(count).frame == frames
 }
 
-/// The sign of a segment, counted from 0, of a movie with these cuts.
-fn segment_sign(alloc: Global, movie: &Movie, cuts: &Cuts, number: u32) -> Result<Sign, AllocError>
-    requires fit { Fits cuts.now movie.now }
-    requires number { number < length cuts.now + 1 }
-    ensures { IfOk result (HasSign movie.now cuts.now number) }
+/// How many segments between these cuts have a frame: all, or all but the last.
+fn segments_in(movie: &Movie, cuts: &Cuts) -> u32
+    ensures { result ≡ length cuts.now + 1 - (if ends_with_checkpoint movie.now then 1 else 0) }
 {
-    let piece = replay(alloc, movie, cuts, Keep::NONE, number);
-    match piece.verdict() {
-        Some(verdict) => Ok(Sign::of(verdict)),
-        None => Err(AllocError),
+    if ends_with_checkpoint(movie) {
+        cuts.segments() - 1
+    } else {
+        cuts.segments()
     }
 }
 
-/// The signs of a movie's segments, in order. The movie is replayed whole, on the calling thread.
-fn signs_of(alloc: Global, movie: &Movie) -> Result<Vec<Sign>, AllocError>
-    ensures { IfOk result (λ signs. AreSigns movie.now signs.items) }
+/// The sign of a segment, counted from 0, of a movie with these cuts. It takes no memory.
+fn segment_sign(alloc: Global, movie: &Movie, cuts: &Cuts, number: u32) -> Sign
+    requires fit { Fits cuts.now movie.now }
+    requires number { number < length cuts.now + 1 }
+    ensures { HasSign movie.now cuts.now number result }
+{
+    let piece = replay(alloc, movie, cuts, Keep::NONE, number);
+    let Some(verdict) = piece.verdict() else {
+        unreachable!()
+    };
+    Sign::of(verdict)
+}
+
+/// Writes the sign of a segment at its place after segment `from`.
+fn write_sign(alloc: Global, movie: &Movie, cuts: &Cuts, from: u32, place: usize, sign: &mut Sign)
+    requires fit { Fits cuts.now movie.now }
+    requires number { from + place < length cuts.now + 1 }
+    ensures { HasSign movie.now cuts.now (from + place) sign.new }
+{
+    let _ = cuts.segments();
+    *sign = segment_sign(alloc, movie, cuts, from + place as u32);
+}
+
+/// Writes the signs of the segments from one on, by workers: one on the calling thread, each other
+/// one in a thread of its own. Where a thread is refused, the calling one does its work.
+fn write_signs<R: Threads + Sync>(
+    rt: &R,
+    alloc: Global,
+    movie: &Movie,
+    cuts: &Cuts,
+    from: u32,
+    workers: Workers,
+    signs: &mut [Sign],
+)
+    requires fit { Fits cuts.now movie.now }
+    requires numbers { from + length signs.old ≤ length cuts.now + 1 }
+    ensures { (i : ℕ) → IfSome (slice_get signs.new i) (HasSign movie.now cuts.now (from + i)) }
+{
+    let workers = usize::from(workers.get());
+    let write = move |place: usize, sign: &mut Sign|
+        requires { Fits cuts.now movie.now × (from + place < length cuts.now + 1) }
+        ensures { HasSign movie.entry.now cuts.entry.now (from + place) sign.exit.now }
+    { write_sign(alloc, movie, cuts, from, place, sign) };
+    thread::for_each_mut(rt, signs, workers, &write);
+}
+
+/// The signs of so many segments from one on, by workers.
+fn later_signs<R: Threads + Sync>(
+    rt: &R,
+    alloc: Global,
+    movie: &Movie,
+    cuts: &Cuts,
+    from: u32,
+    count: u32,
+    workers: Workers,
+) -> Result<Vec<Sign>, AllocError>
+    requires fit { Fits cuts.now movie.now }
+    requires numbers { from + count ≤ length cuts.now + 1 }
+    ensures len { IfOk result (λ signs. length signs.items ≡ count) }
+    ensures each { IfOk result (λ signs. (i : ℕ) → IfSome (slice_get signs.items i) (HasSign movie.now cuts.now (from + i))) }
+{
+    let mut signs = vec![in alloc; Sign::Passes; count as usize]?;
+    write_signs(rt, alloc, movie, cuts, from, workers, &mut signs);
+    Ok(signs)
+}
+
+/// The signs of a movie's segments, in order, of which so many pass before the first that has
+/// another sign, which is this. Those after it are replayed by workers.
+pub(crate) fn signs_of<R: Threads + Sync>(
+    rt: &R,
+    alloc: Global,
+    movie: &Movie,
+    before: u32,
+    sign: Sign,
+    workers: Workers,
+) -> Result<Vec<Sign>, AllocError>
+    requires { IsFirst movie.now before sign }
+    ensures signs { IfOk result (λ signs. AreSigns movie.now signs.items) }
+    ensures len { IfOk result (λ signs. length movie.now.checkpoints ≤ length signs.items) }
 {
     let cuts = Cuts::every(alloc, movie, NonZeroU16::MIN)?;
-    let mut signs = Vec::new(alloc);
-    let segments = cuts.segments() - u32::from(ends_with_checkpoint(movie));
-    for number in 0..segments {
-        signs.push(segment_sign(alloc, movie, &cuts, number)?)?;
-    }
+    let segments = segments_in(movie, &cuts);
+    let mut signs = vec![in alloc; Sign::Passes; before as usize]?;
+    signs.push(sign)?;
+    let from = before + 1;
+    let mut later = later_signs(rt, alloc, movie, &cuts, from, segments - from, workers)?;
+    signs.append(&mut later)?;
     Ok(signs)
 }
 
@@ -113,23 +200,18 @@ fn lines(alloc: Global, signs: &[Sign]) -> Result<String, AllocError>
     Ok(text)
 }
 
-/// The signs of a movie's segments, if it isn't genuine.
+/// The signs of a movie's segments.
 pub(crate) fn segment_facts(
     alloc: Global,
     notation: Notation,
-    movie: &Movie,
-    verdict: &Verdict,
+    signs: &[Sign],
 ) -> Result<String, AllocError>
-    ensures { IfOk result (λ text. HasSegments notation movie.now verdict.now (string_bytes text)) }
+    ensures { IfOk result (λ text. string_bytes text ≡ signs_text notation signs.now) }
 {
-    if let Verdict::Genuine { .. } = verdict {
-        return Ok(String::new(alloc));
-    }
-    let signs = signs_of(alloc, movie)?;
     match notation {
-        Notation::Lines => lines(alloc, &signs),
+        Notation::Lines => lines(alloc, signs),
         Notation::Json => {
-            let characters = characters(alloc, &signs)?;
+            let characters = characters(alloc, signs)?;
             format!(in alloc; ",\"segments\":\"{characters}\"")
         }
     }

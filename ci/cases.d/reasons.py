@@ -1,0 +1,55 @@
+"""Writes copies of demo/demo.a26m into the folder that is named, each false in another way, for the sentences of a report."""
+
+import pathlib
+import sys
+
+sys.path.insert(0, "demo")
+
+import tamper  # noqa: E402
+
+DEMO = pathlib.Path("demo/demo.a26m").read_bytes()
+OTHER_POINTS = pathlib.Path("demo/other-points.a26m").read_bytes()
+RIGHT, MONOCHROME = 0b1000_0000, 0b0000_1000
+
+
+def turned(*places: tuple[int, int]) -> bytes:
+    """The demo with bits turned over: the place of a byte, and its bits."""
+    copy = bytearray(DEMO)
+    for place, bits in places:
+        copy[place] ^= bits
+    return bytes(copy)
+
+
+def exchanged(first: int, second: int) -> bytes:
+    """The demo with two claimed states exchanged."""
+    copy = bytearray(DEMO)
+    one, other = (slice(tamper.claim(it, 0), tamper.claim(it, tamper.STATE)) for it in (first, second))
+    copy[one], copy[other] = DEMO[other], DEMO[one]
+    return bytes(copy)
+
+
+def without(frame: int) -> bytes:
+    """The demo without the input of a frame, and with its last input twice."""
+    place, end = tamper.pressed(frame, 0), tamper.pressed(tamper.FRAMES, 3)
+    return DEMO[:place] + DEMO[place + 3 : end] + DEMO[end - 3 : end] + DEMO[end:]
+
+
+COPIES = {
+    # In frame 240, the last before a claim, the picture is black and white.
+    "black-and-white-once": turned((tamper.pressed(240, 1), MONOCHROME)),
+    # In frame 30 the joystick is pressed to the other side.
+    "other-start": turned((tamper.pressed(30, 0), RIGHT)),
+    # The last claim has a thousand points more.
+    "more-points-at-the-end": turned((tamper.memory(12, tamper.SCORE + 1), 0b0001_0000)),
+    # Of two claims, the first has a thousand points more, and an input after them is another.
+    "two-mistakes": turned((tamper.memory(5, tamper.SCORE + 1), 0b0001_0000), (tamper.pressed(500, 0), RIGHT)),
+    "exchanged-claims": exchanged(4, 5),
+    "frame-is-missing": without(301),
+    # The cartridge of other-points, in which an alien has other points.
+    "other-cartridge": DEMO[: tamper.CARTRIDGE] + OTHER_POINTS[tamper.CARTRIDGE : tamper.CARTRIDGE + tamper.LENGTH] + DEMO[tamper.CARTRIDGE + tamper.LENGTH :],
+    # The picture is black and white one frame later, on the other side of a claim.
+    "moved-over-a-claim": turned((tamper.pressed(240, 0), RIGHT), (tamper.pressed(241, 0), RIGHT)),
+}
+
+for name, movie in COPIES.items():
+    (pathlib.Path(sys.argv[1]) / (name + ".a26m")).write_bytes(movie)

@@ -1,0 +1,65 @@
+-- What is said of a movie that isn't genuine: what differs, or where its frame faults, and its segments. This project's own.
+use Rattle.std.specs.Prelude.{◌≡◌, ℕ, ◌-◌, List, [], ◌∷◌, ◌++◌, codes, Option, Some, None, slice_get}
+use Rattle.std.specs.Fmt.{decimal}
+use Rattle.mos_cpu.specs.Registers.{Registers}
+use Rattle.vcs_machine.specs.Faults.{hex2, hex4}
+use Rattle.vcs_machine.specs.States.{line_cycle_of}
+use Rattle.vcs_machine.specs.declared.fields.StateFields.{StateFields}
+use Rattle.movie_file.specs.Movie.{MovieData}
+use Rattle.movie_file.specs.Record.{record_of}
+use Rattle.movie_file.specs.Run.{run}
+use Rattle.movie_file.specs.declared.checkpoint.Checkpoint.{Checkpoint}
+use Rattle.replay_segments.specs.RunStates.{left_at}
+use Rattle.replay_segments.specs.declared.run_states.LeftState.{LeftState}
+use Rattle.replay_segments.specs.declared.verdict.Verdict.{Verdict}
+use Rattle.replay_segments.specs.declared.verdict.Verdict.TheVariants.{Genuine, FalseCheckpoint}
+use Rattle.replay_segments.specs.declared.verdict.Verdict.TheVariants.{Fault}
+use Rattle.movie_report.specs.Differences.{differences_text}
+use Rattle.movie_report.specs.Reasons.{reason_in, reason_text}
+use Rattle.movie_report.specs.Segments.{AreSigns, signs_text}
+use Rattle.movie_report.specs.declared.differences.Comparison.TheVariants.{Claim}
+use Rattle.movie_report.specs.declared.segments.Sign.{Sign}
+use Rattle.replay_plan.specs.declared.notation.Notation.{Notation}
+use Rattle.replay_plan.specs.declared.notation.Notation.TheVariants.{Lines, Json}
+
+-- In which numbers a claimed state differs from that of the run.
+abbrev pub claim_text : Notation → Option Checkpoint → Option StateFields → List ℕ
+claim_text notation (Some c) (Some found) = differences_text notation Claim (record_of c.state) (record_of found)
+claim_text notation c None = []
+claim_text notation None found = []
+
+-- The processor's registers, with the flags as in a state record.
+abbrev pub registers_text : Notation → Registers → List ℕ
+registers_text Lines c =
+    codes "registers: A " ++ (hex2 c.a ++ (codes ", X " ++ (hex2 c.x ++ (codes ", Y " ++ (hex2 c.y ++ (codes ", S " ++ (hex2 c.s
+    ++ (codes ", P " ++ (hex2 c.p ++ (codes ", PC " ++ (hex4 c.pc ++ 10 ∷ [])))))))))))
+registers_text Json c =
+    codes ",\"registers\":{\"A\":\"" ++ (hex2 c.a ++ (codes "\",\"X\":\"" ++ (hex2 c.x ++ (codes "\",\"Y\":\"" ++ (hex2 c.y
+    ++ (codes "\",\"S\":\"" ++ (hex2 c.s ++ (codes "\",\"P\":\"" ++ (hex2 c.p ++ (codes "\",\"PC\":\"" ++ (hex4 c.pc ++ codes "\"}")))))))))))
+
+-- The place of the beam: the scanline of the frame, and the cycle of that.
+abbrev pub beam_text : Notation → ℕ → ℕ → List ℕ
+beam_text Lines scanline cycle = codes "beam: scanline " ++ (decimal scanline ++ (codes ", cycle " ++ (decimal cycle ++ 10 ∷ [])))
+beam_text Json scanline cycle = codes ",\"scanline\":" ++ (decimal scanline ++ (codes ",\"cycle\":" ++ decimal cycle))
+
+-- What a frame left that faults: the registers, and where the beam is.
+abbrev pub left_text : Notation → Option LeftState → List ℕ
+left_text notation None = []
+left_text notation (Some left) = registers_text notation left.state.cpu ++ beam_text notation left.scanline (line_cycle_of left.state)
+
+-- What is said after a false checkpoint of this number and frame, where the segments have these signs: what differs, the
+-- signs, and a sentence about them.
+abbrev pub false_text : Notation → MovieData → ℕ → ℕ → List Sign → List ℕ
+false_text notation m number frame signs =
+    claim_text notation (slice_get m.checkpoints (number - 1)) (run m m.start 0 frame)
+    ++ (signs_text notation signs ++ reason_text notation (reason_in m number signs))
+
+-- What is said after a fault in this frame: where it is, and the signs.
+abbrev pub halt_text : Notation → MovieData → ℕ → List Sign → List ℕ
+halt_text notation m frame signs = left_text notation (left_at m frame) ++ signs_text notation signs
+
+-- What is said of a movie with this verdict: of a genuine one nothing, since each of its segments passes.
+abbrev pub HasFailure : Notation → MovieData → Verdict → List ℕ → Type 0
+HasFailure notation m (Genuine kept) text = text ≡ []
+HasFailure notation m (FalseCheckpoint number frame) text = (signs : List Sign) × AreSigns m signs × (text ≡ false_text notation m number frame signs)
+HasFailure notation m (Fault frame kind) text = (signs : List Sign) × AreSigns m signs × (text ≡ halt_text notation m frame signs)

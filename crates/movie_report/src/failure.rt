@@ -1,0 +1,146 @@
+//! What is said of a movie that isn't genuine.
+ghost use Rattle.std.specs.Prelude.{◌≡◌, IfOk, string_bytes};
+ghost use Rattle.movie_file.specs.Record.{record_of};
+ghost use Rattle.replay_segments.specs.RunStates.{left_at};
+ghost use Rattle.replay_segments.specs.Verdicts.{HasVerdict};
+ghost use Rattle.replay_segments.specs.declared.verdict.Verdict.TheVariants.{FalseCheckpoint};
+ghost use Rattle.replay_segments.specs.declared.verdict.Verdict.TheVariants.{Fault};
+ghost use Rattle.movie_report.specs.Differences.{differences_text};
+ghost use Rattle.movie_report.specs.FailureFacts.{beam_text, left_text, registers_text};
+ghost use Rattle.movie_report.specs.FailureFacts.{HasFailure};
+
+use crate::differences::{Comparison, differences};
+use crate::reason::reason_in;
+use crate::segments::{Sign, segment_facts, signs_of};
+use mos_cpu::Cpu;
+use movie_file::{Movie, write_state};
+use replay_plan::{Notation, Workers};
+use replay_segments::{LeftState, Verdict, checkpoints_before, found_state, left_state};
+use std::alloc::{AllocError, Global};
+use std::thread::Threads;
+use vcs_machine::{FaultKind, HexByte, HexWord, State};
+
+/// The numbers in which the first false checkpoint differs from the run, whose state there this is.
+fn claim_facts(
+    alloc: Global,
+    notation: Notation,
+    claimed: &State,
+    found: &State,
+) -> Result<String, AllocError>
+    ensures { IfOk result (λ text. string_bytes text
+        ≡ differences_text notation Comparison.Claim (record_of claimed.now) (record_of found.now)) }
+{
+    let claimed = write_state(claimed);
+    let found = write_state(found);
+    differences(alloc, notation, Comparison::Claim, &claimed, &found)
+}
+
+/// The processor's registers.
+fn registers(alloc: Global, notation: Notation, cpu: &Cpu) -> Result<String, AllocError>
+    ensures { IfOk result (λ text. string_bytes text ≡ registers_text notation cpu.now) }
+{
+    let (a, x, y) = (HexByte(cpu.a), HexByte(cpu.x), HexByte(cpu.y));
+    let (s, p, pc) = (HexByte(cpu.s), HexByte(cpu.p), HexWord(cpu.pc));
+    match notation {
+        Notation::Lines => format!(in alloc;
+            "registers: A {a}, X {x}, Y {y}, S {s}, P {p}, PC {pc}\n"
+        ),
+        Notation::Json => format!(in alloc;
+            ",\"registers\":{{\"A\":\"{a}\",\"X\":\"{x}\",\"Y\":\"{y}\",\"S\":\"{s}\",\"P\":\"{p}\",\"PC\":\"{pc}\"}}"
+        ),
+    }
+}
+
+/// The place of the beam.
+fn beam(alloc: Global, notation: Notation, scanline: u64, cycle: u8) -> Result<String, AllocError>
+    ensures { IfOk result (λ text. string_bytes text ≡ beam_text notation scanline cycle) }
+{
+    match notation {
+        Notation::Lines => format!(in alloc; "beam: scanline {scanline}, cycle {cycle}\n"),
+        Notation::Json => format!(in alloc; ",\"scanline\":{scanline},\"cycle\":{cycle}"),
+    }
+}
+
+/// What the frame left that faults.
+fn left_facts(
+    alloc: Global,
+    notation: Notation,
+    movie: &Movie,
+    frame: u32,
+    kind: FaultKind,
+) -> Result<String, AllocError>
+    requires { HasVerdict movie.now (Fault frame kind) }
+    ensures { IfOk result (λ text. string_bytes text ≡ left_text notation (left_at movie.now frame)) }
+{
+    let LeftState { state, scanline } = left_state(movie, frame, kind);
+    let registers = registers(alloc, notation, &state.fields().cpu)?;
+    let beam = beam(alloc, notation, scanline, state.line_cycle())?;
+    format!(in alloc; "{registers}{beam}")
+}
+
+/// What is said after a false checkpoint.
+fn false_facts<R: Threads + Sync>(
+    rt: &R,
+    alloc: Global,
+    notation: Notation,
+    movie: &Movie,
+    number: u16,
+    frame: u32,
+    workers: Workers,
+) -> Result<String, AllocError>
+    requires { HasVerdict movie.now (FalseCheckpoint number frame) }
+    ensures { IfOk result (λ text. HasFailure notation movie.now (FalseCheckpoint number frame) (string_bytes text)) }
+{
+    let _ = movie.frames();
+    let found = found_state(movie, number, frame);
+    let claim = claim_facts(alloc, notation, &movie.checkpoint(number).state, &found)?;
+    let before = u32::from(number) - 1;
+    let signs = signs_of(rt, alloc, movie, before, Sign::Differs, workers)?;
+    let segments = segment_facts(alloc, notation, &signs)?;
+    let reason = reason_in(movie, number, frame, &found, &signs);
+    let sentence = reason.text(alloc, notation)?;
+    format!(in alloc; "{claim}{segments}{sentence}")
+}
+
+/// What is said after a fault.
+fn fault_facts<R: Threads + Sync>(
+    rt: &R,
+    alloc: Global,
+    notation: Notation,
+    movie: &Movie,
+    frame: u32,
+    kind: FaultKind,
+    workers: Workers,
+) -> Result<String, AllocError>
+    requires { HasVerdict movie.now (Fault frame kind) }
+    ensures { IfOk result (λ text. HasFailure notation movie.now (Fault frame kind) (string_bytes text)) }
+{
+    let left = left_facts(alloc, notation, movie, frame, kind)?;
+    let before = u32::from(checkpoints_before(movie, 0, frame));
+    let signs = signs_of(rt, alloc, movie, before, Sign::Faults, workers)?;
+    let segments = segment_facts(alloc, notation, &signs)?;
+    format!(in alloc; "{left}{segments}")
+}
+
+/// What went wrong, if anything did.
+pub(crate) fn failure_facts<R: Threads + Sync>(
+    rt: &R,
+    alloc: Global,
+    notation: Notation,
+    movie: &Movie,
+    verdict: &Verdict,
+    workers: Workers,
+) -> Result<String, AllocError>
+    requires { HasVerdict movie.now verdict.now }
+    ensures { IfOk result (λ text. HasFailure notation movie.now verdict.now (string_bytes text)) }
+{
+    match verdict {
+        Verdict::Genuine { .. } => Ok(String::new(alloc)),
+        Verdict::FalseCheckpoint { number, frame } => {
+            false_facts(rt, alloc, notation, movie, *number, *frame, workers)
+        }
+        Verdict::Fault { frame, kind } => {
+            fault_facts(rt, alloc, notation, movie, *frame, *kind, workers)
+        }
+    }
+}
