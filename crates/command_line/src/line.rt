@@ -372,7 +372,7 @@ pub fn parse_line<S: AsStr>(alloc: Global, words: &[S]) -> Result<CommandLine, L
     ensures ok { IfOk result (IsLine (subcommand_of program_app (map S.text words.now))) }
     ensures explain { IfOk result (λ line. (line.explain ≡ true)
         ↔ AsksForReasons (matches_of program_app (map S.text words.now))
-            (subcommand_of program_app (map S.text words.now))) }
+        (subcommand_of program_app (map S.text words.now))) }
     ensures err { IfErr result (IsRefusal (map S.text words.now)) }
 {
     let program = program(alloc)?;

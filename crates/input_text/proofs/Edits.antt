@@ -148,7 +148,9 @@ one_exchanged a b some other = (to, from)
 
     to : (small_at a 0 ≡ small_at b 1) × (small_at a 1 ≡ small_at b 0) × (more a ≡ more b) → IsExchangedFirst (small a) (small b)
     to (first, second, same) = (
-      more b, small_at a 0, small_at a 1,
+      more b,
+      small_at a 0,
+      small_at a 1,
       small_second a some ∙ ap (λ (l : List ℕ). small_at a 0 ∷ small_at a 1 ∷ l) same,
       small_second b other ∙ rw (first, second) refl,
     )

@@ -1,5 +1,5 @@
 -- Why a line of a text can't be read, and which name a word was to be. This project's own.
-use Rattle.std.specs.Prelude.{◌≡◌, ◌⊎◌, ℕ, Bool, true, false, not, List, [], ◌∷◌, ◌++◌, map, drop}
+use Rattle.std.specs.Prelude.{◌≡◌, ◌⊎◌, ℕ, true, false, not, List, ◌∷◌, ◌++◌, map, drop}
 use Rattle.std.specs.Prelude.{Option, Some, None, IfSome, find, is_some, slice_get}
 use Rattle.std.specs.Borrow.{Bor}
 use Rattle.std.specs.Char.{to_ascii_lowercase}

@@ -1,7 +1,7 @@
 -- What a file is by its first bytes. The bytes are those of RFC 1952 (gzip), of the specifications of
 -- xz, Zstandard and PNG, of APPNOTE.TXT (zip), of POSIX (tar, whose mark is at byte 257), and of what
 -- bzip2, MAME and BizHawk write.
-use Rattle.std.specs.Prelude.{ℕ, Bool, true, ◌==◌, ◌&&◌, ◌||◌, List, [], ◌∷◌, codes, drop}
+use Rattle.std.specs.Prelude.{ℕ, Bool, ◌==◌, ◌&&◌, ◌||◌, List, [], ◌∷◌, codes, drop}
 use Rattle.std.specs.List.{starts_with}
 use Rattle.movie_hints.specs.declared.look.Look.{Look}
 use Rattle.movie_hints.specs.declared.look.Look.TheVariants.{Gzip, Xz, Zstd, Bzip2, BizHawkMovie}

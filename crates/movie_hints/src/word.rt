@@ -16,7 +16,12 @@ impl fmt::Display for Word<'_> {
     fn fmt<W: fmt::Write>(&self, f: &mut fmt::Formatter<W>) -> fmt::Result {
         let shown = self.bytes.get(..MOST_SHOWN).unwrap_or(self.bytes);
         for chunk in shown.utf8_chunks() {
-            write!(f, "{}{}", Shown::name(chunk.valid()), chunk.invalid().escape_ascii())?;
+            write!(
+                f,
+                "{}{}",
+                Shown::name(chunk.valid()),
+                chunk.invalid().escape_ascii()
+            )?;
         }
         if shown.len() < self.bytes.len() {
             f.write_str("..")?;

@@ -1,4 +1,3 @@
-use Rattle.input_text.specs.declared.name.Name.TheVariants.{Up0}
 use Rattle.input_text.proofs.MeantNames.{meant_first, meant_later}
 use Rattle.input_text.proofs.near.+meant_among.Goals as goal
 
