@@ -36,8 +36,8 @@ pub struct Masks {
     pub stale: Objects,
     /// Collision bits: those of all pairs that meet on a line, and perhaps others.
     pub bound: u16,
-    /// Whether pairs were looked for since an object was marked.
-    pub looked: bool,
+    /// How many windows were made since an object was marked, at most two.
+    pub windows_made: u8,
 }
 
 /// A bound that says nothing: no collision bits, so that those of all pairs are told from it.
@@ -64,7 +64,7 @@ impl Masks {
                 playfield: true,
             },
             bound: UNKNOWN,
-            looked: false,
+            windows_made: 0,
         }
     }
 
@@ -76,7 +76,7 @@ impl Masks {
         if changed.has_any() {
             self.stale = self.stale.union(changed);
             self.bound = UNKNOWN;
-            self.looked = false;
+            self.windows_made = 0;
         }
     }
 
@@ -115,8 +115,7 @@ impl Masks {
         self.latched_anew(tia, from, to)
     }
 
-    /// The same in at most 32 pixels, by a window of them. Masks that are to be made anew stay so
-    /// the first time, since often they are changed again before their line ends.
+    /// The same in at most 32 pixels, by a window of them.
     #[inline(never)]
     fn latched_in_window(&mut self, tia: &TiaFields, from: u8, to: u8) -> u16
         requires lawful { IsLawfulTia tia.now }
@@ -135,7 +134,8 @@ impl Masks {
         tia.collisions
     }
 
-    /// The window of each object from pixel `first` on.
+    /// The window of each object from pixel `first` on. Masks that are to be made anew stay so the
+    /// first two times, as a program that changes many objects in a line would pay for each.
     #[inline(always)]
     fn window(&mut self, tia: &TiaFields, first: u8) -> Window
         requires lawful { IsLawfulTia tia.now }
@@ -144,12 +144,12 @@ impl Masks {
         ensures window { AreInWindow tia.now first result }
         ensures fit { MasksFit tia.now self.new }
     {
-        if self.looked {
+        if self.windows_made >= 2 {
             self.renew(tia);
         } else {
             renew_playfield(&mut self.playfield, self.stale.playfield, tia);
             self.stale.playfield = false;
-            self.looked = true;
+            self.windows_made += 1;
         }
         Window {
             player0: window_of_player0(&self.player0, self.stale.player0, tia, first),

@@ -99,7 +99,7 @@ abbrev pub with_stale : Masks → Objects → Masks
 with_stale m o = record m {
   stale = union_of m.stale o;
   bound = if has_any o then 65535 else m.bound;
-  looked = if has_any o then false else m.looked;
+  windows_made = if has_any o then 0 else m.windows_made;
 }
 
 -- whether two objects meet within k pixels from x
