@@ -19,8 +19,10 @@ use crate::numbers::least;
 use crate::objects::{Objects, is_shown, size, value_by_delay};
 use crate::paint::Paint;
 use crate::shape::{ball_mask, missile_mask, player_mask, playfield_mask};
-use crate::window::{MOST_PIXELS, Window, pixels, window_of_ball, window_of_missile0};
-use crate::window::{window_of_missile1, window_of_player0, window_of_player1};
+use crate::window::{
+    MOST_PIXELS, Window, pixels, window_of_ball, window_of_missile0, window_of_missile1,
+    window_of_player0, window_of_player1,
+};
 use crate::write::NOTHING;
 
 /// The masks of the six objects.

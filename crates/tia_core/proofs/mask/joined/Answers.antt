@@ -1,4 +1,4 @@
-use Rattle.std.proofs.Common.{◌∙◌, ◌*◌, ◌+◌, ◌^◌, ◌/◌, arith}
+use Rattle.std.proofs.Common.{arith}
 use Rattle.tia_core.proofs.Windows.{joined-bit}
 use Rattle.tia_core.proofs.mask.joined.Goals as goal
 

@@ -1,7 +1,4 @@
-use Rattle.std.proofs.Common.{◌≡◌, ◌∙◌, ◌-◌, ◌+◌, ℕ, nat_lt, true, arith}
-use Rattle.std.proofs.lemmas.Bool.Decides.{nat_tests}
-use Rattle.tia_core.specs.Collision.{pairs_of}
-use Rattle.tia_core.specs.Objects.{objects_at}
+use Rattle.std.proofs.Common.{◌≡◌, ◌∙◌, ◌-◌, ◌+◌, ℕ, arith}
 use Rattle.tia_core.proofs.PairLemmas.{stretch-none}
 use Rattle.tia_core.proofs.Windows.{is-before, none-in-window}
 use Rattle.tia_core.proofs.masks.Masks.latched_in_window.Goals as goal
