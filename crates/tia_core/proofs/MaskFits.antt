@@ -5,8 +5,8 @@ use Rattle.std.proofs.Common.{◌∙◌}
 use Rattle.std.proofs.lemmas.Bool.{or_parts}
 use Rattle.tia_core.specs.Mask.{covers}
 use Rattle.tia_core.specs.Objects.{objects_at}
-use Rattle.tia_core.specs.Private.Stretches.{bl, has_any, m0, m1, with_stale, with_objects}
-use Rattle.tia_core.specs.Private.Stretches.{meet_within, objects_in, p0, p1, pf}
+use Rattle.tia_core.specs.Private.Stretches.{bl, has_any, m0, m1, union_of, with_stale}
+use Rattle.tia_core.specs.Private.Stretches.{with_objects, meet_within, objects_in, p0, p1, pf}
 use Rattle.tia_core.specs.Private.Stretches.{AreShown, IsBound, IsMaskOf, MasksFit}
 use Rattle.tia_core.specs.declared.fields.TiaFields.{TiaFields}
 use Rattle.tia_core.specs.declared.masks.Masks.{Masks}
@@ -38,9 +38,9 @@ mask-kept t u o object mask stale picks same fit e = λ x h.
 none-touched : (o : Objects) → has_any o ≡ false → (new old : Objects) → with_objects o new old ≡ old
 none-touched o e new old = grind arith
 
-bound-kept : (t u : TiaFields) (o : Objects) (bound : ℕ) → Untouched t u o → IsBound t bound → IsBound u (if has_any o then 32767 else bound)
+bound-kept : (t u : TiaFields) (o : Objects) (bound : ℕ) → Untouched t u o → IsBound t bound → IsBound u (if has_any o then 65535 else bound)
 bound-kept t u o bound same h = either (has_any o) refl where
-  either : (b : Bool) → has_any o ≡ b → IsBound u (if b then 32767 else bound)
+  either : (b : Bool) → has_any o ≡ b → IsBound u (if b then 65535 else bound)
   either true e = all-bound u
   either false e = λ x lt. rw (same x, none-touched o e (objects_at u x) (objects_at t x)) (h x lt)
 
@@ -55,6 +55,29 @@ fit-marked t u m o same f = record {
   playfield = mask-kept t u o pf m.playfield m.stale.playfield (λ new old e. rw e refl) same f.playfield;
   bound = bound-kept t u o m.bound same f.bound;
 }
+
+-- a write that changes no object marks none
+or-none : (a b : Bool) → b ≡ false → (a || b) ≡ a
+or-none a b e = grind arith
+
+six-none : (a b c d e f : Bool) → (a || b || c || d || e || f) ≡ false
+    → (a ≡ false) × (b ≡ false) × (c ≡ false) × (d ≡ false) × (e ≡ false) × (f ≡ false)
+six-none a b c d e f h = grind arith
+
+union-none : (s o : Objects) → has_any o ≡ false → union_of s o ≡ s
+union-none s o e =
+    let n = six-none o.player0 o.player1 o.missile0 o.missile1 o.ball o.playfield e in
+    rw (
+      or-none s.player0 o.player0 n.0,
+      or-none s.player1 o.player1 n.1,
+      or-none s.missile0 o.missile0 n.2,
+      or-none s.missile1 o.missile1 n.3,
+      or-none s.ball o.ball n.4,
+      or-none s.playfield o.playfield n.5,
+    ) refl
+
+pub none-marked : (m : Masks) (o : Objects) → has_any o ≡ false → m ≡ with_stale m o
+none-marked m o e = rw (union-none m.stale o e, e) refl
 
 -- ---- pairs of masks
 -- whether two masks meet within a stretch is whether their objects do

@@ -95,9 +95,9 @@ latched-first t c x k =
 
 -- ---- bounds
 -- the bits of all pairs are a bound
-pub all-bound : (t : TiaFields) → IsBound t 32767
+pub all-bound : (t : TiaFields) → IsBound t 65535
 unfolding both pairs_of
-all-bound t x h = eqb-true _ _ (at_set (λ s. bit_or 32767 (pairs_of s) == 32767) refl (objects_at t x))
+all-bound t x h = eqb-true _ _ (at_set (λ s. bit_or 65535 (pairs_of s) == 65535) refl (objects_at t x))
 
 or-within : (c bound n : ℕ) → bit_or bound n ≡ bound → bit_or c bound ≡ c → bit_or c n ≡ c
 or-within c bound n h e = ap (λ (a : ℕ). bit_or a n) (sym e) ∙ or_assoc c bound n ∙ ap (bit_or c) h ∙ e

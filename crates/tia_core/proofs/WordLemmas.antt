@@ -49,10 +49,10 @@ pub bit-high : (n k i : ℕ) → has_bit (n / 2 ^ k) i ≡ has_bit n (k + i)
 bit-high n k i = ap (λ (m : ℕ). m % 2 == 1) (shr-shr n k i)
 
 -- a row that is shifted up
-bit-shifted_low : (n k i : ℕ) → i < k → has_bit (n * 2 ^ k) i ≡ false
+pub bit-shifted_low : (n k i : ℕ) → i < k → has_bit (n * 2 ^ k) i ≡ false
 bit-shifted_low n k i h = let e : n * 2 ^ k + 0 ≡ n * 2 ^ k = omega arith in rw e at (cat-low n k 0 i h ∙ bit-zero i)
 
-bit-shifted : (n k i : ℕ) → k ≤ i → has_bit (n * 2 ^ k) i ≡ has_bit n (i - k)
+pub bit-shifted : (n k i : ℕ) → k ≤ i → has_bit (n * 2 ^ k) i ≡ has_bit n (i - k)
 bit-shifted n k i h = let e : n * 2 ^ k + 0 ≡ n * 2 ^ k = omega arith in rw e at (cat-high n k 0 i (pow_pos k) h)
 
 -- ---- masks by their words
@@ -162,7 +162,7 @@ common-none ws vs us i x e at h = sym (common-at ws vs us x h) ∙ rw (at, e) (b
 pub powers-order : (m n : ℕ) → m ≤ n → 2 ^ m ≤ 2 ^ n
 powers-order m n h = pow-le-pow_right (omega arith) {i = m} {j = n} h
 
-stretch-bit : (low high k : ℕ) → low ≤ high → has_bit (2 ^ high - 2 ^ low) k ≡ (nat_le low k && nat_lt k high)
+pub stretch-bit : (low high k : ℕ) → low ≤ high → has_bit (2 ^ high - 2 ^ low) k ≡ (nat_le low k && nat_lt k high)
 stretch-bit low high k h = grind (arith, nat_tests, bit_at_mask_below low high k, bit_at_mask_inside low high k, bit_at_mask_above low high k)
 
 -- the word that covers a stretch of a line: m and n of its pixels, from `first` on, lie left of x and of y
@@ -179,7 +179,7 @@ any_from-none test x (suc k) h = rw (h x (omega arith) (omega arith)) (any_from-
 first_or_later : (test : ℕ → Bool) (x k y : ℕ) → (x + 1 ≤ y → any_from test (x + 1) k ≡ true) → x ≤ y → test y ≡ true → any_from test x (suc k) ≡ true
 first_or_later test x k y later le e = grind arith
 
-any_from-some : (test : ℕ → Bool) (x k y : ℕ) → x ≤ y → y < x + k → test y ≡ true → any_from test x k ≡ true
+pub any_from-some : (test : ℕ → Bool) (x k y : ℕ) → x ≤ y → y < x + k → test y ≡ true → any_from test x k ≡ true
 any_from-some test x zero y le lt e = absurd (omega arith)
 any_from-some test x (suc k) y le lt e = first_or_later test x k y (λ le2. any_from-some test (x + 1) k y le2 (omega arith) e) le e
 

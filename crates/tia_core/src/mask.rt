@@ -1,6 +1,6 @@
 //! The pixels of a line that an object covers.
 ghost use Rattle.std.specs.Prelude.{◌≡◌, ◌<◌, ◌≤◌, ◌||◌, ◌&&◌, ◌-◌, ◌+◌, ◌%◌, ℕ, nat_le, nat_lt};
-ghost use Rattle.std.specs.Prelude.{bit_and, ◌^◌, true, false, min};
+ghost use Rattle.std.specs.Prelude.{bit_and, ◌^◌, true, false, min, if◌then◌else◌};
 ghost use Rattle.tia_core.specs.Bits.{has_bit};
 ghost use Rattle.tia_core.specs.Coverage.{distance_of};
 ghost use Rattle.tia_core.specs.Private.Stretches.{has_two};
@@ -71,6 +71,17 @@ impl Mask {
         ensures { result ≡ covers self.now x }
     {
         self.words[(x / 32) as usize] >> (x % 32) & 1 == 1
+    }
+
+    /// The 32 pixels from `first` on: bit k is set where pixel `first + k` is covered.
+    #[inline(always)]
+    pub(crate) fn window(&self, first: u8) -> u32
+        requires { first < 160 }
+        ensures { (k : ℕ) → k < 32 → first + k < 160 → has_bit result k ≡ covers self.now (first + k) }
+    {
+        let word = (first / 32) as usize;
+        let next = if word < 4 { word + 1 } else { word };
+        joined(self.words[word], self.words[next], first % 32)
     }
 
     /// Where the mask differs from its pixel `x`, up to the end of the word: bit k is set where one
@@ -146,6 +157,17 @@ impl Mask {
     }
 }
 
+/// The 32 bits from bit `first` on of two words.
+#[inline(always)]
+fn joined(low: u32, high: u32, first: u8) -> u32
+    requires { first < 32 }
+    ensures { (k : ℕ) → k < 32
+        → has_bit result k ≡ (if nat_lt (first + k) 32 then has_bit low (first + k) else has_bit high (first + k - 32)) }
+{
+    let both = u64::from(high) * 0x1_0000_0000 + u64::from(low);
+    ((both >> first) % 0x1_0000_0000) as u32
+}
+
 /// Which bits of `word` from bit `first` on differ from bit `first`; bit 0 of the answer is that of
 /// bit `first`.
 #[inline]
@@ -173,7 +195,7 @@ pub(crate) fn first_change(changes: u32) -> u8
 
 /// The bits that are set in two of six words.
 #[inline]
-fn set_twice(a: u32, b: u32, c: u32, d: u32, e: u32, f: u32) -> u32
+pub(crate) fn set_twice(a: u32, b: u32, c: u32, d: u32, e: u32, f: u32) -> u32
     ensures { (k : ℕ) → has_bit result k ≡ has_two (has_bit a k) (has_bit b k) (has_bit c k) (has_bit d k) (has_bit e k) (has_bit f k) }
 {
     (a & b) | ((a | b) & c) | ((a | b | c) & d) | ((a | b | c | d) & e) | ((a | b | c | d | e) & f)
@@ -181,7 +203,7 @@ fn set_twice(a: u32, b: u32, c: u32, d: u32, e: u32, f: u32) -> u32
 
 /// Whether two words have a bit in common.
 #[inline]
-fn overlap(a: u32, b: u32) -> bool
+pub(crate) fn overlap(a: u32, b: u32) -> bool
     ensures { result ≡ false → bit_and a b ≡ 0 }
 {
     a & b != 0
@@ -189,7 +211,7 @@ fn overlap(a: u32, b: u32) -> bool
 
 /// Whether three words have a bit in common.
 #[inline]
-fn all_overlap(a: u32, b: u32, c: u32) -> bool
+pub(crate) fn all_overlap(a: u32, b: u32, c: u32) -> bool
     ensures some { result ≡ true → (0 < bit_and (bit_and a b) c) × (a < 2 ^ 32) }
     ensures none { result ≡ false → bit_and (bit_and a b) c ≡ 0 }
 {

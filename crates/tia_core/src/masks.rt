@@ -6,7 +6,8 @@ ghost use Rattle.tia_core.specs.Mask.{covers};
 ghost use Rattle.tia_core.specs.Objects.{ball_at, is_in, missile_at, object_of, objects_at};
 ghost use Rattle.tia_core.specs.Private.Stretches.{bl, with_stale, m0, m1, no_objects, objects_in};
 ghost use Rattle.tia_core.specs.Private.Stretches.{p0, p1, pf, stretch_pairs, stretch_pixels};
-ghost use Rattle.tia_core.specs.Private.Stretches.{AreShown, IsBound, IsMaskOf, MasksFit};
+ghost use Rattle.tia_core.specs.Private.Stretches.{AreInWindow, AreShown, IsBound, IsMaskOf};
+ghost use Rattle.tia_core.specs.Private.Stretches.{MasksFit};
 ghost use Rattle.tia_core.specs.Private.Lawful.{IsLawfulTia};
 
 use crate::bits::has_bit;
@@ -18,6 +19,10 @@ use crate::numbers::least;
 use crate::objects::{Objects, is_shown, size, value_by_delay};
 use crate::paint::Paint;
 use crate::shape::{ball_mask, missile_mask, player_mask, playfield_mask};
+use crate::window::{
+    MOST_PIXELS, Window, pixels, window_of_ball, window_of_missile0, window_of_missile1,
+    window_of_player0, window_of_player1,
+};
 use crate::write::NOTHING;
 
 /// The masks of the six objects.
@@ -33,7 +38,12 @@ pub struct Masks {
     pub stale: Objects,
     /// Collision bits: those of all pairs that meet on a line, and perhaps others.
     pub bound: u16,
+    /// How many windows were made since an object was marked, at most two.
+    pub windows_made: u8,
 }
+
+/// A bound that says nothing: no collision bits, so that those of all pairs are told from it.
+const UNKNOWN: u16 = 0xFFFF;
 
 impl Masks {
     /// Masks that are all to be made anew.
@@ -55,7 +65,8 @@ impl Masks {
                 ball: true,
                 playfield: true,
             },
-            bound: 0x7FFF,
+            bound: UNKNOWN,
+            windows_made: 0,
         }
     }
 
@@ -64,9 +75,10 @@ impl Masks {
     pub fn mark(&mut self, changed: Objects)
         ensures { self.new ≡ with_stale self.old changed }
     {
-        self.stale = self.stale.union(changed);
         if changed.has_any() {
-            self.bound = 0x7FFF;
+            self.stale = self.stale.union(changed);
+            self.bound = UNKNOWN;
+            self.windows_made = 0;
         }
     }
 
@@ -105,6 +117,52 @@ impl Masks {
         self.latched_anew(tia, from, to)
     }
 
+    /// The same in at most 32 pixels, by a window of them.
+    #[inline(never)]
+    fn latched_in_window(&mut self, tia: &TiaFields, from: u8, to: u8) -> u16
+        requires lawful { IsLawfulTia tia.now }
+        requires fit { MasksFit tia.now self.old }
+        requires order { from < to }
+        requires range { to ≤ 160 }
+        requires short { to - from ≤ 32 }
+        ensures value { result ≡ bit_or tia.now.collisions (number_from 0 (stretch_pairs tia.now from (to - from))) }
+        ensures range { result < 2 ^ 15 }
+        ensures fit { MasksFit tia.now self.new }
+    {
+        let window = self.window(tia, from);
+        if window.any_two_meet(pixels(to - from)) {
+            return with_pairs(tia.collisions, window.pairs(tia, from, to));
+        }
+        tia.collisions
+    }
+
+    /// The window of each object from pixel `first` on. Masks that are to be made anew stay so the
+    /// first two times, as a program that changes many objects in a line would pay for each.
+    #[inline(always)]
+    fn window(&mut self, tia: &TiaFields, first: u8) -> Window
+        requires lawful { IsLawfulTia tia.now }
+        requires fit { MasksFit tia.now self.old }
+        requires first { first < 160 }
+        ensures window { AreInWindow tia.now first result }
+        ensures fit { MasksFit tia.now self.new }
+    {
+        if self.windows_made >= 2 {
+            self.renew(tia);
+        } else {
+            renew_playfield(&mut self.playfield, self.stale.playfield, tia);
+            self.stale.playfield = false;
+            self.windows_made += 1;
+        }
+        Window {
+            player0: window_of_player0(&self.player0, self.stale.player0, tia, first),
+            player1: window_of_player1(&self.player1, self.stale.player1, tia, first),
+            missile0: window_of_missile0(&self.missile0, self.stale.missile0, tia, first),
+            missile1: window_of_missile1(&self.missile1, self.stale.missile1, tia, first),
+            ball: window_of_ball(&self.ball, self.stale.ball, tia, first),
+            playfield: self.playfield.window(first),
+        }
+    }
+
     /// The collision bits with those of the pairs that meet in pixels `from..to`, by the masks.
     #[inline(never)]
     fn latched_anew(&mut self, tia: &TiaFields, from: u8, to: u8) -> u16
@@ -116,6 +174,9 @@ impl Masks {
         ensures range { result < 2 ^ 15 }
         ensures fit { MasksFit tia.now self.new }
     {
+        if from < to && to - from <= MOST_PIXELS {
+            return self.latched_in_window(tia, from, to);
+        }
         self.renew(tia);
         if self.any_two_meet(from, to) {
             return with_pairs(tia.collisions, self.pairs(tia, from, to));
@@ -133,7 +194,7 @@ impl Masks {
         requires { MasksFit tia.now self.old }
         ensures { MasksFit tia.now self.new }
     {
-        if self.bound == 0x7FFF {
+        if self.bound == UNKNOWN {
             self.bound = most_pairs(tia);
         }
     }

@@ -22,24 +22,35 @@ pub fn strobed_position(blank: u8, delay: u8, clock: u8) -> u8
 }
 
 /// The position `count` pixels to the left, going round from 0 to 159.
+#[inline(always)]
 fn left(position: u8, count: u8) -> u8
-    requires { count < 16 }
+    requires position { position < 160 }
+    requires count { count < 16 }
     ensures value { result ≡ modulo_160 (pos position -ℤ pos count) }
     ensures range { result < 160 }
 {
-    ((position as u16 + 160 - count as u16) % 160) as u8
+    if position >= count {
+        position - count
+    } else {
+        position + (160 - count)
+    }
 }
 
 /// The position `count` pixels to the right, going round from 159 to 0.
+#[inline(always)]
 fn right(position: u8, count: u8) -> u8
+    requires position { position < 160 }
+    requires count { count < 16 }
     ensures value { result ≡ modulo_160 (pos position +ℤ pos count) }
     ensures range { result < 160 }
 {
-    ((position as u16 + count as u16) % 160) as u8
+    let moved = position + count;
+    if moved < 160 { moved } else { moved - 160 }
 }
 
 /// Where an object is after HMOVE.
 pub fn moved_position(motion: u8, position: u8) -> u8
+    requires { position < 160 }
     ensures value { result ≡ moved_position motion position }
     ensures range { result < 160 }
 {

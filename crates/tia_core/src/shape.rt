@@ -34,6 +34,77 @@ fn right_of(position: u8, copy: u8) -> u8
     ((position as u16 + copy as u16) % 160) as u8
 }
 
+/// A row at each copy of an object, from the object's first pixel on.
+#[inline(always)]
+fn row_of_copies(row: u32, mode: u8) -> u128
+    ensures { (x position : ℕ) → position < 160 → has_bit result (distance_of x position 0)
+        ≡ list_any (λ c. has_bit row (distance_of x position c)) (copies_of mode) }
+{
+    let row = u128::from(row);
+    match mode {
+        1 => row | row << 16,
+        2 => row | row << 32,
+        3 => row | row << 16 | row << 32,
+        4 => row | row << 64,
+        6 => row | row << 32 | row << 64,
+        _ => row,
+    }
+}
+
+/// The 32 pixels from `first` on of a row that begins at `position`, and has no bit above 127.
+#[inline(always)]
+fn window(row: u128, first: u8, position: u8) -> u32
+    requires first { first < 160 }
+    requires position { position < 160 }
+    ensures { (k : ℕ) → k < 32 → first + k < 160 → has_bit result k ≡ has_bit row (distance_of (first + k) position 0) }
+{
+    let distance = if first >= position {
+        first - position
+    } else {
+        first + (160 - position)
+    };
+    if distance < 128 {
+        ((row >> distance) % 0x1_0000_0000) as u32
+    } else {
+        let low = (row % 0x1_0000_0000) as u64;
+        ((low << (160 - distance)) % 0x1_0000_0000) as u32
+    }
+}
+
+/// The 32 pixels from `first` on of a player.
+#[inline(always)]
+pub fn player_window(mode: u8, reflected: bool, graphic: u8, position: u8, first: u8) -> u32
+    requires first { first < 160 }
+    requires position { position < 160 }
+    ensures { (k : ℕ) → k < 32 → first + k < 160 → has_bit result k ≡ player_covers mode reflected graphic position (first + k) }
+{
+    let row = row_of_copies(player_row(mode, reflected, graphic), mode);
+    window(row, first, position)
+}
+
+/// The 32 pixels from `first` on of a missile of this size.
+#[inline(always)]
+pub fn missile_window(mode: u8, size: u8, position: u8, first: u8) -> u32
+    requires first { first < 160 }
+    requires position { position < 160 }
+    requires size { size ≤ 8 }
+    ensures { (k : ℕ) → k < 32 → first + k < 160 → has_bit result k ≡ missile_covers mode size position (first + k) }
+{
+    let row = row_of_copies(missile_row(size), mode);
+    window(row, first, position)
+}
+
+/// The 32 pixels from `first` on of a ball of this size.
+#[inline(always)]
+pub fn ball_window(size: u8, position: u8, first: u8) -> u32
+    requires first { first < 160 }
+    requires position { position < 160 }
+    requires size { size ≤ 8 }
+    ensures { (k : ℕ) → k < 32 → first + k < 160 → has_bit result k ≡ ball_covers size position (first + k) }
+{
+    window(u128::from(missile_row(size)), first, position)
+}
+
 /// The mask of a player.
 pub fn player_mask(mode: u8, reflected: bool, graphic: u8, position: u8) -> Mask
     requires { position < 160 }

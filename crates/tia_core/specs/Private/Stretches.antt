@@ -3,6 +3,7 @@
 use Rattle.std.specs.Prelude.{◌≡◌, ◌<◌, ℕ, ◌+◌, ◌*◌, ◌&&◌, ◌||◌, Bool, false}
 use Rattle.std.specs.Prelude.{if◌then◌else◌, List, [], ◌∷◌, bit_or, map}
 use Rattle.std.specs.List.{range_with_len}
+use Rattle.tia_core.specs.Bits.{has_bit}
 use Rattle.tia_core.specs.Clock.{Pixel}
 use Rattle.tia_core.specs.Collision.{pairs_of}
 use Rattle.tia_core.specs.Colour.{colour_at}
@@ -11,6 +12,7 @@ use Rattle.tia_core.specs.Objects.{objects_at}
 use Rattle.tia_core.specs.declared.fields.TiaFields.{TiaFields}
 use Rattle.tia_core.specs.declared.masks.Masks.{Masks}
 use Rattle.tia_core.specs.declared.objects.Objects.{Objects}
+use Rattle.tia_core.specs.declared.window.Window.{Window}
 
 -- the objects, one by one
 abbrev pub p0 : Objects → Bool
@@ -34,6 +36,19 @@ pf o = o.playfield
 -- a mask is this object's
 abbrev pub IsMaskOf : TiaFields → (Objects → Bool) → List Bool → Type 0
 IsMaskOf t object mask = (x : ℕ) → x < 160 → covers mask x ≡ object (objects_at t x)
+
+-- bit k of a window is that of the k-th pixel from `first` on, of 32 and up to the line's end
+abbrev pub IsWindowOf : TiaFields → (Objects → Bool) → ℕ → ℕ → Type 0
+IsWindowOf t object first window = (k : ℕ) → k < 32 → first + k < 160 → has_bit window k ≡ object (objects_at t (first + k))
+
+-- each object's
+pub record AreInWindow (t : TiaFields) (first : ℕ) (w : Window) : Type 0 where
+  pub player0 : IsWindowOf t p0 first w.player0
+  pub player1 : IsWindowOf t p1 first w.player1
+  pub missile0 : IsWindowOf t m0 first w.missile0
+  pub missile1 : IsWindowOf t m1 first w.missile1
+  pub ball : IsWindowOf t bl first w.ball
+  pub playfield : IsWindowOf t pf first w.playfield
 
 -- all pairs that meet on a line are among these
 abbrev pub IsBound : TiaFields → ℕ → Type 0
@@ -81,7 +96,11 @@ with_objects o new old = record {
 
 -- the masks once these objects have changed
 abbrev pub with_stale : Masks → Objects → Masks
-with_stale m o = record m { stale = union_of m.stale o; bound = if has_any o then 32767 else m.bound }
+with_stale m o = record m {
+  stale = union_of m.stale o;
+  bound = if has_any o then 65535 else m.bound;
+  windows_made = if has_any o then 0 else m.windows_made;
+}
 
 -- whether two objects meet within k pixels from x
 abbrev pub meet_within : TiaFields → (Objects → Bool) → (Objects → Bool) → ℕ → ℕ → Bool

@@ -1,8 +1,9 @@
-use Rattle.std.proofs.Common.{◌+◌, ◌-◌, sym, arith, pos, ◌-ℤ◌}
-use Rattle.std.proofs.lemmas.Int.{ints}
-use Rattle.tia_core.proofs.Modulo.{modulo_160-is}
+use Rattle.std.proofs.Common.{arith}
+use Rattle.tia_core.proofs.Modulo.{moved-left}
 use Rattle.tia_core.proofs.position.left.Goals as goal
 
-pub returns-clause-value : goal.returns-clause-value
-returns-clause-value c =
-    sym (modulo_160-is (pos c.args.position -ℤ pos c.args.count) 1 (c.args.position + 160 - c.args.count) (omega (arith, ints)))
+pub returns-then-position-count-clause-value : goal.returns-then-position-count-clause-value
+returns-then-position-count-clause-value c = moved-left c.args.position c.args.count _ c.requires.position c.requires.count (omega arith)
+
+pub returns-else-position-count-clause-value : goal.returns-else-position-count-clause-value
+returns-else-position-count-clause-value c = moved-left c.args.position c.args.count _ c.requires.position c.requires.count (omega arith)

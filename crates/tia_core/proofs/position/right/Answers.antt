@@ -1,7 +1,9 @@
-use Rattle.std.proofs.Common.{◌+◌, sym, arith, pos, ◌+ℤ◌}
-use Rattle.std.proofs.lemmas.Int.{ints}
-use Rattle.tia_core.proofs.Modulo.{modulo_160-is}
+use Rattle.std.proofs.Common.{arith}
+use Rattle.tia_core.proofs.Modulo.{moved-right}
 use Rattle.tia_core.proofs.position.right.Goals as goal
 
-pub returns-clause-value : goal.returns-clause-value
-returns-clause-value c = sym (modulo_160-is (pos c.args.position +ℤ pos c.args.count) 0 (c.args.position + c.args.count) (omega (arith, ints)))
+pub returns-then-moved-lt160-clause-value : goal.returns-then-moved-lt160-clause-value
+returns-then-moved-lt160-clause-value c = moved-right c.args.position c.args.count _ c.requires.position c.requires.count (omega arith)
+
+pub returns-else-moved-lt160-clause-value : goal.returns-else-moved-lt160-clause-value
+returns-else-moved-lt160-clause-value c = moved-right c.args.position c.args.count _ c.requires.position c.requires.count (omega arith)
