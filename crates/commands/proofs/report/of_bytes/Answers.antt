@@ -1,8 +1,8 @@
 use Rattle.std.proofs.Common.{rules, string_bytes}
 use Rattle.commands.proofs.report.of_bytes.Goals as goal
 
-pub report-requires : goal.report-requires
-report-requires g c = (c.args.plan.now.keep, c.in_ok-verdict.ensures.verdict)
+pub report-requires-after_bounds : goal.report-requires-after_bounds
+report-requires-after_bounds g c κs within = (c.args.plan.now.keep, c.in_ok-verdict.ensures.verdict)
 
 pub returns-clause-told : goal.returns-clause-told
 returns-clause-told g c =
