@@ -72,10 +72,10 @@ sentence_of (Inputs segment) =
     else codes "the inputs of segment " ++ (decimal segment ++ codes " don't lead from its claim to the next")
 sentence_of (Claim segment) =
     codes "the claim between segments " ++ (decimal segment ++ (codes " and " ++ (decimal (segment + 1)
-    ++ codes " was changed, or memory that the run doesn't read")))
+    ++ codes " was changed, or what leads to it and from it")))
 sentence_of (TwoClaims segment) =
     codes "the claims between segments " ++ (decimal segment ++ (codes " and " ++ (decimal (segment + 2)
-    ++ codes " were changed, or memory that the run doesn't read")))
+    ++ codes " were changed, or what leads to them and from them")))
 sentence_of (AllFrom segment) =
     codes "no segment from " ++ (decimal segment ++ codes " on leads to the claim at its end")
 sentence_of (Several count segment) =

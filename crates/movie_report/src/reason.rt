@@ -74,11 +74,11 @@ impl Reason {
                 format!(in alloc; "the inputs of segment {segment} don't lead from its claim to the next")
             }
             Reason::Claim { segment } => format!(in alloc;
-                "the claim between segments {segment} and {} was changed, or memory that the run doesn't read",
+                "the claim between segments {segment} and {} was changed, or what leads to it and from it",
                 u32::from(segment) + 1
             ),
             Reason::TwoClaims { segment } => format!(in alloc;
-                "the claims between segments {segment} and {} were changed, or memory that the run doesn't read",
+                "the claims between segments {segment} and {} were changed, or what leads to them and from them",
                 u32::from(segment) + 2
             ),
             Reason::AllFrom { segment } => format!(in alloc;
