@@ -149,9 +149,12 @@ module _ (m : MovieData) (movie : IsMovie m) (cuts : List ℕ) (fits : Fits cuts
         let a = from_of m cuts i in
         let t = start_of m cuts i in
         let len = end_of m cuts i - a in
-        let ends : a + len ≡ end_of m cuts i = omega (arith, from) in
-        (keep, Genuine (pictures m keep t a len),
-        (len, ends, (sound_later m a t (stands i le (omega (arith, from, end))) k len sound (omega (arith, ends, end)), refl)), refl)
+        let ends : a + len ≡ end_of m cuts i = omega (arith, from) in (
+          keep,
+          Genuine (pictures m keep t a len),
+          (len, ends, (sound_later m a t (stands i le (omega (arith, from, end))) k len sound (omega (arith, ends, end)), refl)),
+          refl,
+        )
 
   -- Those before the first false checkpoint pass, and the one that ends with it has another state there.
   IsFirstIn-false : (number frame : ℕ) → HasVerdict m (FalseCheckpoint number frame) → IsFirstIn m cuts (number - 1) Differs
@@ -172,11 +175,22 @@ module _ (m : MovieData) (movie : IsMovie m) (cuts : List ℕ) (fits : Fits cuts
             let rises = frames_rise m movie i j d c before claim here in
             passes k sound keep i (omega (arith, low, before, (cuts_least m cuts fits every)))
             (rw (end_of-cut m cuts i (i + 1) d (at_checkpoint m cuts fits every i d claim)) (omega (arith, rises, after)));
-        next = (keep, FalseCheckpoint number frame,
-            (k + 1 - a, omega (arith, begins, ends, after),
-            (k - a, omega (arith, begins, ends, after), omega (arith, begins, ends, after, at),
-            sound_later m a t s k (k - a) sound (omega (arith, begins, ends, after)),
-            (state, j, c, there, num, here, omega (arith, begins, ends, after), ne))), refl);
+        next = (
+          keep,
+          FalseCheckpoint number frame,
+          (
+            k + 1 - a,
+            omega (arith, begins, ends, after),
+            (
+              k - a,
+              omega (arith, begins, ends, after),
+              omega (arith, begins, ends, after, at),
+              sound_later m a t s k (k - a) sound (omega (arith, begins, ends, after)),
+              (state, j, c, there, num, here, omega (arith, begins, ends, after), ne),
+            ),
+          ),
+          refl,
+        );
         within = within_claims j low;
       })
     where
@@ -198,12 +212,22 @@ module _ (m : MovieData) (movie : IsMovie m) (cuts : List ℕ) (fits : Fits cuts
         let ends = ends_after next is in
         let s = stands k sound next (omega (arith, is.within, (cuts_least m cuts fits every))) begins in
         let more : a + (k - a) ≡ k = omega (arith, begins) in
-        let there : run m t a (k - a) ≡ Some state = rw (← run_later m a t s (k - a), more) ran in
-        (keep, Fault frame kind,
-        (end_of m cuts next - a, omega (arith, begins, ends),
-        (k - a, omega (arith, begins, ends), omega (arith, begins, at),
-        sound_later m a t s k (k - a) sound (omega (arith, begins)),
-        (state, left, there, subst (λ (y : ℕ). frame_after m y state ≡ Some (Failed kind left)) (omega (arith, more)) fails))), refl);
+        let there : run m t a (k - a) ≡ Some state = rw (← run_later m a t s (k - a), more) ran in (
+          keep,
+          Fault frame kind,
+          (
+            end_of m cuts next - a,
+            omega (arith, begins, ends),
+            (
+              k - a,
+              omega (arith, begins, ends),
+              omega (arith, begins, at),
+              sound_later m a t s k (k - a) sound (omega (arith, begins)),
+              (state, left, there, subst (λ (y : ℕ). frame_after m y state ≡ Some (Failed kind left)) (omega (arith, more)) fails),
+            ),
+          ),
+          refl,
+        );
     within = has_frame (ends_with_checkpoint m) refl;
   }
     where

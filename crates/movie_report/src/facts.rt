@@ -54,7 +54,11 @@ fn start_fact(
 ) -> Result<String, AllocError>
     ensures { IfOk result (λ text. string_bytes text ≡ start_text notation start.now power_on.now) }
 {
-    let word = if start == power_on { "power-on" } else { "not power-on" };
+    let word = if start == power_on {
+        "power-on"
+    } else {
+        "not power-on"
+    };
     format!(in alloc; "{}", WordFact(notation, "start", "start: ", word))
 }
 

@@ -69,9 +69,13 @@ impl Reason {
             ),
             Reason::Inputs { segment } => {
                 if segment == 1 {
-                    return format!(in alloc; "the inputs of segment 1 don't lead from the start to the first claim");
+                    return format!(in alloc;
+                        "the inputs of segment 1 don't lead from the start to the first claim"
+                    );
                 }
-                format!(in alloc; "the inputs of segment {segment} don't lead from its claim to the next")
+                format!(in alloc;
+                    "the inputs of segment {segment} don't lead from its claim to the next"
+                )
             }
             Reason::Claim { segment } => format!(in alloc;
                 "the claim between segments {segment} and {} was changed, or what leads to it and from it",

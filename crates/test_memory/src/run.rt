@@ -117,7 +117,11 @@ pub(crate) fn is_listed<R: Threads + Wait + Sync + AllocGlobal>(
         count: 2,
         numbers,
     };
-    let wanted = if numbers { b"1: 2\n".as_slice() } else { b"2\n" };
+    let wanted = if numbers {
+        b"1: 2\n".as_slice()
+    } else {
+        b"2\n"
+    };
     answer_to(rt, &inputs, &mut two_frames().as_slice()).is(Status::Done, wanted, &[])
 }
 

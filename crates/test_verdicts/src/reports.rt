@@ -1,8 +1,10 @@
 //! Reports of movies, by their first and last lines: a text of some hundred bytes keeps the prover
 //! for minutes. Whole reports, with digests, are compared by `ci/cases`.
 
-use crate::movies::{ENDLESS_FRAMES, SEVEN_FRAMES, after_frame, first_of_two_false, movie};
-use crate::movies::{power_on, read, two_frames};
+use crate::movies::{
+    ENDLESS_FRAMES, SEVEN_FRAMES, after_frame, first_of_two_false, movie, power_on, read,
+    two_frames,
+};
 use movie_report::report;
 use replay_plan::{Keep, Notation, Workers};
 use replay_segments::verify_one;
@@ -19,7 +21,16 @@ fn report_by<R: Threads + Sync>(
 ) -> Result<String, Fail> {
     let movie = read(alloc, bytes)?;
     let verdict = verify_one(alloc, &movie, Keep::NONE)?;
-    Ok(report(rt, alloc, Notation::Lines, "p", bytes, &movie, &verdict, workers)?)
+    Ok(report(
+        rt,
+        alloc,
+        Notation::Lines,
+        "p",
+        bytes,
+        &movie,
+        &verdict,
+        workers,
+    )?)
 }
 
 /// That by one worker.

@@ -21,6 +21,12 @@ returns c =
     let within = checkpoint_within c.args.movie.now _ c.checkpoint.result.now c.frames-frames.ensures.lawful c.checkpoint.ensures in
     let last : slice_get c.args.movie.now.checkpoints (length c.args.movie.now.checkpoints - 1) ≡ Some c.checkpoint.result.now =
     rw c.checkpoints-count.ensures.value at c.checkpoint.ensures in
-    rw (last, claim_notes-some (length c.args.movie.now.inputs) c.checkpoint.result.now within (omega (arith, c.frames-frames.ensures.value, c.if-rest-eq0.false)),
-    note_texts-one, ← c.frames-frames.ensures.value, ← c.in_ok-text.ensures.ok, ← c.deref.ensures)
+    rw (
+      last,
+      claim_notes-some (length c.args.movie.now.inputs) c.checkpoint.result.now within (omega (arith, c.frames-frames.ensures.value, c.if-rest-eq0.false)),
+      note_texts-one,
+      ← c.frames-frames.ensures.value,
+      ← c.in_ok-text.ensures.ok,
+      ← c.deref.ensures,
+    )
     c.note-2.ensures
