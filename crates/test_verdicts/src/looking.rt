@@ -76,6 +76,7 @@ fn line_that_fails_leaves_the_pictures(rt: HostRuntime) -> Result<(), Fail> {
 fn no_details() -> Details {
     Details {
         watches: Watches::none(),
+        memory: false,
         digests: false,
     }
 }
