@@ -66,7 +66,8 @@ def _verdict(movie: Movie, digest: str, answer: Answer, version: str) -> Verdict
             raise ValueError
         verdict["verdict"], verdict["facts"] = facts["verdict"], facts
     except (ValueError, LookupError, TypeError):
-        verdict["line"] = answer.is_error and answer.line or f"the program ended with status {answer.status}, and no verdict"
+        said = answer.line if answer.is_error else ""
+        verdict["line"] = said or f"the program ended with status {answer.status}, and no verdict"
     if answer.reason and verdict["verdict"] in (KINDS[3], NONE):
         verdict["reason"] = answer.reason
     return verdict

@@ -43,7 +43,7 @@ class Answer(NamedTuple):
     @property
     def reason(self) -> str:
         """Why it refuses or fails: the lines of standard error, of an error those after its first. Nothing if it doesn't say."""
-        lines = (readable(os.fsdecode(it)).strip() for it in self.err.split(b"\n")[self.is_error :])
+        lines = (readable(os.fsdecode(it)).strip() for it in self.err.split(b"\n")[1 if self.is_error else 0 :])
         return "; ".join(it.removeprefix(NAME_OF_MOVIES) for it in lines if it)
 
     @property
@@ -67,7 +67,7 @@ class Verifier:
         try:
             said = self._version(EXPLAIN)
             # (one of before gives no reasons)
-            self.explain = () if said.returncode else (EXPLAIN,)
+            self.explain: tuple[str, ...] = () if said.returncode else (EXPLAIN,)
             if said.returncode:
                 said = self._version()
                 said.check_returncode()
