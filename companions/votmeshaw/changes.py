@@ -2,7 +2,8 @@
 nothing ever rewrites it.
 
 An object has 'change', 'when', 'path' (and of a name that isn't UTF-8 path_base64), of a movie that was moved 'from', and
-what was kept of it before and after, 'old' and 'new': digest, verdict, line, program and the time of the verdict, or null.
+what was kept of it before and after, 'old' and 'new': digest, verdict, line, program, the time of the verdict, and the reason if
+there is one; or null.
 """
 
 import dataclasses
@@ -15,6 +16,7 @@ from typing import Any
 from votmeshaw import files, verdicts
 from votmeshaw.names import name_in, named, readable
 from votmeshaw.verdicts import NONE, Verdict
+from votmeshaw.verifier import with_reason
 
 NAME = "changes.jsonl"
 NEW, MOVED, REPLACED, GONE, OTHERWISE = "new", "moved", "replaced", "gone", "judged otherwise"
@@ -43,7 +45,7 @@ class Change:
 
     def item(self, when: str) -> dict[str, Any]:
         """The object of the file."""
-        old, new = ({key: it[key] for key in KEPT} if it else None for it in (self.old, self.new))
+        old, new = ({key: it[key] for key in (*KEPT, "reason") if key in it} if it else None for it in (self.old, self.new))
         found = {"change": self.kind, "when": when, **named("path", self.path), "old": old, "new": new}
         return found | (named("from", self.moved_from) if self.moved_from else {})
 
@@ -56,6 +58,14 @@ def told(item: dict[str, Any]) -> str:
         name = f"{readable(name_in(item, 'from'))} to {name}"
         old = ""
     return f"{item['change']}: {name}: {' now '.join(filter(None, (f'was {old}' if old and new else old, new)))}"
+
+
+def why(item: dict[str, Any]) -> str:
+    """Why the movie of an object of the file is refused or isn't judged now, or nothing."""
+    new = item["new"] or {}
+    if not new.get("reason") and new.get("verdict") != NONE:
+        return ""
+    return f"{readable(name_in(item, 'path'))}: {with_reason(new['line'], new.get('reason', ''))}"
 
 
 def steps(path: str, history: list[Verdict], final: Verdict) -> Iterator[Change]:
@@ -102,12 +112,12 @@ def keep(file: pathlib.Path, changes: list[Change], when: str) -> None:
         os.fsync(opened.fileno())
 
 
-def since(file: pathlib.Path, moment: datetime.datetime) -> Iterator[str]:
-    """The lines of the changes since a moment, each after its time; of a line that is damaged that it is so."""
+def since(file: pathlib.Path, moment: datetime.datetime) -> Iterator[tuple[str, str]]:
+    """The lines of the changes since a moment, each after its time, with the reason; of a line that is damaged that it is so."""
     for number, line in enumerate(files.content(file).split(b"\n"), 1):
         try:
             item = verdicts.object_in(line) if line else {}
             if item and datetime.datetime.fromisoformat(item["when"]) >= moment:
-                yield f"{item['when']} {told(item)}"
+                yield f"{item['when']} {told(item)}", why(item)
         except (ValueError, LookupError, TypeError, AttributeError):
-            yield f"(line {number} of {NAME} is cut off or damaged)"
+            yield f"(line {number} of {NAME} is cut off or damaged)", ""

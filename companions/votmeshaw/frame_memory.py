@@ -4,7 +4,7 @@ from __future__ import annotations
 
 import re
 
-from votmeshaw.verifier import Verifier
+from votmeshaw.verifier import Answer, Verifier
 
 # What 'frames --memory' says of a frame: its number, and its memory at the end of the line.
 FRAME = re.compile(rb"frame ([0-9]+): .*, memory ([0-9A-F]{256})\n")
@@ -32,10 +32,10 @@ def frame_memory(verifier: Verifier, movie: bytes, first: int = 1, count: int | 
                 run[int(told[1])] = bytes.fromhex(told[2].decode())
             else:
                 rest = line.rstrip()
-        said = rest or (process.stderr.read() if process.stderr else b"")
-        status = process.wait()
+        said = process.stderr.read() if process.stderr else b""
+        answer = Answer(process.wait(), rest, said)
     if fault := FAULT.fullmatch(rest):
         run.fault, run.fault_frame = fault[0].decode(), int(fault[1])
-    elif status:
-        raise Refused(said.decode(errors="replace").partition("\n")[0] or f"the program ended with status {status}")
+    elif answer.status:
+        raise Refused(answer.told)
     return run

@@ -8,7 +8,6 @@ import time
 from votmeshaw import verdicts
 from votmeshaw.cartridges import Cartridges
 from votmeshaw.movies import Folder, Movie
-from votmeshaw.names import readable
 from votmeshaw.stripped import Damaged, Stripped, is_stripped
 from votmeshaw.verdicts import KINDS, NONE, Verdict
 from votmeshaw.verifier import Answer, NoAnswer, Verifier
@@ -67,6 +66,8 @@ def _verdict(movie: Movie, digest: str, answer: Answer, version: str) -> Verdict
             raise ValueError
         verdict["verdict"], verdict["facts"] = facts["verdict"], facts
     except (ValueError, LookupError, TypeError):
-        error = readable(os.fsdecode(answer.err.partition(b"\n")[0]))
-        verdict["line"] = error or f"the program ended with status {answer.status}, and no verdict"
+        said = answer.line if answer.is_error else ""
+        verdict["line"] = said or f"the program ended with status {answer.status}, and no verdict"
+    if answer.reason and verdict["verdict"] in (KINDS[3], NONE):
+        verdict["reason"] = answer.reason
     return verdict

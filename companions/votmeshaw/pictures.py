@@ -9,7 +9,7 @@ from collections.abc import Iterator
 from typing import IO, NamedTuple
 
 from votmeshaw.command import Stop
-from votmeshaw.verifier import Verifier
+from votmeshaw.verifier import Answer, Verifier
 
 # A picture's width in pixels, of three bytes each.
 WIDTH = 160
@@ -37,10 +37,11 @@ class Run:
             yield pixels
         self.pipe.close()
         out, err = self.process.communicate()
-        line, status = (out + err).decode(errors="replace").partition("\n")[0], self.process.returncode
-        if head or status not in (ENDED, FAULTED):
-            raise Stop(line if line and status > 0 and not head else f"the program ended with status {status}, and no whole picture")
-        self.fault = line if status == FAULTED else ""
+        answer = Answer(self.process.returncode, out, err)
+        if head or answer.status not in (ENDED, FAULTED):
+            is_said = answer.line and answer.status > 0 and not head
+            raise Stop(answer.told if is_said else f"the program ended with status {answer.status}, and no whole picture")
+        self.fault = answer.line if answer.status == FAULTED else ""
 
 
 @contextlib.contextmanager

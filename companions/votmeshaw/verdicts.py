@@ -25,8 +25,9 @@ NONE = "not judged"
 
 class Verdict(TypedDict):
     """What was answered of one movie. Its facts are the object that 'vcs_check report --json' printed, and its line is that of
-    the verdict; of a movie that isn't judged there are no facts, and the line says why. If such a movie was judged before, and
-    can't be read now, 'before' is what was kept of it."""
+    the verdict; of a movie that isn't judged there are no facts, and the line says why. 'reason' is what the program gave as its
+    reason to refuse the movie, or to fail; 1.2.0 and older kept none. If a movie that isn't judged was judged before, and can't be
+    read now, 'before' is what was kept of it."""
 
     path: str
     digest: str | None
@@ -38,6 +39,7 @@ class Verdict(TypedDict):
     seconds: float
     judged: str
     program: str
+    reason: NotRequired[str]
     before: NotRequired[dict[str, Any]]
 
 
@@ -121,6 +123,8 @@ def wrong_fact(facts: dict[str, Any]) -> str:
     wrong = [it for it in FACTS[kind] if it not in facts]
     wrong += [it for it in NUMBERS if not is_of(facts.get(it, 0), (int,))]
     wrong += [it for it in TEXTS if not is_of(facts.get(it, ""), (str,))]
+    notes = facts.get("notes", [])
+    wrong += ["notes"] if not isinstance(notes, list) or not all(isinstance(it, str) for it in notes) else []
     wrong += ["last_input"] if not is_of(facts.get("last_input"), (int, type(None))) else []
     wrong += ["start_differs"] if kind == KINDS[0] and facts.get("start") != "power-on" and "start_differs" not in facts else []
     registers = facts.get("registers", {})
@@ -149,6 +153,8 @@ def checked(item: dict[str, Any]) -> Verdict:
         raise ValueError("digest")
     if item["verdict"] not in (*KINDS, NONE) or item["verdict"] != NONE and not item["digest"]:
         raise ValueError("verdict")
+    if not isinstance(item.get("reason", ""), str):
+        raise ValueError("reason")
     verdict: Verdict = item  # type: ignore[assignment]
     if is_judged(verdict) and (name := wrong_fact(item["facts"])):
         raise ValueError(f"facts: {name}")

@@ -9,9 +9,14 @@ from collections.abc import Iterator
 from typing import Any, NamedTuple
 
 from votmeshaw.command import Stop
+from votmeshaw.names import readable
 
 # Starts a program with a limit on its memory, in kilobytes.
 LIMITED = 'ulimit -v "$0" && exec "$@"'
+# Has the program say why it refuses or fails. The file's name is at the beginning, and each movie comes on standard input.
+EXPLAIN, NAME_OF_MOVIES = "--explain", "standard input: "
+# From this status on it has no verdict, and says on standard error what is wrong.
+ERRORS = 4
 
 
 class NoAnswer(Exception):
@@ -25,6 +30,32 @@ class Answer(NamedTuple):
     out: bytes
     err: bytes
 
+    @property
+    def is_error(self) -> bool:
+        """Whether it says that it could do nothing, or was ended."""
+        return not 0 <= self.status < ERRORS
+
+    @property
+    def line(self) -> str:
+        """The first line: of an error that of standard error, else that of standard output."""
+        return readable(os.fsdecode((self.err if self.is_error else self.out).partition(b"\n")[0]))
+
+    @property
+    def reason(self) -> str:
+        """Why it refuses or fails: the lines of standard error, of an error those after its first. Nothing if it doesn't say."""
+        lines = (readable(os.fsdecode(it)).strip() for it in self.err.split(b"\n")[1 if self.is_error else 0 :])
+        return "; ".join(it.removeprefix(NAME_OF_MOVIES) for it in lines if it)
+
+    @property
+    def told(self) -> str:
+        """The line with the reason behind it, or the status if there is no line."""
+        return with_reason(self.line, self.reason) if self.line else f"the program ended with status {self.status}"
+
+
+def with_reason(line: str, reason: str) -> str:
+    """A line, and behind it the reason if there is one."""
+    return f"{line}: {reason}" if reason else line
+
 
 class Verifier:
     """The verifier, with limits of a question: seconds and megabytes, or none."""
@@ -34,12 +65,21 @@ class Verifier:
         self.words = ["/bin/sh", "-c", LIMITED, str(memory * 1024), path] if memory else [path]
         self.lock, self.processes, self.is_stopped = threading.Lock(), set[subprocess.Popen[bytes]](), False
         try:
-            said = subprocess.run([path, "--version"], stdin=subprocess.DEVNULL, capture_output=True, check=True)
+            said = self._version(EXPLAIN)
+            # (one of before gives no reasons)
+            self.explain: tuple[str, ...] = () if said.returncode else (EXPLAIN,)
+            if said.returncode:
+                said = self._version()
+                said.check_returncode()
         except OSError as error:
             raise Stop(f"cannot run {path}: {error.strerror}") from None
         except subprocess.CalledProcessError as error:
             raise Stop(f"cannot run {path}: {error}") from None
         self.version = said.stdout.decode(errors="replace").strip()
+
+    def _version(self, *words: str) -> subprocess.CompletedProcess[bytes]:
+        """What the program says of its version."""
+        return subprocess.run([self.path, "--version", *words], stdin=subprocess.DEVNULL, capture_output=True)
 
     def answer(self, movie: bytes, *words: str) -> Answer:
         """The answer to a question, whose movie is '-': these bytes come on standard input."""
@@ -80,7 +120,7 @@ class Verifier:
             with self.lock:
                 if self.is_stopped:
                     raise NoAnswer("the run ends")
-                process = subprocess.Popen([*self.words, *words], process_group=0, **pipes)
+                process = subprocess.Popen([*self.words, *words, *self.explain], process_group=0, **pipes)
                 self.processes.add(process)
         return process
 

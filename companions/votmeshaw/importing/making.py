@@ -8,11 +8,8 @@ from typing import NamedTuple
 
 from votmeshaw.command import Stop
 from votmeshaw.importing.runs import Frames
-from votmeshaw.names import readable
-from votmeshaw.verifier import NoAnswer, Verifier
+from votmeshaw.verifier import Answer, NoAnswer, Verifier
 
-# From this status on the program has done nothing.
-ERRORS = 4
 # How many frames are looked at for their lines: those of a minute.
 LOOKED_AT = 3600
 CYCLES = re.compile(rb"^frame \d+: (\d+) cycles", re.M)
@@ -22,22 +19,22 @@ SHORTEST, PARTING, LONGEST = 240, 288, 325
 
 
 class Made(NamedTuple):
-    """What was made of a run: the movie, or none and the line that says why."""
+    """What was made of a run: the movie, or none, the line that says so, and the reason why there is none."""
 
     movie: bytes | None
     line: str
+    reason: str
 
 
-def asked_of(verifier: Verifier, movie: bytes, *words: str) -> tuple[int, bytes]:
-    """Status and output of a question; Stop if the program can't answer."""
+def asked_of(verifier: Verifier, movie: bytes, *words: str) -> Answer:
+    """The answer to a question; Stop if the program can't answer."""
     try:
         answer = verifier.answer(movie, *words)
     except NoAnswer as error:
         raise Stop(f"vcs_check {words[0]}: {error}") from None
-    if not 0 <= answer.status < ERRORS:
-        said = readable(answer.err.partition(b"\n")[0].decode("utf-8", "backslashreplace"))
-        raise Stop(f"vcs_check {words[0]}: {said or f'ended with status {answer.status}'}")
-    return answer.status, answer.out
+    if answer.is_error:
+        raise Stop(f"vcs_check {words[0]}: {answer.told}")
+    return answer
 
 
 def made(verifier: Verifier, game: bytes, frames: Frames, every: int) -> Made:
@@ -46,21 +43,22 @@ def made(verifier: Verifier, game: bytes, frames: Frames, every: int) -> Made:
         rom, inputs, movie = (pathlib.Path(folder, it) for it in ("game", "inputs", "movie"))
         rom.write_bytes(game)
         inputs.write_bytes(frames.text())
-        status, out = asked_of(verifier, b"", "make", str(rom), str(inputs), "--text", "--every", str(every), "--out", str(movie))
-        if status == 0 and not movie.exists():
+        answer = asked_of(verifier, b"", "make", str(rom), str(inputs), "--text", "--every", str(every), "--out", str(movie))
+        if answer.status == 0 and not movie.exists():
             raise Stop("vcs_check make: no movie was made")
-        return Made(movie.read_bytes() if status == 0 else None, out.decode("utf-8", "backslashreplace").strip())
+        is_made = answer.status == 0
+        return Made(movie.read_bytes() if is_made else None, answer.line, "" if is_made else answer.reason)
 
 
 def verdict(verifier: Verifier, movie: bytes) -> tuple[bool, str]:
     """Whether a movie is genuine, and the line that says so."""
-    status, out = asked_of(verifier, movie, "verify", "-")
-    return status == 0, out.decode("utf-8", "backslashreplace").strip()
+    answer = asked_of(verifier, movie, "verify", "-")
+    return answer.status == 0, answer.line
 
 
 def standard(verifier: Verifier, movie: bytes) -> str:
     """What the lines of a movie's frames say of the television that its game is for."""
-    _, out = asked_of(verifier, movie, "frames", "-", "--count", str(LOOKED_AT))
+    out = asked_of(verifier, movie, "frames", "-", "--count", str(LOOKED_AT)).out
     lines = round(statistics.median_low([int(it) for it in CYCLES.findall(out)] or [0]) / CYCLES_OF_A_LINE)
     if not SHORTEST <= lines < LONGEST:
         return f"{lines} lines a frame, which is neither NTSC (262) nor PAL (312)"

@@ -29,7 +29,7 @@ def habits(verifier: Verifier, movie: bytes, frames: int) -> dict[Habit, int]:
     for first, count, piece in pieces(verifier, movie, frames):
         looked = Habits()
         for frame in range(count):
-            _, out = asked_of(verifier, piece, "trace", "-", "--frame", str(frame + 1))
+            out = asked_of(verifier, piece, "trace", "-", "--frame", str(frame + 1)).out
             looked.look(first + frame, out.decode("utf-8", "backslashreplace").splitlines())
         found = looked.first | found
     return found

@@ -7,10 +7,10 @@ const table = document.getElementById("movies");
 const form = document.querySelector("form");
 const heads = [...table.tHead.rows[0].cells];
 const movies = rows.map((row, at) => {
-  const [page, name, kind, marks, notes, game, md5, time, frames, checkpoints, judged] = row;
+  const [page, name, kind, marks, notes, game, md5, time, frames, checkpoints, judged, reason] = row;
   const verdict = kinds[kind][0];
-  const text = [name, verdict, notes, game, md5, judged].join(" ").toLowerCase();
-  return { at, page, name, kind, verdict, marks: marks ? marks.split(" ") : [], notes, game, md5, time, frames, checkpoints, judged, text };
+  const text = [name, verdict, notes, game, md5, judged, reason].join(" ").toLowerCase();
+  return { at, page, name, kind, verdict, marks: marks ? marks.split(" ") : [], notes, game, md5, time, frames, checkpoints, judged, reason, text };
 });
 // What each column is sorted by; blanks come last, and 150 before 1200.
 const keys = {
@@ -69,6 +69,7 @@ function rowOf(movie) {
   if (movie.game) game.title = movie.md5;
   const cells = ["time", "frames", "checkpoints"].map((column) => element("td", `${column} number`, String(movie[column])));
   const verdict = element("td", `verdict ${style}`, seen, ` ${movie.verdict}`);
+  if (movie.reason) verdict.append(element("div", "reason", movie.reason));
   movie.row = element("tr", "", name, verdict, element("td", "notes", movie.notes), game, ...cells, element("td", "judged", movie.judged));
   return movie.row;
 }
@@ -129,9 +130,10 @@ function readAddress() {
 function csv() {
   const cell = (value) => (/[",\r\n]/.test(value) ? `"${String(value).replaceAll('"', '""')}"` : value);
   const name = (movie) => (/^[=+@-]/.test(movie.name) ? `./${movie.name}` : movie.name);
-  const game = (movie) => (/^[=+@-]/.test(movie.game) ? `'${movie.game}` : movie.game);
-  const columns = ["name", "verdict", "notes", "game", "md5", "time", "frames", "checkpoints", "judged", "page"];
-  const line = (movie) => columns.map((column) => cell({ ...movie, name: name(movie), game: game(movie), page: `movies/${movie.page}.html` }[column]));
+  const quoted = (text) => (/^[=+@-]/.test(text) ? `'${text}` : text);
+  const columns = ["name", "verdict", "notes", "game", "md5", "time", "frames", "checkpoints", "judged", "page", "reason"];
+  const shown = (movie) => ({ ...movie, name: name(movie), game: quoted(movie.game), page: `movies/${movie.page}.html`, reason: quoted(movie.reason) });
+  const line = (movie) => columns.map((column) => cell(shown(movie)[column]));
   return [columns, ...found.map(line)].map((cells) => `${cells.join(",")}\r\n`).join("");
 }
 
