@@ -1,15 +1,16 @@
 -- What the answer is if the words are no command. This project's own.
 use Rattle.std.specs.Prelude.{◌≡◌, ◌≢◌, ◌⊎◌, ◌++◌, ℕ, Bool, false, not, nat_le, List, Option, Some, None, Result, Ok, Err}
-use Rattle.std.specs.Prelude.{IsSomeAnd, codes, find, length, slice_index, string_bytes}
+use Rattle.std.specs.Prelude.{IsErr, IsSomeAnd, codes, find, length, slice_index, string_bytes}
 use Rattle.std.specs.Fmt.{decimal}
-use Rattle.clap.specs.Words.{IsAmong, Row, Text, fault_of, subcommand_of}
+use Rattle.clap.specs.Words.{IsAmong, Row, Text, fault_of, first_of, subcommand_of}
 use Rattle.clap.specs.declared.error.kind.ErrorKind.{ErrorKind}
 use Rattle.clap.specs.declared.error.kind.ErrorKind.TheVariants.{DisplayHelp, DisplayVersion}
 use Rattle.clap.specs.declared.error.kind.ErrorKind.TheVariants.{OutOfMemory}
+use Rattle.hex.specs.Hex.{decode_sized}
 use Rattle.hex.specs.declared.error.FromHexError.{FromHexError}
 use Rattle.replay_plan.specs.Limits.{first_address}
 use Rattle.command_line.specs.Meanings.{HasAddresses, byte_in, words_of}
-use Rattle.command_line.specs.Table.{frames_listed, program_app, watch_row}
+use Rattle.command_line.specs.Table.{frames_listed, program_app, report_listed, sha256_row, watch_row}
 use Rattle.command_line.specs.declared.command.LineFault.{LineFault}
 use Rattle.command_line.specs.declared.command.LineFault.TheVariants.{Usage, Help, Memory}
 
@@ -33,7 +34,7 @@ first_no_address words = find (λ word. not (is_in_memory (byte_in word))) words
 -- What is said of such a word, or if there is none, of so many words.
 abbrev pub no_address_text : Option Text → ℕ → Text
 no_address_text (Some word) count =
-    codes "error: invalid value '" ++ (word ++ codes "' for '--watch <AA>': an address of the memory is 80 to FF, or $80 to $FF\n")
+    codes "error: invalid value '" ++ (word ++ codes "' for '--watch <AA>': an address of the memory is 80 to FF, or '$80' to '$FF' in quotes\n")
 no_address_text None count =
     codes "error: '--watch <AA>' stands " ++ (decimal count ++ codes " times: at most 16, and --memory shows all bytes\n")
 
@@ -47,6 +48,18 @@ IsNoFrames rows (Usage text) = (HasAddresses rows → ⊥) × (string_bytes text
 IsNoFrames rows (Help text) = ⊥
 IsNoFrames rows Memory = Unit {0}
 
+-- What is said of a word that writes no digest.
+abbrev pub digest_mistake : Text → Text
+digest_mistake word =
+    codes "error: invalid value '" ++ (word ++ codes "' for '--sha256 <DIGEST>': a SHA-256 is 64 hexadecimal digits\n")
+
+-- The answer to the values of `report` of which the digest is none.
+abbrev pub IsNoReport : List Row → LineFault → Type 0
+IsNoReport rows (Usage text) =
+    IsSomeAnd (first_of sha256_row.name rows) (λ word. IsErr (decode_sized word 32) × (string_bytes text ≡ digest_mistake word))
+IsNoReport rows (Help text) = ⊥
+IsNoReport rows Memory = Unit {0}
+
 -- `clap` finds a mistake or a request of this kind in the words, and this is the answer to it.
 abbrev pub IsFound : List Text → LineFault → Type 0
 IsFound words fault =
@@ -55,7 +68,8 @@ IsFound words fault =
 -- The answer to the values of the command of this name, if there is no command.
 abbrev pub HasBadValue : Text → List Row → LineFault → Type 0
 HasBadValue name rows Memory = Unit {0}
-HasBadValue name rows fault = (name ≡ frames_listed.name) × IsNoFrames rows fault
+HasBadValue name rows fault =
+    ((name ≡ frames_listed.name) × IsNoFrames rows fault) ⊎ ((name ≡ report_listed.name) × IsNoReport rows fault)
 
 -- The answer to words that are no command. Memory may run out at any words.
 abbrev pub IsRefusal : List Text → LineFault → Type 0

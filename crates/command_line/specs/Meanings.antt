@@ -8,8 +8,10 @@ use Rattle.clap.specs.Words.{Row, Text, all_of, first_of, one_of}
 use Rattle.hex.specs.Hex.{decode_sized}
 use Rattle.hex.specs.declared.error.FromHexError.{FromHexError}
 use Rattle.replay_plan.specs.Limits.{most_watches}
+use Rattle.replay_plan.specs.declared.expectations.Expectations.{Expectations}
 use Rattle.replay_plan.specs.declared.input_form.InputForm.TheVariants as forms
-use Rattle.replay_plan.specs.declared.notation.Notation.TheVariants.{Json}
+use Rattle.replay_plan.specs.declared.notation.Notation.{Notation}
+use Rattle.replay_plan.specs.declared.notation.Notation.TheVariants.{Json, Lines}
 use Rattle.replay_plan.specs.declared.plan.Plan.{Plan}
 use Rattle.replay_plan.specs.declared.watches.Address.{Address}
 use Rattle.replay_plan.specs.declared.watches.Details.{Details}
@@ -19,11 +21,11 @@ use Rattle.command_line.specs.Table.{cuts_row, digests_row, explain_row, file_ro
 use Rattle.command_line.specs.Table.{inputs_row, json_row, memory_row, new_row, numbers_row}
 use Rattle.command_line.specs.Table.{old_row, watch_row}
 use Rattle.command_line.specs.Table.{out_row, pictures_row, rom_row}
-use Rattle.command_line.specs.Table.{text_row, workers_row}
+use Rattle.command_line.specs.Table.{expected_rom_row, power_on_row, sha256_row, text_row, to_the_end_row, workers_row}
 use Rattle.command_line.specs.declared.command.Command.{Command}
 use Rattle.command_line.specs.declared.command.CommandLine.{CommandLine}
 use Rattle.command_line.specs.declared.command.Command.TheVariants.{Verify, Report, Make}
-use Rattle.command_line.specs.declared.command.Command.TheVariants.{Info, Inputs, Convert}
+use Rattle.command_line.specs.declared.command.Command.TheVariants.{Info, Inputs, Cartridge, Convert}
 use Rattle.command_line.specs.declared.command.Command.TheVariants.{Frames, Pictures, Cut, Trace}
 
 -- The number that a text writes in decimal digits, of which the first may follow a plus.
@@ -63,32 +65,52 @@ byte_in word = decode_sized (without_dollar word) 1
 abbrev pub AreAddresses : List Text → List Address → Type 0
 AreAddresses words addresses = map byte_in words ≡ map (λ (a : Address). Ok (a.number ∷ [])) addresses
 
+-- An option without a word is there.
+abbrev pub IsGiven : Argument → List Row → Type 0
+IsGiven argument rows = one_of argument.name rows ≡ Some (codes "true")
+
 -- What `frames` tells of each frame.
 pub record AreDetails (rows : List Row) (details : Details) : Type 0 where
   pub watches : AreAddresses (words_of watch_row rows) details.watches
-  pub memory : (details.memory ≡ true) ↔ (one_of memory_row.name rows ≡ Some (codes "true"))
-  pub digests : (details.digests ≡ true) ↔ (one_of digests_row.name rows ≡ Some (codes "true"))
+  pub memory : (details.memory ≡ true) ↔ IsGiven memory_row rows
+  pub digests : (details.digests ≡ true) ↔ IsGiven digests_row rows
+
+-- In which notation a command writes.
+abbrev pub IsNotation : List Row → Notation → Type 0
+IsNotation rows notation = (notation ≡ Json) ↔ IsGiven json_row rows
+
+-- The digest that a word writes in 64 hexadecimal digits, if the word is there.
+abbrev pub IsDigest : Option Text → Option (List ℕ) → Type 0
+IsDigest None None = Unit {0}
+IsDigest (Some word) (Some digest) = decode_sized word 32 ≡ Ok digest
+IsDigest word digest = ⊥
+
+-- What a report compares the movie with.
+pub record AreExpectations (rows : List Row) (expectations : Expectations) : Type 0 where
+  pub digest : IsDigest (first_of sha256_row.name rows) expectations.digest
+  pub power_on : (expectations.power_on ≡ true) ↔ IsGiven power_on_row rows
+  pub to_the_end : (expectations.to_the_end ≡ true) ↔ IsGiven to_the_end_row rows
 
 -- The command of this name, of which `clap` found these values.
 abbrev pub IsCommandAt : Text → List Row → Command → Type 0
-IsCommandAt name rows (Verify plan) = (name ≡ codes "verify") × IsPlan rows plan
-IsCommandAt name rows (Report workers notation) =
-    (name ≡ codes "report") × (number_of workers_row rows ≡ Some workers.number)
-    × ((notation ≡ Json) ↔ (one_of json_row.name rows ≡ Some (codes "true")))
+IsCommandAt name rows (Verify plan notation) = (name ≡ codes "verify") × IsPlan rows plan × IsNotation rows notation
+IsCommandAt name rows (Report workers notation rom expectations) =
+    (name ≡ codes "report") × (number_of workers_row rows ≡ Some workers.number) × IsNotation rows notation
+    × (option_map string_bytes rom ≡ first_of expected_rom_row.name rows) × AreExpectations rows expectations
 IsCommandAt name rows (Make inputs form every) =
     (name ≡ codes "make") × (string_bytes inputs ≡ word_of inputs_row rows)
-    × ((form ≡ forms.Text) ↔ (one_of text_row.name rows ≡ Some (codes "true")))
+    × ((form ≡ forms.Text) ↔ IsGiven text_row rows)
     × (number_of checkpoints_row rows ≡ Some (non_zero_u32_get every))
-IsCommandAt name rows (Info notation) =
-    (name ≡ codes "info") × ((notation ≡ Json) ↔ (one_of json_row.name rows ≡ Some (codes "true")))
+IsCommandAt name rows (Info notation) = (name ≡ codes "info") × IsNotation rows notation
 IsCommandAt name rows (Inputs first count numbers) =
     (name ≡ codes "inputs") × (number_of first_row rows ≡ Some (non_zero_u32_get first))
     × (number_of asked_row rows ≡ Some count)
-    × ((numbers ≡ true) ↔ (one_of numbers_row.name rows ≡ Some (codes "true")))
+    × ((numbers ≡ true) ↔ IsGiven numbers_row rows)
+IsCommandAt name rows Cartridge = name ≡ codes "cartridge"
 IsCommandAt name rows Convert = name ≡ codes "convert"
-IsCommandAt name rows (Frames first count details) =
+IsCommandAt name rows (Frames first count details notation) =
     (name ≡ codes "frames") × (number_of first_row rows ≡ Some (non_zero_u32_get first))
-    × (number_of asked_row rows ≡ Some count) × AreDetails rows details
+    × (number_of asked_row rows ≡ Some count) × AreDetails rows details × IsNotation rows notation
 IsCommandAt name rows (Pictures first count) =
     (name ≡ codes "pictures") × (number_of first_row rows ≡ Some (non_zero_u32_get first))
     × (number_of asked_row rows ≡ Some count)
@@ -107,9 +129,10 @@ input_row other = file_row
 
 -- and the word that names the file that it writes, if it writes one.
 abbrev pub output_word : Command → List Row → Option Text
-output_word (Verify plan) rows = first_of pictures_row.name rows
+output_word (Verify plan notation) rows = first_of pictures_row.name rows
 output_word (Make inputs form every) rows = Some (word_of out_row rows)
 output_word Convert rows = Some (word_of new_row rows)
+output_word Cartridge rows = Some (word_of out_row rows)
 output_word (Pictures first count) rows = Some (word_of out_row rows)
 output_word (Cut first count every) rows = Some (word_of out_row rows)
 output_word other rows = None
@@ -121,10 +144,10 @@ IsLineAt name rows line =
     × (string_bytes line.input ≡ word_of (input_row line.command) rows)
     × (option_map string_bytes line.output ≡ output_word line.command rows)
 
--- `verify` by one worker, cut at every checkpoint, which keeps no picture.
+-- `verify` by one worker, cut at every checkpoint, which keeps no picture and writes a line.
 abbrev pub IsPlainVerify : Command → Type 0
-IsPlainVerify (Verify plan) =
-    (plan.workers.number ≡ 1) × (non_zero_u16_get plan.every ≡ 1)
+IsPlainVerify (Verify plan notation) =
+    (notation ≡ Lines) × (plan.workers.number ≡ 1) × (non_zero_u16_get plan.every ≡ 1)
     × (plan.keep.first ≡ 1) × (plan.keep.count ≡ 0)
 IsPlainVerify other = ⊥
 
@@ -134,10 +157,6 @@ abbrev pub IsLine : Option (Text × List Row) → CommandLine → Type 0
 IsLine None line =
     IsPlainVerify line.command × (string_bytes line.input ≡ codes "-") × (line.output ≡ None)
 IsLine (Some met) line = IsLineAt met.0 met.1 line
-
--- An option without a word is there.
-abbrev pub IsGiven : Argument → List Row → Type 0
-IsGiven argument rows = one_of argument.name rows ≡ Some (codes "true")
 
 -- The reasons are asked for: before the command's name, or after it.
 abbrev pub AsksForReasons : List Row → Option (Text × List Row) → Type 0

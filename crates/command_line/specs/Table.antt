@@ -90,6 +90,19 @@ digests_row = record { name = codes "digests"; kind = switch }
 abbrev pub numbers_row : Argument
 numbers_row = record { name = codes "numbers"; kind = switch }
 
+-- What a report compares the movie with: a cartridge, its digest, the start and the last frame.
+abbrev pub expected_rom_row : Argument
+expected_rom_row = record { name = codes "rom"; kind = word }
+
+abbrev pub sha256_row : Argument
+sha256_row = record { name = codes "sha256"; kind = word }
+
+abbrev pub power_on_row : Argument
+power_on_row = record { name = codes "power-on"; kind = switch }
+
+abbrev pub to_the_end_row : Argument
+to_the_end_row = record { name = codes "to-the-end"; kind = switch }
+
 abbrev pub json_row : Argument
 json_row = record { name = codes "json"; kind = switch }
 
@@ -101,11 +114,14 @@ explain_row = record { name = codes "explain"; kind = switch }
 abbrev pub verify_listed : Listed
 verify_listed = record {
   name = codes "verify";
-  arguments = file_row ∷ workers_row ∷ cuts_row ∷ first_row ∷ count_row ∷ pictures_row ∷ [];
+  arguments = file_row ∷ workers_row ∷ cuts_row ∷ first_row ∷ count_row ∷ pictures_row ∷ json_row ∷ [];
 }
 
 abbrev pub report_listed : Listed
-report_listed = record { name = codes "report"; arguments = file_row ∷ workers_row ∷ json_row ∷ [] }
+report_listed = record {
+  name = codes "report";
+  arguments = file_row ∷ workers_row ∷ expected_rom_row ∷ sha256_row ∷ power_on_row ∷ to_the_end_row ∷ json_row ∷ [];
+}
 
 abbrev pub make_listed : Listed
 make_listed = record {
@@ -116,11 +132,14 @@ make_listed = record {
 abbrev pub info_listed : Listed
 info_listed = record { name = codes "info"; arguments = file_row ∷ json_row ∷ [] }
 
-abbrev pub listing_listed : Listed
-listing_listed = record {
+abbrev pub inputs_listed : Listed
+inputs_listed = record {
   name = codes "inputs";
   arguments = file_row ∷ numbers_row ∷ first_row ∷ asked_row ∷ [];
 }
+
+abbrev pub cartridge_listed : Listed
+cartridge_listed = record { name = codes "cartridge"; arguments = file_row ∷ out_row ∷ [] }
 
 abbrev pub convert_listed : Listed
 convert_listed = record { name = codes "convert"; arguments = old_row ∷ new_row ∷ [] }
@@ -128,11 +147,11 @@ convert_listed = record { name = codes "convert"; arguments = old_row ∷ new_ro
 abbrev pub frames_listed : Listed
 frames_listed = record {
   name = codes "frames";
-  arguments = file_row ∷ first_row ∷ asked_row ∷ watch_row ∷ memory_row ∷ digests_row ∷ [];
+  arguments = file_row ∷ first_row ∷ asked_row ∷ watch_row ∷ memory_row ∷ digests_row ∷ json_row ∷ [];
 }
 
-abbrev pub drawing_listed : Listed
-drawing_listed = record {
+abbrev pub pictures_listed : Listed
+pictures_listed = record {
   name = codes "pictures";
   arguments = file_row ∷ out_row ∷ first_row ∷ asked_row ∷ [];
 }
@@ -148,17 +167,11 @@ cut_listed = record {
 
 -- The commands: those that judge a movie, those that make one or say what one holds, and those that
 -- look into a run.
-abbrev pub judging : List Listed
-judging = verify_listed ∷ report_listed ∷ []
-
-abbrev pub making : List Listed
-making = make_listed ∷ info_listed ∷ listing_listed ∷ convert_listed ∷ []
-
-abbrev pub looking : List Listed
-looking = frames_listed ∷ drawing_listed ∷ cut_listed ∷ trace_listed ∷ []
-
 abbrev pub commands : List Listed
-commands = judging ++ (making ++ looking)
+commands =
+    verify_listed ∷ report_listed
+    ∷ make_listed ∷ info_listed ∷ inputs_listed ∷ cartridge_listed ∷ convert_listed
+    ∷ frames_listed ∷ pictures_listed ∷ cut_listed ∷ trace_listed ∷ []
 
 -- ---- the same as `clap` reads it
 
@@ -190,10 +203,7 @@ rule_for argument = rule_as argument.kind argument.name
 abbrev pub IsRow : Argument → Arg → Type 0
 IsRow argument given = (rule_of given ≡ rule_for argument) × (given.global ≡ false)
 
--- A command of the table without the option that all have, and with it.
-abbrev pub shape_without : Listed → Shape
-shape_without listed = record (new_shape listed.name) { rules = map rule_for listed.arguments }
-
+-- A command of the table, with the option that all have.
 abbrev pub shape_for : Listed → Shape
 shape_for listed = record (new_shape listed.name) { rules = map rule_for listed.arguments ++ rule_for explain_row ∷ [] }
 
@@ -201,25 +211,26 @@ shape_for listed = record (new_shape listed.name) { rules = map rule_for listed.
 abbrev pub IsApp : App → Command → Type 0
 IsApp app command = (app_of command ≡ app) × ((out-Command command).has_globals ≡ false)
 
--- The command is one of the table, without the option that all have, and with it.
+-- The command is one of the table.
 abbrev pub IsListed : Listed → Command → Type 0
 IsListed listed command =
-    (shape_of command ≡ shape_without listed) × ((out-Command command).has_globals ≡ false)
-
-abbrev pub IsWhole : Listed → Command → Type 0
-IsWhole listed command =
     (shape_of command ≡ shape_for listed) × ((out-Command command).has_globals ≡ false)
+
+-- Arguments are those of rows, and commands are those of the table, one by one.
+abbrev pub AreRows : List Argument → List Arg → Type 0
+AreRows [] [] = Unit {0}
+AreRows (row ∷ rows) (argument ∷ arguments) = IsRow row argument × AreRows rows arguments
+AreRows rows arguments = ⊥
+
+abbrev pub AreListed : List Listed → List Command → Type 0
+AreListed [] [] = Unit {0}
+AreListed (listed ∷ more) (command ∷ rest) = IsListed listed command × AreListed more rest
+AreListed listed others = ⊥
 
 -- A program with more commands of the table.
 abbrev pub with_listed : App → List Listed → App
 with_listed app [] = app
 with_listed app (listed ∷ more) = with_listed (with_subcommand app (shape_for listed)) more
-
--- One program has these commands more than another.
-abbrev pub Adds : List Listed → Command → Command → Type 0
-Adds listed old new =
-    (app_of new ≡ with_listed (app_of old) listed)
-    × ((out-Command old).has_globals ≡ false → (out-Command new).has_globals ≡ false)
 
 -- The program: its commands, the option that stands before them, and two texts for its version.
 abbrev pub program_app : App

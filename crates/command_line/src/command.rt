@@ -2,7 +2,7 @@
 ghost use Rattle.std.specs.Prelude.{◌≡◌};
 ghost use Rattle.command_line.specs.declared.command.LineFault.TheVariants.{Memory};
 
-use replay_plan::{Details, InputForm, Notation, Plan, Workers};
+use replay_plan::{Details, Expectations, InputForm, Notation, Plan, Workers};
 use std::alloc::AllocError;
 use std::num::NonZeroU32;
 
@@ -13,12 +13,17 @@ pub enum Command {
     Verify {
         /// If no file takes pictures it keeps none.
         plan: Plan,
+        notation: Notation,
     },
-    /// Judge it, and say facts about it.
+    /// Judge it, say facts about it, and whether it is what is expected.
     Report {
         /// How many threads replay it.
         workers: Workers,
         notation: Notation,
+        /// The file of the cartridge that is expected, if one is named.
+        rom: Option<String>,
+        /// What is expected beside that.
+        expectations: Expectations,
     },
     /// Make a movie of a cartridge and the inputs of its frames.
     Make {
@@ -42,6 +47,8 @@ pub enum Command {
         /// Whether each line begins with the number of its first frame.
         numbers: bool,
     },
+    /// Write its cartridge.
+    Cartridge,
     /// Convert it to version 2.
     Convert,
     /// Say of some of its frames how long they were, and where its checkpoints are false.
@@ -52,6 +59,7 @@ pub enum Command {
         count: u32,
         /// What else the line about each says.
         details: Details,
+        notation: Notation,
     },
     /// Write the pictures of some of its frames.
     Pictures {
@@ -82,7 +90,7 @@ pub struct CommandLine {
     pub command: Command,
     /// The movie; of `make` the cartridge.
     pub input: String,
-    /// The file that takes a movie that is made, or pictures.
+    /// The file that takes a movie that is made, a cartridge, or pictures.
     pub output: Option<String>,
     /// Whether reasons are written whatever standard error is. Else a terminal alone gets them.
     pub explain: bool,

@@ -12,7 +12,7 @@ ghost use Rattle.command_line.specs.Meanings.{without_dollar, words_of};
 ghost use Rattle.command_line.specs.Table.{frames_listed, watch_row};
 
 use crate::command::{Command, LineFault};
-use crate::line::{is_given, number_at, number_from_one};
+use crate::line::{is_given, notation_of, number_at, number_from_one};
 use clap::ArgMatches;
 use hex::FromHex;
 use replay_plan::{Address, Details, Watches};
@@ -71,7 +71,7 @@ fn told_words(alloc: Global, words: &[&str]) -> Result<String, AllocError>
 {
     match first_no_address(words) {
         Some(word) => format!(in alloc;
-            "error: invalid value '{word}' for '--watch <AA>': an address of the memory is 80 to FF, or $80 to $FF\n"
+            "error: invalid value '{word}' for '--watch <AA>': an address of the memory is 80 to FF, or '$80' to '$FF' in quotes\n"
         ),
         None => format!(in alloc;
             "error: '--watch <AA>' stands {} times: at most 16, and --memory shows all bytes\n",
@@ -111,5 +111,6 @@ pub(crate) fn frames_of(alloc: Global, matches: &ArgMatches<'_>) -> Result<Comma
             memory,
             digests,
         },
+        notation: notation_of(matches),
     })
 }

@@ -1,10 +1,12 @@
 //! The words of a command line, as a command of the program.
 #![tactic(auto)]
 
+mod arguments;
 mod command;
 mod frames;
 mod line;
 mod parser;
+mod report;
 mod version;
 
 pub use command::{Command, CommandLine, LineFault};

@@ -11,10 +11,10 @@ ghost use Rattle.command_line.specs.Private.Names.{IsUnlisted};
 ghost use Rattle.command_line.specs.Private.Numbers.{HasNumbers, HasNumbersOf, IsNumberIn};
 ghost use Rattle.command_line.specs.Private.Numbers.{Suits};
 ghost use Rattle.command_line.specs.declared.command.LineFault.TheVariants.{Memory};
-ghost use Rattle.command_line.specs.Table.{commands, program_app, verify_listed, report_listed};
-ghost use Rattle.command_line.specs.Table.{listing_listed, make_listed};
+ghost use Rattle.command_line.specs.Table.{commands, program_app, verify_listed};
+ghost use Rattle.command_line.specs.Table.{inputs_listed, make_listed};
 ghost use Rattle.command_line.specs.Table.{workers_row, cuts_row, first_row, count_row};
-ghost use Rattle.command_line.specs.Table.{asked_row, checkpoints_row, cut_listed, drawing_listed};
+ghost use Rattle.command_line.specs.Table.{asked_row, checkpoints_row, cut_listed, pictures_listed};
 ghost use Rattle.command_line.specs.Table.{explain_row, frame_row, json_row, pictures_row, text_row, trace_listed};
 ghost use Rattle.replay_plan.specs.declared.input_form.InputForm.TheVariants.{Text};
 ghost use Rattle.replay_plan.specs.declared.notation.Notation.TheVariants.{Json};
@@ -22,6 +22,7 @@ ghost use Rattle.replay_plan.specs.declared.notation.Notation.TheVariants.{Json}
 use crate::command::{Command, CommandLine, LineFault};
 use crate::frames::frames_of;
 use crate::parser::program;
+use crate::report::report_of;
 use clap::ArgMatches;
 use clap::error::ErrorKind;
 use replay_plan::{InputForm, Keep, Notation, Plan, Workers};
@@ -44,7 +45,7 @@ pub(crate) fn text_of(
 
 /// The word of an option, if it is there.
 #[tactic(auto, using(crate::proofs::Getters::word_read))]
-fn word_of(
+pub(crate) fn word_of(
     alloc: Global,
     matches: &ArgMatches<'_>,
     name: &str,
@@ -83,29 +84,25 @@ pub(crate) fn number_from_one(matches: &ArgMatches<'_>, name: &str) -> NonZeroU3
 }
 
 /// The workers that are asked for.
-fn workers_of(matches: &ArgMatches<'_>) -> Workers
+#[tactic(auto, using(crate::proofs::Getters::ranges))]
+pub(crate) fn workers_of(matches: &ArgMatches<'_>) -> Workers
     requires { Suits workers_row.kind (one_of workers_row.name (rows_of (found_of matches.now))) }
     ensures { number_of workers_row (rows_of (found_of matches.now)) ≡ Some result.number }
 {
-    let Some(number) = matches.get_one::<u8>("workers") else {
-        unreachable!()
-    };
-    let Some(workers) = Workers::new(number) else {
+    let Some(workers) = Workers::new(number_at(matches, "workers") as u8) else {
         unreachable!()
     };
     workers
 }
 
 /// Where `verify` cuts the movie.
+#[tactic(auto, using(crate::proofs::Getters::ranges))]
 fn cuts_of(matches: &ArgMatches<'_>) -> NonZeroU16
     requires { Suits cuts_row.kind (one_of cuts_row.name (rows_of (found_of matches.now))) }
     ensures { number_of cuts_row (rows_of (found_of matches.now))
         ≡ Some (non_zero_u16_get result) }
 {
-    let Some(number) = matches.get_one::<u16>("every") else {
-        unreachable!()
-    };
-    let Some(every) = NonZeroU16::new(number) else {
+    let Some(every) = NonZeroU16::new(number_at(matches, "every") as u16) else {
         unreachable!()
     };
     every
@@ -144,30 +141,21 @@ fn verify_of(matches: &ArgMatches<'_>) -> Command
         every: cuts_of(matches),
         keep: keep_of(matches),
     };
-    Command::Verify { plan }
-}
-
-/// The command `report`.
-fn report_of(matches: &ArgMatches<'_>) -> Command
-    requires { HasNumbers report_listed (rows_of (found_of matches.now)) }
-    ensures { IsCommandAt (codes "report") (rows_of (found_of matches.now)) result }
-{
-    Command::Report {
-        workers: workers_of(matches),
+    Command::Verify {
+        plan,
         notation: notation_of(matches),
     }
 }
 
 /// Whether an option without a word is there.
 pub(crate) fn is_given(matches: &ArgMatches<'_>, name: &str) -> bool
-    ensures { (result ≡ true)
-        ↔ (one_of name.now (rows_of (found_of matches.now)) ≡ Some (codes "true")) }
+    ensures { (result ≡ true) ↔ (one_of name.now (rows_of (found_of matches.now)) ≡ Some (codes "true")) }
 {
     matches.get_one::<bool>(name).unwrap_or(false)
 }
 
 /// How facts are written: as JSON if that is asked for, and else as lines.
-fn notation_of(matches: &ArgMatches<'_>) -> Notation
+pub(crate) fn notation_of(matches: &ArgMatches<'_>) -> Notation
     ensures { (result ≡ Json)
         ↔ (one_of json_row.name (rows_of (found_of matches.now)) ≡ Some (codes "true")) }
 {
@@ -204,8 +192,8 @@ fn make_of(alloc: Global, matches: &ArgMatches<'_>) -> Result<Command, AllocErro
 }
 
 /// The command `inputs`.
-fn listing_of(matches: &ArgMatches<'_>) -> Command
-    requires { HasNumbers listing_listed (rows_of (found_of matches.now)) }
+fn inputs_of(matches: &ArgMatches<'_>) -> Command
+    requires { HasNumbers inputs_listed (rows_of (found_of matches.now)) }
     ensures { IsCommandAt (codes "inputs") (rows_of (found_of matches.now)) result }
 {
     Command::Inputs {
@@ -217,7 +205,7 @@ fn listing_of(matches: &ArgMatches<'_>) -> Command
 
 /// The command `pictures`.
 fn pictures_of(matches: &ArgMatches<'_>) -> Command
-    requires { HasNumbers drawing_listed (rows_of (found_of matches.now)) }
+    requires { HasNumbers pictures_listed (rows_of (found_of matches.now)) }
     ensures { IsCommandAt (codes "pictures") (rows_of (found_of matches.now)) result }
 {
     Command::Pictures {
@@ -272,12 +260,13 @@ fn command_of(alloc: Global, name: &str, matches: &ArgMatches<'_>) -> Result<Com
 {
     match name {
         "verify" => Ok(verify_of(matches)),
-        "report" => Ok(report_of(matches)),
+        "report" => report_of(alloc, matches),
         "make" => Ok(make_of(alloc, matches)?),
         "info" => Ok(Command::Info {
             notation: notation_of(matches),
         }),
-        "inputs" => Ok(listing_of(matches)),
+        "inputs" => Ok(inputs_of(matches)),
+        "cartridge" => Ok(Command::Cartridge),
         "convert" => Ok(Command::Convert),
         "frames" => frames_of(alloc, matches),
         "pictures" => Ok(pictures_of(matches)),
@@ -314,9 +303,10 @@ fn output_of(
 {
     match command {
         Command::Verify { .. } => word_of(alloc, matches, "pictures"),
-        Command::Make { .. } | Command::Pictures { .. } | Command::Cut { .. } => {
-            Ok(Some(text_of(alloc, matches, "out")?))
-        }
+        Command::Make { .. }
+        | Command::Cartridge
+        | Command::Pictures { .. }
+        | Command::Cut { .. } => Ok(Some(text_of(alloc, matches, "out")?)),
         Command::Convert => Ok(Some(text_of(alloc, matches, "new")?)),
         _ => Ok(None),
     }
@@ -356,7 +346,10 @@ fn line_of_no_words(alloc: Global, explain: bool) -> Result<CommandLine, LineFau
 {
     let plan = Plan::without_pictures(Workers::ONE);
     Ok(CommandLine {
-        command: Command::Verify { plan },
+        command: Command::Verify {
+            plan,
+            notation: Notation::Lines,
+        },
         input: String::from_str(alloc, "-")?,
         output: None,
         explain,

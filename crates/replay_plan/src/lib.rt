@@ -1,8 +1,9 @@
 //! What a command asks for, beside its files. How a movie is to be judged: by how many workers,
-//! where it is cut, and which pictures are kept; what a line about one of its frames says; how facts
+//! where it is cut, and which pictures are kept; what a line about one of its frames says; what it is expected to be; how facts
 //! are written, and in which form inputs are. Each number is in its range by its type.
 #![tactic(auto)]
 
+mod expectations;
 mod input_form;
 mod keep;
 mod notation;
@@ -10,6 +11,7 @@ mod plan;
 mod watches;
 mod workers;
 
+pub use expectations::Expectations;
 pub use input_form::InputForm;
 pub use keep::{BadKeep, Keep, MOST_KEPT};
 pub use notation::Notation;

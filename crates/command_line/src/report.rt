@@ -1,0 +1,67 @@
+//! From the arguments of `report` to its command.
+ghost use Rattle.std.specs.Prelude.{◌≡◌, codes, string_bytes, Err, IfErr, IfOk};
+ghost use Rattle.clap.specs.Words.{first_of, found_of, rows_of};
+ghost use Rattle.command_line.specs.Faults.{IsNoReport, digest_mistake};
+ghost use Rattle.command_line.specs.Meanings.{AreExpectations, IsCommandAt, IsDigest};
+ghost use Rattle.command_line.specs.Private.Numbers.{HasNumbers};
+ghost use Rattle.command_line.specs.Table.{report_listed, sha256_row};
+
+use crate::command::{Command, LineFault};
+use crate::line::{is_given, notation_of, word_of, workers_of};
+use clap::ArgMatches;
+use hex::FromHex;
+use replay_plan::Expectations;
+use std::alloc::{AllocError, Global};
+
+/// What is said of a word that writes no digest.
+fn told_digest(alloc: Global, word: &str) -> Result<String, AllocError>
+    ensures { IfOk result (λ text. string_bytes text ≡ digest_mistake word.now) }
+{
+    format!(in alloc;
+        "error: invalid value '{word}' for '--sha256 <DIGEST>': a SHA-256 is 64 hexadecimal digits\n"
+    )
+}
+
+/// The digest that the cartridge is expected to have, if one is asked for.
+#[tactic(auto, using(crate::proofs::Getters::word_read))]
+fn digest_of(alloc: Global, matches: &ArgMatches<'_>) -> Result<Option<[u8; 32]>, LineFault>
+    ensures ok { IfOk result (IsDigest (first_of sha256_row.name (rows_of (found_of matches.now)))) }
+    ensures err { IfErr result (IsNoReport (rows_of (found_of matches.now))) }
+{
+    let Some(word) = matches.get_str("sha256") else {
+        return Ok(None);
+    };
+    match <[u8; 32] as FromHex>::from_hex(word) {
+        Ok(digest) => Ok(Some(digest)),
+        Err(_) => Err(LineFault::Usage {
+            text: told_digest(alloc, word)?,
+        }),
+    }
+}
+
+/// What the movie is expected to be, beside the cartridge of a file.
+fn expectations_of(alloc: Global, matches: &ArgMatches<'_>) -> Result<Expectations, LineFault>
+    ensures ok { IfOk result (AreExpectations (rows_of (found_of matches.now))) }
+    ensures err { IfErr result (IsNoReport (rows_of (found_of matches.now))) }
+{
+    Ok(Expectations {
+        digest: digest_of(alloc, matches)?,
+        power_on: is_given(matches, "power-on"),
+        to_the_end: is_given(matches, "to-the-end"),
+    })
+}
+
+/// The command `report`.
+pub(crate) fn report_of(alloc: Global, matches: &ArgMatches<'_>) -> Result<Command, LineFault>
+    requires { HasNumbers report_listed (rows_of (found_of matches.now)) }
+    ensures ok { IfOk result (IsCommandAt (codes "report") (rows_of (found_of matches.now))) }
+    ensures err { IfErr result (IsNoReport (rows_of (found_of matches.now))) }
+{
+    let expectations = expectations_of(alloc, matches)?;
+    Ok(Command::Report {
+        workers: workers_of(matches),
+        notation: notation_of(matches),
+        rom: word_of(alloc, matches, "rom")?,
+        expectations,
+    })
+}
