@@ -14,8 +14,17 @@ use Rattle.movie_file.specs.InputLists.{SpellsInputs}
 use Rattle.movie_hints.specs.Looks.{is_like, looks}
 use Rattle.riot_map.specs.Cart.{is_cart_length}
 use Rattle.movie_file.specs.Format.{magic, most_checkpoints}
+use Rattle.movie_file.specs.declared.error.MovieError.{MovieError}
+use Rattle.movie_file.specs.declared.error.MovieError.TheVariants.{NoMemory, BadState}
 use Rattle.movie_hints.specs.declared.hint.Hint.{Hint}
 use Rattle.movie_hints.specs.declared.hint.Hint.TheVariants as hints
+use Rattle.movie_hints.specs.declared.mismatch.Expected.{Expected}
+use Rattle.movie_hints.specs.declared.mismatch.Expected.TheVariants as expected
+use Rattle.movie_hints.specs.declared.mismatch.Field.{Field}
+use Rattle.movie_hints.specs.declared.mismatch.Field.TheVariants as fields
+use Rattle.movie_hints.specs.declared.mismatch.Found.{Found}
+use Rattle.movie_hints.specs.declared.mismatch.Found.TheVariants as found
+use Rattle.movie_hints.specs.declared.mismatch.Mismatch.{Mismatch}
 use Rattle.movie_hints.specs.declared.texts.TextHint.{TextHint}
 use Rattle.movie_hints.specs.declared.texts.TextHint.TheVariants as texts
 
@@ -55,6 +64,53 @@ is_printed byte = (nat_le 0x20 byte && nat_lt byte 0x7F) || (nat_le 9 byte && na
 abbrev pub is_text : List ℕ → Bool
 is_text bytes = not (length bytes == 0) && list_all is_printed bytes
 
+-- The number that a field is said to be, and that its bytes say so from this one on.
+abbrev pub number_of : Found → ℕ
+number_of (found.Byte n) = n
+number_of (found.TwoBytes n) = n
+number_of (found.FourBytes n) = n
+number_of (found.Bits n) = n
+number_of (found.Mark n) = n
+
+abbrev pub StandsAt : List ℕ → ℕ → Found → Type 0
+StandsAt bytes at (found.Byte n) = Holds bytes at n
+StandsAt bytes at (found.TwoBytes n) = n ≡ two_at bytes at
+StandsAt bytes at (found.FourBytes n) = n ≡ four_at bytes at
+StandsAt bytes at (found.Bits n) = Holds bytes at n
+StandsAt bytes at (found.Mark n) = n ≡ four_at bytes at
+
+-- A field of a header begins at its own byte. Where the others do depends on the counts before them.
+abbrev pub IsPlaceOf : Field → ℕ → Type 0
+IsPlaceOf fields.Magic byte = byte ≡ 0
+IsPlaceOf fields.Version byte = byte ≡ 4
+IsPlaceOf fields.CartridgeLength byte = byte ≡ 6
+IsPlaceOf fields.Frames byte = byte ≡ 8
+IsPlaceOf fields.Checkpoints byte = byte ≡ 12
+IsPlaceOf other byte = Unit {0}
+
+-- A number isn't what was expected. Of versions, lengths of cartridges, frames, buttons and the frames
+-- of checkpoints the refusal says so, which is known before.
+abbrev pub Breaks : Expected → ℕ → Type 0
+Breaks expected.Checkpoints n = most_checkpoints < n
+Breaks (expected.NoBitOutside mask) n = bit_and n mask ≢ n
+Breaks (expected.AtMost most) n = most < n
+Breaks (expected.OneTo most) n = (n ≡ 0) ⊎ (most < n)
+Breaks expected.NoLatches n = n ≢ 0
+Breaks expected.OneBank n = n ≢ 0
+Breaks expected.SetBits n = bit_and n 0x34 ≢ 0x34
+Breaks other n = Unit {0}
+
+-- A file isn't told by its first bytes if it looks like something.
+abbrev pub IsTold : List ℕ → Expected → Type 0
+IsTold bytes expected.Magic =
+    (find (is_like bytes) looks ≡ None) × (is_text bytes ≡ false) × (is_cart_length (length bytes) ≡ false)
+IsTold bytes other = Unit {0}
+
+-- What is said of a field is true: where it begins, what it is, and that this was not expected.
+abbrev pub IsTrueMismatch : List ℕ → Mismatch → Type 0
+IsTrueMismatch bytes m =
+    IsPlaceOf m.field m.byte × StandsAt bytes m.byte m.found × Breaks m.expected (number_of m.found) × IsTold bytes m.expected
+
 -- The numbers in a hint are those of the bytes, what was found is not what was expected, and what
 -- bytes look like is how they begin or which are among them. A reading that is named succeeds. Of
 -- what a file looks like the first is said that it does.
@@ -62,21 +118,7 @@ abbrev pub IsTrueOf : List ℕ → Hint → Type 0
 IsTrueOf bytes (hints.InHeader found) = (found ≡ length bytes) × (found < 14)
 IsTrueOf bytes (hints.Missing missing said found) = (found ≡ length bytes) × (found < said) × (found + missing ≡ said)
 IsTrueOf bytes (hints.Extra extra said found) = (found ≡ length bytes) × (said + extra ≡ found)
-IsTrueOf bytes (hints.Magic found) =
-    (found ≡ four_at bytes 0) × (find (is_like bytes) looks ≡ None) × (is_text bytes ≡ false)
-    × (is_cart_length (length bytes) ≡ false)
-IsTrueOf bytes (hints.Version found) = found ≡ two_at bytes 4
-IsTrueOf bytes (hints.Cartridge found) = found ≡ two_at bytes 6
-IsTrueOf bytes (hints.Frames most found) = found ≡ four_at bytes 8
-IsTrueOf bytes (hints.Checkpoints found) = (found ≡ two_at bytes 12) × (most_checkpoints < found)
-IsTrueOf bytes (hints.Bits name at mask found) = Holds bytes at found × (bit_and found mask ≢ found)
-IsTrueOf bytes (hints.TooLarge name at most found) = Holds bytes at found × (most < found)
-IsTrueOf bytes (hints.TimerPart at most found) = (found ≡ two_at bytes at) × ((found ≡ 0) ⊎ (most < found))
-IsTrueOf bytes (hints.Latches at found) = Holds bytes at found × (found ≢ 0)
-IsTrueOf bytes (hints.Bank at found) = Holds bytes at found × (found ≢ 0)
-IsTrueOf bytes (hints.Switches at found) = Holds bytes at found × (bit_and found 0x34 ≢ 0x34)
-IsTrueOf bytes (hints.Buttons at found) = Holds bytes at found
-IsTrueOf bytes (hints.Order at before last found) = found ≡ four_at bytes at
+IsTrueOf bytes (hints.Mismatch mismatch) = IsTrueMismatch bytes mismatch
 IsTrueOf bytes (hints.Looks look) = find (is_like bytes) looks ≡ Some look
 IsTrueOf bytes hints.Text = (find (is_like bytes) looks ≡ None) × (is_text bytes ≡ true)
 IsTrueOf bytes hints.LooksLikeCartridge =
@@ -90,6 +132,12 @@ IsTrueOf bytes hints.Utf16 = Begins bytes (0xFF ∷ 0xFE ∷ []) ⊎ Begins byte
 IsTrueOf bytes hints.CarriageReturns = (has_byte bytes 13 ≡ true) × (has_byte bytes 10 ≡ false)
 IsTrueOf bytes (hints.OddLength extra found) = (found ≡ length bytes) × (extra ≡ found % 3)
 IsTrueOf bytes other = Unit {0}
+
+-- What is said of bytes that are refused so is true. Each refusal is explained, but for a state of
+-- which it isn't known which number is wrong.
+abbrev pub Explains : List ℕ → MovieError → Option Hint → Type 0
+Explains bytes error hint =
+    IfSome hint (IsTrueOf bytes) × (hint ≡ None → (error ≡ NoMemory) ⊎ ((k : ℕ) × (error ≡ BadState k)))
 
 -- The line of this number, from 1, is the first bad one of a text, and this is what is wrong with it.
 abbrev pub IsBadLine : List ℕ → ℕ → Mistake → Type 0

@@ -1,3 +1,4 @@
 pub mod Looks
 pub mod Hints
 pub mod Counts
+pub mod HintTexts

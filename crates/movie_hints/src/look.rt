@@ -82,18 +82,23 @@ impl Look {
 }
 
 impl fmt::Display for Look {
+    ghost use Rattle.std.specs.Prelude.{Some};
+    ghost use Rattle.movie_hints.specs.HintTexts.{look_text};
+
+    ghost output = { λ look. Some (look_text look) };
+
     fn fmt<W: fmt::Write>(&self, f: &mut fmt::Formatter<W>) -> fmt::Result {
-        f.write_str(match self {
-            Look::Gzip => "a gzip file: unpack it first",
-            Look::Xz => "an xz file: unpack it first",
-            Look::Zstd => "a zstd file: unpack it first",
-            Look::Bzip2 => "a bzip2 file: unpack it first",
-            Look::BizHawkMovie => "a BizHawk movie: see vcs_import",
-            Look::Zip => "a zip file: unpack it first",
-            Look::Tar => "a tar file: unpack it first",
-            Look::Png => "a PNG image",
-            Look::MameInputs => "a MAME input file",
-            Look::InputLog => "an input log of BizHawk: see vcs_import",
-        })
+        match *self {
+            Look::Gzip => write!(f, "a gzip file: unpack it first"),
+            Look::Xz => write!(f, "an xz file: unpack it first"),
+            Look::Zstd => write!(f, "a zstd file: unpack it first"),
+            Look::Bzip2 => write!(f, "a bzip2 file: unpack it first"),
+            Look::BizHawkMovie => write!(f, "a BizHawk movie: see vcs_import"),
+            Look::Zip => write!(f, "a zip file: unpack it first"),
+            Look::Tar => write!(f, "a tar file: unpack it first"),
+            Look::Png => write!(f, "a PNG image"),
+            Look::MameInputs => write!(f, "a MAME input file"),
+            Look::InputLog => write!(f, "an input log of BizHawk: see vcs_import"),
+        }
     }
 }

@@ -1,10 +1,10 @@
 //! What is wrong with refused bytes.
-ghost use Rattle.std.specs.Prelude.{◌≡◌, ◌⊎◌, ℕ, None, IfSome};
-ghost use Rattle.movie_file.specs.declared.error.MovieError.TheVariants.{NoMemory, BadState};
-ghost use Rattle.movie_hints.specs.Hints.{IsTrueOf, is_printed, is_text};
+ghost use Rattle.std.specs.Prelude.{◌≡◌, IfSome};
+ghost use Rattle.movie_hints.specs.Hints.{Explains, IsTrueOf, is_printed, is_text};
 
 use crate::hint::Hint;
 use crate::look::Look;
+use crate::mismatch::{Expected, Field, Found};
 use crate::places::{Places, byte_at, four_at, two_at};
 use crate::state_rules::broken_number;
 use movie_file::{HEADER_LENGTH, MOST_CHECKPOINTS, MovieError, most_frames};
@@ -35,7 +35,8 @@ fn without_magic(bytes: &[u8]) -> Hint
     } else if Cart::is_length(bytes.len()) {
         Hint::LooksLikeCartridge
     } else {
-        Hint::Magic(four_at(bytes, 0))
+        let found = Found::Mark(four_at(bytes, 0));
+        Hint::of_field(Field::Magic, 0, Expected::Magic, found)
     }
 }
 
@@ -73,6 +74,22 @@ fn too_short(bytes: &[u8]) -> Hint
     }
 }
 
+/// Which version a header has that is none.
+fn wrong_version(bytes: &[u8]) -> Hint
+    ensures { IsTrueOf bytes.now result }
+{
+    let found = Found::TwoBytes(two_at(bytes, 4));
+    Hint::of_field(Field::Version, 4, Expected::Version, found)
+}
+
+/// Which length of a cartridge a header has that is none.
+fn wrong_cartridge(bytes: &[u8]) -> Hint
+    ensures { IsTrueOf bytes.now result }
+{
+    let found = Found::TwoBytes(two_at(bytes, 6));
+    Hint::of_field(Field::CartridgeLength, 6, Expected::CartridgeLength, found)
+}
+
 /// Which of the counts of a header is wrong.
 fn wrong_count(bytes: &[u8]) -> Hint
     ensures { IsTrueOf bytes.now result }
@@ -81,9 +98,11 @@ fn wrong_count(bytes: &[u8]) -> Hint
     let most = most_frames(places.version);
     let found = places.frames;
     if 1 <= found && found <= most && places.checkpoints > MOST_CHECKPOINTS {
-        Hint::Checkpoints(places.checkpoints)
+        let found = Found::TwoBytes(places.checkpoints);
+        Hint::of_field(Field::Checkpoints, 12, Expected::Checkpoints, found)
     } else {
-        Hint::Frames { most, found }
+        let expected = Expected::Frames { most };
+        Hint::of_field(Field::Frames, 8, expected, Found::FourBytes(found))
     }
 }
 
@@ -106,14 +125,13 @@ pub(crate) fn wrong_input(bytes: &[u8], first: usize) -> Hint
     let switches = first.saturating_add(1);
     let found = byte_at(bytes, switches);
     if found & 0x34 != 0x34 {
-        return Hint::Switches {
-            at: switches,
-            found,
-        };
+        let field = Field::Named("switches");
+        return Hint::of_field(field, switches, Expected::SetBits, Found::Bits(found));
     }
-    let at = first.saturating_add(2);
-    let found = byte_at(bytes, at);
-    Hint::Buttons { at, found }
+    let buttons = first.saturating_add(2);
+    let found = Found::Bits(byte_at(bytes, buttons));
+    let field = Field::Named("buttons");
+    Hint::of_field(field, buttons, Expected::ButtonBits, found)
 }
 
 /// What is wrong with the frame of a checkpoint, counted from 1.
@@ -126,28 +144,25 @@ fn wrong_order(bytes: &[u8], number: u16) -> Hint
         Some(previous) => four_at(bytes, places.checkpoint(previous)),
     };
     let at = places.checkpoint(number.saturating_sub(1));
-    Hint::Order {
-        at,
+    let expected = Expected::FrameAfter {
         before,
         last: places.frames,
-        found: four_at(bytes, at),
-    }
+    };
+    let found = Found::FourBytes(four_at(bytes, at));
+    Hint::of_field(Field::FrameNumber, at, expected, found)
 }
 
 /// What is wrong with the bytes of a movie that is refused so.
 pub fn hint_of(bytes: &[u8], error: MovieError) -> Option<Hint>
-    ensures so { IfSome result (IsTrueOf bytes.now) }
-
-    // Each refusal is explained, but for a state of which it isn't known which number is wrong.
-    ensures explained { result ≡ None → (error ≡ NoMemory) ⊎ ((k : ℕ) × (error ≡ BadState k)) }
+    ensures { Explains bytes.now error result }
 {
     let places = Places::of(bytes);
     match error {
         MovieError::Short => Some(too_short(bytes)),
         MovieError::Trailing => Some(wrong_length(bytes)),
         MovieError::BadMagic => Some(without_magic(bytes)),
-        MovieError::BadVersion => Some(Hint::Version(places.version)),
-        MovieError::BadCartSize => Some(Hint::Cartridge(places.cartridge)),
+        MovieError::BadVersion => Some(wrong_version(bytes)),
+        MovieError::BadCartSize => Some(wrong_cartridge(bytes)),
         MovieError::BadCounts => Some(wrong_count(bytes)),
         MovieError::BadState(number) => wrong_state(bytes, number),
         MovieError::BadInput(number) => {

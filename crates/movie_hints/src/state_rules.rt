@@ -3,6 +3,7 @@ ghost use Rattle.std.specs.Prelude.{IfSome};
 ghost use Rattle.movie_hints.specs.Hints.{IsTrueOf};
 
 use crate::hint::Hint;
+use crate::mismatch::{Expected, Field, Found};
 use crate::places::{Places, byte_at, two_at};
 use movie_file::{
     BANK_NUMBERS, BANK_NUMBERS_AT, PROCESSOR_NUMBERS, RIOT_NUMBERS, RIOT_NUMBERS_AT, RecordNumber,
@@ -18,20 +19,14 @@ fn broken_in(numbers: &[RecordNumber], bytes: &[u8], at: usize) -> Option<Hint>
     for number in numbers.iter().copied() {
         let found = byte_at(bytes, at);
         if found & number.mask != found {
-            return Some(Hint::Bits {
-                name: number.name,
-                at,
-                mask: number.mask,
-                found,
-            });
+            let expected = Expected::NoBitOutside { mask: number.mask };
+            let found = Found::Bits(found);
+            return Some(Hint::of_field(Field::Named(number.name), at, expected, found));
         }
         if found > number.most {
-            return Some(Hint::TooLarge {
-                name: number.name,
-                at,
-                most: number.most,
-                found,
-            });
+            let expected = Expected::AtMost { most: number.most };
+            let found = Found::Byte(found);
+            return Some(Hint::of_field(Field::Named(number.name), at, expected, found));
         }
         at = at.saturating_add(number.length);
     }
@@ -79,7 +74,9 @@ fn broken_timer(bytes: &[u8], at: usize) -> Option<Hint>
     let at = at.saturating_add(RIOT_NUMBERS_AT + 5);
     let found = two_at(bytes, at);
     if found == 0 || found > most {
-        Some(Hint::TimerPart { at, most, found })
+        let expected = Expected::OneTo { most };
+        let found = Found::TwoBytes(found);
+        Some(Hint::of_field(Field::Named("timer part"), at, expected, found))
     } else {
         None
     }
@@ -93,7 +90,8 @@ fn broken_latches(bytes: &[u8], at: usize) -> Option<Hint>
     let at = at.saturating_add(TIA_NUMBERS_AT + 39);
     let found = byte_at(bytes, at);
     if found != 0 && blank & 0x40 == 0 {
-        Some(Hint::Latches { at, found })
+        let field = Field::Named("button latches");
+        Some(Hint::of_field(field, at, Expected::NoLatches, Found::Byte(found)))
     } else {
         None
     }
@@ -106,7 +104,8 @@ fn broken_bank(bytes: &[u8], at: usize, places: Places) -> Option<Hint>
     let at = at.saturating_add(BANK_NUMBERS_AT);
     let found = byte_at(bytes, at);
     if found != 0 && places.version != 1 && !Cart::is_banked(usize::from(places.cartridge)) {
-        Some(Hint::Bank { at, found })
+        let field = Field::Named("bank");
+        Some(Hint::of_field(field, at, Expected::OneBank, Found::Byte(found)))
     } else {
         None
     }

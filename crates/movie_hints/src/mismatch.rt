@@ -1,0 +1,165 @@
+//! A field of a file that is not what was expected.
+
+use std::fmt;
+use vcs_machine::{HexByte, HexWord};
+
+/// Which field of a file.
+#[derive(Clone, Copy, Debug)]
+pub enum Field {
+    Magic,
+    Version,
+    CartridgeLength,
+    Frames,
+    Checkpoints,
+    /// The frame of a checkpoint.
+    FrameNumber,
+    /// A field of an input or of a state record, by its name, which has no quotation mark, backslash
+    /// or control character.
+    Named(&'static str),
+}
+
+/// What was expected of a field.
+#[derive(Clone, Copy, Debug)]
+pub enum Expected {
+    Magic,
+    Version,
+    CartridgeLength,
+    Frames { most: u32 },
+    Checkpoints,
+    NoBitOutside { mask: u8 },
+    AtMost { most: u8 },
+    OneTo { most: u16 },
+    NoLatches,
+    OneBank,
+    /// The bits of the switches that are always set.
+    SetBits,
+    /// No bit but those of the two buttons.
+    ButtonBits,
+    FrameAfter { before: u32, last: u32 },
+}
+
+/// What a field is: a number of one, two or four bytes, or the bits of one or four.
+#[derive(Clone, Copy, Debug)]
+pub enum Found {
+    Byte(u8),
+    TwoBytes(u16),
+    FourBytes(u32),
+    Bits(u8),
+    Mark(u32),
+}
+
+/// A field that is not what was expected, and the byte where it begins, counted from 0.
+#[derive(Clone, Copy, Debug)]
+pub struct Mismatch {
+    pub field: Field,
+    pub byte: usize,
+    pub expected: Expected,
+    pub found: Found,
+}
+
+impl fmt::Display for Field {
+    ghost use Rattle.std.specs.Prelude.{Some};
+    ghost use Rattle.movie_hints.specs.HintTexts.{field_text};
+
+    ghost output = { λ field. Some (field_text field) };
+
+    fn fmt<W: fmt::Write>(&self, f: &mut fmt::Formatter<W>) -> fmt::Result {
+        match *self {
+            Field::Magic => write!(f, "magic"),
+            Field::Version => write!(f, "version"),
+            Field::CartridgeLength => write!(f, "cartridge length"),
+            Field::Frames => write!(f, "frames"),
+            Field::Checkpoints => write!(f, "checkpoints"),
+            Field::FrameNumber => write!(f, "frame number"),
+            Field::Named(name) => write!(f, "{name}"),
+        }
+    }
+}
+
+impl fmt::Display for Expected {
+    ghost use Rattle.std.specs.Prelude.{Some};
+    ghost use Rattle.movie_hints.specs.HintTexts.{expected_text};
+
+    ghost output = { λ expected. Some (expected_text expected) };
+
+    fn fmt<W: fmt::Write>(&self, f: &mut fmt::Formatter<W>) -> fmt::Result {
+        match *self {
+            Expected::Magic => write!(f, "4132364D"),
+            Expected::Version => write!(f, "version 1 or 2"),
+            Expected::CartridgeLength => write!(
+                f,
+                "a cartridge of 2048 or 4096 bytes, in version 2 also 8192"
+            ),
+            Expected::Frames { most } => write!(f, "1 to {most} frames"),
+            Expected::Checkpoints => write!(f, "at most 4095 checkpoints"),
+            Expected::NoBitOutside { mask } => write!(f, "no bit outside of {}", HexByte(mask)),
+            Expected::AtMost { most } => write!(f, "at most {most}"),
+            Expected::OneTo { most } => write!(f, "1 to {most}"),
+            Expected::NoLatches => write!(f, "0, as VBLANK has no bit 6"),
+            Expected::OneBank => write!(f, "0, as the cartridge has one bank"),
+            Expected::SetBits => write!(f, "bits 2, 4 and 5"),
+            Expected::ButtonBits => write!(f, "no bit outside of 03"),
+            Expected::FrameAfter { before, last } => {
+                write!(f, "a frame after {before} and up to {last}")
+            }
+        }
+    }
+}
+
+impl fmt::Display for Found {
+    ghost use Rattle.std.specs.Prelude.{Some};
+    ghost use Rattle.movie_hints.specs.HintTexts.{found_text};
+
+    ghost output = { λ found. Some (found_text found) };
+
+    fn fmt<W: fmt::Write>(&self, f: &mut fmt::Formatter<W>) -> fmt::Result {
+        match *self {
+            Found::Byte(found) => write!(f, "{found}"),
+            Found::TwoBytes(found) => write!(f, "{found}"),
+            Found::FourBytes(found) => write!(f, "{found}"),
+            Found::Bits(found) => write!(f, "{}", HexByte(found)),
+            Found::Mark(found) => {
+                let high = HexWord((found / 0x1_0000) as u16);
+                let low = HexWord((found % 0x1_0000) as u16);
+                write!(f, "{high}{low}")
+            }
+        }
+    }
+}
+
+/// The field and its byte: fields of a header and the frame of a checkpoint go by the byte alone.
+#[derive(Clone, Copy)]
+struct Place(Field, usize);
+
+impl fmt::Display for Place {
+    ghost use Rattle.std.specs.Prelude.{Some};
+    ghost use Rattle.movie_hints.specs.HintTexts.{place_text};
+
+    ghost output = { λ place. Some (place_text place.0 place.1) };
+
+    fn fmt<W: fmt::Write>(&self, f: &mut fmt::Formatter<W>) -> fmt::Result {
+        let Place(field, byte) = *self;
+        match field {
+            Field::Named(name) => write!(f, "{name} at byte {byte}"),
+            _ => write!(f, "byte {byte}"),
+        }
+    }
+}
+
+impl fmt::Display for Mismatch {
+    ghost use Rattle.std.specs.Prelude.{Some};
+    ghost use Rattle.movie_hints.specs.HintTexts.{mismatch_text};
+
+    ghost output = { λ mismatch. Some (mismatch_text mismatch) };
+
+    fn fmt<W: fmt::Write>(&self, f: &mut fmt::Formatter<W>) -> fmt::Result {
+        let Mismatch {
+            field,
+            byte,
+            expected,
+            found,
+        } = *self;
+        let place = Place(field, byte);
+        write!(f, "{place}: expected {expected}, found {found}")
+    }
+}
