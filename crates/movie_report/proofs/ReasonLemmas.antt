@@ -10,9 +10,9 @@ use Rattle.run_cursor.proofs.CursorLemmas.{none_after}
 use Rattle.replay_segments.specs.Verdicts.{HasVerdict}
 use Rattle.replay_segments.specs.declared.verdict.Verdict.TheVariants.{FalseCheckpoint}
 use Rattle.replay_segments.proofs.CheckpointLemmas.{frame_in_range, frames_rise}
-use Rattle.movie_report.specs.Reasons.{break_next, broken, is_true_in, reason_of}
+use Rattle.movie_report.specs.Reasons.{break_next, broken, is_true_in, reason_of, reason_of_one}
 use Rattle.movie_report.specs.declared.reason.Reason.{Reason}
-use Rattle.movie_report.specs.declared.reason.Reason.TheVariants.{NoLastingEffect, Inputs, Claim, TwoClaims, AllFrom, Several}
+use Rattle.movie_report.specs.declared.reason.Reason.TheVariants.{Claim, TwoClaims, AllFrom, Several}
 use Rattle.movie_report.specs.declared.segments.Sign.{Sign}
 
 -- A later checkpoint stands after the first false one, and in the movie.
@@ -28,10 +28,10 @@ pub is_false_after : (m : MovieData) (c : Checkpoint) (fault : ℕ) (kind : Faul
 is_false_after m c fault kind (k, less, is, faults) = rw (none_after m k c.frame kind faults less) refl
 
 -- Whether later claims are true is asked only where it matters.
-module _ (x y z u v w : Reason) where
+module _ (one : Bool → Reason) (z u v w : Reason) where
   abbrev pick : (b0 b1 b2 b3 next after_next : Bool) → Reason
   pick b0 b1 b2 b3 next after_next =
-      if b0 then (if next then x else y) else (if b1 && next then z else (if b2 && after_next then u else (if b3 then v else w)))
+      if b0 then one next else (if b1 && next then z else (if b2 && after_next then u else (if b3 then v else w)))
 
   pick-asked : (b0 b1 b2 b3 next after_next : Bool) → pick b0 b1 b2 b3 ((b0 || b1) && next) (b2 && after_next) ≡ pick b0 b1 b2 b3 next after_next
   pick-asked true b1 b2 b3 next after_next = refl
@@ -43,7 +43,7 @@ module _ (x y z u v w : Reason) where
 pub reason_of-asked : (number : ℕ) (later : List Sign) (next after_next : Bool)
     → reason_of number later ((break_next 0 later || break_next 1 later) && next) (break_next 2 later && after_next) ≡ reason_of number later next after_next
 reason_of-asked number later next after_next =
-    pick-asked (NoLastingEffect number) (Inputs number) (Claim number) (TwoClaims number) (AllFrom number) (Several (1 + broken later) number)
+    pick-asked (reason_of_one number later) (Claim number) (TwoClaims number) (AllFrom number) (Several (1 + broken later) number)
     (break_next 0 later) (break_next 1 later) (break_next 2 later) (break_next (length later) later) next after_next
 
 pub ruleset asked = reason_of-asked

@@ -8,20 +8,20 @@ use Rattle.md5.specs.Md5.{md5}
 use Rattle.sha1.specs.Sha1.{sha1}
 use Rattle.sha2.specs.Sha256.{sha256}
 use Rattle.riot_map.specs.Cart.{has_banks}
-use Rattle.vcs_machine.specs.Faults.{fault_text}
 use Rattle.vcs_machine.specs.Inputs.{InputData}
 use Rattle.vcs_machine.specs.States.{state_at_power_on}
 use Rattle.movie_file.specs.Movie.{MovieData}
 use Rattle.movie_file.specs.Record.{record_of}
 use Rattle.replay_segments.specs.declared.verdict.Verdict.{Verdict}
-use Rattle.replay_segments.specs.declared.verdict.Verdict.TheVariants.{Genuine, FalseCheckpoint}
-use Rattle.replay_segments.specs.declared.verdict.Verdict.TheVariants.{Fault}
 use Rattle.movie_report.specs.CheckpointFacts.{checkpoints_text}
 use Rattle.movie_report.specs.Differences.{differences_text}
+use Rattle.movie_report.specs.Expectations.{agreement_text}
 use Rattle.movie_report.specs.FailureFacts.{HasFailure}
+use Rattle.movie_report.specs.Heads.{verdict_head}
 use Rattle.movie_report.specs.Notations.{number_fact, word_fact}
 use Rattle.movie_report.specs.Notes.{notes_of, notes_text}
 use Rattle.movie_report.specs.declared.differences.Comparison.TheVariants.{Start}
+use Rattle.movie_report.specs.declared.expectations.Agreement.{Agreement}
 use Rattle.replay_plan.specs.declared.notation.Notation.{Notation}
 use Rattle.replay_plan.specs.declared.notation.Notation.TheVariants.{Lines, Json}
 
@@ -73,11 +73,7 @@ movie_text notation program bytes m =
 -- How a report begins: lines follow the line of the verdict, and an object names it.
 abbrev pub head_text : Notation → Verdict → List ℕ
 head_text Lines verdict = []
-head_text Json (Genuine kept) = codes "{\"verdict\":\"genuine\""
-head_text Json (FalseCheckpoint number frame) =
-    codes "{\"verdict\":\"false checkpoint\",\"checkpoint\":" ++ (decimal number ++ (codes ",\"frame\":" ++ decimal frame))
-head_text Json (Fault frame kind) =
-    codes "{\"verdict\":\"fault\",\"frame\":" ++ (decimal frame ++ (codes ",\"fault\":\"" ++ (fault_text kind ++ codes "\"")))
+head_text Json verdict = verdict_head verdict
 
 -- How it ends.
 abbrev pub end_text : Notation → List ℕ
@@ -96,9 +92,10 @@ notes_and_facts_text notation program bytes m start power =
     notes_text notation (notes_of m start power)
     ++ (facts_text notation program bytes m start power ++ start_differences_text notation start power)
 
--- A report of the movie that these bytes are and of its verdict, by a program of this name.
-abbrev pub IsReport : Notation → List ℕ → List ℕ → MovieData → Verdict → List ℕ → Type 0
-IsReport notation program bytes m verdict text =
+-- A report of the movie that these bytes are and of its verdict, and of how it agrees with what is expected, by a program of this
+-- name.
+abbrev pub IsReport : Notation → List ℕ → List ℕ → MovieData → Verdict → Agreement → List ℕ → Type 0
+IsReport notation program bytes m verdict agreement text =
     (failure : List ℕ) × HasFailure notation m verdict failure
-    × (text ≡ head_text notation verdict ++ (failure
-    ++ (notes_and_facts_text notation program bytes m (record_of m.start) (record_of (state_at_power_on m.cart)) ++ end_text notation)))
+    × (text ≡ head_text notation verdict ++ (failure ++ (agreement_text notation agreement
+    ++ (notes_and_facts_text notation program bytes m (record_of m.start) (record_of (state_at_power_on m.cart)) ++ end_text notation))))

@@ -1,6 +1,8 @@
 pub mod CheckpointFacts
 pub mod Differences
+pub mod Expectations
 pub mod FailureFacts
+pub mod Heads
 pub mod Facts
 pub mod Notations
 pub mod Notes

@@ -1,5 +1,5 @@
--- What the signs of a movie's segments say of its first false checkpoint, in a sentence. It names what was changed only
--- where neither the inputs before a claim nor those after it alone give the same signs. This project's own.
+-- What the signs of a movie's segments say of its first false checkpoint, in a sentence. Where several causes give the same
+-- signs, the sentence is true of each. This project's own.
 use Rattle.std.specs.Prelude.{ℕ, ◌+◌, ◌-◌, ◌==◌, Bool, true, false, ◌&&◌, List, [], ◌∷◌, ◌++◌, length, codes, count_by}
 use Rattle.std.specs.Prelude.{Option, Some, None, slice_get, take, drop, if◌then◌else◌}
 use Rattle.std.specs.Fmt.{decimal}
@@ -12,7 +12,7 @@ use Rattle.movie_file.specs.declared.checkpoint.Checkpoint.{Checkpoint}
 use Rattle.replay_plan.specs.declared.notation.Notation.{Notation}
 use Rattle.replay_plan.specs.declared.notation.Notation.TheVariants.{Lines, Json}
 use Rattle.movie_report.specs.declared.reason.Reason.{Reason}
-use Rattle.movie_report.specs.declared.reason.Reason.TheVariants.{NoLastingEffect, Inputs, Claim, TwoClaims, AllFrom, Several}
+use Rattle.movie_report.specs.declared.reason.Reason.TheVariants.{NoLastingEffect, ToNext, ToLast, Claim, TwoClaims, AllFrom, Several}
 use Rattle.movie_report.specs.declared.segments.Sign.{Sign}
 use Rattle.movie_report.specs.declared.segments.Sign.TheVariants.{Passes, Differs, Faults}
 
@@ -43,12 +43,18 @@ abbrev pub is_true_in : MovieData → Option Checkpoint → Bool
 is_true_in m None = false
 is_true_in m (Some c) = is_state c.state (run m m.start 0 c.frame)
 
+-- What is said where the segment of this number is the only one that breaks: by the signs of those after it, and by whether the
+-- next claim is true. If the run is in that, what made the difference is gone there.
+abbrev pub reason_of_one : ℕ → List Sign → Bool → Reason
+reason_of_one number [] next = ToLast number
+reason_of_one number (sign ∷ signs) next = if next then NoLastingEffect number else ToNext number
+
 -- What is said where the segment of this number is the first that breaks: by the signs of those after it, and by whether the
 -- next claim and the one after that are true.
 abbrev pub reason_of : ℕ → List Sign → Bool → Bool → Reason
 reason_of number later next after_next =
-    -- One breaks. If the run is in the next claim, what made the difference is gone there.
-    if break_next 0 later then (if next then NoLastingEffect number else Inputs number)
+    -- One breaks.
+    if break_next 0 later then reason_of_one number later next
     -- Two that meet break, and the run is in the claims before and after.
     else (if break_next 1 later && next then Claim number
     -- Three in a row, as if two claims that follow one another were exchanged.
@@ -67,9 +73,15 @@ abbrev pub sentence_of : Reason → List ℕ
 sentence_of (NoLastingEffect segment) =
     codes "the claim between segments " ++ (decimal segment ++ (codes " and " ++ (decimal (segment + 1)
     ++ codes " or what leads to it was changed, without lasting effect")))
-sentence_of (Inputs segment) =
-    if segment == 1 then codes "the inputs of segment 1 don't lead from the start to the first claim"
-    else codes "the inputs of segment " ++ (decimal segment ++ codes " don't lead from its claim to the next")
+sentence_of (ToNext segment) =
+    if segment == 1
+    then codes "segment 1 doesn't lead from the start to the first claim: the start state, an input, the cartridge or claims are of another run"
+    else codes "segment " ++ (decimal segment
+    ++ codes " doesn't lead from its claim to the next: an input or the cartridge was changed, or claims from there on are of another run")
+sentence_of (ToLast segment) =
+    if segment == 1
+    then codes "segment 1 doesn't lead from the start to the only claim: that claim or what leads to it was changed"
+    else codes "segment " ++ (decimal segment ++ codes " doesn't lead to the last claim: that claim or what leads to it was changed")
 sentence_of (Claim segment) =
     codes "the claim between segments " ++ (decimal segment ++ (codes " and " ++ (decimal (segment + 1)
     ++ codes " was changed, or what leads to it and from it")))

@@ -9,7 +9,9 @@ ghost use Rattle.movie_report.specs.Facts.{start_differences_text, start_text, I
 
 use crate::checkpoints::checkpoint_facts;
 use crate::differences::{Comparison, differences};
+use crate::expectations::Agreement;
 use crate::failure::failure_facts;
+use crate::head::verdict_head;
 use crate::notation::{NumberFact, WordFact};
 use crate::notes::notes;
 use hex::encode;
@@ -133,15 +135,7 @@ fn head(alloc: Global, notation: Notation, verdict: &Verdict) -> Result<String, 
     if notation == Notation::Lines {
         return Ok(String::new(alloc));
     }
-    match verdict {
-        Verdict::Genuine { .. } => format!(in alloc; "{{\"verdict\":\"genuine\""),
-        Verdict::FalseCheckpoint { number, frame } => format!(in alloc;
-            "{{\"verdict\":\"false checkpoint\",\"checkpoint\":{number},\"frame\":{frame}"
-        ),
-        Verdict::Fault { frame, kind } => format!(in alloc;
-            "{{\"verdict\":\"fault\",\"frame\":{frame},\"fault\":\"{kind}\""
-        ),
-    }
+    verdict_head(alloc, verdict)
 }
 
 /// How a report ends.
@@ -202,9 +196,10 @@ fn notes_and_facts(
 /// the place and the last checkpoint before it. Of both follows which segments between checkpoints
 /// reach their claims: the verdict says it of the first that doesn't and of those before it, and the
 /// others are replayed. Of a false checkpoint a sentence says what the signs show; for that at most
-/// two segments more are replayed. Then come notes, and the facts: the cartridge's length, digests
-/// and bank scheme, whether the start state is that of power-on, where checkpoints stand, and what
-/// the movie is. The numbers of a start that isn't power-on are the last.
+/// two segments more are replayed. Then comes whether the movie is as expected, where anything is;
+/// then notes, and the facts: the cartridge's length, digests and bank scheme, whether the start
+/// state is that of power-on, where checkpoints stand, and what the movie is. The numbers of a start
+/// that isn't power-on are the last.
 ///
 /// As many workers replay the segments, one on the calling thread and each other one in a thread of
 /// its own, which is joined. Where the start of a thread is refused, the calling thread does its
@@ -219,14 +214,16 @@ pub fn report<R: Threads + Sync>(
     bytes: &[u8],
     movie: &Movie,
     verdict: &Verdict,
+    agreement: Agreement,
     workers: Workers,
 ) -> Result<String, AllocError>
     requires { HasVerdict movie.now verdict.now }
-    ensures { IfOk result (λ text. IsReport notation program.now bytes.now movie.now verdict.now (string_bytes text)) }
+    ensures { IfOk result (λ text. IsReport notation program.now bytes.now movie.now verdict.now agreement (string_bytes text)) }
 {
     let head = head(alloc, notation, verdict)?;
     let failure = failure_facts(rt, alloc, notation, movie, verdict, workers)?;
+    let expected = agreement.text(alloc, notation)?;
     let rest = notes_and_facts(alloc, notation, program, bytes, movie)?;
     let end = end(notation);
-    format!(in alloc; "{head}{failure}{rest}{end}")
+    format!(in alloc; "{head}{failure}{expected}{rest}{end}")
 }

@@ -3,12 +3,16 @@
 
 mod checkpoints;
 mod differences;
+mod expectations;
 mod facts;
 mod failure;
+mod head;
 mod notation;
 mod notes;
 mod numbers;
 mod reason;
 mod segments;
 
+pub use expectations::Agreement;
 pub use facts::report;
+pub use head::{FaultMembers, verdict_head};

@@ -52,3 +52,31 @@ impl fmt::Display for WordFact<'_> {
         }
     }
 }
+
+/// A fact that is an answer: the notation, the name of its member, what stands before the answer in
+/// its line, and the answer. Nothing is written where there is none.
+#[derive(Clone, Copy)]
+pub(crate) struct AnswerFact(
+    pub Notation,
+    pub &'static str,
+    pub &'static str,
+    pub Option<bool>,
+);
+
+impl fmt::Display for AnswerFact {
+    ghost use Rattle.std.specs.Prelude.{Some};
+    ghost use Rattle.movie_report.specs.Notations.{answer_fact};
+
+    ghost output = { λ f. Some (answer_fact f.0 f.1.now f.2.now f.3) };
+
+    fn fmt<W: fmt::Write>(&self, f: &mut fmt::Formatter<W>) -> fmt::Result {
+        let AnswerFact(notation, name, before, answer) = *self;
+        match (notation, answer) {
+            (_, None) => Ok(()),
+            (Notation::Lines, Some(true)) => write!(f, "{before}yes\n"),
+            (Notation::Lines, Some(false)) => write!(f, "{before}no\n"),
+            (Notation::Json, Some(true)) => write!(f, ",\"{name}\":true"),
+            (Notation::Json, Some(false)) => write!(f, ",\"{name}\":false"),
+        }
+    }
+}

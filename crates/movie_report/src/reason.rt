@@ -5,7 +5,7 @@ ghost use Rattle.movie_file.specs.Run.{run};
 ghost use Rattle.replay_segments.specs.Verdicts.{HasVerdict};
 ghost use Rattle.replay_segments.specs.declared.verdict.Verdict.TheVariants.{FalseCheckpoint};
 ghost use Rattle.movie_report.specs.Reasons.{break_next, breaks, broken, is_true_in, reason_in};
-ghost use Rattle.movie_report.specs.Reasons.{reason_of, reason_text, sentence_of};
+ghost use Rattle.movie_report.specs.Reasons.{reason_of, reason_of_one, reason_text, sentence_of};
 
 use crate::segments::Sign;
 use movie_file::{Movie, write_state};
@@ -20,8 +20,10 @@ use vcs_machine::State;
 pub(crate) enum Reason {
     /// Only that segment breaks, and the run is in the next claim.
     NoLastingEffect { segment: u16 },
-    /// Only that segment breaks, and the run isn't in the next claim, or there is none.
-    Inputs { segment: u16 },
+    /// Only that segment breaks, and the run isn't in the next claim.
+    ToNext { segment: u16 },
+    /// That segment breaks, and its claim is the last.
+    ToLast { segment: u16 },
     /// That segment and the next break, and the run is in the claim after them.
     Claim { segment: u16 },
     /// That segment and the next two break, and the run is in the claim after them.
@@ -33,17 +35,27 @@ pub(crate) enum Reason {
 }
 
 impl Reason {
+    /// What is said where only the segment of this number breaks, by the signs of those after it that
+    /// end with a claim, and by whether the next claim is true.
+    fn of_one(segment: u16, later: &[Sign], next: bool) -> Reason
+        ensures { result ≡ reason_of_one segment later.now next }
+    {
+        if later.is_empty() {
+            Reason::ToLast { segment }
+        } else if next {
+            Reason::NoLastingEffect { segment }
+        } else {
+            Reason::ToNext { segment }
+        }
+    }
+
     /// What is said where the segment of this number is the first that breaks, by the signs of those
     /// after it that end with a claim, and by whether the next claim and the one after that are true.
     fn of(segment: u16, later: &[Sign], next: bool, after_next: bool) -> Reason
         ensures { result ≡ reason_of segment later.now next after_next }
     {
         if break_next(later, 0) {
-            if next {
-                Reason::NoLastingEffect { segment }
-            } else {
-                Reason::Inputs { segment }
-            }
+            Reason::of_one(segment, later, next)
         } else if break_next(later, 1) && next {
             Reason::Claim { segment }
         } else if break_next(later, 2) && after_next {
@@ -67,16 +79,18 @@ impl Reason {
                 "the claim between segments {segment} and {} or what leads to it was changed, without lasting effect",
                 u32::from(segment) + 1
             ),
-            Reason::Inputs { segment } => {
-                if segment == 1 {
-                    return format!(in alloc;
-                        "the inputs of segment 1 don't lead from the start to the first claim"
-                    );
-                }
-                format!(in alloc;
-                    "the inputs of segment {segment} don't lead from its claim to the next"
-                )
-            }
+            Reason::ToNext { segment: 1 } => format!(in alloc;
+                "segment 1 doesn't lead from the start to the first claim: the start state, an input, the cartridge or claims are of another run"
+            ),
+            Reason::ToNext { segment } => format!(in alloc;
+                "segment {segment} doesn't lead from its claim to the next: an input or the cartridge was changed, or claims from there on are of another run"
+            ),
+            Reason::ToLast { segment: 1 } => format!(in alloc;
+                "segment 1 doesn't lead from the start to the only claim: that claim or what leads to it was changed"
+            ),
+            Reason::ToLast { segment } => format!(in alloc;
+                "segment {segment} doesn't lead to the last claim: that claim or what leads to it was changed"
+            ),
             Reason::Claim { segment } => format!(in alloc;
                 "the claim between segments {segment} and {} was changed, or what leads to it and from it",
                 u32::from(segment) + 1

@@ -61,7 +61,7 @@ impl Sign {
 }
 
 /// Whether a checkpoint stands after a movie's last frame.
-fn ends_with_checkpoint(movie: &Movie) -> bool
+pub(crate) fn ends_with_checkpoint(movie: &Movie) -> bool
     ensures { result ≡ ends_with_checkpoint movie.now }
 {
     let frames = movie.frames();

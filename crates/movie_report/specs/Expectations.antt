@@ -1,0 +1,54 @@
+-- What is expected of a movie, and how the movie agrees with it. This project's own.
+use Rattle.std.specs.Prelude.{ℕ, Bool, true, false, not, ◌&&◌, ◌||◌, List, [], ◌++◌, codes, Option, Some, None, if◌then◌else◌}
+use Rattle.std.specs.Str.{bytes_eq}
+use Rattle.sha2.specs.Sha256.{sha256}
+use Rattle.vcs_machine.specs.States.{state_at_power_on}
+use Rattle.movie_file.specs.Movie.{MovieData}
+use Rattle.movie_file.specs.Record.{record_of}
+use Rattle.replay_plan.specs.declared.expectations.Expectations.{Expectations}
+use Rattle.replay_plan.specs.declared.notation.Notation.{Notation}
+use Rattle.movie_report.specs.Notations.{answer_fact}
+use Rattle.movie_report.specs.Segments.{ends_with_checkpoint}
+use Rattle.movie_report.specs.declared.expectations.Agreement.{Agreement}
+
+-- A cartridge has exactly the bytes of a ROM, if there is one,
+abbrev pub is_of_rom : List ℕ → Option (List ℕ) → Bool
+is_of_rom cart None = true
+is_of_rom cart (Some rom) = bytes_eq cart rom
+
+-- and this SHA-256, if there is one.
+abbrev pub has_digest : List ℕ → Option (List ℕ) → Bool
+has_digest cart None = true
+has_digest cart (Some digest) = bytes_eq (sha256 cart) digest
+
+-- It is the one that is expected, if a ROM or a digest is.
+abbrev pub cartridge_agreement : List ℕ → Option (List ℕ) → Option (List ℕ) → Option Bool
+cartridge_agreement cart None None = None
+cartridge_agreement cart rom digest = Some (is_of_rom cart rom && has_digest cart digest)
+
+-- A movie's start state has the record of power-on.
+abbrev pub starts_at_power_on : MovieData → Bool
+starts_at_power_on m = bytes_eq (record_of m.start) (record_of (state_at_power_on m.cart))
+
+-- How a movie agrees with what is expected of it.
+abbrev pub agreement_of : MovieData → Option (List ℕ) → Expectations → Agreement
+agreement_of m rom expected = record {
+  cartridge = cartridge_agreement m.cart rom expected.digest;
+  start = if expected.power_on then Some (starts_at_power_on m) else None;
+  last_frame = if expected.to_the_end then Some (ends_with_checkpoint m) else None;
+}
+
+abbrev pub is_no : Option Bool → Bool
+is_no None = false
+is_no (Some answer) = not answer
+
+-- Anything isn't as expected.
+abbrev pub disagrees : Agreement → Bool
+disagrees agreement = is_no agreement.cartridge || is_no agreement.start || is_no agreement.last_frame
+
+-- A line or a member for each that is expected.
+abbrev pub agreement_text : Notation → Agreement → List ℕ
+agreement_text notation agreement =
+    answer_fact notation (codes "cartridge_expected") (codes "cartridge expected: ") agreement.cartridge
+    ++ (answer_fact notation (codes "start_expected") (codes "start expected: ") agreement.start
+    ++ answer_fact notation (codes "last_frame_expected") (codes "last frame expected: ") agreement.last_frame)
