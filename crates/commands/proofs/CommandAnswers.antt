@@ -1,5 +1,7 @@
 -- The answers of commands about a movie, and about the bytes of one.
-use Rattle.std.proofs.Common.{◌≡◌, List, ℕ, [], Option, Ok, Err, inl, inr, refl}
+use Rattle.std.proofs.Common.{◌≡◌, List, ℕ, [], Option, None, Ok, Err, inl, inr, refl}
+use Rattle.std.specs.Io.KnownBytes.{Keeps}
+use Rattle.command_line.specs.Program.{program_name}
 use Rattle.command_line.specs.declared.command.Command.{Command}
 use Rattle.command_line.specs.declared.command.Command.TheVariants.{Make, Verify}
 use Rattle.movie_file.specs.Movie.{MovieData}
@@ -9,29 +11,43 @@ use Rattle.picture_file.proofs.BytesWritten.{appends_nothing, keeps_same}
 use Rattle.picture_file.specs.Prefixes.{AppendsPrefix}
 use Rattle.replay_plan.specs.declared.notation.Notation.{Notation}
 use Rattle.replay_plan.specs.declared.notation.Notation.TheVariants.{Lines, Json}
-use Rattle.commands.specs.Answers.{AnswerData, refusal_in, text_answer}
-use Rattle.commands.specs.Commands.{Answers, AnswersBytes, AnswersFound, IsAnswered, WritesSome, notation_of}
+use Rattle.commands.specs.Answers.{AnswerData, text_answer}
+use Rattle.commands.specs.Commands.{Answers, AnswersBytes, AnswersFound, IsAnswered, ReadsRom, ReadsRomFor, WritesSome, notation_of}
+use Rattle.commands.specs.Private.Errors.{of_reading}
 use Rattle.commands.specs.Private.Groups.{IsAboutMovies}
+use Rattle.commands.specs.Refusals.{Refuses}
+use Rattle.commands.specs.declared.run_error.ReadError.{ReadError}
+use Rattle.commands.specs.declared.run_error.ReadError.TheVariants as reads
+use Rattle.commands.specs.declared.run_error.RunError.TheVariants as runs
 use Rattle.commands.specs.declared.status.Status.{Status}
 
-module _ (command : Command) (bytes : List ℕ) (a : Option (List ℕ)) (status : Status) (answer : AnswerData)
+module _ (command : Command) (bytes : List ℕ) (a b : Option (List ℕ)) (status : Status) (answer : AnswerData)
     (about : IsAboutMovies command) (same : status ≡ answer.status) where
-  about_bytes : (c : Command) (told : AnswerData) → IsAboutMovies c → AnswersFound c bytes (movie_at bytes) told → AnswersBytes c bytes a a told
-  about_bytes (Make inputs form every) told never found = absurd never
-  about_bytes other told never found = (keeps_same a, found)
+  about_bytes : (c : Command) (told : AnswerData) (read : Option (List ℕ)) → IsAboutMovies c → ReadsRomFor c (movie_at bytes) a b read
+      → AnswersFound c bytes read (movie_at bytes) told → AnswersBytes c bytes a b told
+  about_bytes (Make inputs form every) told read never reads found = absurd never
+  about_bytes other told read never reads found = (read, reads, found)
 
-  pub of_movie : (m : MovieData) → movie_at bytes ≡ Ok m → Answers command bytes m answer → IsAnswered command bytes a a status answer.text answer.file
-  of_movie m read told = rw same (about_bytes command answer about (rw read told))
+  pub of_movie : (m : MovieData) (read : Option (List ℕ)) → movie_at bytes ≡ Ok m → ReadsRom command a b read → Answers command bytes read m answer
+      → IsAnswered command bytes a b status answer.text answer.file
+  of_movie m read is reads told = rw same (about_bytes command answer read about (rw is reads) (rw is told))
 
-  whole : (notation : Notation) (error : MovieError) → text_answer (refusal_in notation error).status (refusal_in notation error).text ≡ refusal_in notation error
-  whole Lines error = refl
-  whole Json error = refl
+  whole : (notation : Notation) (error : MovieError) (told : AnswerData) → Refuses notation program_name bytes error told
+      → Refuses notation program_name bytes error (text_answer told.status told.text)
+  whole Lines error told is = rw is refl
+  whole Json error told (hint, explains, is) = (hint, explains, rw is refl)
 
-  pub of_refusal : (error : MovieError) → movie_at bytes ≡ Err error → answer ≡ refusal_in (notation_of command) error
-      → IsAnswered command bytes a a status answer.text []
-  of_refusal error read is = rw (same, is) (about_bytes command _ about (rw read (whole (notation_of command) error)))
+  pub of_refusal : (error : MovieError) → movie_at bytes ≡ Err error → Keeps a b → Refuses (notation_of command) program_name bytes error answer
+      → IsAnswered command bytes a b status answer.text []
+  of_refusal error found keeps told = rw same (about_bytes command _ None about (rw found (keeps, refl)) (rw found (whole (notation_of command) error answer told)))
 
 -- A text that is not all written, of an answer without a file.
 pub text_in_part : (command : Command) (a b c : Option (List ℕ)) (text : List ℕ) → AppendsPrefix a b text → WritesSome command a b text c c []
-text_in_part (Verify plan) a b c text part = inl (part, keeps_same c)
+text_in_part (Verify plan notation) a b c text part = inl (part, keeps_same c)
 text_in_part other a b c text part = inr (appends_nothing c, part)
+
+-- The error of an input that is too long.
+pub only_too_long : (e : ReadError) → of_reading e ≡ runs.TooLong → e ≡ reads.TooLong
+only_too_long reads.Fault is = absurd (cc)
+only_too_long reads.TooLong is = refl
+only_too_long reads.NoMemory is = absurd (cc)

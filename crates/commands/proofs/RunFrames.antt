@@ -14,6 +14,7 @@ use Rattle.movie_file.specs.Judgement.{FaultsAt}
 use Rattle.movie_file.specs.Movie.{MovieData}
 use Rattle.movie_file.specs.Run.{run}
 use Rattle.picture_file.specs.PictureBytes.{pictures_bytes}
+use Rattle.replay_plan.specs.declared.notation.Notation.{Notation}
 use Rattle.replay_plan.specs.declared.watches.Details.{Details}
 use Rattle.replay_segments.specs.KeptPictures.{picture_after}
 use Rattle.commands.specs.Frames.{frame_line, played_line}
@@ -57,13 +58,13 @@ none_from m of none here f kind fault x le = elim (cases_lt f x) [
   | inr ge ↦ (let same : f ≡ x = omega arith in rw same at (here f kind fault))
 ]
 
-no_line : (m : MovieData) (details : Details) → EndsAtFault m (frame_line m details)
-no_line m details = none_from m (λ x o. played_line m details (x + 1) o (slice_get m.inputs x)) (λ x. refl) here
+no_line : (m : MovieData) (notation : Notation) (details : Details) → EndsAtFault m (frame_line m notation details)
+no_line m notation details = none_from m (λ x o. played_line m notation details (x + 1) o (slice_get m.inputs x)) (λ x. refl) here
   where
-    here : (f : ℕ) (kind : FaultKind) → FaultsAt m m.start 0 f kind → frame_line m details f ≡ []
+    here : (f : ℕ) (kind : FaultKind) → FaultsAt m m.start 0 f kind → frame_line m notation details f ≡ []
     here f kind (state, left, ran, fails) = rw ran (go (slice_get m.inputs f) refl)
       where
-        go : (o : Option InputData) → slice_get m.inputs f ≡ o → played_line m details (f + 1) (Some state) o ≡ []
+        go : (o : Option InputData) → slice_get m.inputs f ≡ o → played_line m notation details (f + 1) (Some state) o ≡ []
         go None e = refl
         go (Some input) e =
             let none : 0 + f ≡ f = omega arith in
@@ -78,5 +79,5 @@ no_picture m = none_from m (λ x o. pictures_bytes (picture_after m x o)) (λ x.
     here f kind (state, left, ran, fails) = let none : 0 + f ≡ f = omega arith in let at = rw none at fails in rw (ran, at) refl
 
 pub nothing_shown : (m : MovieData) (view : View) → EndsAtFault m (bytes_shown m view)
-nothing_shown m (Line details) = no_line m details.now
+nothing_shown m (Line notation details) = no_line m notation details.now
 nothing_shown m Picture = no_picture m

@@ -1,17 +1,11 @@
 -- What a command answers: its status, the text that it writes, and what it writes to a file. This
 -- project's own.
-use Rattle.std.specs.Prelude.{ℕ, List, [], ◌∷◌, ◌++◌, codes, length}
+use Rattle.std.specs.Prelude.{ℕ, List, [], length}
 use Rattle.movie_file.specs.Movie.{MovieData}
 use Rattle.movie_file.specs.Spelling.{spelling}
-use Rattle.movie_file.specs.MovieError.{refusal_text}
-use Rattle.movie_file.specs.declared.error.MovieError.{MovieError}
-use Rattle.replay_plan.specs.declared.notation.Notation.{Notation}
-use Rattle.replay_plan.specs.declared.notation.Notation.TheVariants.{Lines, Json}
 use Rattle.commands.specs.Lines.{line_bytes, status_of}
 use Rattle.commands.specs.declared.line.Line.{Line}
-use Rattle.commands.specs.declared.line.Line.TheVariants as lines
 use Rattle.commands.specs.declared.status.Status.{Status}
-use Rattle.commands.specs.declared.status.Status.TheVariants as statuses
 
 -- If nothing is written to a file, that list is empty.
 pub record AnswerData : Type 0 where
@@ -26,12 +20,6 @@ text_answer status text = record { status = status; text = text; file = [] }
 -- a line alone,
 abbrev pub line_answer : Line → AnswerData
 line_answer line = text_answer (status_of line) (line_bytes line)
-
--- that bytes are refused, as a line or as an object of JSON,
-abbrev pub refusal_in : Notation → MovieError → AnswerData
-refusal_in Lines error = line_answer (lines.Refused error)
-refusal_in Json error =
-    text_answer statuses.Refused (codes "{\"verdict\":\"refused\",\"refusal\":\"" ++ (refusal_text error ++ (codes "\"}" ++ 10 ∷ [])))
 
 -- and a movie with a line of how many frames and checkpoints it has.
 abbrev pub movie_answer : (ℕ → ℕ → Line) → MovieData → AnswerData

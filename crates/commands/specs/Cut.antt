@@ -7,8 +7,7 @@ use Rattle.movie_file.specs.Movie.{MovieData, IsMovie}
 use Rattle.movie_file.specs.Run.{run}
 use Rattle.movie_file.specs.declared.checkpoint.Checkpoint.{Checkpoint}
 use Rattle.movie_file.specs.declared.error.MovieError.TheVariants.{BadCounts}
-use Rattle.replay_plan.specs.declared.notation.Notation.TheVariants.{Lines}
-use Rattle.commands.specs.Answers.{AnswerData, line_answer, movie_answer, refusal_in}
+use Rattle.commands.specs.Answers.{AnswerData, line_answer, movie_answer}
 use Rattle.run_cursor.specs.RunFaults.{FaultsWithin}
 use Rattle.commands.specs.Asked.{inputs_asked, frames_asked, Ends}
 use Rattle.commands.specs.declared.line.Line.TheVariants as lines
@@ -39,4 +38,4 @@ Cuts m first count every answer =
     × (((c : MovieData) × IsMovie c × IsCutOf m first count every c × IsGenuine c × (answer ≡ movie_answer lines.Cut c))
     ⊎ ((frame : ℕ) × (kind : FaultKind) × FaultsWithin m (first - 1 + frames_asked m first count) frame kind
     × (answer ≡ line_answer (lines.Fault frame kind)))))
-    ⊎ ((¬ IsTrue (counts_fit (frames_asked m first count) every)) × (answer ≡ refusal_in Lines BadCounts))
+    ⊎ ((¬ IsTrue (counts_fit (frames_asked m first count) every)) × (answer ≡ line_answer (lines.Refused BadCounts)))

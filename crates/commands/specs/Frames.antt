@@ -1,6 +1,6 @@
 -- The lines about the frames of a movie's run, one for each, and the status. This
 -- project's own.
-use Rattle.std.specs.Prelude.{◌≡◌, ◌⊎◌, ◌≤◌, ℕ, ◌+◌, ◌-◌, ◌==◌, if◌then◌else◌, List, []}
+use Rattle.std.specs.Prelude.{◌≡◌, ◌⊎◌, ◌≤◌, ℕ, ◌+◌, ◌-◌, Bool, true, false, ◌==◌, if◌then◌else◌, List, []}
 use Rattle.std.specs.Prelude.{◌∷◌, ◌++◌, length, codes, slice_get, slice_index, Option, Some, None}
 use Rattle.std.specs.Fmt.{decimal}
 use Rattle.std.specs.Io.KnownBytes.{Appends}
@@ -18,8 +18,11 @@ use Rattle.movie_file.specs.Movie.{MovieData}
 use Rattle.movie_file.specs.Record.{record_of}
 use Rattle.movie_file.specs.Run.{run}
 use Rattle.movie_file.specs.declared.checkpoint.Checkpoint.{Checkpoint}
+use Rattle.movie_report.specs.Heads.{fault_members}
 use Rattle.picture_file.specs.PictureBytes.{picture_bytes}
 use Rattle.replay_plan.specs.Limits.{first_address}
+use Rattle.replay_plan.specs.declared.notation.Notation.{Notation}
+use Rattle.replay_plan.specs.declared.notation.Notation.TheVariants.{Lines, Json}
 use Rattle.replay_plan.specs.declared.watches.Address.{Address}
 use Rattle.replay_plan.specs.declared.watches.Details.{Details}
 use Rattle.commands.specs.declared.status.Status.{Status}
@@ -31,75 +34,117 @@ use Rattle.commands.specs.declared.line.Line.TheVariants as lines
 
 -- ---- one frame
 
--- A checkpoint of this number, and whether the state that it claims is this one: both have the same
--- record.
-abbrev pub claim_text : ℕ → Option Checkpoint → StateFields → List ℕ
-claim_text number None state = []
-claim_text number (Some c) state =
-    codes ", checkpoint " ++ (decimal number ++ (if bytes_eq (record_of c.state) (record_of state) then codes " true" else codes " false"))
+-- How many cycles a frame took, and how many rows its picture has: the beginning of a line, or of an
+-- object of JSON (RFC 8259).
+abbrev pub length_text : Notation → ℕ → ℕ → ℕ → List ℕ
+length_text Lines frame cycles rows = frame_text frame cycles rows
+length_text Json frame cycles rows =
+    codes "{\"frame\":" ++ (decimal frame ++ (codes ",\"cycles\":" ++ (decimal cycles ++ (codes ",\"rows\":" ++ decimal rows))))
+
+-- A checkpoint of this number, and whether its claim is true.
+abbrev pub told_claim : Notation → ℕ → Bool → List ℕ
+told_claim Lines number true = codes ", checkpoint " ++ (decimal number ++ codes " true")
+told_claim Lines number false = codes ", checkpoint " ++ (decimal number ++ codes " false")
+told_claim Json number true = codes ",\"checkpoint\":" ++ (decimal number ++ codes ",\"claim_is_true\":true")
+told_claim Json number false = codes ",\"checkpoint\":" ++ (decimal number ++ codes ",\"claim_is_true\":false")
+
+-- It is if the state that it claims has the same record as this one.
+abbrev pub claim_text : Notation → ℕ → Option Checkpoint → StateFields → List ℕ
+claim_text notation number None state = []
+claim_text notation number (Some c) state = told_claim notation number (bytes_eq (record_of c.state) (record_of state))
 
 -- The one that stands after a frame, if one does, which the run leaves in this state.
-abbrev pub checkpoint_text : List Checkpoint → ℕ → StateFields → List ℕ
-checkpoint_text cs frame state =
+abbrev pub checkpoint_text : Notation → List Checkpoint → ℕ → StateFields → List ℕ
+checkpoint_text notation cs frame state =
     let j = position_or_len (λ c. c.frame == frame) cs in
-    claim_text (j + 1) (slice_get cs j) state
+    claim_text notation (j + 1) (slice_get cs j) state
 
--- A byte of the memory.
-abbrev pub byte_text : StateFields → Address → List ℕ
-byte_text state a = codes ", memory " ++ (hex2 a.number ++ (codes " " ++ hex2 (slice_index state.riot.ram (a.number - first_address))))
+-- The byte of the memory at an address.
+abbrev pub byte_at : StateFields → Address → ℕ
+byte_at state a = slice_index state.riot.ram (a.number - first_address)
+
+-- An address and its byte, as an object.
+abbrev pub byte_object : ℕ → ℕ → List ℕ
+byte_object address byte = codes "{\"address\":\"" ++ (hex2 address ++ (codes "\",\"byte\":\"" ++ (hex2 byte ++ codes "\"}")))
+
+-- A byte of the memory, after others.
+abbrev pub byte_text : Notation → StateFields → Address → List ℕ
+byte_text Lines state a = codes ", memory " ++ (hex2 a.number ++ (codes " " ++ hex2 (byte_at state a)))
+byte_text Json state a = codes "," ++ byte_object a.number (byte_at state a)
+
+-- The bytes that are watched. An array has no comma before the first.
+abbrev pub watched_text : Notation → StateFields → List Address → List ℕ
+watched_text Lines state addresses = flat_map (byte_text Lines state) addresses
+watched_text Json state [] = []
+watched_text Json state (first ∷ others) =
+    codes ",\"watched\":[" ++ (byte_object first.number (byte_at state first) ++ (flat_map (byte_text Json state) others ++ codes "]"))
 
 -- All bytes of the memory, in the order of their addresses.
-abbrev pub memory_text : StateFields → List ℕ
-memory_text state = codes ", memory " ++ encode_upper state.riot.ram
+abbrev pub memory_text : Notation → StateFields → List ℕ
+memory_text Lines state = codes ", memory " ++ encode_upper state.riot.ram
+memory_text Json state = codes ",\"memory\":\"" ++ (encode_upper state.riot.ram ++ codes "\"")
 
 -- The SHA-256 of the state's record and of the picture's file.
-abbrev pub digests_text : StateFields → Rows → List ℕ
-digests_text state picture =
+abbrev pub digests_text : Notation → StateFields → Rows → List ℕ
+digests_text Lines state picture =
     codes ", state " ++ (encode_lower (sha256 (record_of state)) ++ (codes ", picture " ++ encode_lower (sha256 (picture_bytes picture))))
+digests_text Json state picture =
+    codes ",\"state\":\"" ++ (encode_lower (sha256 (record_of state)) ++ (codes "\",\"picture\":\""
+    ++ (encode_lower (sha256 (picture_bytes picture)) ++ codes "\"")))
 
--- The line of a frame that took so many cycles, left this state, and drew this picture.
-abbrev pub ended_line : List Checkpoint → Details → ℕ → ℕ → StateFields → Rows → List ℕ
-ended_line cs details frame cycles state picture =
-    frame_text frame cycles (length picture)
-    ++ (checkpoint_text cs frame state
-    ++ (flat_map (byte_text state) details.watches
-    ++ ((if details.memory then memory_text state else [])
-    ++ ((if details.digests then digests_text state picture else []) ++ 10 ∷ []))))
+-- The end of a line or of an object.
+abbrev pub end_text : Notation → List ℕ
+end_text Lines = 10 ∷ []
+end_text Json = codes "}" ++ 10 ∷ []
+
+-- The line or the object of a frame that took so many cycles, left this state, and drew this picture.
+abbrev pub ended_line : List Checkpoint → Notation → Details → ℕ → ℕ → StateFields → Rows → List ℕ
+ended_line cs notation details frame cycles state picture =
+    length_text notation frame cycles (length picture)
+    ++ (checkpoint_text notation cs frame state
+    ++ (watched_text notation state details.watches
+    ++ ((if details.memory then memory_text notation state else [])
+    ++ ((if details.digests then digests_text notation state picture else []) ++ end_text notation))))
 
 -- The same of a frame from its outcome. One that faults has none.
-abbrev pub outcome_line : List Checkpoint → Details → ℕ → ℕ → FrameOutcome → List ℕ
-outcome_line cs details frame cycles (Played state picture) = ended_line cs details frame cycles state picture
-outcome_line cs details frame cycles (Failed kind left) = []
+abbrev pub outcome_line : List Checkpoint → Notation → Details → ℕ → ℕ → FrameOutcome → List ℕ
+outcome_line cs notation details frame cycles (Played state picture) = ended_line cs notation details frame cycles state picture
+outcome_line cs notation details frame cycles (Failed kind left) = []
 
 -- Of a frame that plays from this state with this input.
-abbrev pub played_line : MovieData → Details → ℕ → Option StateFields → Option InputData → List ℕ
-played_line m details frame None input = []
-played_line m details frame (Some state) None = []
-played_line m details frame (Some state) (Some input) =
-    outcome_line m.checkpoints details frame (cycles_of m.cart state input) (frame_of m.cart state input)
+abbrev pub played_line : MovieData → Notation → Details → ℕ → Option StateFields → Option InputData → List ℕ
+played_line m notation details frame None input = []
+played_line m notation details frame (Some state) None = []
+played_line m notation details frame (Some state) (Some input) =
+    outcome_line m.checkpoints notation details frame (cycles_of m.cart state input) (frame_of m.cart state input)
 
 -- Of frame k + 1 of the movie's one unbroken run.
-abbrev pub frame_line : MovieData → Details → ℕ → List ℕ
-frame_line m details k = played_line m details (k + 1) (run m m.start 0 k) (slice_get m.inputs k)
+abbrev pub frame_line : MovieData → Notation → Details → ℕ → List ℕ
+frame_line m notation details k = played_line m notation details (k + 1) (run m m.start 0 k) (slice_get m.inputs k)
 
 -- ---- several frames
 
 -- The lines of the first so many of the frames that are asked for, in order, up to a fault.
-abbrev pub first_lines : MovieData → Details → ℕ → ℕ → List ℕ
-first_lines m details first k = from_frames (frame_line m details) (first - 1) k
+abbrev pub first_lines : MovieData → Notation → Details → ℕ → ℕ → List ℕ
+first_lines m notation details first k = from_frames (frame_line m notation details) (first - 1) k
 
 -- All of them.
-abbrev pub lines_asked : MovieData → Details → ℕ → ℕ → List ℕ
-lines_asked m details first count = first_lines m details first (frames_asked m first count)
+abbrev pub lines_asked : MovieData → Notation → Details → ℕ → ℕ → List ℕ
+lines_asked m notation details first count = first_lines m notation details first (frames_asked m first count)
+
+-- The last line or object, of a frame that faults.
+abbrev pub fault_line : Notation → ℕ → FaultKind → List ℕ
+fault_line Lines frame kind = line_bytes (lines.Fault frame kind)
+fault_line Json frame kind = codes "{\"frame\":" ++ (decimal frame ++ (fault_members kind ++ (codes "}" ++ 10 ∷ [])))
 
 -- What is written of a movie: these lines, and after them nothing, if each frame up to the last one
 -- that is asked for ends, or the line of the fault. Frames after that one are not looked at.
-abbrev pub Describes : MovieData → Details → ℕ → ℕ → Status → List ℕ → Type 0
-Describes m details first count status text =
-    (Ends m (last_asked m first count) × (status ≡ statuses.Done) × (text ≡ lines_asked m details first count))
+abbrev pub Describes : MovieData → Notation → Details → ℕ → ℕ → Status → List ℕ → Type 0
+Describes m notation details first count status text =
+    (Ends m (last_asked m first count) × (status ≡ statuses.Done) × (text ≡ lines_asked m notation details first count))
     ⊎ ((frame : ℕ) × (kind : FaultKind) × FaultsWithin m (last_asked m first count) frame kind × (status ≡ statuses.Fault)
-    × (text ≡ lines_asked m details first count ++ line_bytes (lines.Fault frame kind)))
+    × (text ≡ lines_asked m notation details first count ++ fault_line notation frame kind))
 
 -- A writer has got the lines of the first so many of the frames that are asked for, each whole.
-abbrev pub AppendsLines : MovieData → Details → ℕ → ℕ → Option (List ℕ) → Option (List ℕ) → Type 0
-AppendsLines m details first count old new = (k : ℕ) × (k ≤ frames_asked m first count) × Appends old new (first_lines m details first k)
+abbrev pub AppendsLines : MovieData → Notation → Details → ℕ → ℕ → Option (List ℕ) → Option (List ℕ) → Type 0
+AppendsLines m notation details first count old new = (k : ℕ) × (k ≤ frames_asked m first count) × Appends old new (first_lines m notation details first k)

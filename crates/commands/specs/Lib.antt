@@ -1,6 +1,7 @@
 pub mod Answers
 pub mod Asked
 pub mod Assembly
+pub mod Cartridge
 pub mod Columns
 pub mod Commands
 pub mod Convert
@@ -12,6 +13,7 @@ pub mod Lines
 pub mod Make
 pub mod Pictures
 pub mod Private
+pub mod Refusals
 pub mod Report
 pub mod Status
 pub mod Streams

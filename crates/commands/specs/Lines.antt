@@ -6,7 +6,7 @@ use Rattle.movie_file.specs.MovieError.{refusal_text}
 use Rattle.commands.specs.declared.line.Line.{Line}
 use Rattle.commands.specs.declared.line.Line.TheVariants.{Genuine, FalseCheckpoint, Fault}
 use Rattle.commands.specs.declared.line.Line.TheVariants.{Refused, BadLine, Made, Converted}
-use Rattle.commands.specs.declared.line.Line.TheVariants.{AlreadyTwo, Movie, Cut}
+use Rattle.commands.specs.declared.line.Line.TheVariants.{AlreadyTwo, Cartridge, Movie, Cut}
 use Rattle.commands.specs.declared.line.Line.TheVariants.{Pictures, Frame, NoFrame}
 use Rattle.commands.specs.declared.status.Status.{Status}
 use Rattle.commands.specs.declared.status.Status.TheVariants as statuses
@@ -34,6 +34,7 @@ line_text (BadLine number) = codes "refused: BadLine " ++ decimal number
 line_text (Made frames checkpoints) = codes "made: " ++ counts_text frames checkpoints
 line_text (Converted frames checkpoints) = codes "converted: " ++ counts_text frames checkpoints
 line_text AlreadyTwo = codes "refused: AlreadyTwo"
+line_text (Cartridge bytes) = codes "cartridge: " ++ (decimal bytes ++ codes " bytes")
 line_text (Cut frames checkpoints) = codes "cut: " ++ counts_text frames checkpoints
 line_text (Pictures frames) = codes "pictures: " ++ (decimal frames ++ codes " frames")
 line_text (Frame frame cycles rows) = frame_text frame cycles rows

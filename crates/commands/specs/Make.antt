@@ -14,8 +14,7 @@ use Rattle.movie_file.specs.Movie.{MovieData}
 use Rattle.movie_file.specs.declared.error.MovieError.TheVariants.{BadCartSize, BadCounts}
 use Rattle.replay_plan.specs.declared.input_form.InputForm.{InputForm}
 use Rattle.replay_plan.specs.declared.input_form.InputForm.TheVariants.{Bytes, Text}
-use Rattle.replay_plan.specs.declared.notation.Notation.TheVariants.{Lines}
-use Rattle.commands.specs.Answers.{AnswerData, line_answer, movie_answer, refusal_in}
+use Rattle.commands.specs.Answers.{AnswerData, line_answer, movie_answer}
 use Rattle.commands.specs.Streams.{ReadsAll}
 use Rattle.commands.specs.declared.line.Line.{Line}
 use Rattle.commands.specs.declared.line.Line.TheVariants as lines
@@ -27,7 +26,7 @@ MakesOf cart inputs every answer =
     (IsTrue (counts_fit (length inputs) every)
     × (((m : MovieData) × IsMadeOf cart inputs every m × IsGenuine m × (answer ≡ movie_answer lines.Made m))
     ⊎ ((frame : ℕ) × (kind : FaultKind) × IsFirstFault cart inputs frame kind × (answer ≡ line_answer (lines.Fault frame kind)))))
-    ⊎ ((¬ IsTrue (counts_fit (length inputs) every)) × (answer ≡ refusal_in Lines BadCounts))
+    ⊎ ((¬ IsTrue (counts_fit (length inputs) every)) × (answer ≡ line_answer (lines.Refused BadCounts)))
 
 -- The inputs that some bytes are in this form, or the line of why they are none.
 abbrev pub inputs_by : InputForm → List ℕ → Result (List InputData) Line
@@ -44,4 +43,4 @@ MakesFrom cart (Err line) every answer = answer ≡ line_answer line
 abbrev pub Makes : InputForm → List ℕ → Option (List ℕ) → Option (List ℕ) → ℕ → AnswerData → Type 0
 Makes form rom old new every answer =
     (IsTrue (is_cart_length (length rom)) × ((input : List ℕ) × ReadsAll old new input × MakesFrom rom (inputs_by form input) every answer))
-    ⊎ ((¬ IsTrue (is_cart_length (length rom))) × Keeps old new × (answer ≡ refusal_in Lines BadCartSize))
+    ⊎ ((¬ IsTrue (is_cart_length (length rom))) × Keeps old new × (answer ≡ line_answer (lines.Refused BadCartSize)))

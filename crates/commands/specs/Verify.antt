@@ -1,13 +1,18 @@
 -- What is written of a movie that is judged, and the status. This project's own.
-use Rattle.std.specs.Prelude.{◌≡◌, length}
+use Rattle.std.specs.Prelude.{◌≡◌, ℕ, List, [], ◌∷◌, ◌++◌, codes, length}
+use Rattle.std.specs.Fmt.{decimal}
 use Rattle.movie_file.specs.Movie.{MovieData}
 use Rattle.picture_file.specs.PictureBytes.{pictures_bytes}
 use Rattle.replay_segments.specs.Verdicts.{IsVerdict}
 use Rattle.replay_plan.specs.declared.keep.Keep.{Keep}
+use Rattle.replay_plan.specs.declared.notation.Notation.{Notation}
+use Rattle.replay_plan.specs.declared.notation.Notation.TheVariants.{Lines, Json}
 use Rattle.replay_segments.specs.declared.verdict.Verdict.{Verdict}
 use Rattle.replay_segments.specs.declared.verdict.Verdict.TheVariants.{Genuine, FalseCheckpoint}
 use Rattle.replay_segments.specs.declared.verdict.Verdict.TheVariants.{Fault}
-use Rattle.commands.specs.Answers.{AnswerData, line_answer}
+use Rattle.movie_report.specs.Heads.{verdict_head}
+use Rattle.commands.specs.Answers.{AnswerData}
+use Rattle.commands.specs.Lines.{line_bytes, status_of}
 use Rattle.commands.specs.declared.line.Line.{Line}
 use Rattle.commands.specs.declared.line.Line.TheVariants as lines
 
@@ -17,11 +22,31 @@ verdict_line m (Genuine kept) = lines.Genuine (length m.inputs) (length m.checkp
 verdict_line m (FalseCheckpoint number frame) = lines.FalseCheckpoint number frame
 verdict_line m (Fault frame kind) = lines.Fault frame kind
 
--- That line, and of a genuine movie the pictures.
-abbrev pub verdict_answer : MovieData → Verdict → AnswerData
-verdict_answer m (Genuine kept) = record (line_answer (verdict_line m (Genuine kept))) { file = pictures_bytes kept }
-verdict_answer m other = line_answer (verdict_line m other)
+-- The object of it: the members that a report begins with, and of a genuine movie how many frames and
+-- checkpoints it has.
+abbrev pub verdict_object : MovieData → Verdict → List ℕ
+verdict_object m (Genuine kept) =
+    verdict_head (Genuine kept) ++ (codes ",\"frames\":" ++ (decimal (length m.inputs)
+    ++ (codes ",\"checkpoints\":" ++ (decimal (length m.checkpoints) ++ (codes "}" ++ 10 ∷ [])))))
+verdict_object m other = verdict_head other ++ (codes "}" ++ 10 ∷ [])
+
+abbrev pub verdict_text : Notation → MovieData → Verdict → List ℕ
+verdict_text Lines m verdict = line_bytes (verdict_line m verdict)
+verdict_text Json m verdict = verdict_object m verdict
+
+-- The pictures of a genuine movie.
+abbrev pub pictures_of : Verdict → List ℕ
+pictures_of (Genuine kept) = pictures_bytes kept
+pictures_of other = []
+
+-- That line or object, and the pictures.
+abbrev pub verdict_answer : Notation → MovieData → Verdict → AnswerData
+verdict_answer notation m verdict = record {
+  status = status_of (verdict_line m verdict);
+  text = verdict_text notation m verdict;
+  file = pictures_of verdict;
+}
 
 -- Those of the movie's verdict.
-abbrev pub Verifies : Keep → MovieData → AnswerData → Type 0
-Verifies keep m answer = (verdict : Verdict) × IsVerdict m keep verdict × (answer ≡ verdict_answer m verdict)
+abbrev pub Verifies : Notation → Keep → MovieData → AnswerData → Type 0
+Verifies notation keep m answer = (verdict : Verdict) × IsVerdict m keep verdict × (answer ≡ verdict_answer notation m verdict)

@@ -6,7 +6,8 @@ ghost use Rattle.commands.specs.Streams.{WritesPart};
 
 use crate::line::Line;
 use crate::status::Status;
-use movie_file::{Movie, MovieError, write_movie};
+use crate::verdict_text::verdict_text;
+use movie_file::{Movie, write_movie};
 use picture_file::{WriteFault, write_bytes, write_pictures};
 use replay_plan::Notation;
 use replay_segments::Verdict;
@@ -57,7 +58,7 @@ impl Contents {
 impl Answer {
     ghost use Rattle.std.specs.Prelude.{string_bytes};
     ghost use Rattle.movie_file.specs.Spelling.{spelling};
-    ghost use Rattle.commands.specs.Answers.{line_answer, refusal_in, text_answer};
+    ghost use Rattle.commands.specs.Answers.{line_answer, text_answer};
     ghost use Rattle.commands.specs.Verify.{verdict_answer};
 
     /// A text alone.
@@ -79,23 +80,14 @@ impl Answer {
         Ok(Answer::of_text(alloc, line.status(), text))
     }
 
-    /// That bytes are no movie.
-    pub(crate) fn of_refusal(
-        alloc: Global,
-        notation: Notation,
-        error: MovieError,
-    ) -> Result<Answer, AllocError>
-        ensures { IfOk result (λ answer. answer ≡ refusal_in notation error) }
+    /// Bytes for a file, with this line.
+    pub(crate) fn of_bytes(alloc: Global, bytes: Vec<u8>, line: Line) -> Result<Answer, AllocError>
+        ensures { IfOk result (λ answer. answer ≡ record (line_answer line) { file = bytes.items }) }
     {
-        match notation {
-            Notation::Lines => Answer::of_line(alloc, Line::Refused(error)),
-            Notation::Json => {
-                let text = format!(in alloc;
-                    "{{\"verdict\":\"refused\",\"refusal\":\"{error}\"}}\n"
-                )?;
-                Ok(Answer::of_text(alloc, Status::Refused, text))
-            }
-        }
+        Ok(Answer {
+            file: Contents::Bytes(bytes),
+            ..Answer::of_line(alloc, line)?
+        })
     }
 
     /// A movie, with this line.
@@ -106,27 +98,27 @@ impl Answer {
         if write_movie(movie, &mut bytes).is_err() {
             return Err(AllocError);
         }
-        Ok(Answer {
-            file: Contents::Bytes(bytes),
-            ..Answer::of_line(alloc, line)?
-        })
+        Answer::of_bytes(alloc, bytes, line)
     }
 
-    /// The line of a movie with this verdict, and the pictures if it is genuine.
+    /// What is written of a movie with this verdict, and the pictures if it is genuine.
     pub(crate) fn of_verdict(
         alloc: Global,
+        notation: Notation,
         movie: &Movie,
         verdict: Verdict,
     ) -> Result<Answer, AllocError>
-        ensures { IfOk result (λ answer. answer ≡ verdict_answer movie.now verdict) }
+        ensures { IfOk result (λ answer. answer ≡ verdict_answer notation movie.now verdict) }
     {
-        let answer = Answer::of_line(alloc, Line::of_verdict(movie, &verdict))?;
+        let status = Line::of_verdict(movie, &verdict).status();
+        let text = verdict_text(alloc, notation, movie, &verdict)?;
         match verdict {
             Verdict::Genuine { pictures } => Ok(Answer {
+                status,
+                text,
                 file: Contents::Pictures(pictures),
-                ..answer
             }),
-            _ => Ok(answer),
+            _ => Ok(Answer::of_text(alloc, status, text)),
         }
     }
 

@@ -16,7 +16,7 @@ use crate::frame_line::played_line;
 use crate::stop::Stop;
 use movie_file::Movie;
 use picture_file::{WriteFault, ppm, write_bytes};
-use replay_plan::Details;
+use replay_plan::{Details, Notation};
 use replay_segments::checkpoints_before;
 use run_cursor::{Cursor, RunFault};
 use std::alloc::Global;
@@ -27,8 +27,8 @@ use vcs_machine::{FrameError, Picture};
 /// What is written of a frame.
 #[derive(Clone, Copy)]
 pub(crate) enum View<'a> {
-    /// Its line, with these details.
-    Line(&'a Details),
+    /// Its line or object, with these details.
+    Line(Notation, &'a Details),
     /// Its picture, as a file.
     Picture,
 }
@@ -101,7 +101,9 @@ fn play(
     ensures err { IfErr result (FrameFails cursor.old.movie cursor.old.frame) }
 {
     match view {
-        View::Line(details) => Ok(Shown::Line(played_line(alloc, details, next, cursor)?)),
+        View::Line(notation, details) => {
+            Ok(Shown::Line(played_line(alloc, notation, details, next, cursor)?))
+        }
         View::Picture => Ok(Shown::Picture(played_picture(alloc, cursor)?)),
     }
 }

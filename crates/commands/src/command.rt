@@ -1,15 +1,17 @@
 //! From a command to its answer.
 ghost use Rattle.std.specs.Prelude.{◌≡◌, ◌≢◌, ◌⊎◌, List, ℕ, IfOk, OnErr};
+ghost use Rattle.std.specs.Option.{option_copied, option_map};
 ghost use Rattle.std.specs.Io.KnownBytes.{Appends, Keeps};
 ghost use Rattle.movie_file.specs.Movie.{MovieData};
 ghost use Rattle.movie_file.specs.Reading.{movie_at};
 ghost use Rattle.commands.specs.Answers.{AnswerData};
-ghost use Rattle.commands.specs.Commands.{Answers, HasBegun, IsAnswered, ReadsInputs, StartsThreads};
-ghost use Rattle.commands.specs.Commands.{WritesSome, notation_of};
+ghost use Rattle.commands.specs.Commands.{Answers, HasBegun, IsAnswered, ReadsInputs, ReadsRom};
+ghost use Rattle.commands.specs.Commands.{StartsThreads, WritesSome, notation_of};
 ghost use Rattle.commands.specs.Private.Groups.{IsAboutMovies, IsAtOnce};
 ghost use Rattle.commands.specs.Streams.{IsTooLong, ReadsAll};
 
 use crate::answer::Answer;
+use crate::cartridge::cartridge;
 use crate::convert::convert;
 use crate::counted_gate::CountedGate;
 use crate::cut::cut;
@@ -18,8 +20,9 @@ use crate::info::info;
 use crate::inputs::inputs;
 use crate::make::make;
 use crate::pictures::pictures;
+use crate::refusal::refusal;
 use crate::report::report;
-use crate::run_error::{JudgeError, RunError};
+use crate::run_error::{JudgeError, ReadError, RunError};
 use crate::status::Status;
 use crate::streams::{read_all, read_input};
 use crate::trace::trace;
@@ -27,45 +30,64 @@ use crate::verify::verify;
 use command_line::Command;
 use movie_file::Movie;
 use replay_plan::Notation;
+use std::alloc::Global;
 use std::io::{Read, Write};
 use std::sync::Wait;
 use std::thread::Threads;
 
 /// In which notation a command says that bytes are no movie.
-fn notation_of(command: &Command) -> Notation
+pub fn notation_of(command: &Command) -> Notation
     ensures { result ≡ notation_of command.now }
 {
     match command {
-        Command::Report { notation, .. } | Command::Info { notation } => *notation,
+        Command::Verify { notation, .. } => *notation,
+        Command::Report { notation, .. } => *notation,
+        Command::Info { notation } => *notation,
+        Command::Frames { notation, .. } => *notation,
         _ => Notation::Lines,
     }
 }
 
 /// The answer about a movie, which these bytes are, of a command that writes nothing before its
-/// answer is whole.
+/// answer is whole, where this ROM was read or none.
 fn answer<T: Threads + Wait + Sync + AllocGlobal, G: CountedGate + Sync>(
     rt: &T,
     command: &Command,
     bytes: &[u8],
+    rom: Option<&[u8]>,
     movie: Movie,
     gate: &G,
 ) -> Result<Answer, JudgeError>
     requires { IsAtOnce command.now }
-    ensures answer { IfOk result (Answers command.now bytes.now movie) }
+    ensures answer { IfOk result (Answers command.now bytes.now (option_copied rom.entry) movie) }
     ensures no_thread { result ≡ Err JudgeError.NoThread → StartsThreads command.now }
 {
     let alloc = rt.alloc();
     match command {
-        Command::Verify { plan } => verify(rt, alloc, &movie, plan, gate),
-        Command::Report { workers, notation } => {
-            report(rt, alloc, bytes, &movie, *workers, *notation, gate)
-        }
+        Command::Verify { plan, notation } => verify(rt, alloc, &movie, plan, *notation, gate),
+        Command::Report {
+            workers,
+            notation,
+            expectations,
+            ..
+        } => report(
+            rt,
+            alloc,
+            bytes,
+            &movie,
+            *workers,
+            *notation,
+            rom,
+            expectations,
+            gate,
+        ),
         Command::Info { notation } => Ok(info(alloc, *notation, &movie)?),
         Command::Inputs {
             first,
             count,
             numbers,
         } => Ok(inputs(alloc, &movie, *first, *count, *numbers)?),
+        Command::Cartridge => Ok(cartridge(alloc, &movie)?),
         Command::Convert => Ok(convert(alloc, movie)?),
         Command::Cut {
             first,
@@ -76,20 +98,21 @@ fn answer<T: Threads + Wait + Sync + AllocGlobal, G: CountedGate + Sync>(
     }
 }
 
-/// Writes the answer about a movie, which these bytes are.
+/// Writes the answer about a movie, which these bytes are, where this ROM was read or none.
 fn answer_movie<T: Threads + Wait + Sync + AllocGlobal, W: Write, P: Write, G: CountedGate + Sync>(
     rt: &T,
     command: &Command,
     bytes: &[u8],
+    rom: Option<&[u8]>,
     movie: Movie,
     text: &mut W,
     file: &mut P,
     gate: &G,
 ) -> Result<Status, RunError>
     requires { IsAboutMovies command.now }
-    ensures ok { IfOk result (λ status. (answer : AnswerData) × Answers command.now bytes.now movie answer × (status ≡ answer.status)
+    ensures ok { IfOk result (λ status. (answer : AnswerData) × Answers command.now bytes.now (option_copied rom.entry) movie answer × (status ≡ answer.status)
         × Appends (W.contents text.old) (W.contents text.new) answer.text × Appends (P.contents file.old) (P.contents file.new) answer.file) }
-    ensures write_fault { result ≡ Err RunError.WriteFault → (answer : AnswerData) × Answers command.now bytes.now movie answer
+    ensures write_fault { result ≡ Err RunError.WriteFault → (answer : AnswerData) × Answers command.now bytes.now (option_copied rom.entry) movie answer
         × WritesSome command.now (W.contents text.old) (W.contents text.new) answer.text (P.contents file.old) (P.contents file.new) answer.file }
     ensures quiet { OnErr result (result ≢ Err RunError.WriteFault → result ≢ Err RunError.NoMemory
         → Keeps (W.contents text.old) (W.contents text.new) × Keeps (P.contents file.old) (P.contents file.new)) }
@@ -104,20 +127,38 @@ fn answer_movie<T: Threads + Wait + Sync + AllocGlobal, W: Write, P: Write, G: C
             first,
             count,
             details,
-        } => Ok(frames(alloc, &movie, details, *first, *count, text)?),
+            notation,
+        } => Ok(frames(alloc, &movie, *notation, details, *first, *count, text)?),
         Command::Pictures { first, count } => {
             Ok(pictures(alloc, &movie, *first, *count, file, text)?)
         }
         Command::Trace { frame } => Ok(trace(alloc, &movie, *frame, text)?),
         Command::Verify { .. } => {
-            Ok(answer(rt, command, bytes, movie, gate)?.write_text_first(text, file)?)
+            Ok(answer(rt, command, bytes, rom, movie, gate)?.write_text_first(text, file)?)
         }
-        _ => Ok(answer(rt, command, bytes, movie, gate)?.write_file_first(file, text)?),
+        _ => Ok(answer(rt, command, bytes, rom, movie, gate)?.write_file_first(file, text)?),
     }
 }
 
+/// The ROM with which a report compares the movie's cartridge, if it names one.
+fn read_rom<S: Read>(
+    alloc: Global,
+    command: &Command,
+    inputs: &mut S,
+) -> Result<Option<Vec<u8>>, ReadError>
+    ensures reads { IfOk result (λ rom. ReadsRom command.now (S.remaining inputs.old) (S.remaining inputs.new) (option_map (λ bytes. bytes.items) rom)) }
+    ensures reads_inputs { result ≡ Err ReadError.TooLong → ReadsInputs command.now }
+    ensures too_long { result ≡ Err ReadError.TooLong → IsTooLong (S.remaining inputs.old) }
+{
+    if let Command::Report { rom: Some(_), .. } = command {
+        return Ok(Some(read_all(alloc, inputs)?));
+    }
+    Ok(None)
+}
+
 /// Does what a command asks for: reads its input, which is a movie, or of `make` a cartridge and
-/// then `inputs`, and writes a text, which ends with a line feed, and a file.
+/// then `inputs`, and writes a text, which ends with a line feed, and a file. A report that names a
+/// ROM reads that from `inputs`, unless its input is no movie.
 ///
 /// Input that is refused is a line and `Status::Refused`. After ReadFault, TooLong and NoThread
 /// nothing was written. After NoMemory nothing was written either, or by `frames`, `pictures` and
@@ -166,9 +207,21 @@ pub fn run_command<
     }
     let (bytes, found) = read_input(alloc, input)?;
     match found {
-        Ok(movie) => answer_movie(rt, command, &bytes, movie, text, file, gate),
+        Ok(movie) => {
+            let expected = read_rom(alloc, command, inputs)?;
+            answer_movie(
+                rt,
+                command,
+                &bytes,
+                expected.as_deref(),
+                movie,
+                text,
+                file,
+                gate,
+            )
+        }
         Err(error) => {
-            let answer = Answer::of_refusal(alloc, notation_of(command), error)?;
+            let answer = refusal(alloc, notation_of(command), &bytes, error)?;
             Ok(answer.write_text(text)?)
         }
     }

@@ -7,24 +7,83 @@ ghost use Rattle.picture_file.specs.PictureBytes.{picture_bytes};
 ghost use Rattle.replay_segments.specs.NextCheckpoint.{IsNext};
 ghost use Rattle.run_cursor.specs.Cursor.{IsAt};
 ghost use Rattle.run_cursor.specs.RunFaults.{FrameFails};
-ghost use Rattle.commands.specs.Frames.{byte_text, checkpoint_text, digests_text};
-ghost use Rattle.commands.specs.Frames.{ended_line, frame_line, memory_text};
+ghost use Rattle.commands.specs.Frames.{byte_at, byte_text, checkpoint_text, digests_text};
+ghost use Rattle.commands.specs.Frames.{end_text, ended_line, frame_line, memory_text};
+ghost use Rattle.commands.specs.Frames.{told_claim, watched_text};
 
 use crate::line::Line;
 use hex::{encode, encode_upper};
 use movie_file::{Movie, write_state};
 use picture_file::{HEADER_BYTES, ROW_BYTES, ppm};
-use replay_plan::{Details, Watches};
+use replay_plan::{Address, Details, Notation};
 use run_cursor::Cursor;
 use sha2::{Digest, Sha256};
 use std::alloc::{AllocError, Global};
+use std::fmt;
 use vcs_machine::{FrameError, HexByte, Picture, State, TimedFrame};
 
-/// What a line says of the checkpoint after its frame, if one stands there. `next` is the index of the
-/// first that is not before the frame.
+/// How a line or an object about a frame begins: how many cycles it took, and how many rows its picture
+/// has.
+#[derive(Clone, Copy)]
+struct FrameLength {
+    notation: Notation,
+    frame: u32,
+    cycles: u32,
+    rows: u16,
+}
+
+impl fmt::Display for FrameLength {
+    ghost use Rattle.std.specs.Prelude.{Some};
+    ghost use Rattle.commands.specs.Frames.{length_text};
+
+    ghost output = { λ l. Some (length_text l.notation l.frame l.cycles l.rows) };
+
+    fn fmt<W: fmt::Write>(&self, f: &mut fmt::Formatter<W>) -> fmt::Result {
+        let FrameLength {
+            notation,
+            frame,
+            cycles,
+            rows,
+        } = *self;
+        let line = Line::Frame {
+            frame,
+            cycles,
+            rows,
+        };
+        match notation {
+            Notation::Lines => write!(f, "{line}"),
+            Notation::Json => write!(f, "{{\"frame\":{frame},\"cycles\":{cycles},\"rows\":{rows}"),
+        }
+    }
+}
+
+/// Whether the claim of a checkpoint of this number is true.
+fn told_claim(
+    alloc: Global,
+    notation: Notation,
+    number: u16,
+    is_true: bool,
+) -> Result<String, AllocError>
+    ensures { IfOk result (λ text. string_bytes text ≡ told_claim notation number is_true) }
+{
+    match (notation, is_true) {
+        (Notation::Lines, true) => format!(in alloc; ", checkpoint {number} true"),
+        (Notation::Lines, false) => format!(in alloc; ", checkpoint {number} false"),
+        (Notation::Json, true) => format!(in alloc;
+            ",\"checkpoint\":{number},\"claim_is_true\":true"
+        ),
+        (Notation::Json, false) => format!(in alloc;
+            ",\"checkpoint\":{number},\"claim_is_true\":false"
+        ),
+    }
+}
+
+/// What is said of the checkpoint after a frame, if one stands there. `next` is the index of the first
+/// that is not before the frame.
 #[tactic(auto, using(crate::proofs::StandingCheckpoints::what_is_told))]
 fn told_checkpoint(
     alloc: Global,
+    notation: Notation,
     movie: &Movie,
     next: u16,
     frame: u32,
@@ -32,7 +91,7 @@ fn told_checkpoint(
 ) -> Result<String, AllocError>
     requires { IsNext movie.now next frame }
     ensures { IfOk result (λ text. string_bytes text
-        ≡ checkpoint_text movie.now.checkpoints frame state.now) }
+        ≡ checkpoint_text notation movie.now.checkpoints frame state.now) }
 {
     if next == movie.checkpoints() {
         return Ok(String::new(alloc));
@@ -42,33 +101,105 @@ fn told_checkpoint(
     if checkpoint.frame != frame {
         return Ok(String::new(alloc));
     }
-    if write_state(&checkpoint.state) == write_state(state) {
-        format!(in alloc; ", checkpoint {number} true")
-    } else {
-        format!(in alloc; ", checkpoint {number} false")
+    let is_true = write_state(&checkpoint.state) == write_state(state);
+    told_claim(alloc, notation, number, is_true)
+}
+
+/// An address of the memory and its byte, as an object.
+#[derive(Clone, Copy)]
+struct ByteObject {
+    address: u8,
+    byte: u8,
+}
+
+impl fmt::Display for ByteObject {
+    ghost use Rattle.std.specs.Prelude.{Some};
+    ghost use Rattle.commands.specs.Frames.{byte_object};
+
+    ghost output = { λ o. Some (byte_object o.address o.byte) };
+
+    fn fmt<W: fmt::Write>(&self, f: &mut fmt::Formatter<W>) -> fmt::Result {
+        write!(
+            f,
+            "{{\"address\":\"{}\",\"byte\":\"{}\"}}",
+            HexByte(self.address),
+            HexByte(self.byte)
+        )
     }
 }
 
-/// What a line says of the bytes of the memory that are watched.
-fn told_bytes(alloc: Global, watches: &Watches, state: &State) -> Result<String, AllocError>
-    ensures { IfOk result (λ text. string_bytes text ≡ flat_map (byte_text state.now) watches.now) }
+/// The byte of the memory at an address.
+fn byte_at(state: &State, address: Address) -> u8
+    ensures { result ≡ byte_at state.now address }
 {
     let ram = state.fields().riot.ram;
+    ram[address.place() as usize]
+}
+
+/// What is said of a byte of the memory, after others.
+fn told_byte(
+    alloc: Global,
+    notation: Notation,
+    state: &State,
+    watched: Address,
+) -> Result<String, AllocError>
+    ensures { IfOk result (λ text. string_bytes text ≡ byte_text notation state.now watched) }
+{
+    let address = watched.number();
+    let byte = byte_at(state, watched);
+    match notation {
+        Notation::Lines => format!(in alloc; ", memory {} {}", HexByte(address), HexByte(byte)),
+        Notation::Json => format!(in alloc; ",{}", ByteObject { address, byte }),
+    }
+}
+
+/// What is said of bytes of the memory, each after others.
+fn told_bytes(
+    alloc: Global,
+    notation: Notation,
+    addresses: &[Address],
+    state: &State,
+) -> Result<String, AllocError>
+    ensures { IfOk result (λ text. string_bytes text ≡ flat_map (byte_text notation state.now) addresses.now) }
+{
     let mut text = String::new(alloc);
-    for watched in watches.addresses() {
-        let byte = ram[watched.place() as usize];
-        let part = format!(in alloc; ", memory {} {}", HexByte(watched.number()), HexByte(byte))?;
+    for watched in addresses {
+        let part = told_byte(alloc, notation, state, *watched)?;
         text.push_str(&part)?;
     }
     Ok(text)
 }
 
-/// What a line says of the whole memory.
-fn told_memory(alloc: Global, state: &State) -> Result<String, AllocError>
-    ensures { IfOk result (λ text. string_bytes text ≡ memory_text state.now) }
+/// What is said of the bytes of the memory that are watched.
+fn told_watches(
+    alloc: Global,
+    notation: Notation,
+    addresses: &[Address],
+    state: &State,
+) -> Result<String, AllocError>
+    ensures { IfOk result (λ text. string_bytes text ≡ watched_text notation state.now addresses.now) }
+{
+    match (notation, addresses) {
+        (Notation::Lines, _) => told_bytes(alloc, notation, addresses, state),
+        (Notation::Json, []) => Ok(String::new(alloc)),
+        (Notation::Json, [first, others @ ..]) => {
+            let address = first.number();
+            let byte = byte_at(state, *first);
+            let others = told_bytes(alloc, notation, others, state)?;
+            format!(in alloc; ",\"watched\":[{}{others}]", ByteObject { address, byte })
+        }
+    }
+}
+
+/// What is said of the whole memory.
+fn told_memory(alloc: Global, notation: Notation, state: &State) -> Result<String, AllocError>
+    ensures { IfOk result (λ text. string_bytes text ≡ memory_text notation state.now) }
 {
     let digits = encode_upper(alloc, state.fields().riot.ram)?;
-    format!(in alloc; ", memory {digits}")
+    match notation {
+        Notation::Lines => format!(in alloc; ", memory {digits}"),
+        Notation::Json => format!(in alloc; ",\"memory\":\"{digits}\""),
+    }
 }
 
 /// The file of a picture.
@@ -84,20 +215,39 @@ fn file_of(alloc: Global, picture: &Picture) -> Result<Vec<u8>, AllocError>
 }
 
 /// The digests of a state's record and of a picture's file.
-fn told_digests(alloc: Global, state: &State, picture: &Picture) -> Result<String, AllocError>
-    ensures { IfOk result (λ text. string_bytes text ≡ digests_text state.now picture.now) }
+fn told_digests(
+    alloc: Global,
+    notation: Notation,
+    state: &State,
+    picture: &Picture,
+) -> Result<String, AllocError>
+    ensures { IfOk result (λ text. string_bytes text ≡ digests_text notation state.now picture.now) }
 {
     let state = encode(alloc, Sha256::digest(&write_state(state)))?;
     let file = file_of(alloc, picture)?;
     let picture = encode(alloc, Sha256::digest(&file))?;
-    format!(in alloc; ", state {state}, picture {picture}")
+    match notation {
+        Notation::Lines => format!(in alloc; ", state {state}, picture {picture}"),
+        Notation::Json => format!(in alloc; ",\"state\":\"{state}\",\"picture\":\"{picture}\""),
+    }
 }
 
-/// The line of a frame that ended, with its end. `next` is the index of the first checkpoint that
+/// The end of a line or of an object.
+fn end(notation: Notation) -> &'static str
+    ensures { result.now ≡ end_text notation }
+{
+    match notation {
+        Notation::Lines => "\n",
+        Notation::Json => "}\n",
+    }
+}
+
+/// The line or the object of a frame that ended, with its end. `next` is the index of the first checkpoint that
 /// is not before the frame.
 fn line_of(
     alloc: Global,
     movie: &Movie,
+    notation: Notation,
     details: &Details,
     next: u16,
     frame: u32,
@@ -108,31 +258,34 @@ fn line_of(
     requires picture { (rows : Rows) × (timed.now.rows ≡ length rows)
         × (timed.now.picture ≡ (if details.now.digests then Some rows else None)) }
     ensures { IfOk result (λ text. (rows : Rows) → timed.now.rows ≡ length rows → timed.now.picture ≡ (if details.now.digests then Some rows else None)
-        → string_bytes text ≡ ended_line movie.now.checkpoints details.now frame timed.now.cycles state.now rows) }
+        → string_bytes text ≡ ended_line movie.now.checkpoints notation details.now frame timed.now.cycles state.now rows) }
 {
-    let length = Line::Frame {
+    let length = FrameLength {
+        notation,
         frame,
         cycles: timed.cycles,
         rows: timed.rows,
     };
-    let checkpoint = told_checkpoint(alloc, movie, next, frame, state)?;
-    let bytes = told_bytes(alloc, &details.watches, state)?;
+    let checkpoint = told_checkpoint(alloc, notation, movie, next, frame, state)?;
+    let bytes = told_watches(alloc, notation, details.watches.addresses(), state)?;
     let memory = if details.memory {
-        told_memory(alloc, state)?
+        told_memory(alloc, notation, state)?
     } else {
         String::new(alloc)
     };
     let digests = match &timed.picture {
-        Some(picture) => told_digests(alloc, state, picture)?,
+        Some(picture) => told_digests(alloc, notation, state, picture)?,
         None => String::new(alloc),
     };
-    format!(in alloc; "{length}{checkpoint}{bytes}{memory}{digests}\n")
+    let end = end(notation);
+    format!(in alloc; "{length}{checkpoint}{bytes}{memory}{digests}{end}")
 }
 
 /// Plays the next frame; the answer is its line, with its end. `next` is the index of the first
 /// checkpoint that is not before that frame.
 pub(crate) fn played_line(
     alloc: Global,
+    notation: Notation,
     details: &Details,
     next: u16,
     cursor: &mut Cursor<'_>,
@@ -140,7 +293,7 @@ pub(crate) fn played_line(
     requires more { cursor.old.frame < length cursor.old.movie.inputs }
     requires next { IsNext cursor.old.movie next (cursor.old.frame + 1) }
     ensures ok { OnOk result (IsAt cursor.old.movie (cursor.old.frame + 1) cursor.new) }
-    ensures line { IfOk result (λ text. string_bytes text ≡ frame_line cursor.old.movie details.now cursor.old.frame) }
+    ensures line { IfOk result (λ text. string_bytes text ≡ frame_line cursor.old.movie notation details.now cursor.old.frame) }
     ensures err { IfErr result (FrameFails cursor.old.movie cursor.old.frame) }
 {
     let movie = cursor.movie();
@@ -148,6 +301,7 @@ pub(crate) fn played_line(
     match line_of(
         alloc,
         movie,
+        notation,
         details,
         next,
         cursor.frame(),

@@ -6,43 +6,50 @@ ghost use Rattle.picture_file.specs.Prefixes.{AppendsPrefix};
 ghost use Rattle.commands.specs.Frames.{AppendsLines, Describes};
 
 use crate::asked::{View, write_asked};
-use crate::last_line::write_last;
-use crate::line::Line;
+use crate::last_line::write_fault;
 use crate::status::Status;
 use crate::stop::{Stop, WriteError};
 use movie_file::Movie;
-use replay_plan::Details;
+use replay_plan::{Details, Notation};
 use std::alloc::Global;
 use std::io::Write;
 use std::num::NonZeroU32;
 
-/// Writes a line for each of `count` frames from `first` on, as many as the movie has, with the details
-/// that are asked for, and that of a fault.
+/// Writes a line or an object for each of `count` frames from `first` on, as many as the movie has, with
+/// the details that are asked for, and that of a fault.
 ///
-/// A line says how many cycles the frame took, how many rows its picture has, and, if a checkpoint
+/// It says how many cycles the frame took, how many rows its picture has, and, if a checkpoint
 /// stands after it, whether the claimed state is that of the run; whatever the movie claims, it is
 /// run on. No frame after the last one that is asked for is looked at. Each line is written as soon
 /// as its frame has ended.
 pub(crate) fn frames<L: Write>(
     alloc: Global,
     movie: &Movie,
+    notation: Notation,
     details: &Details,
     first: NonZeroU32,
     count: u32,
     lines: &mut L,
 ) -> Result<Status, WriteError>
-    ensures ok { IfOk result (λ status. (text : List ℕ) × Describes movie.now details.now (non_zero_u32_get first) count status text
+    ensures ok { IfOk result (λ status. (text : List ℕ) × Describes movie.now notation details.now (non_zero_u32_get first) count status text
         × Appends (L.contents lines.old) (L.contents lines.new) text) }
     ensures memory { result ≡ Err WriteError.NoMemory →
-        AppendsLines movie.now details.now (non_zero_u32_get first) count (L.contents lines.old) (L.contents lines.new) }
+        AppendsLines movie.now notation details.now (non_zero_u32_get first) count (L.contents lines.old) (L.contents lines.new) }
     ensures fault { result ≡ Err WriteError.WriteFault → (status : Status) × (text : List ℕ)
-        × Describes movie.now details.now (non_zero_u32_get first) count status text
+        × Describes movie.now notation details.now (non_zero_u32_get first) count status text
         × AppendsPrefix (L.contents lines.old) (L.contents lines.new) text }
 {
-    match write_asked(alloc, movie, View::Line(details), first, count, lines) {
+    match write_asked(
+        alloc,
+        movie,
+        View::Line(notation, details),
+        first,
+        count,
+        lines,
+    ) {
         Ok(_) => Ok(Status::Done),
         Err(Stop::Fault { frame, kind }) => {
-            write_last(alloc, Line::Fault { frame, kind }, lines)?;
+            write_fault(alloc, notation, frame, kind, lines)?;
             Ok(Status::Fault)
         }
         Err(Stop::NoMemory) => Err(WriteError::NoMemory),

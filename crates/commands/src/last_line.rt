@@ -1,14 +1,30 @@
 //! The last line of what a command writes.
-ghost use Rattle.std.specs.Prelude.{◌≡◌, Err, OnOk};
+ghost use Rattle.std.specs.Prelude.{◌≡◌, Err, IfOk, OnOk, string_bytes};
 ghost use Rattle.std.specs.Io.KnownBytes.{Appends, Keeps};
 ghost use Rattle.picture_file.specs.Prefixes.{AppendsPrefix};
+ghost use Rattle.commands.specs.Frames.{fault_line};
 ghost use Rattle.commands.specs.Lines.{line_bytes};
 
 use crate::line::Line;
 use crate::stop::WriteError;
+use movie_report::FaultMembers;
 use picture_file::write_bytes;
-use std::alloc::Global;
+use replay_plan::Notation;
+use std::alloc::{AllocError, Global};
 use std::io::Write;
+use vcs_machine::FaultKind;
+
+/// Writes a text with its end.
+fn write_whole<L: Write>(text: &str, lines: &mut L) -> Result<(), WriteError>
+    ensures ok { OnOk result (Appends (L.contents lines.old) (L.contents lines.new) text.now) }
+    ensures memory { result ≡ Err WriteError.NoMemory → Keeps (L.contents lines.old) (L.contents lines.new) }
+    ensures fault { result ≡ Err WriteError.WriteFault → AppendsPrefix (L.contents lines.old) (L.contents lines.new) text.now }
+{
+    match write_bytes(text.as_bytes(), lines) {
+        Ok(()) => Ok(()),
+        Err(_) => Err(WriteError::WriteFault),
+    }
+}
 
 /// Writes a line as the last one.
 pub(crate) fn write_last<L: Write>(
@@ -23,8 +39,38 @@ pub(crate) fn write_last<L: Write>(
     let Ok(text) = line.text(alloc) else {
         return Err(WriteError::NoMemory);
     };
-    match write_bytes(text.as_bytes(), lines) {
-        Ok(()) => Ok(()),
-        Err(_) => Err(WriteError::WriteFault),
+    write_whole(&text, lines)
+}
+
+/// The last line or object of frames of which this one faults, with its end.
+fn fault_line(
+    alloc: Global,
+    notation: Notation,
+    frame: u32,
+    kind: FaultKind,
+) -> Result<String, AllocError>
+    ensures { IfOk result (λ text. string_bytes text ≡ fault_line notation frame kind) }
+{
+    match notation {
+        Notation::Lines => Line::Fault { frame, kind }.text(alloc),
+        Notation::Json => format!(in alloc; "{{\"frame\":{frame}{}}}\n", FaultMembers(kind)),
     }
+}
+
+/// Writes it.
+pub(crate) fn write_fault<L: Write>(
+    alloc: Global,
+    notation: Notation,
+    frame: u32,
+    kind: FaultKind,
+    lines: &mut L,
+) -> Result<(), WriteError>
+    ensures ok { OnOk result (Appends (L.contents lines.old) (L.contents lines.new) (fault_line notation frame kind)) }
+    ensures memory { result ≡ Err WriteError.NoMemory → Keeps (L.contents lines.old) (L.contents lines.new) }
+    ensures fault { result ≡ Err WriteError.WriteFault → AppendsPrefix (L.contents lines.old) (L.contents lines.new) (fault_line notation frame kind) }
+{
+    let Ok(text) = fault_line(alloc, notation, frame, kind) else {
+        return Err(WriteError::NoMemory);
+    };
+    write_whole(&text, lines)
 }

@@ -6,6 +6,7 @@
 mod answer;
 mod asked;
 mod assembly;
+mod cartridge;
 mod command;
 mod convert;
 mod counted_gate;
@@ -21,6 +22,7 @@ mod line;
 mod make;
 mod mnemonic;
 mod pictures;
+mod refusal;
 mod report;
 mod run_error;
 mod runs;
@@ -29,9 +31,10 @@ mod stop;
 mod streams;
 mod trace;
 mod trace_line;
+mod verdict_text;
 mod verify;
 
-pub use command::run_command;
+pub use command::{notation_of, run_command};
 pub use counted_gate::CountedGate;
 pub use laws::law_of_cuts;
 pub use line::Line;

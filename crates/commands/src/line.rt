@@ -39,6 +39,10 @@ pub enum Line {
     },
     /// A movie of version 2 is not converted.
     AlreadyTwo,
+    /// A cartridge of so many bytes was written.
+    Cartridge {
+        bytes: u16,
+    },
     Cut {
         frames: u32,
         checkpoints: u16,
@@ -163,6 +167,7 @@ impl fmt::Display for Line {
                 checkpoints,
             } => write!(f, "converted: {}", Counts(frames, checkpoints)),
             Line::AlreadyTwo => write!(f, "refused: AlreadyTwo"),
+            Line::Cartridge { bytes } => write!(f, "cartridge: {bytes} bytes"),
             Line::Cut {
                 frames,
                 checkpoints,

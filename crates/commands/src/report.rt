@@ -1,18 +1,21 @@
 //! The verdict of a movie, and facts about it.
 ghost use Rattle.std.specs.Prelude.{◌≡◌, ◌≤◌, ◌++◌, Err, IfOk, string_bytes};
+ghost use Rattle.std.specs.Option.{option_copied};
 ghost use Rattle.command_line.specs.Program.{program_name};
 ghost use Rattle.commands.specs.Lines.{line_bytes};
-ghost use Rattle.commands.specs.Report.{Reports, line_in};
+ghost use Rattle.commands.specs.Report.{Reports, line_in, status_with};
 ghost use Rattle.commands.specs.Verify.{verdict_line};
 
 use crate::answer::Answer;
 use crate::counted_gate::CountedGate;
 use crate::line::Line;
 use crate::run_error::JudgeError;
+use crate::status::Status;
 use crate::verify::verdict_of;
 use command_line::program_name;
 use movie_file::Movie;
-use replay_plan::{Notation, Plan, Workers};
+use movie_report::Agreement;
+use replay_plan::{Expectations, Notation, Plan, Workers};
 use replay_segments::Verdict;
 use std::alloc::{AllocError, Global};
 use std::sync::Wait;
@@ -40,8 +43,19 @@ fn text_of(
     }
 }
 
+/// The status of a movie with this one by its verdict, and with what is expected of it.
+fn status_with(agreement: Agreement, status: Status) -> Status
+    ensures { result ≡ status_with agreement status }
+{
+    if status == Status::Done && agreement.disagrees() {
+        return Status::Unexpected;
+    }
+    status
+}
+
 /// The verdict of the movie that these bytes are, by so many workers, and facts about it: the line of
-/// the verdict and then a line for each fact, or an object of JSON.
+/// the verdict and then a line for each fact, or an object of JSON. What is expected of it, beside the
+/// bytes of a ROM if there is one, is among them.
 pub(crate) fn report<T: Threads + Wait + Sync, G: CountedGate + Sync>(
     rt: &T,
     alloc: Global,
@@ -49,13 +63,16 @@ pub(crate) fn report<T: Threads + Wait + Sync, G: CountedGate + Sync>(
     movie: &Movie,
     workers: Workers,
     notation: Notation,
+    rom: Option<&[u8]>,
+    expectations: &Expectations,
     gate: &G,
 ) -> Result<Answer, JudgeError>
-    ensures answer { IfOk result (Reports notation program_name bytes.now movie.now) }
+    ensures answer { IfOk result (Reports notation program_name (option_copied rom.entry) expectations.now bytes.now movie.now) }
     ensures no_thread { result ≡ Err JudgeError.NoThread → 2 ≤ workers.number }
 {
     let plan = Plan::without_pictures(workers);
     let verdict = verdict_of(rt, alloc, movie, &plan, gate)?;
+    let agreement = Agreement::of(movie, rom, expectations);
     let facts = movie_report::report(
         rt,
         alloc,
@@ -64,9 +81,10 @@ pub(crate) fn report<T: Threads + Wait + Sync, G: CountedGate + Sync>(
         bytes,
         movie,
         &verdict,
+        agreement,
         workers,
     )?;
-    let status = Line::of_verdict(movie, &verdict).status();
+    let status = status_with(agreement, Line::of_verdict(movie, &verdict).status());
     let text = text_of(alloc, movie, &verdict, notation, facts)?;
     Ok(Answer::of_text(alloc, status, text))
 }

@@ -1,5 +1,5 @@
 //! Commands for programs without a command line.
-ghost use Rattle.std.specs.Prelude.{◌≡◌, ◌≢◌, ◌≤◌, ◌⊎◌, List, ℕ, Err, IfOk, OnErr};
+ghost use Rattle.std.specs.Prelude.{◌≡◌, ◌≢◌, ◌≤◌, ◌⊎◌, List, ℕ, Err, IfOk, None, OnErr};
 ghost use Rattle.std.specs.Io.KnownBytes.{Appends, Keeps};
 ghost use Rattle.command_line.specs.declared.command.Command.TheVariants.{Convert, Info, Verify};
 ghost use Rattle.movie_file.specs.Reading.{movie_at};
@@ -14,6 +14,7 @@ use crate::answer::Answer;
 use crate::convert::convert;
 use crate::counted_gate::CountedGate;
 use crate::info::info;
+use crate::line::Line;
 use crate::make::make;
 use crate::run_error::RunError;
 use crate::status::Status;
@@ -46,10 +47,10 @@ pub fn run<T: Threads + Wait + Sync, R: Read, W: Write, P: Write, G: CountedGate
 ) -> Result<Status, RunError>
     // The output is that of the bytes read, and nothing else.
     ensures ok { IfOk result (λ status. (input : List ℕ) × (answer : AnswerData) × ReadsAll (R.remaining movie.old) (R.remaining movie.new) input
-        × AnswersFound (Verify plan.now) input (movie_at input) answer × (status ≡ answer.status)
+        × AnswersFound (Verify plan.now Lines) input None (movie_at input) answer × (status ≡ answer.status)
         × Appends (W.contents verdict.old) (W.contents verdict.new) answer.text × Appends (P.contents pictures.old) (P.contents pictures.new) answer.file) }
     ensures write_fault { result ≡ Err RunError.WriteFault → (input : List ℕ) × (answer : AnswerData)
-        × ReadsAll (R.remaining movie.old) (R.remaining movie.new) input × AnswersFound (Verify plan.now) input (movie_at input) answer
+        × ReadsAll (R.remaining movie.old) (R.remaining movie.new) input × AnswersFound (Verify plan.now Lines) input None (movie_at input) answer
         × WritesPart (W.contents verdict.old) (W.contents verdict.new) answer.text (P.contents pictures.old) (P.contents pictures.new) answer.file }
 
     // What was written after the other errors.
@@ -60,8 +61,8 @@ pub fn run<T: Threads + Wait + Sync, R: Read, W: Write, P: Write, G: CountedGate
 {
     let (_, found) = read_input(alloc, movie)?;
     let answer = match found {
-        Ok(movie) => verify(rt, alloc, &movie, plan, gate)?,
-        Err(error) => Answer::of_refusal(alloc, Notation::Lines, error)?,
+        Ok(movie) => verify(rt, alloc, &movie, plan, Notation::Lines, gate)?,
+        Err(error) => Answer::of_line(alloc, Line::Refused(error))?,
     };
     Ok(answer.write_text_first(verdict, pictures)?)
 }
@@ -117,10 +118,10 @@ pub fn run_convert<R: Read, W: Write, L: Write>(
 ) -> Result<Status, RunError>
     // The output is that of the bytes read, and nothing else.
     ensures ok { IfOk result (λ status. (input : List ℕ) × (answer : AnswerData) × ReadsAll (R.remaining movie.old) (R.remaining movie.new) input
-        × AnswersFound Convert input (movie_at input) answer × (status ≡ answer.status)
+        × AnswersFound Convert input None (movie_at input) answer × (status ≡ answer.status)
         × Appends (W.contents new.old) (W.contents new.new) answer.file × Appends (L.contents line.old) (L.contents line.new) answer.text) }
     ensures write_fault { result ≡ Err RunError.WriteFault → (input : List ℕ) × (answer : AnswerData)
-        × ReadsAll (R.remaining movie.old) (R.remaining movie.new) input × AnswersFound Convert input (movie_at input) answer
+        × ReadsAll (R.remaining movie.old) (R.remaining movie.new) input × AnswersFound Convert input None (movie_at input) answer
         × WritesPart (W.contents new.old) (W.contents new.new) answer.file (L.contents line.old) (L.contents line.new) answer.text }
 
     // What was written after the other errors.
@@ -132,7 +133,7 @@ pub fn run_convert<R: Read, W: Write, L: Write>(
     let (_, found) = read_input(alloc, movie)?;
     let answer = match found {
         Ok(movie) => convert(alloc, movie)?,
-        Err(error) => Answer::of_refusal(alloc, Notation::Lines, error)?,
+        Err(error) => Answer::of_line(alloc, Line::Refused(error))?,
     };
     Ok(answer.write_file_first(new, line)?)
 }
@@ -150,10 +151,10 @@ pub fn run_info<R: Read, W: Write>(
 ) -> Result<Status, RunError>
     // The output is that of the bytes read, and nothing else.
     ensures ok { IfOk result (λ status. (input : List ℕ) × (answer : AnswerData) × ReadsAll (R.remaining movie.old) (R.remaining movie.new) input
-        × AnswersFound (Info Lines) input (movie_at input) answer × (status ≡ answer.status)
+        × AnswersFound (Info Lines) input None (movie_at input) answer × (status ≡ answer.status)
         × Appends (W.contents line.old) (W.contents line.new) answer.text) }
     ensures write_fault { result ≡ Err RunError.WriteFault → (input : List ℕ) × (answer : AnswerData)
-        × ReadsAll (R.remaining movie.old) (R.remaining movie.new) input × AnswersFound (Info Lines) input (movie_at input) answer
+        × ReadsAll (R.remaining movie.old) (R.remaining movie.new) input × AnswersFound (Info Lines) input None (movie_at input) answer
         × AppendsPrefix (W.contents line.old) (W.contents line.new) answer.text }
 
     // What was written after the other errors.
@@ -164,7 +165,7 @@ pub fn run_info<R: Read, W: Write>(
     let (_, found) = read_input(alloc, movie)?;
     let answer = match found {
         Ok(movie) => info(alloc, Notation::Lines, &movie)?,
-        Err(error) => Answer::of_refusal(alloc, Notation::Lines, error)?,
+        Err(error) => Answer::of_line(alloc, Line::Refused(error))?,
     };
     Ok(answer.write_text(line)?)
 }

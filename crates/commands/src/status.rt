@@ -12,12 +12,14 @@ pub enum Status {
     Fault,
     /// The bytes are no movie, or no movie can be made of them.
     Refused,
+    /// The movie is genuine, but not what was expected.
+    Unexpected,
 }
 
 impl Status {
     ghost use Rattle.commands.specs.Status.{status_code};
 
-    /// The program's exit status, 0 to 3.
+    /// The program's exit status, 0 to 3 or 6.
     pub fn code(self) -> u8
         ensures { result ≡ status_code self }
     {
@@ -26,6 +28,7 @@ impl Status {
             Status::False => 1,
             Status::Fault => 2,
             Status::Refused => 3,
+            Status::Unexpected => 6,
         }
     }
 }

@@ -7,7 +7,7 @@ use crate::answer::Answer;
 use crate::counted_gate::CountedGate;
 use crate::run_error::JudgeError;
 use movie_file::Movie;
-use replay_plan::Plan;
+use replay_plan::{Notation, Plan};
 use replay_segments::{Cuts, Verdict};
 use std::alloc::Global;
 use std::sync::Wait;
@@ -38,17 +38,18 @@ pub(crate) fn verdict_of<T: Threads + Wait + Sync, G: CountedGate + Sync>(
     }
 }
 
-/// The line of a movie's verdict, and the kept pictures of a genuine movie.
+/// The line or the object of a movie's verdict, and the kept pictures of a genuine movie.
 pub(crate) fn verify<T: Threads + Wait + Sync, G: CountedGate + Sync>(
     rt: &T,
     alloc: Global,
     movie: &Movie,
     plan: &Plan,
+    notation: Notation,
     gate: &G,
 ) -> Result<Answer, JudgeError>
-    ensures answer { IfOk result (Verifies plan.now.keep movie.now) }
+    ensures answer { IfOk result (Verifies notation plan.now.keep movie.now) }
     ensures no_thread { result ≡ Err JudgeError.NoThread → 2 ≤ plan.now.workers.number }
 {
     let verdict = verdict_of(rt, alloc, movie, plan, gate)?;
-    Ok(Answer::of_verdict(alloc, movie, verdict)?)
+    Ok(Answer::of_verdict(alloc, notation, movie, verdict)?)
 }

@@ -10,7 +10,7 @@ IsAboutMovies other = Unit {0}
 -- It is, and it writes nothing before its answer is whole.
 abbrev pub IsAtOnce : Command → Type 0
 IsAtOnce (Make inputs form every) = ⊥
-IsAtOnce (Frames first count details) = ⊥
+IsAtOnce (Frames first count details notation) = ⊥
 IsAtOnce (Pictures first count) = ⊥
 IsAtOnce (Trace frame) = ⊥
 IsAtOnce other = Unit {0}

@@ -16,7 +16,7 @@ picture_of_frame m k = pictures_bytes (picture_after m k (run m m.start 0 k))
 
 -- What is written of frame k + 1 of a movie's run,
 abbrev pub bytes_shown : MovieData → View → ℕ → List ℕ
-bytes_shown m (Line details) k = frame_line m details.now k
+bytes_shown m (Line notation details) k = frame_line m notation details.now k
 bytes_shown m Picture k = picture_of_frame m k
 
 -- and of one that was played.

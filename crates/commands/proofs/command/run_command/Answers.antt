@@ -1,9 +1,10 @@
-use Rattle.std.proofs.Common.{◌≡◌, Ok, Err, inl, inr, refl, rules, sym}
+use Rattle.std.proofs.Common.{◌≡◌, Ok, Err, ap, inl, inr, refl, rules, sym}
 use Rattle.std.proofs.lemmas.Result.{IfOk-weaker}
 use Rattle.movie_file.specs.Reading.{movie_at}
-use Rattle.picture_file.proofs.BytesWritten.{appends_nothing}
+use Rattle.picture_file.proofs.BytesWritten.{appends_nothing, keeps_same}
 use Rattle.commands.specs.Private.Groups.{IsAboutMovies}
-use Rattle.commands.proofs.CommandAnswers.{of_movie, of_refusal, text_in_part}
+use Rattle.commands.proofs.CommandAnswers.{of_movie, of_refusal, only_too_long, text_in_part}
+use Rattle.commands.proofs.WrittenFrames.{the_error}
 use Rattle.commands.proofs.command.run_command.Goals as goal
 
 pub returns-in_err-write_file_first-clause-write_fault : goal.returns-in_err-write_file_first-clause-write_fault
@@ -12,13 +13,20 @@ returns-in_err-write_file_first-clause-write_fault g c = λ is.
     let makes = rw c.get.ensures.value at c.in_ok-answer.ensures.makes in
     rw c.in-Make.is (c.in_ok-rom.rom.items, answer.status, answer.text, answer.file, c.in_ok-rom.ensures.all, makes, c.in_err-write_file_first.ensures.fault)
 
+pub returns-in_err-expected-in-Ok-clause-too_long : goal.returns-in_err-expected-in-Ok-clause-too_long
+returns-in_err-expected-in-Ok-clause-too_long g c = λ is.
+    let from = c.from_residual-in_err-expected-in-Ok in
+    let error = ap Err (only_too_long _ (the_error from.result _ _ from.ensures.1 is)) in
+    inr (c.in_err-expected-in-Ok.ensures.reads_inputs error, c.in_err-expected-in-Ok.ensures.too_long error)
+
 pub returns-in-Ok-clause-ok : goal.returns-in-Ok-clause-ok
 returns-in-Ok-clause-ok g c =
     let bytes = c.in_ok-bytes.bytes.items in
     let about : IsAboutMovies c.args.command.now = search rules in
     let read : movie_at bytes ≡ Ok c.in-Ok.movie = rw c.in-Ok.is at (sym c.in_ok-bytes.ensures.found) in
+    let reads = rw (← c.as_deref.ensures.value) at c.in_ok-expected-in-Ok.ensures.reads in
     IfOk-weaker c.answer_movie.result _ _
-    (λ status h. (bytes, h.0.text, h.0.file, c.in_ok-bytes.ensures.all, of_movie _ bytes _ status h.0 about h.2 _ read h.1, h.3, h.4))
+    (λ status h. (bytes, h.0.text, h.0.file, c.in_ok-bytes.ensures.all, of_movie _ bytes _ _ status h.0 about h.2 _ _ read reads h.1, h.3, h.4))
     (rw c.deref.ensures.value at c.answer_movie.ensures.ok)
 
 pub returns-in-Ok-clause-write_fault : goal.returns-in-Ok-clause-write_fault
@@ -26,8 +34,9 @@ returns-in-Ok-clause-write_fault g c = λ is.
     let bytes = c.in_ok-bytes.bytes.items in
     let about : IsAboutMovies c.args.command.now = search rules in
     let read : movie_at bytes ≡ Ok c.in-Ok.movie = rw c.in-Ok.is at (sym c.in_ok-bytes.ensures.found) in
+    let reads = rw (← c.as_deref.ensures.value) at c.in_ok-expected-in-Ok.ensures.reads in
     let h = (rw c.deref.ensures.value at c.answer_movie.ensures.write_fault) is in
-    (bytes, h.0.status, h.0.text, h.0.file, c.in_ok-bytes.ensures.all, of_movie _ bytes _ _ h.0 about refl _ read h.1, h.2)
+    (bytes, h.0.status, h.0.text, h.0.file, c.in_ok-bytes.ensures.all, of_movie _ bytes _ _ _ h.0 about refl _ _ read reads h.1, h.2)
 
 pub returns-in-Ok-clause-memory : goal.returns-in-Ok-clause-memory
 returns-in-Ok-clause-memory g c = λ is.
@@ -41,13 +50,13 @@ returns-in_err-write_text-in-Err-clause-write_fault g c = λ is.
     let answer = c.in_ok-answer-in-Err.answer in
     let about : IsAboutMovies c.args.command.now = search rules in
     let read : movie_at bytes ≡ Err c.in-Err.error = rw c.in-Err.is at (sym c.in_ok-bytes.ensures.found) in
-    let told = rw c.notation_of.ensures at c.in_ok-answer-in-Err.ensures in (
+    let told = rw (c.notation_of.ensures, c.deref-in-Err.ensures.value) at c.in_ok-answer-in-Err.ensures in (
       bytes,
       answer.status,
       answer.text,
       _,
       c.in_ok-bytes.ensures.all,
-      of_refusal _ bytes _ _ answer about refl _ read told,
+      of_refusal _ bytes _ _ _ answer about refl _ read (keeps_same _) told,
       text_in_part c.args.command.now _ _ _ _ c.in_err-write_text-in-Err.ensures.fault,
     )
 
@@ -57,6 +66,6 @@ returns-clause-ok g c =
     let answer = c.in_ok-answer-in-Err.answer in
     let about : IsAboutMovies c.args.command.now = search rules in
     let read : movie_at bytes ≡ Err c.in-Err.error = rw c.in-Err.is at (sym c.in_ok-bytes.ensures.found) in
-    let told = rw c.notation_of.ensures at c.in_ok-answer-in-Err.ensures in
+    let told = rw (c.notation_of.ensures, c.deref-in-Err.ensures.value) at c.in_ok-answer-in-Err.ensures in
     let wrote = c.in_ok-write_text-in-Err.ensures.ok in
-    (bytes, answer.text, _, c.in_ok-bytes.ensures.all, of_refusal _ bytes _ _ answer about wrote.0 _ read told, wrote.1, appends_nothing _)
+    (bytes, answer.text, _, c.in_ok-bytes.ensures.all, of_refusal _ bytes _ _ _ answer about wrote.0 _ read (keeps_same _) told, wrote.1, appends_nothing _)

@@ -4,4 +4,4 @@ use Rattle.commands.specs.Frames.{byte_text}
 use Rattle.commands.proofs.frame_line.told_bytes.Given as goal
 
 abbrev pub invariant-loop-watched : goal.invariant-loop-watched
-invariant-loop-watched l = string_bytes l.text ≡ flat_map (byte_text l.state) (take l.watched-index l.watched-items)
+invariant-loop-watched l = string_bytes l.text ≡ flat_map (byte_text l.notation l.state) (take l.watched-index l.addresses)

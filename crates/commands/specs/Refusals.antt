@@ -1,0 +1,54 @@
+-- How bytes that are no movie are refused: as a line, or as an object of JSON (RFC 8259). This
+-- project's own.
+use Rattle.std.specs.Prelude.{◌≡◌, ℕ, List, [], ◌∷◌, ◌++◌, codes, Option, Some, None}
+use Rattle.std.specs.Fmt.{decimal}
+use Rattle.hex.specs.Hex.{encode_lower}
+use Rattle.sha2.specs.Sha256.{sha256}
+use Rattle.movie_file.specs.MovieError.{refusal_text}
+use Rattle.movie_file.specs.declared.error.MovieError.{MovieError}
+use Rattle.movie_file.specs.declared.error.MovieError.TheVariants.{BadState, BadInput, BadOrder}
+use Rattle.movie_hints.specs.Hints.{Explains}
+use Rattle.movie_hints.specs.HintTexts.{expected_text, field_text, found_text, hint_text}
+use Rattle.movie_hints.specs.declared.hint.Hint.{Hint}
+use Rattle.movie_hints.specs.declared.hint.Hint.TheVariants as hints
+use Rattle.movie_hints.specs.declared.mismatch.Mismatch.{Mismatch}
+use Rattle.replay_plan.specs.declared.notation.Notation.{Notation}
+use Rattle.replay_plan.specs.declared.notation.Notation.TheVariants.{Lines, Json}
+use Rattle.commands.specs.Answers.{AnswerData, line_answer, text_answer}
+use Rattle.commands.specs.declared.line.Line.TheVariants as lines
+use Rattle.commands.specs.declared.status.Status.TheVariants as statuses
+
+-- The number that a refusal has,
+abbrev pub number_member : MovieError → List ℕ
+number_member (BadState number) = codes ",\"at\":" ++ decimal number
+number_member (BadInput number) = codes ",\"at\":" ++ decimal number
+number_member (BadOrder number) = codes ",\"at\":" ++ decimal number
+number_member other = []
+
+-- a field that isn't what was expected,
+abbrev pub mismatch_members : Mismatch → List ℕ
+mismatch_members m =
+    codes ",\"byte\":" ++ (decimal m.byte ++ (codes ",\"field\":\"" ++ (field_text m.field ++ (codes "\",\"expected\":\""
+    ++ (expected_text m.expected ++ (codes "\",\"found\":\"" ++ (found_text m.found ++ codes "\"")))))))
+
+abbrev pub field_members : Hint → List ℕ
+field_members (hints.Mismatch mismatch) = mismatch_members mismatch
+field_members other = []
+
+-- and the whole reason, each as members of an object.
+abbrev pub reason_members : Option Hint → List ℕ
+reason_members None = []
+reason_members (Some hint) = field_members hint ++ (codes ",\"reason\":\"" ++ (hint_text hint ++ codes "\""))
+
+-- The object of a refusal of these bytes by a program of this name.
+abbrev pub refusal_object : List ℕ → List ℕ → MovieError → Option Hint → List ℕ
+refusal_object program bytes error hint =
+    codes "{\"verdict\":\"refused\",\"refusal\":\"" ++ (refusal_text error ++ (codes "\"" ++ (number_member error ++ (reason_members hint
+    ++ (codes ",\"program\":\"" ++ (program ++ (codes "\",\"movie_sha256\":\"" ++ (encode_lower (sha256 bytes) ++ (codes "\"}" ++ 10 ∷ [])))))))))
+
+-- The answer that these bytes are refused so. An object has a reason that is true of the bytes; it has
+-- none only where it isn't known which number of a state is wrong.
+abbrev pub Refuses : Notation → List ℕ → List ℕ → MovieError → AnswerData → Type 0
+Refuses Lines program bytes error answer = answer ≡ line_answer (lines.Refused error)
+Refuses Json program bytes error answer =
+    (hint : Option Hint) × Explains bytes error hint × (answer ≡ text_answer statuses.Refused (refusal_object program bytes error hint))
