@@ -4,7 +4,10 @@ use Rattle.named_files.specs.declared.file_error.CreateError.{CreateError}
 use Rattle.named_files.specs.declared.file_error.CreateError.TheVariants.{Open}
 use Rattle.named_files.specs.declared.file_error.FileError.{FileError}
 use Rattle.named_files.specs.declared.file_error.Reason.{Reason}
-use Rattle.named_files.specs.declared.file_error.Reason.TheVariants.{IsInput, IsOutput, NotCopied, System, TooLong}
+use Rattle.named_files.specs.declared.file_error.Reason.TheVariants.{IsInput, NoFreeName, NotCopied, System, TooLong}
+use Rattle.std.specs.IoError.{error_kind}
+use Rattle.std.specs.declared.io.ErrorKind.{ErrorKind}
+use Rattle.std.specs.declared.io.ErrorKind.TheVariants.{AlreadyExists, BrokenPipe}
 use Rattle.commands.specs.Streams.{input_limit}
 
 -- It is the file of this name.
@@ -20,22 +23,37 @@ NamesIfOpen name other = Unit {0}
 abbrev pub IsAbout : List ℕ → Reason → FileError → Type 0
 IsAbout name reason error = Names name error × (error.reason ≡ reason)
 
--- Why a file is no output of a command, by whether it keeps what is written, is a pipe, is an input
--- of the command, and is a standard stream that is written. What keeps nothing may be all of these,
--- but a pipe would wait for itself.
-abbrev pub conflict : Bool → Bool → Bool → Bool → Option Reason
-conflict true is_pipe true is_stream = Some IsInput
-conflict false true true is_stream = Some IsInput
-conflict true is_pipe false true = Some IsOutput
-conflict true is_pipe false false = None
-conflict false true false is_stream = None
-conflict false false is_input is_stream = None
+-- Why a file is no output of a command, by whether it keeps what is written, is a pipe, and is an
+-- input of the command, and by what keeps it from being one as it is a standard stream. What keeps
+-- nothing may be all of these, but a pipe would wait for itself.
+abbrev pub conflict : Bool → Bool → Bool → Option Reason → Option Reason
+conflict true is_pipe true stream = Some IsInput
+conflict false true true stream = Some IsInput
+conflict true is_pipe false stream = stream
+conflict false true false stream = None
+conflict false false is_input stream = None
+
+-- Why an output failed that is written beside, by the kind of the system's error: a file beside it
+-- has to be a new one.
+abbrev pub reason_of_kind : ErrorKind → Reason → Reason
+reason_of_kind AlreadyExists reason = NoFreeName
+reason_of_kind kind reason = reason
 
 -- The same where all that was written is kept in a file beside it, of this digit, which could not be
 -- copied.
 abbrev pub reason_beside : Option ℕ → Reason → Reason
 reason_beside (Some digit) (System error) = NotCopied error digit
-reason_beside other reason = reason
+reason_beside None (System error) = reason_of_kind (error_kind error) (System error)
+reason_beside kept reason = reason
+
+-- It is the system's error of this kind.
+abbrev pub HasKind : ErrorKind → Reason → Type 0
+HasKind kind (System error) = error_kind error ≡ kind
+HasKind kind reason = ⊥
+
+-- It is a pipe that nobody reads any more.
+abbrev pub IsBrokenPipe : FileError → Type 0
+IsBrokenPipe file_error = HasKind BrokenPipe file_error.reason
 
 -- Why a stream failed of which so many bytes were read, and which had failed before as is said: no
 -- input has so many.

@@ -1,8 +1,9 @@
 //! Which file a failure is about, and why.
-ghost use Rattle.std.specs.Prelude.{◌≡◌};
-ghost use Rattle.named_files.specs.FileErrors.{IsAbout};
+ghost use Rattle.std.specs.Prelude.{◌≡◌, ◌↔◌, true};
+ghost use Rattle.named_files.specs.FileErrors.{IsAbout, IsBrokenPipe};
 
-use std::{fmt, io};
+use std::fmt;
+use std::io::{self, ErrorKind};
 use terminal_text::Shown;
 use thiserror::Error;
 
@@ -21,6 +22,15 @@ pub enum Reason {
     IsInput,
     #[error("is also standard output or standard error")]
     IsOutput,
+    /// Of standard output.
+    #[error("is also standard error")]
+    IsStandardError,
+    /// Of standard output.
+    #[error("is a terminal")]
+    IsTerminal,
+    /// As the names of the files beside it are taken, which end with these digits.
+    #[error("the files beside it that end with .part1 to .part9 are in the way")]
+    NoFreeName,
     #[error("takes no more bytes")]
     TookNothing,
 }
@@ -48,13 +58,41 @@ impl<'a> FileError<'a> {
     {
         FileError { file, reason }
     }
+
+    /// The name of the file.
+    pub fn file(&self) -> &'a str
+        ensures { result.now ≡ self.now.file.now }
+    {
+        self.file
+    }
+
+    /// Why it failed.
+    pub fn reason(&self) -> Reason
+        ensures { result ≡ self.now.reason }
+    {
+        self.reason
+    }
+
+    /// Whether it is a pipe whose reader has gone away.
+    pub fn is_broken_pipe(&self) -> bool
+        ensures { (result ≡ true) ↔ IsBrokenPipe self.now }
+    {
+        match self.reason {
+            Reason::System(error) => error.kind() == ErrorKind::BrokenPipe,
+            _ => false,
+        }
+    }
 }
 
 impl fmt::Display for FileError<'_> {
     fn fmt<W: fmt::Write>(&self, f: &mut fmt::Formatter<W>) -> fmt::Result {
         let file = Shown::name(self.file);
         let reason = self.reason;
-        write!(f, "{file}: {reason}")
+        match reason {
+            Reason::IsTerminal => write!(f, "{file} {reason}"),
+            _ if self.file.is_empty() => write!(f, "'': {reason}"),
+            _ => write!(f, "{file}: {reason}"),
+        }
     }
 }
 

@@ -1,13 +1,14 @@
 //! How the files of a command are opened.
-ghost use Rattle.std.specs.Prelude.{◌≡◌, ◌⊎◌, IfErr};
+ghost use Rattle.std.specs.Prelude.{◌≡◌, ◌⊎◌, IfErr, codes};
 ghost use Rattle.named_files.specs.FileErrors.{Names, NamesIfOpen, conflict};
 
+use crate::STANDARD_OUTPUT;
 use crate::file_error::{CreateError, FileError, Reason};
 use crate::identity::Identity;
 use crate::named::Named;
 use crate::output::Output;
 use crate::replacing::{Replacing, Whole};
-use std::fs::{self, OpenFile, OpenOptions};
+use std::fs::{self, Metadata, OpenFile, OpenOptions};
 use std::os::unix::fs::FileTypeExt;
 use std::rt::Files;
 
@@ -46,28 +47,38 @@ pub fn open_beside<'a, R: Files>(
     open(rt, name)
 }
 
-/// Whether a standard stream that is written has a file of this identity.
-fn is_standard_output<R: Files>(rt: &R, identity: Identity) -> bool {
-    ["/dev/stdout", "/dev/stderr"]
-        .iter()
-        .any(|stream| match fs::metadata(rt, *stream) {
-            Ok(metadata) => Identity::new(&metadata) == identity,
-            Err(_) => false,
-        })
+/// Whether the standard stream of this name has a file of this identity.
+fn is_stream<R: Files>(rt: &R, stream: &str, identity: Identity) -> bool {
+    match fs::metadata(rt, stream) {
+        Ok(metadata) => Identity::new(&metadata) == identity,
+        Err(_) => false,
+    }
 }
 
-/// Why a file is no output of a command, by whether it keeps what is written, is a pipe, is an input
-/// of the command, and is a standard stream that is written.
-fn conflict(keeps: bool, is_pipe: bool, is_input: bool, is_stream: bool) -> Option<Reason>
-    ensures { result ≡ conflict keeps is_pipe is_input is_stream }
+/// Why a file is no output of a command, by whether it keeps what is written, is a pipe, and is an
+/// input of the command, and by what keeps it from being one as it is a standard stream.
+fn conflict(keeps: bool, is_pipe: bool, is_input: bool, stream: Option<Reason>) -> Option<Reason>
+    ensures { result ≡ conflict keeps is_pipe is_input stream }
 {
     if (keeps || is_pipe) && is_input {
         Some(Reason::IsInput)
-    } else if keeps && is_stream {
-        Some(Reason::IsOutput)
+    } else if keeps {
+        stream
     } else {
         None
     }
+}
+
+/// The same of the file of this metadata.
+fn conflict_of(
+    metadata: &Metadata,
+    inputs: &[Option<Identity>],
+    stream: Option<Reason>,
+) -> Option<Reason> {
+    let file_type = metadata.file_type();
+    let keeps = metadata.is_file() || file_type.is_block_device();
+    let is_input = inputs.contains(&Some(Identity::new(metadata)));
+    conflict(keeps, file_type.is_fifo(), is_input, stream)
 }
 
 /// Opens an output, which is created if it isn't there. Terminals and other devices that keep nothing
@@ -75,16 +86,15 @@ fn conflict(keeps: bool, is_pipe: bool, is_input: bool, is_stream: bool) -> Opti
 fn open_output<R: Files>(
     rt: &R,
     name: &str,
-    inputs: &[Identity],
+    inputs: &[Option<Identity>],
 ) -> Result<Output<R::File>, Reason> {
     let file = OpenOptions::new().write(true).create(true).open(rt, name)?;
     let metadata = file.metadata()?;
-    let file_type = metadata.file_type();
-    let keeps = metadata.is_file() || file_type.is_block_device();
     let identity = Identity::new(&metadata);
-    let is_input = inputs.contains(&identity);
-    let is_stream = is_standard_output(rt, identity);
-    match conflict(keeps, file_type.is_fifo(), is_input, is_stream) {
+    let is_written = is_stream(rt, "/dev/stdout", identity)
+        || is_stream(rt, "/dev/stderr", identity);
+    let stream = is_written.then_some(Reason::IsOutput);
+    match conflict_of(&metadata, inputs, stream) {
         Some(reason) => Err(reason),
         None => Ok(Output::new(file, metadata.is_file())),
     }
@@ -100,7 +110,7 @@ fn open_output<R: Files>(
 pub fn create<'a, 'b, R: Files + AllocGlobal>(
     rt: &'b R,
     name: &'a str,
-    inputs: &[Identity],
+    inputs: &[Option<Identity>],
     whole: Whole,
 ) -> Result<Named<'a, Replacing<'b, R>>, CreateError<'a>>
     ensures { IfErr result (NamesIfOpen name.now) }
@@ -112,6 +122,36 @@ pub fn create<'a, 'b, R: Files + AllocGlobal>(
     match Replacing::new(rt, rt.alloc(), name, output, whole) {
         Ok(replacing) => Ok(Named::new(name, replacing)),
         Err(_) => Err(CreateError::NoMemory),
+    }
+}
+
+/// Why standard output takes no file of a command with these inputs, if it doesn't: it is one of them,
+/// or the text, which standard error gets then, would come into the file.
+fn conflict_of_standard_output<R: Files>(
+    rt: &R,
+    inputs: &[Option<Identity>],
+) -> Result<(), Reason> {
+    let metadata = fs::metadata(rt, "/dev/stdout")?;
+    let is_written = is_stream(rt, "/dev/stderr", Identity::new(&metadata));
+    let stream = is_written.then_some(Reason::IsStandardError);
+    match conflict_of(&metadata, inputs, stream) {
+        Some(reason) => Err(reason),
+        None => Ok(()),
+    }
+}
+
+/// Whether standard output can take the file of a command with these inputs, which are open. If it is
+/// one of them, or standard error, the error says so; what keeps nothing, and pipes, may be as in
+/// `create`.
+pub fn check_standard_output<R: Files>(
+    rt: &R,
+    inputs: &[Option<Identity>],
+) -> Result<(), FileError<'static>>
+    ensures { IfErr result (Names (codes "standard output")) }
+{
+    match conflict_of_standard_output(rt, inputs) {
+        Ok(()) => Ok(()),
+        Err(reason) => Err(FileError::new(STANDARD_OUTPUT, reason)),
     }
 }
 

@@ -15,7 +15,7 @@ mod size_limit;
 
 pub use disk::sync_standard_output;
 pub use file_error::{CreateError, FileError, Reason};
-pub use files::{create, null_if_closed, open, open_beside};
+pub use files::{check_standard_output, create, null_if_closed, open, open_beside};
 pub use identity::Identity;
 pub use named::Named;
 pub use replacing::{Replacing, Whole};
@@ -26,3 +26,6 @@ pub const STANDARD_INPUT: &str = "standard input";
 
 /// The name of standard output in messages.
 pub const STANDARD_OUTPUT: &str = "standard output";
+
+/// The name of standard error in messages.
+pub const STANDARD_ERROR: &str = "standard error";

@@ -9,7 +9,7 @@ ghost use Rattle.named_files.specs.declared.file_error.Reason.TheVariants.{Syste
 use crate::file_error::{FileError, Reason};
 use crate::replacing::Replacing;
 use commands::INPUT_LIMIT;
-use std::io::{self, Read, Write};
+use std::io::{self, ErrorKind, Read, Write};
 use std::rt::Files;
 
 /// A file or a standard stream with its name, which remembers how many bytes were read of it, and
@@ -74,13 +74,14 @@ impl<'a, R: Files> Named<'a, Replacing<'_, R>> {
         ensures failed { IfSome self.now.reason (λ reason. IsSomeAnd result (IsAbout self.now.name.now (reason_beside self.now.stream.kept reason))) }
         ensures whole { self.now.reason ≡ None → result ≡ None }
     {
-        match (self.reason, self.stream.kept()) {
-            (Some(Reason::System(error)), Some(digit)) => {
-                Some(FileError::new(self.name, Reason::NotCopied(error, digit)))
+        let reason = match (self.reason?, self.stream.kept()) {
+            (Reason::System(error), Some(digit)) => Reason::NotCopied(error, digit),
+            (Reason::System(error), None) if error.kind() == ErrorKind::AlreadyExists => {
+                Reason::NoFreeName
             }
-            (Some(reason), _) => Some(FileError::new(self.name, reason)),
-            (None, _) => None,
-        }
+            (reason, _) => reason,
+        };
+        Some(FileError::new(self.name, reason))
     }
 
     /// Takes out the bytes of before, if none was written.
