@@ -1,1 +1,4 @@
 pub mod FileErrors
+pub mod FileParts
+pub mod InputLemmas
+pub mod ObjectLemmas

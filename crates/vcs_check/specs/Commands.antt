@@ -1,46 +1,87 @@
 -- What a command line reads of standard input and writes to standard output, and its status. This
 -- project's own.
-use Rattle.std.specs.Prelude.{◌≡◌, ℕ, List, Option, Result, IfOk, IfErr, codes, string_bytes}
+use Rattle.std.specs.Prelude.{◌≡◌, ◌⊎◌, ℕ, List, Option, Some, None, Result, Ok, IfOk, IfErr, codes, option_map, string_bytes}
 use Rattle.std.specs.Io.KnownBytes.{Appends, Keeps}
 use Rattle.command_line.specs.declared.command.Command.{Command}
-use Rattle.command_line.specs.declared.command.Command.TheVariants.{Make, Convert}
+use Rattle.command_line.specs.declared.command.Command.TheVariants.{Make, Report}
 use Rattle.command_line.specs.declared.command.CommandLine.{CommandLine}
-use Rattle.commands.specs.Commands.{IsAnswered as Answers, IsGradual}
+use Rattle.commands.specs.Commands.{HasBegun, IsAnswered as Answers, IsGradual}
 use Rattle.commands.specs.Streams.{ReadsAll}
 use Rattle.commands.specs.declared.status.Status.{Status}
+use Rattle.movie_file.specs.Movie.{MovieData}
+use Rattle.movie_file.specs.Reading.{movie_at}
+use Rattle.picture_file.specs.Prefixes.{AppendsPrefix}
 use Rattle.vcs_check.specs.Failures.{IsNoMemory, IsWriteFault}
 use Rattle.vcs_check.specs.declared.failure.Failure.{Failure}
 
--- With a status, a text was written of which this holds, and nothing else.
-abbrev pub Writes : Option (List ℕ) → Option (List ℕ) → (Status → List ℕ → Type 0) → Result Status Failure → Type 0
-Writes old new Says result = IfOk result (λ status. (text : List ℕ) × Says status text × Appends old new text)
+-- The name of a command's second input, if it has one.
+abbrev pub second_name : Command → Option (List ℕ)
+second_name (Make inputs form every) = Some (string_bytes inputs)
+second_name (Report workers notation rom expectations) = option_map (λ name. string_bytes name) rom
+second_name other = None
 
--- After an error other than a failed write nothing was written, or by a command that writes while a
--- run goes on, if memory ran out, what came before.
-abbrev pub KeepsQuiet : Command → Option (List ℕ) → Option (List ℕ) → Result Status Failure → Type 0
-KeepsQuiet command old new result =
-    IfErr result (λ failure. (IsWriteFault failure → ⊥) → (IsNoMemory failure → IsGradual command → ⊥) → Keeps old new)
+-- The first input is standard input,
+abbrev pub ReadsFirst : CommandLine → Type 0
+ReadsFirst line = string_bytes line.input ≡ codes "-"
 
--- The status and the text answer a command about these bytes, whatever else it reads and writes.
-abbrev pub IsAnswerTo : Command → List ℕ → Status → List ℕ → Type 0
-IsAnswerTo command bytes status text = (old new : Option (List ℕ)) × (file : List ℕ) × Answers command bytes old new status text file
+-- the second one is,
+abbrev pub ReadsSecond : CommandLine → Type 0
+ReadsSecond line = second_name line.command ≡ Some (codes "-")
 
--- `-` is standard input, but no name of a cartridge, nor of what `convert` reads.
-abbrev pub TakesStandardInput : Command → Type 0
-TakesStandardInput (Make inputs form every) = ⊥
-TakesStandardInput Convert = ⊥
-TakesStandardInput other = Unit {0}
+-- both are, which is no command.
+abbrev pub ReadsTwice : CommandLine → Type 0
+ReadsTwice line = ReadsFirst line × ReadsSecond line
 
--- The movie is that of standard input.
-abbrev pub ReadsStandardInput : CommandLine → Type 0
-ReadsStandardInput line = TakesStandardInput line.command × (string_bytes line.input ≡ codes "-")
+-- The output is standard output, which gets the file then, and standard error the text.
+abbrev pub TakesFile : CommandLine → Type 0
+TakesFile line = option_map (λ name. string_bytes name) line.output ≡ Some (codes "-")
 
--- What is read of standard input: all that it has left, or nothing.
-abbrev pub ReadsInput : CommandLine → Option (List ℕ) → Option (List ℕ) → List ℕ → Type 0
-ReadsInput line old new bytes =
-    (ReadsStandardInput line → ReadsAll old new bytes) × ((ReadsStandardInput line → ⊥) → Keeps old new)
+-- What was read: the bytes of the first input, and of the second one what it had before and after.
+abbrev pub Inputs : Type 1
+Inputs = List ℕ → (old new : Option (List ℕ)) → Type 0
 
--- What a command line answers, where standard input has the bytes `old` before it and `new` after it.
-abbrev pub IsAnswered : CommandLine → Option (List ℕ) → Option (List ℕ) → Status → List ℕ → Type 0
-IsAnswered line old new status text =
-    (bytes : List ℕ) × ReadsInput line old new bytes × IsAnswerTo line.command bytes status text
+-- What is read where standard input has the bytes `old` before it and `new` after it: of an input that
+-- it is, all that is left; by a command with no such input nothing.
+abbrev pub ReadsInputs : CommandLine → (old new : Option (List ℕ)) → Inputs
+ReadsInputs line old new bytes second_old second_new =
+    (ReadsFirst line → ReadsAll old new bytes)
+    × (ReadsSecond line → (second_old ≡ old) × (second_new ≡ new))
+    × ((ReadsFirst line → ⊥) → (ReadsSecond line → ⊥) → Keeps old new)
+
+-- Of the answer about these inputs this is the text, or what the output gets.
+abbrev pub IsText : Command → List ℕ → (old new : Option (List ℕ)) → Status → List ℕ → Type 0
+IsText command bytes old new status text = (file : List ℕ) × Answers command bytes old new status text file
+
+abbrev pub IsFile : Command → List ℕ → (old new : Option (List ℕ)) → Status → List ℕ → Type 0
+IsFile command bytes old new status file = (text : List ℕ) × Answers command bytes old new status text file
+
+-- What standard output gets of the answer of a command line whose inputs were read so.
+abbrev pub Says : CommandLine → Inputs → Status → List ℕ → Type 0
+Says line Reads status written =
+    (bytes : List ℕ) × (old new : Option (List ℕ)) × Reads bytes old new
+    × (TakesFile line → IsFile line.command bytes old new status written)
+    × ((TakesFile line → ⊥) → IsText line.command bytes old new status written)
+
+-- With a status it gets that, and nothing else.
+abbrev pub Writes : CommandLine → Inputs → (old new : Option (List ℕ)) → Result Status Failure → Type 0
+Writes line Reads old new result = IfOk result (λ status. (written : List ℕ) × Says line Reads status written × Appends old new written)
+
+-- After an error other than a failed write it gets nothing, but if memory ran out, by a command that
+-- writes while a run goes on, what came before.
+abbrev pub KeepsQuiet : CommandLine → (old new : Option (List ℕ)) → Result Status Failure → Type 0
+KeepsQuiet line old new result =
+    IfErr result (λ failure. (IsWriteFault failure → ⊥) → (IsNoMemory failure → IsGradual line.command ⊎ TakesFile line → ⊥) → Keeps old new)
+
+-- What came before: whole pictures.
+abbrev pub Begins : CommandLine → Inputs → (old new : Option (List ℕ)) → Type 0
+Begins line Reads old new =
+    (bytes : List ℕ) × (second_old second_new : Option (List ℕ)) × (m : MovieData) × Reads bytes second_old second_new × (movie_at bytes ≡ Ok m)
+    × (text_old text_new : Option (List ℕ)) × HasBegun line.command m text_old text_new old new
+
+-- What it gets of a file after an error: of a failed write a part of it, and if memory ran out nothing
+-- or what came before.
+abbrev pub LeavesPart : CommandLine → Inputs → (old new : Option (List ℕ)) → Result Status Failure → Type 0
+LeavesPart line Reads old new result =
+    IfErr result (λ failure. TakesFile line
+    → (IsWriteFault failure → (status : Status) × (written : List ℕ) × Says line Reads status written × AppendsPrefix old new written)
+    × (IsNoMemory failure → Keeps old new ⊎ Begins line Reads old new))

@@ -1,13 +1,19 @@
 -- How the program ends if no command came to a status. This project's own.
-use Rattle.std.specs.Prelude.{◌≡◌, ◌⊎◌, ℕ, None, Result, Ok, Err}
+use Rattle.std.specs.Prelude.{◌≡◌, ◌⊎◌, ℕ, List, None, Option, Result, Ok, Err, IfErr}
+use Rattle.std.specs.Io.KnownBytes.{Keeps}
 use Rattle.std.specs.declared.io.ErrorKind.{ErrorKind}
 use Rattle.std.specs.declared.io.ErrorKind.TheVariants.{OutOfMemory}
 use Rattle.command_line.specs.declared.command.LineFault.{LineFault}
 use Rattle.command_line.specs.declared.command.LineFault.TheVariants as faults
+use Rattle.vcs_check.specs.Commands.{TakesFile}
+use Rattle.vcs_check.specs.ErrorObjects.{GetsErrorObject, SaysErrors}
+use Rattle.vcs_check.specs.Failures.{IsNoMemory, IsWriteFault}
 use Rattle.vcs_check.specs.declared.failure.Failure.{Failure}
 use Rattle.vcs_check.specs.declared.failure.Failure.TheVariants.{Run}
 use Rattle.vcs_check.specs.declared.ending.Ending.{Ending}
-use Rattle.vcs_check.specs.declared.ending.Ending.TheVariants.{Help, Usage, NotUtf8, Dash, Failed}
+use Rattle.vcs_check.specs.declared.ending.Ending.TheVariants.{Help, Usage, NotUtf8, Twice, Failed}
+use Rattle.command_line.specs.declared.command.CommandLine.{CommandLine}
+use Rattle.commands.specs.Commands.{IsGradual}
 use Rattle.commands.specs.Status.{status_code}
 use Rattle.commands.specs.declared.run_error.RunError.TheVariants.{NoMemory}
 use Rattle.commands.specs.declared.status.Status.{Status}
@@ -17,7 +23,7 @@ abbrev pub exit_code : Ending → ℕ
 exit_code (Help text) = 0
 exit_code (Usage text) = 4
 exit_code NotUtf8 = 4
-exit_code Dash = 4
+exit_code Twice = 4
 exit_code (Failed failure) = 5
 
 -- The exit status after an ending was printed: help that standard output doesn't take is an error.
@@ -39,3 +45,10 @@ abbrev pub of_fault : LineFault → Ending
 of_fault (faults.Help text) = Help text
 of_fault (faults.Usage text) = Usage text
 of_fault faults.Memory = Failed (Run NoMemory None)
+
+-- What standard output gets of an error other than a failed write, but if memory ran out by a command
+-- that writes while a run goes on: nothing, or of a command that answers in JSON there an object.
+abbrev pub EndsQuiet : CommandLine → (old new : Option (List ℕ)) → Result Status Failure → Type 0
+EndsQuiet line old new result =
+    IfErr result (λ failure. (IsWriteFault failure → ⊥) → (IsNoMemory failure → IsGradual line.command ⊎ TakesFile line → ⊥)
+    → (SaysErrors line → GetsErrorObject failure old new) × ((SaysErrors line → ⊥) → Keeps old new))

@@ -1,6 +1,8 @@
 -- Which failures a command may end with. This project's own.
+use Rattle.std.specs.Prelude.{Option, Some}
+use Rattle.named_files.specs.declared.file_error.FileError.{FileError}
 use Rattle.vcs_check.specs.declared.failure.Failure.{Failure}
-use Rattle.vcs_check.specs.declared.failure.Failure.TheVariants.{Run}
+use Rattle.vcs_check.specs.declared.failure.Failure.TheVariants.{Open, Run}
 use Rattle.commands.specs.declared.run_error.RunError.TheVariants.{NoMemory, NoThread, WriteFault}
 
 -- A write failed,
@@ -17,3 +19,8 @@ IsNoMemory other = ⊥
 abbrev pub IsNoThread : Failure → Type 0
 IsNoThread (Run NoThread file_error) = Unit {0}
 IsNoThread other = ⊥
+
+-- The file that failed, if it is known.
+abbrev pub file_error_of : Failure → Option FileError
+file_error_of (Open file_error) = Some file_error
+file_error_of (Run error file_error) = file_error

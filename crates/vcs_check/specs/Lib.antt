@@ -3,3 +3,4 @@ pub mod Commands
 pub mod Endings
 pub mod Reasons
 pub mod Private
+pub mod ErrorObjects

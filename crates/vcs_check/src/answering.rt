@@ -1,23 +1,32 @@
 //! A command and its files.
-ghost use Rattle.std.specs.Prelude.{◌≡◌, ◌≢◌, ◌↔◌, List, ℕ, true, Err, IfErr, IfOk, OnErr};
+ghost use Rattle.std.specs.Prelude.{◌≡◌, ◌≢◌, ◌⊎◌, ◌↔◌, List, ℕ, Option, Ok, true, Err, IfErr, IfOk, OnErr};
+ghost use Rattle.std.specs.Prelude.{option_copied, option_map, string_bytes};
 ghost use Rattle.std.specs.Io.KnownBytes.{Appends, Keeps};
-ghost use Rattle.commands.specs.Commands.{IsGradual, StartsThreads};
+ghost use Rattle.commands.specs.Commands.{HasBegun, IsGradual, StartsThreads};
 ghost use Rattle.commands.specs.Streams.{ReadsAll};
-ghost use Rattle.vcs_check.specs.Commands.{IsAnswered, IsAnswerTo, KeepsQuiet, ReadsStandardInput, Writes};
+ghost use Rattle.movie_file.specs.Movie.{MovieData};
+ghost use Rattle.movie_file.specs.Reading.{movie_at};
+ghost use Rattle.picture_file.specs.Prefixes.{AppendsPrefix};
+ghost use Rattle.vcs_check.specs.Commands.{IsFile, IsText, KeepsQuiet, LeavesPart, ReadsFirst, ReadsInputs, ReadsSecond};
+ghost use Rattle.vcs_check.specs.Commands.{ReadsTwice, TakesFile, Writes, second_name};
 ghost use Rattle.vcs_check.specs.Failures.{IsNoThread};
+ghost use Rattle.vcs_check.specs.Private.Inputs.{ReadsBoth, ReadsFirstly, ReadsWith};
 
 use crate::failure::Failure;
 use command_line::{Command, CommandLine};
 use commands::{CountedGate, RunError, Status, run_command};
-use named_files::{FileError, Identity, Named, Whole, create, open, open_beside};
+use named_files::{
+    FileError, Identity, Named, Whole, check_standard_output, create, open, open_beside,
+};
 use std::alloc::Global;
+use std::fs::OpenFile;
 use std::io::{self, BufWriter, Read, Write};
 use std::rt::Files;
 use std::sync::Wait;
 use std::thread::Threads;
 
-/// The name of a file that is standard input.
-pub(crate) const STDIN: &str = "-";
+/// The name of an input that is standard input, and of an output that is standard output.
+pub(crate) const STANDARD: &str = "-";
 
 /// A writer that gathers small writes.
 fn with_buffer<W: Write + Drop>(alloc: Global, writer: W) -> Result<BufWriter<W>, RunError>
@@ -40,7 +49,7 @@ fn flush<W: Write>(writer: &mut W) -> Result<(), RunError>
 }
 
 /// Whether pictures are what a command writes to a file.
-fn draws(command: &Command) -> bool {
+pub(crate) fn draws(command: &Command) -> bool {
     matches!(command, Command::Verify { .. } | Command::Pictures { .. })
 }
 
@@ -71,7 +80,7 @@ fn run<
     gate: &G,
 ) -> Result<Status, RunError>
     ensures ok { IfOk result (λ status. (bytes : List ℕ) × (told : List ℕ) × ReadsAll (M.remaining input.old) (M.remaining input.new) bytes
-        × IsAnswerTo command.now bytes status told × Appends (W.contents text.old) (W.contents text.new) told) }
+        × IsText command.now bytes (S.remaining inputs.old) (S.remaining inputs.new) status told × Appends (W.contents text.old) (W.contents text.new) told) }
     ensures quiet { OnErr result (result ≢ Err RunError.WriteFault → (result ≡ Err RunError.NoMemory → IsGradual command.now → ⊥)
         → Keeps (W.contents text.old) (W.contents text.new)) }
     ensures no_thread { result ≡ Err RunError.NoThread → StartsThreads command.now }
@@ -79,7 +88,40 @@ fn run<
     run_command(rt, command, input, inputs, text, output, gate)
 }
 
-/// The same. Pictures go through a buffer.
+/// The same, where what counts is what a file gets.
+fn run_into<
+    T: Threads + Wait + Sync + AllocGlobal,
+    M: Read,
+    S: Read,
+    P: Write,
+    W: Write,
+    G: CountedGate + Sync,
+>(
+    rt: &T,
+    command: &Command,
+    input: &mut M,
+    inputs: &mut S,
+    output: &mut P,
+    text: &mut W,
+    gate: &G,
+) -> Result<Status, RunError>
+    ensures ok { IfOk result (λ status. (bytes : List ℕ) × (made : List ℕ) × ReadsAll (M.remaining input.old) (M.remaining input.new) bytes
+        × IsFile command.now bytes (S.remaining inputs.old) (S.remaining inputs.new) status made × Appends (P.contents output.old) (P.contents output.new) made) }
+    ensures write_fault { result ≡ Err RunError.WriteFault → (bytes : List ℕ) × (status : Status) × (made : List ℕ)
+        × ReadsAll (M.remaining input.old) (M.remaining input.new) bytes
+        × IsFile command.now bytes (S.remaining inputs.old) (S.remaining inputs.new) status made
+        × AppendsPrefix (P.contents output.old) (P.contents output.new) made }
+    ensures memory { result ≡ Err RunError.NoMemory → Keeps (P.contents output.old) (P.contents output.new)
+        ⊎ ((bytes : List ℕ) × (m : MovieData) × ReadsAll (M.remaining input.old) (M.remaining input.new) bytes × (movie_at bytes ≡ Ok m)
+        × (text_old text_new : Option (List ℕ)) × HasBegun command.now m text_old text_new (P.contents output.old) (P.contents output.new)) }
+    ensures quiet { OnErr result (result ≢ Err RunError.WriteFault → result ≢ Err RunError.NoMemory
+        → Keeps (P.contents output.old) (P.contents output.new)) }
+    ensures no_thread { result ≡ Err RunError.NoThread → StartsThreads command.now }
+{
+    run_command(rt, command, input, inputs, text, output, gate)
+}
+
+/// The same as `run`. Pictures go through a buffer.
 fn write<
     T: Threads + Wait + Sync + AllocGlobal,
     M: Read,
@@ -97,7 +139,7 @@ fn write<
     gate: &G,
 ) -> Result<Status, RunError>
     ensures ok { IfOk result (λ status. (bytes : List ℕ) × (told : List ℕ) × ReadsAll (M.remaining input.old) (M.remaining input.new) bytes
-        × IsAnswerTo command.now bytes status told × Appends (W.contents text.old) (W.contents text.new) told) }
+        × IsText command.now bytes (S.remaining inputs.old) (S.remaining inputs.new) status told × Appends (W.contents text.old) (W.contents text.new) told) }
     ensures quiet { OnErr result (result ≢ Err RunError.WriteFault → (result ≡ Err RunError.NoMemory → IsGradual command.now → ⊥)
         → Keeps (W.contents text.old) (W.contents text.new)) }
     ensures no_thread { result ≡ Err RunError.NoThread → StartsThreads command.now }
@@ -111,20 +153,41 @@ fn write<
     Ok(status)
 }
 
-/// Opens an input of a command that writes this file, or none.
-fn open_input<'a, R: Files>(
+/// Does what a command line without an output asks for with these inputs.
+fn tell<
+    'a,
+    R: Threads + Wait + Sync + AllocGlobal,
+    M: Read,
+    S: Read,
+    W: Write,
+    G: CountedGate + Sync,
+>(
     rt: &R,
-    name: &'a str,
-    output: Option<&'a str>,
-) -> Result<Named<'a, R::File>, FileError<'a>> {
-    match output {
-        Some(output) => open_beside(rt, name, output),
-        None => open(rt, name),
-    }
+    line: &'a CommandLine,
+    input: &mut M,
+    inputs: &mut S,
+    text: &mut W,
+    gate: &G,
+) -> Result<Status, Failure<'a>>
+    requires { TakesFile line.now → ⊥ }
+    ensures ok { Writes line.now (ReadsBoth (M.remaining input.old) (M.remaining input.new) (S.remaining inputs.old) (S.remaining inputs.new))
+        (W.contents text.old) (W.contents text.new) result }
+    ensures quiet { KeepsQuiet line.now (W.contents text.old) (W.contents text.new) result }
+    ensures no_thread { IfErr result (λ failure. IsNoThread failure → StartsThreads line.now.command) }
+{
+    Ok(run(
+        rt,
+        &line.command,
+        input,
+        inputs,
+        &mut io::sink(),
+        text,
+        gate,
+    )?)
 }
 
-/// Does what a command asks for with these inputs, and a file that takes what it writes. If all is
-/// done no bytes of before stay in that, though nothing was written.
+/// Does what a command line asks for with these inputs, and a file that takes what it writes. If all
+/// is done no bytes of before stay in that, though nothing was written.
 fn write_to<
     'a,
     R: Files + Threads + Wait + Sync + AllocGlobal,
@@ -134,19 +197,21 @@ fn write_to<
     G: CountedGate + Sync,
 >(
     rt: &R,
-    command: &Command,
+    line: &'a CommandLine,
     input: &mut M,
     inputs: &mut S,
-    identities: &[Identity],
+    identities: &[Option<Identity>],
     output: &'a str,
     text: &mut W,
     gate: &G,
 ) -> Result<Status, Failure<'a>>
-    ensures ok { Writes (W.contents text.old) (W.contents text.new) (λ status told. (bytes : List ℕ)
-        × ReadsAll (M.remaining input.old) (M.remaining input.new) bytes × IsAnswerTo command.now bytes status told) result }
-    ensures quiet { KeepsQuiet command.now (W.contents text.old) (W.contents text.new) result }
-    ensures no_thread { IfErr result (λ failure. IsNoThread failure → StartsThreads command.now) }
+    requires { TakesFile line.now → ⊥ }
+    ensures ok { Writes line.now (ReadsBoth (M.remaining input.old) (M.remaining input.new) (S.remaining inputs.old) (S.remaining inputs.new))
+        (W.contents text.old) (W.contents text.new) result }
+    ensures quiet { KeepsQuiet line.now (W.contents text.old) (W.contents text.new) result }
+    ensures no_thread { IfErr result (λ failure. IsNoThread failure → StartsThreads line.now.command) }
 {
+    let command = &line.command;
     let mut output = create(rt, output, identities, whole(command))?;
     let status = match write(rt, command, input, inputs, &mut output, text, gate) {
         Ok(status) => status,
@@ -158,161 +223,303 @@ fn write_to<
     Ok(status)
 }
 
-/// The same, or with no file if the command writes none.
-fn answer<
+/// Does what a command line asks for with these inputs, and standard output as what takes the file.
+fn write_to_standard_output<
     'a,
     R: Files + Threads + Wait + Sync + AllocGlobal,
     M: Read,
     S: Read,
     W: Write,
+    E: Write,
     G: CountedGate + Sync,
 >(
     rt: &R,
     line: &'a CommandLine,
     input: &mut M,
     inputs: &mut S,
-    identities: &[Identity],
-    text: &mut W,
+    identities: &[Option<Identity>],
+    output: &mut W,
+    text: &mut E,
     gate: &G,
 ) -> Result<Status, Failure<'a>>
-    ensures ok { Writes (W.contents text.old) (W.contents text.new) (λ status told. (bytes : List ℕ)
-        × ReadsAll (M.remaining input.old) (M.remaining input.new) bytes × IsAnswerTo line.now.command bytes status told) result }
-    ensures quiet { KeepsQuiet line.now.command (W.contents text.old) (W.contents text.new) result }
+    requires { TakesFile line.now }
+    ensures ok { Writes line.now (ReadsBoth (M.remaining input.old) (M.remaining input.new) (S.remaining inputs.old) (S.remaining inputs.new))
+        (W.contents output.old) (W.contents output.new) result }
+    ensures quiet { KeepsQuiet line.now (W.contents output.old) (W.contents output.new) result }
+    ensures part { LeavesPart line.now (ReadsBoth (M.remaining input.old) (M.remaining input.new) (S.remaining inputs.old) (S.remaining inputs.new))
+        (W.contents output.old) (W.contents output.new) result }
     ensures no_thread { IfErr result (λ failure. IsNoThread failure → StartsThreads line.now.command) }
 {
-    let command = &line.command;
+    check_standard_output(rt, identities)?;
+    match run_into(rt, &line.command, input, inputs, output, text, gate) {
+        Ok(status) => Ok(status),
+        Err(error) => Err(Failure::Run(error, None)),
+    }
+}
+
+/// Whether standard output is what takes the file of a command.
+pub(crate) fn takes_file(line: &CommandLine) -> bool
+    ensures { (result ≡ true) ↔ TakesFile line.now }
+{
     match line.output.as_deref() {
-        Some(output) => write_to(rt, command, input, inputs, identities, output, text, gate),
-        None => Ok(run(rt, command, input, inputs, &mut io::sink(), text, gate)?),
+        Some(output) => output == STANDARD,
+        None => false,
     }
 }
 
-/// Makes a movie of the files of a cartridge and of these inputs.
-fn make<'a, R: Files + Threads + Wait + Sync + AllocGlobal, W: Write, G: CountedGate + Sync>(
-    rt: &R,
-    line: &'a CommandLine,
-    inputs: &'a str,
-    text: &mut W,
-    gate: &G,
-) -> Result<Status, Failure<'a>>
-    ensures ok { Writes (W.contents text.old) (W.contents text.new) (λ status told. (bytes : List ℕ) × IsAnswerTo line.now.command bytes status told) result }
-    ensures quiet { KeepsQuiet line.now.command (W.contents text.old) (W.contents text.new) result }
-    ensures no_thread { IfErr result (λ failure. IsNoThread failure → StartsThreads line.now.command) }
-{
-    let output = line.output.as_deref();
-    let mut rom = open_input(rt, &line.input, output)?;
-    let mut inputs = open_input(rt, inputs, output)?;
-    let identities = [Identity::of(&rom)?, Identity::of(&inputs)?];
-    match answer(rt, line, &mut rom, &mut inputs, &identities, text, gate) {
-        Ok(status) => Ok(status),
-        Err(failure) => Err(
-            failure
-                .by_input(inputs.file_error())
-                .by_input(rom.file_error()),
-        ),
-    }
-}
-
-/// Does what a command asks for with the movie of a file.
-fn answer_file<'a, R: Files + Threads + Wait + Sync + AllocGlobal, W: Write, G: CountedGate + Sync>(
-    rt: &R,
-    line: &'a CommandLine,
-    text: &mut W,
-    gate: &G,
-) -> Result<Status, Failure<'a>>
-    ensures ok { Writes (W.contents text.old) (W.contents text.new) (λ status told. (bytes : List ℕ) × IsAnswerTo line.now.command bytes status told) result }
-    ensures quiet { KeepsQuiet line.now.command (W.contents text.old) (W.contents text.new) result }
-    ensures no_thread { IfErr result (λ failure. IsNoThread failure → StartsThreads line.now.command) }
-{
-    let output = line.output.as_deref();
-    let mut movie = open_input(rt, &line.input, output)?;
-    let identity = match output {
-        Some(_) => Some(Identity::of(&movie)?),
-        None => None,
-    };
-    match answer(
-        rt,
-        line,
-        &mut movie,
-        &mut io::empty(),
-        identity.as_slice(),
-        text,
-        gate,
-    ) {
-        Ok(status) => Ok(status),
-        Err(failure) => Err(failure.by_input(movie.file_error())),
-    }
-}
-
-/// Does what a command asks for with the movie of standard input.
-fn answer_standard_input<
+/// Does what a command line asks for with these inputs. Standard error gets the text if standard
+/// output takes the file, and else nothing.
+fn answer<
     'a,
     R: Files + Threads + Wait + Sync + AllocGlobal,
-    I: Read,
+    M: Read,
+    S: Read,
     W: Write,
+    E: Write,
     G: CountedGate + Sync,
 >(
     rt: &R,
     line: &'a CommandLine,
-    input: &mut I,
-    text: &mut W,
+    input: &mut M,
+    inputs: &mut S,
+    identities: &[Option<Identity>],
+    output: &mut W,
+    error: &mut E,
     gate: &G,
 ) -> Result<Status, Failure<'a>>
-    ensures ok { Writes (W.contents text.old) (W.contents text.new) (λ status told. (bytes : List ℕ)
-        × ReadsAll (I.remaining input.old) (I.remaining input.new) bytes × IsAnswerTo line.now.command bytes status told) result }
-    ensures quiet { KeepsQuiet line.now.command (W.contents text.old) (W.contents text.new) result }
+    ensures ok { Writes line.now (ReadsBoth (M.remaining input.old) (M.remaining input.new) (S.remaining inputs.old) (S.remaining inputs.new))
+        (W.contents output.old) (W.contents output.new) result }
+    ensures quiet { KeepsQuiet line.now (W.contents output.old) (W.contents output.new) result }
+    ensures part { LeavesPart line.now (ReadsBoth (M.remaining input.old) (M.remaining input.new) (S.remaining inputs.old) (S.remaining inputs.new))
+        (W.contents output.old) (W.contents output.new) result }
     ensures no_thread { IfErr result (λ failure. IsNoThread failure → StartsThreads line.now.command) }
 {
-    let identity = match line.output {
-        Some(_) => Some(Identity::of_standard_input(rt)?),
-        None => None,
-    };
-    answer(
-        rt,
-        line,
-        input,
-        &mut io::empty(),
-        identity.as_slice(),
-        text,
-        gate,
-    )
-}
-
-/// Whether a command reads standard input: `-` is no name of a cartridge, nor of what `convert`
-/// reads.
-pub(crate) fn reads_standard_input(line: &CommandLine) -> bool
-    ensures { (result ≡ true) ↔ ReadsStandardInput line.now }
-{
-    match line.command {
-        Command::Make { .. } | Command::Convert => false,
-        _ => line.input.as_str() == STDIN,
+    if takes_file(line) {
+        return write_to_standard_output(rt, line, input, inputs, identities, output, error, gate);
+    }
+    match line.output.as_deref() {
+        Some(name) => write_to(rt, line, input, inputs, identities, name, output, gate),
+        None => tell(rt, line, input, inputs, output, gate),
     }
 }
 
-/// Does what a command line asks for. The gate is called around replays.
+/// Opens an input of a command line, beside its output if that has a name.
+fn open_input<'a, R: Files>(
+    rt: &R,
+    line: &'a CommandLine,
+    name: &'a str,
+) -> Result<Named<'a, R::File>, FileError<'a>> {
+    match line.output.as_deref() {
+        Some(output) if output != STANDARD => open_beside(rt, name, output),
+        _ => open(rt, name),
+    }
+}
+
+/// What tells an input from the output of a command line, if it has one.
+fn identity_of<'a, F: OpenFile>(
+    line: &CommandLine,
+    input: &Named<'a, F>,
+) -> Result<Option<Identity>, FileError<'a>> {
+    match line.output {
+        Some(_) => Ok(Some(Identity::of(input)?)),
+        None => Ok(None),
+    }
+}
+
+/// The same of standard input.
+fn identity_of_standard_input<R: Files>(
+    rt: &R,
+    line: &CommandLine,
+) -> Result<Option<Identity>, FileError<'static>> {
+    match line.output {
+        Some(_) => Ok(Some(Identity::of_standard_input(rt)?)),
+        None => Ok(None),
+    }
+}
+
+/// The name of a command's second input, if it has one.
+pub(crate) fn second_input(command: &Command) -> Option<&str>
+    ensures { option_copied result ≡ second_name command.now }
+{
+    match command {
+        Command::Make { inputs, .. } => Some(inputs.as_str()),
+        Command::Report { rom, .. } => rom.as_deref(),
+        _ => None,
+    }
+}
+
+/// Does what a command line asks for with this first input, and this file as the second one.
+fn answer_with_file<
+    'a,
+    R: Files + Threads + Wait + Sync + AllocGlobal,
+    M: Read,
+    W: Write,
+    E: Write,
+    G: CountedGate + Sync,
+>(
+    rt: &R,
+    line: &'a CommandLine,
+    input: &mut M,
+    identity: Option<Identity>,
+    second: &'a str,
+    output: &mut W,
+    error: &mut E,
+    gate: &G,
+) -> Result<Status, Failure<'a>>
+    ensures ok { Writes line.now (ReadsFirstly (M.remaining input.old) (M.remaining input.new)) (W.contents output.old) (W.contents output.new) result }
+    ensures quiet { KeepsQuiet line.now (W.contents output.old) (W.contents output.new) result }
+    ensures part { LeavesPart line.now (ReadsFirstly (M.remaining input.old) (M.remaining input.new)) (W.contents output.old) (W.contents output.new) result }
+    ensures no_thread { IfErr result (λ failure. IsNoThread failure → StartsThreads line.now.command) }
+{
+    let mut inputs = open_input(rt, line, second)?;
+    let identities = [identity, identity_of(line, &inputs)?];
+    match answer(
+        rt,
+        line,
+        input,
+        &mut inputs,
+        &identities,
+        output,
+        error,
+        gate,
+    ) {
+        Ok(status) => Ok(status),
+        Err(failure) => Err(failure.by_input(inputs.file_error())),
+    }
+}
+
+/// Does what a command line asks for with this first input, where standard input may be the second
+/// one.
+fn answer_with<
+    'a,
+    R: Files + Threads + Wait + Sync + AllocGlobal,
+    M: Read,
+    I: Read,
+    W: Write,
+    E: Write,
+    G: CountedGate + Sync,
+>(
+    rt: &R,
+    line: &'a CommandLine,
+    input: &mut M,
+    identity: Option<Identity>,
+    standard: &mut I,
+    output: &mut W,
+    error: &mut E,
+    gate: &G,
+) -> Result<Status, Failure<'a>>
+    ensures ok { Writes line.now (ReadsWith line.now (M.remaining input.old) (M.remaining input.new) (I.remaining standard.old) (I.remaining standard.new))
+        (W.contents output.old) (W.contents output.new) result }
+    ensures quiet { KeepsQuiet line.now (W.contents output.old) (W.contents output.new) result }
+    ensures part { LeavesPart line.now (ReadsWith line.now (M.remaining input.old) (M.remaining input.new) (I.remaining standard.old) (I.remaining standard.new))
+        (W.contents output.old) (W.contents output.new) result }
+    ensures no_thread { IfErr result (λ failure. IsNoThread failure → StartsThreads line.now.command) }
+{
+    if reads_second(line) {
+        let identities = [identity, identity_of_standard_input(rt, line)?];
+        return answer(rt, line, input, standard, &identities, output, error, gate);
+    }
+    match second_input(&line.command) {
+        Some(second) => { answer_with_file(rt, line, input, identity, second, output, error, gate) }
+        None => answer(
+            rt,
+            line,
+            input,
+            &mut io::empty(),
+            &[identity],
+            output,
+            error,
+            gate,
+        ),
+    }
+}
+
+/// Does what a command line asks for with the file of its first input.
+fn answer_file<
+    'a,
+    R: Files + Threads + Wait + Sync + AllocGlobal,
+    I: Read,
+    W: Write,
+    E: Write,
+    G: CountedGate + Sync,
+>(
+    rt: &R,
+    line: &'a CommandLine,
+    standard: &mut I,
+    output: &mut W,
+    error: &mut E,
+    gate: &G,
+) -> Result<Status, Failure<'a>>
+    requires { ReadsFirst line.now → ⊥ }
+    ensures ok { Writes line.now (ReadsInputs line.now (I.remaining standard.old) (I.remaining standard.new))
+        (W.contents output.old) (W.contents output.new) result }
+    ensures quiet { KeepsQuiet line.now (W.contents output.old) (W.contents output.new) result }
+    ensures part { LeavesPart line.now (ReadsInputs line.now (I.remaining standard.old) (I.remaining standard.new))
+        (W.contents output.old) (W.contents output.new) result }
+    ensures no_thread { IfErr result (λ failure. IsNoThread failure → StartsThreads line.now.command) }
+{
+    let mut input = open_input(rt, line, &line.input)?;
+    let identity = identity_of(line, &input)?;
+    match answer_with(
+        rt, line, &mut input, identity, standard, output, error, gate,
+    ) {
+        Ok(status) => Ok(status),
+        Err(failure) => Err(failure.by_input(input.file_error())),
+    }
+}
+
+/// Whether the first input of a command line is standard input.
+pub(crate) fn reads_first(line: &CommandLine) -> bool
+    ensures { (result ≡ true) ↔ ReadsFirst line.now }
+{
+    line.input.as_str() == STANDARD
+}
+
+/// Whether the second one is.
+pub(crate) fn reads_second(line: &CommandLine) -> bool
+    ensures { (result ≡ true) ↔ ReadsSecond line.now }
+{
+    match second_input(&line.command) {
+        Some(second) => second == STANDARD,
+        None => false,
+    }
+}
+
+/// Does what a command line asks for, whose inputs aren't both standard input. The gate is called
+/// around replays.
 pub(crate) fn answer_line<
     'a,
     R: Files + Threads + Wait + Sync + AllocGlobal,
     I: Read,
     W: Write,
+    E: Write,
     G: CountedGate + Sync,
 >(
     rt: &R,
     line: &'a CommandLine,
     input: &mut I,
-    text: &mut W,
+    output: &mut W,
+    error: &mut E,
     gate: &G,
 ) -> Result<Status, Failure<'a>>
-    ensures ok { Writes (W.contents text.old) (W.contents text.new) (IsAnswered line.now (I.remaining input.old) (I.remaining input.new)) result }
-    ensures quiet { KeepsQuiet line.now.command (W.contents text.old) (W.contents text.new) result }
+    requires { ReadsTwice line.now → ⊥ }
+    ensures ok { Writes line.now (ReadsInputs line.now (I.remaining input.old) (I.remaining input.new)) (W.contents output.old) (W.contents output.new) result }
+    ensures quiet { KeepsQuiet line.now (W.contents output.old) (W.contents output.new) result }
+    ensures part { LeavesPart line.now (ReadsInputs line.now (I.remaining input.old) (I.remaining input.new)) (W.contents output.old) (W.contents output.new) result }
     ensures no_thread { IfErr result (λ failure. IsNoThread failure → StartsThreads line.now.command) }
 {
-    if let Command::Make { inputs, .. } = &line.command {
-        return make(rt, line, inputs, text, gate);
+    if !reads_first(line) {
+        return answer_file(rt, line, input, output, error, gate);
     }
-    if reads_standard_input(line) {
-        answer_standard_input(rt, line, input, text, gate)
-    } else {
-        answer_file(rt, line, text, gate)
-    }
+    let identity = identity_of_standard_input(rt, line)?;
+    answer_with(
+        rt,
+        line,
+        input,
+        identity,
+        &mut io::empty(),
+        output,
+        error,
+        gate,
+    )
 }

@@ -30,9 +30,9 @@ pub(crate) enum Ending<'a> {
     Usage { text: String },
     #[error("error: a word is not UTF-8\n")]
     NotUtf8,
-    /// An output is called `-`.
-    #[error("error: - is no output: name a file, or /dev/stdout\n")]
-    Dash,
+    /// Both inputs are called `-`.
+    #[error("error: - is standard input, which is read once: name a file for one of both inputs\n")]
+    Twice,
     #[error("error: {0}\n")]
     Failed(Failure<'a>),
 }
@@ -64,7 +64,7 @@ impl Ending<'_> {
     {
         match self {
             Ending::Help { .. } => 0,
-            Ending::Usage { .. } | Ending::NotUtf8 | Ending::Dash => USAGE,
+            Ending::Usage { .. } | Ending::NotUtf8 | Ending::Twice => USAGE,
             Ending::Failed(_) => FAILED,
         }
     }
@@ -93,9 +93,27 @@ impl Ending<'_> {
         }
     }
 
+    /// Whether it is that a reader has gone away, who wants no text any more.
+    fn is_silent(&self) -> bool {
+        match self {
+            Ending::Failed(failure) => failure.is_broken_pipe(),
+            _ => false,
+        }
+    }
+
+    /// Prints it on standard error, if its file has room for it, and the reason if reasons are wanted.
+    fn say<R: Files + Eprint>(&self, rt: &R, explain: bool) {
+        if Quota::of_standard_error(rt).has_room(self) {
+            let _printed = eprint!(rt; "{self}");
+        }
+        if explain {
+            self.explain(rt);
+        }
+    }
+
     /// Prints it, help on standard output and all else on standard error, and answers the exit
     /// status. If reasons are wanted it may have a second line. A text for which a file has no room
-    /// isn't begun.
+    /// isn't begun. That a reader has gone away is no text.
     pub(crate) fn report<R: Files + Print + Eprint>(self, rt: &R, explain: bool) -> ExitCode
         ensures { IsReported self.entry (exit_status result) }
     {
@@ -106,11 +124,8 @@ impl Ending<'_> {
             },
             other => other,
         };
-        if Quota::of_standard_error(rt).has_room(&ending) {
-            let _printed = eprint!(rt; "{ending}");
-        }
-        if explain {
-            ending.explain(rt);
+        if !ending.is_silent() {
+            ending.say(rt, explain);
         }
         ExitCode::from(ending.code())
     }

@@ -1,6 +1,7 @@
 //! Why a command did not reach its end.
-ghost use Rattle.std.specs.Prelude.{◌≡◌};
-ghost use Rattle.vcs_check.specs.Private.FileErrors.{by_input, by_output, file_error_of};
+ghost use Rattle.std.specs.Prelude.{◌≡◌, ◌↔◌, true};
+ghost use Rattle.vcs_check.specs.Failures.{file_error_of};
+ghost use Rattle.vcs_check.specs.Private.FileErrors.{IsBrokenPipe, by_input, by_output};
 
 use commands::RunError;
 use named_files::{CreateError, FileError};
@@ -25,6 +26,16 @@ impl<'a> Failure<'a> {
         match *self {
             Failure::Open(file_error) => Some(file_error),
             Failure::Run(_, file_error) => file_error,
+        }
+    }
+
+    /// Whether it is that of a pipe whose reader has gone away.
+    pub(crate) fn is_broken_pipe(&self) -> bool
+        ensures { (result ≡ true) ↔ IsBrokenPipe self.now }
+    {
+        match self.file_error() {
+            Some(file_error) => file_error.is_broken_pipe(),
+            None => false,
         }
     }
 

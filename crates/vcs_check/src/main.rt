@@ -6,39 +6,62 @@
 //! `verify -` does.
 #![tactic(auto)]
 
+mod advice;
 mod answering;
 mod ending;
+mod error_object;
 mod failure;
 mod progress;
 mod reasons;
 mod remarks;
 
-ghost use Rattle.vcs_check.specs.Commands.{IsAnswered, KeepsQuiet, Writes};
-ghost use Rattle.vcs_check.specs.Endings.{code_of};
+ghost use Rattle.vcs_check.specs.Commands.{LeavesPart, ReadsInputs, ReadsTwice, Writes};
+ghost use Rattle.vcs_check.specs.Endings.{EndsQuiet, code_of};
+ghost use Rattle.vcs_check.specs.ErrorObjects.{GetsErrorObject, SaysErrors};
 ghost use Rattle.vcs_check.specs.declared.failure.Failure.{Failure as WhyNot};
 ghost use Rattle.commands.specs.declared.status.Status.{Status};
-ghost use Rattle.std.specs.Prelude.{◌≡◌, Result};
+ghost use Rattle.named_files.specs.declared.file_error.FileError.{FileError as FailedFile};
+ghost use Rattle.std.specs.Prelude.{◌≡◌, IfOk, Option, Result};
+ghost use Rattle.vcs_check.specs.Private.FileErrors.{by_input, by_output};
+ghost use Rattle.std.specs.Io.KnownBytes.{Keeps};
 ghost use Rattle.std.specs.Process.{exit_status};
 
-use answering::{STDIN, answer_line};
+use advice::with_good_advice;
+use answering::{answer_line, draws, reads_first, reads_second, takes_file};
 use command_line::{CommandLine, LineFault, parse_line};
 use commands::{CountedGate, RunError, Status};
 use ending::{Ending, not_written};
+use error_object::{says_errors, write_error_object};
 use failure::Failure;
 use named_files::{
-    Limited, Named, Quota, STANDARD_INPUT, STANDARD_OUTPUT, null_if_closed, sync_standard_output,
+    FileError, Limited, Named, Quota, Reason, STANDARD_ERROR, STANDARD_INPUT, STANDARD_OUTPUT,
+    null_if_closed, sync_standard_output,
 };
 use progress::Progress;
 use reasons::{has_explain, is_explained, write_reason};
 use remarks::remark;
 use std::alloc::{AllocError, Global};
 use std::env::{self, Env};
-use std::io::{self, Eprint, IsTerminal, Print, Read, Write};
+use std::io::{self, BufWriter, Eprint, IsTerminal, Print, Read, Write};
 use std::process::ExitCode;
 use std::rt::Files;
 use std::sync::Wait;
 use std::thread::Threads;
 use terminal_text::Shown;
+
+/// The same reason why words are no command, without advice that leads to none.
+fn fault_with_good_advice(
+    alloc: Global,
+    words: &[String],
+    fault: LineFault,
+) -> Result<LineFault, AllocError> {
+    match fault {
+        LineFault::Usage { text } => Ok(LineFault::Usage {
+            text: with_good_advice(alloc, words, text)?,
+        }),
+        other => Ok(other),
+    }
+}
 
 /// Why some words are no command, where some of them aren't shown as they are: the reason of those
 /// that are shown in their place.
@@ -48,7 +71,7 @@ fn fault_of_shown(alloc: Global, words: &[String]) -> Result<LineFault, AllocErr
         shown.push(format!(in alloc; "{}", Shown::name(word))?)?;
     }
     match parse_line(alloc, &shown) {
-        Err(fault) => Ok(fault),
+        Err(fault) => fault_with_good_advice(alloc, &shown, fault),
         Ok(_) => {
             let text = String::from_str(alloc, "error: no command\n")?;
             Ok(LineFault::Usage { text })
@@ -63,7 +86,47 @@ fn line_of(alloc: Global, words: &[String]) -> Result<CommandLine, LineFault> {
     let is_plain = words.iter().all(|word| Shown::name(word).is_all_plain());
     match answer {
         Err(LineFault::Usage { .. }) if !is_plain => Err(fault_of_shown(alloc, words)?),
+        Err(fault) => Err(fault_with_good_advice(alloc, words, fault)?),
         answer => answer,
+    }
+}
+
+/// Hands on what standard output has gathered, and waits until the disk has it.
+fn settle<R: Files, W: Write>(rt: &R, output: &mut W) -> io::Result<()>
+    ensures { Keeps (W.contents output.old) (W.contents output.new) }
+{
+    output.flush()?;
+    sync_standard_output(rt)
+}
+
+/// The same failure, with the standard stream that failed if no other file is known.
+fn of_streams<'a, I, W, E>(
+    failure: Failure<'a>,
+    input: &Named<'a, I>,
+    output: &Named<'a, W>,
+    error: &Named<'a, E>,
+) -> Failure<'a>
+    ensures { (one two three : Option FailedFile) × (result ≡ by_output (by_output (by_input failure.entry one) two) three) }
+{
+    failure
+        .by_input(input.file_error())
+        .by_output(output.file_error())
+        .by_output(error.file_error())
+}
+
+/// Says on standard output why a command failed that answers in JSON there, if standard output has not
+/// failed itself.
+fn say_error<R: Files + AllocGlobal, W: Write>(
+    rt: &R,
+    line: &CommandLine,
+    failure: &Failure<'_>,
+    output: &mut Named<'_, W>,
+)
+    ensures object { SaysErrors line.now → GetsErrorObject failure.now (W.contents output.old.stream) (W.contents output.new.stream) }
+    ensures none { (SaysErrors line.now → ⊥) → W.contents output.new.stream ≡ W.contents output.old.stream }
+{
+    if says_errors(line) && output.file_error().is_none() && !failure.is_broken_pipe() {
+        write_error_object(rt.alloc(), failure, output);
     }
 }
 
@@ -72,21 +135,25 @@ fn carry_out<
     R: Files + Threads + Wait + Sync + AllocGlobal + Print + Eprint,
     I: Read,
     W: Write,
+    E: Write,
     G: CountedGate + Sync,
 >(
     rt: &R,
     explain: bool,
     input: &mut Named<'_, I>,
-    text: &mut Named<'_, W>,
+    output: &mut Named<'_, W>,
+    error: &mut Named<'_, E>,
     line: &CommandLine,
     gate: &G,
 ) -> ExitCode
+    requires { ReadsTwice line.now → ⊥ }
     ensures { (answer : Result Status WhyNot) × (exit_status result ≡ code_of answer)
-        × Writes (W.contents text.old.stream) (W.contents text.new.stream) (IsAnswered line.now (I.remaining input.old.stream) (I.remaining input.new.stream)) answer
-        × KeepsQuiet line.now.command (W.contents text.old.stream) (W.contents text.new.stream) answer }
+        × Writes line.now (ReadsInputs line.now (I.remaining input.old.stream) (I.remaining input.new.stream)) (W.contents output.old.stream) (W.contents output.new.stream) answer
+        × EndsQuiet line.now (W.contents output.old.stream) (W.contents output.new.stream) answer
+        × LeavesPart line.now (ReadsInputs line.now (I.remaining input.old.stream) (I.remaining input.new.stream)) (W.contents output.old.stream) (W.contents output.new.stream) answer }
 {
-    match answer_line(rt, line, input, text, gate) {
-        Ok(status) => match sync_standard_output(rt) {
+    match answer_line(rt, line, input, output, error, gate) {
+        Ok(status) => match settle(rt, output) {
             Ok(()) => {
                 if explain {
                     remark(rt, line, input.length(), status);
@@ -96,9 +163,8 @@ fn carry_out<
             Err(error) => not_written(error).report(rt, explain),
         },
         Err(failure) => {
-            let failure = failure
-                .by_input(input.file_error())
-                .by_output(text.file_error());
+            let failure = of_streams(failure, input, output, error);
+            say_error(rt, line, &failure, output);
             Ending::Failed(failure).report(rt, explain)
         }
     }
@@ -114,13 +180,21 @@ fn words_of_program<R: Env + AllocGlobal>(rt: &R) -> Result<Vec<String>, Ending<
     }
 }
 
-/// The command line of some words. `-` is the name of an input alone.
-fn line_of_words(alloc: Global, words: &[String]) -> Result<CommandLine, Ending<'static>> {
+/// The command line of some words. One of its inputs alone may be `-`.
+fn line_of_words(alloc: Global, words: &[String]) -> Result<CommandLine, Ending<'static>>
+    ensures { IfOk result (λ line. ReadsTwice line → ⊥) }
+{
     let line = line_of(alloc, words)?;
-    if line.output.as_deref() == Some(STDIN) {
-        return Err(Ending::Dash);
+    if reads_first(&line) && reads_second(&line) {
+        return Err(Ending::Twice);
     }
     Ok(line)
+}
+
+/// Why standard output can't take the file of a command: it is a terminal.
+fn to_terminal() -> Ending<'static> {
+    let file_error = FileError::new(STANDARD_OUTPUT, Reason::IsTerminal);
+    Ending::Failed(Failure::Open(file_error))
 }
 
 fn main(rt: HostRuntime) -> ExitCode {
@@ -139,6 +213,10 @@ fn main(rt: HostRuntime) -> ExitCode {
         Ok(line) => line,
         Err(ending) => return ending.report(&rt, is_terminal || has_explain(&words)),
     };
+    let explain = is_terminal || line.explain;
+    if takes_file(&line) && rt.stdout().is_terminal() {
+        return to_terminal().report(&rt, explain);
+    }
     if words.len() < 2 && rt.stdin().is_terminal() {
         write_reason(
             &rt,
@@ -146,9 +224,36 @@ fn main(rt: HostRuntime) -> ExitCode {
         );
     }
     let mut input = Named::new(STANDARD_INPUT, rt.stdin());
-    let quota = Quota::of_standard_output(&rt);
-    let mut text = Named::new(STANDARD_OUTPUT, Limited::new(io::writer(&rt), quota));
+    let output = Limited::new(io::writer(&rt), Quota::of_standard_output(&rt));
+    let error = Limited::new(rt.stderr(), Quota::of_standard_error(&rt));
+    let mut error = Named::new(STANDARD_ERROR, error);
     let progress = Progress::new(&rt, is_terminal);
-    let explain = is_terminal || line.explain;
-    carry_out(&rt, explain, &mut input, &mut text, &line, &progress)
+    if !takes_file(&line) || !draws(&line.command) {
+        let mut output = Named::new(STANDARD_OUTPUT, output);
+        return carry_out(
+            &rt,
+            explain,
+            &mut input,
+            &mut output,
+            &mut error,
+            &line,
+            &progress,
+        );
+    }
+    // Pictures go through a buffer.
+    match BufWriter::new(rt.alloc(), output) {
+        Ok(output) => {
+            let mut output = Named::new(STANDARD_OUTPUT, output);
+            carry_out(
+                &rt,
+                explain,
+                &mut input,
+                &mut output,
+                &mut error,
+                &line,
+                &progress,
+            )
+        }
+        Err(_) => Ending::Failed(Failure::from(RunError::NoMemory)).report(&rt, explain),
+    }
 }

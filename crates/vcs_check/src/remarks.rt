@@ -1,7 +1,7 @@
 //! What is told after an answer where reasons are wanted: why something was refused, and what no
 //! checkpoint claims. Files are read again for it, so that nothing before is another then.
 
-use crate::answering::reads_standard_input;
+use crate::answering::{STANDARD, takes_file};
 use crate::reasons::write_reason;
 use command_line::{Command, CommandLine};
 use commands::{InputForm, Status, read_all};
@@ -50,6 +50,24 @@ fn tell_whole<R: Files + Eprint>(rt: &R, name: &str, hint: Option<Hint>) {
                 hint: TextHint::Whole(hint),
             },
         );
+    }
+}
+
+/// The path of an input.
+fn path_of(input: &str) -> &str {
+    if input == STANDARD {
+        "/dev/stdin"
+    } else {
+        input
+    }
+}
+
+/// What an input is called in messages.
+fn name_of(input: &str) -> &str {
+    if input == STANDARD {
+        STANDARD_INPUT
+    } else {
+        input
     }
 }
 
@@ -103,22 +121,15 @@ fn hint_of_bytes(alloc: Global, command: &Command, bytes: &[u8]) -> Option<Hint>
     }
 }
 
-/// What is wrong with the movie of a file.
-fn hint_of_movie<R: Files + AllocGlobal>(rt: &R, command: &Command, path: &str) -> Option<Hint> {
-    let bytes = read_again(rt, path)?;
-    hint_of_bytes(rt.alloc(), command, &bytes)
-}
-
-/// What is wrong with the movie of standard input, of which so many bytes were read, up to its end.
-/// These are the last ones of its file: what came before them was read by somebody else.
-fn hint_of_standard_input<R: Files + AllocGlobal>(
-    rt: &R,
-    command: &Command,
-    length: u64,
-) -> Option<Hint> {
-    let bytes = read_again(rt, "/dev/stdin")?;
+/// What an input holds that can be read again. Of standard input so many bytes were read, up to its
+/// end: these are the last ones of its file, what came before them was read by somebody else.
+fn read_input_again<R: Files + AllocGlobal>(rt: &R, input: &str, length: u64) -> Option<Vec<u8>> {
+    let bytes = read_again(rt, path_of(input))?;
+    if input != STANDARD {
+        return Some(bytes);
+    }
     let before = (bytes.len() as u64).checked_sub(length)?;
-    hint_of_bytes(rt.alloc(), command, bytes.get(before as usize..)?)
+    bytes.get(before as usize..)?.to_vec(rt.alloc()).ok()
 }
 
 /// What is wrong with inputs as text: they can't be read, or are too many.
@@ -140,41 +151,45 @@ fn hint_of_triples(alloc: Global, bytes: &[u8], every: NonZeroU32) -> Option<Hin
     }
 }
 
-/// Says what is wrong with inputs of a cartridge.
+/// Says what is wrong with inputs of a cartridge. Of standard input so many bytes were read.
 fn tell_of_inputs<R: Files + AllocGlobal + Eprint>(
     rt: &R,
-    path: &str,
+    inputs: &str,
+    length: u64,
     form: InputForm,
     every: NonZeroU32,
 ) {
-    let Some(bytes) = read_again(rt, path) else {
+    let Some(bytes) = read_input_again(rt, inputs, length) else {
         return;
     };
+    let name = name_of(inputs);
     match form {
-        InputForm::Text => tell(rt, path, hint_of_lines(rt.alloc(), &bytes, every)),
-        InputForm::Bytes => tell_whole(rt, path, hint_of_triples(rt.alloc(), &bytes, every)),
+        InputForm::Text => tell(rt, name, hint_of_lines(rt.alloc(), &bytes, every)),
+        InputForm::Bytes => tell_whole(rt, name, hint_of_triples(rt.alloc(), &bytes, every)),
     }
 }
 
-/// Says which file keeps a movie from being made, and what is wrong with it.
+/// Says which file keeps a movie from being made, and what is wrong with it. Of standard input so many
+/// bytes were read.
 fn tell_of_making<R: Files + AllocGlobal + Eprint>(
     rt: &R,
     rom: &str,
     inputs: &str,
+    length: u64,
     form: InputForm,
     every: NonZeroU32,
 ) {
-    let Some(cartridge) = read_again(rt, rom) else {
+    let Some(cartridge) = read_input_again(rt, rom, length) else {
         return;
     };
     if Cart::is_length(cartridge.len()) {
-        return tell_of_inputs(rt, inputs, form, every);
+        return tell_of_inputs(rt, inputs, length, form, every);
     }
-    match fs::metadata(rt, inputs) {
+    match fs::metadata(rt, path_of(inputs)) {
         Ok(metadata) if Cart::is_length(metadata.len() as usize) => {
-            tell_whole(rt, inputs, Some(Hint::Exchanged));
+            tell_whole(rt, name_of(inputs), Some(Hint::Exchanged));
         }
-        _ => tell_whole(rt, rom, Some(hint_of_rom(&cartridge))),
+        _ => tell_whole(rt, name_of(rom), Some(hint_of_rom(&cartridge))),
     }
 }
 
@@ -188,13 +203,13 @@ fn tell_of_refusal<R: Files + AllocGlobal + Eprint>(rt: &R, line: &CommandLine, 
         every,
     } = command
     {
-        return tell_of_making(rt, &line.input, inputs, *form, *every);
+        return tell_of_making(rt, &line.input, inputs, length, *form, *every);
     }
-    if reads_standard_input(line) {
-        let hint = hint_of_standard_input(rt, command, length);
-        return tell_whole(rt, STANDARD_INPUT, hint);
-    }
-    tell_whole(rt, &line.input, hint_of_movie(rt, command, &line.input));
+    let Some(bytes) = read_input_again(rt, &line.input, length) else {
+        return;
+    };
+    let hint = hint_of_bytes(rt.alloc(), command, &bytes);
+    tell_whole(rt, name_of(&line.input), hint);
 }
 
 /// Says which frames at the end of a movie that was written no checkpoint follows, if any.
@@ -203,6 +218,9 @@ fn tell_of_output<R: Files + AllocGlobal + Eprint>(rt: &R, line: &CommandLine) {
         Command::Make { every, .. } | Command::Cut { every, .. } => every,
         _ => return,
     };
+    if takes_file(line) {
+        return;
+    }
     let Some(output) = line.output.as_deref() else {
         return;
     };
@@ -211,8 +229,43 @@ fn tell_of_output<R: Files + AllocGlobal + Eprint>(rt: &R, line: &CommandLine) {
     }
 }
 
-/// Says which file was refused and why, and which frames of a movie that was written no checkpoint
-/// follows. Of standard input so many bytes were read.
+/// The first of the frames that a command looks at, if it says nothing where a movie has none of them.
+fn first_frame(command: &Command) -> Option<u32> {
+    match command {
+        Command::Inputs { first, .. }
+        | Command::Frames { first, .. }
+        | Command::Pictures { first, .. } => Some(first.get()),
+        _ => None,
+    }
+}
+
+/// Says how many frames a movie has, if it has none of those that a command looks at. Of standard
+/// input so many bytes were read.
+fn tell_of_no_frame<R: Files + AllocGlobal + Eprint>(rt: &R, line: &CommandLine, length: u64) {
+    let Some(first) = first_frame(&line.command) else {
+        return;
+    };
+    // Each movie has a first frame.
+    if first == 1 {
+        return;
+    }
+    let Some(bytes) = read_input_again(rt, &line.input, length) else {
+        return;
+    };
+    match read_movie(rt.alloc(), &bytes) {
+        Ok(movie) if movie.frames() < first => {
+            let hint = Hint::HasFrames {
+                frames: movie.frames(),
+            };
+            tell_whole(rt, name_of(&line.input), Some(hint));
+        }
+        _ => {}
+    }
+}
+
+/// Says which file was refused and why, how many frames a movie has that has none of those that were
+/// asked for, and which frames of a movie that was written no checkpoint follows. Of standard input so
+/// many bytes were read.
 pub(crate) fn remark<R: Files + AllocGlobal + Eprint>(
     rt: &R,
     line: &CommandLine,
@@ -221,7 +274,10 @@ pub(crate) fn remark<R: Files + AllocGlobal + Eprint>(
 ) {
     match status {
         Status::Refused => tell_of_refusal(rt, line, length),
-        Status::Done => tell_of_output(rt, line),
-        Status::False | Status::Fault => {}
+        Status::Done => {
+            tell_of_no_frame(rt, line, length);
+            tell_of_output(rt, line);
+        }
+        Status::False | Status::Fault | Status::Unexpected => {}
     }
 }

@@ -1,8 +1,10 @@
 -- Which file a failure is about. This project's own.
-use Rattle.std.specs.Prelude.{Option, Some, None}
+use Rattle.std.specs.Prelude.{Option, None, IsSomeAnd}
+use Rattle.named_files.specs.FileErrors.{IsBrokenPipe as IsBroken}
 use Rattle.named_files.specs.declared.file_error.CreateError.{CreateError}
 use Rattle.named_files.specs.declared.file_error.CreateError.TheVariants as created
 use Rattle.named_files.specs.declared.file_error.FileError.{FileError}
+use Rattle.vcs_check.specs.Failures.{file_error_of}
 use Rattle.vcs_check.specs.declared.failure.Failure.{Failure}
 use Rattle.vcs_check.specs.declared.failure.Failure.TheVariants.{Open, Run}
 use Rattle.commands.specs.declared.run_error.RunError.TheVariants.{NoMemory, ReadFault, TooLong, WriteFault}
@@ -12,12 +14,11 @@ abbrev pub of_create_error : CreateError → Failure
 of_create_error (created.Open file_error) = Open file_error
 of_create_error created.NoMemory = Run NoMemory None
 
--- The file that failed, if it is known,
-abbrev pub file_error_of : Failure → Option FileError
-file_error_of (Open file_error) = Some file_error
-file_error_of (Run error file_error) = file_error
+-- The file that failed is a pipe that nobody reads any more.
+abbrev pub IsBrokenPipe : Failure → Type 0
+IsBrokenPipe failure = IsSomeAnd (file_error_of failure) IsBroken
 
--- the same by the error of an input, if a read failed and no error of a file is known,
+-- The same failure by the error of an input, if a read failed and no error of a file is known,
 abbrev pub by_input : Failure → Option FileError → Failure
 by_input (Run ReadFault None) file_error = Run ReadFault file_error
 by_input (Run TooLong None) file_error = Run TooLong file_error
