@@ -28,18 +28,19 @@ pub(crate) fn answer_to<T: Threads + Wait + Sync + AllocGlobal, R: Read>(
     command: &Command,
     input: &mut R,
 ) -> Answer {
+    answer_with(rt, command, input, &mut io::empty())
+}
+
+/// The answer to a command over both inputs.
+pub(crate) fn answer_with<T: Threads + Wait + Sync + AllocGlobal, R: Read, S: Read>(
+    rt: &T,
+    command: &Command,
+    input: &mut R,
+    inputs: &mut S,
+) -> Answer {
     let mut text = Text::new();
     let mut file = File::new();
-    let mut inputs = io::empty();
-    let status = run_command(
-        rt,
-        command,
-        input,
-        &mut inputs,
-        &mut text,
-        &mut file,
-        &NoGate,
-    );
+    let status = run_command(rt, command, input, inputs, &mut text, &mut file, &NoGate);
     Answer { status, text, file }
 }
 

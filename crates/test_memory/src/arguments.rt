@@ -11,7 +11,7 @@ pub(crate) fn are_command(alloc: Global) -> Result<(), Failure> {
     match parse_line(alloc, &["vcs_check", "verify", "m", "--pictures", "p"]) {
         Ok(
             CommandLine {
-                command: Command::Verify { plan },
+                command: Command::Verify { plan, .. },
                 output: Some(_),
                 ..
             },

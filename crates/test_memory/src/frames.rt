@@ -5,7 +5,7 @@ use crate::failure::Failure;
 use crate::movies::two_frames;
 use command_line::Command;
 use commands::Status;
-use replay_plan::{Address, Details, Watches};
+use replay_plan::{Address, Details, Notation, Watches};
 use std::num::NonZeroU32;
 use std::sync::Wait;
 use std::thread::Threads;
@@ -40,6 +40,7 @@ pub(crate) fn are_told<R: Threads + Wait + Sync + AllocGlobal>(
             memory: false,
             digests,
         },
+        notation: Notation::Lines,
     };
     answer_to(rt, &frames, &mut two_frames().as_slice()).is_in_lines(
         Status::Done,
@@ -71,6 +72,7 @@ pub(crate) fn are_told_with_memory<R: Threads + Wait + Sync + AllocGlobal>(
             memory: true,
             digests: false,
         },
+        notation: Notation::Lines,
     };
     let answer = answer_to(rt, &frames, &mut two_frames().as_slice());
     let (text, file) = (answer.text.as_slice(), answer.file.as_slice());

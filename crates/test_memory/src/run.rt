@@ -1,6 +1,6 @@
 //! What the program's commands do, over bytes in place of files.
 
-use crate::answer::{Answer, File, Text, answer_to};
+use crate::answer::{Answer, File, Text, answer_to, answer_with};
 use crate::failure::Failure;
 use crate::gate::Counting;
 use crate::movies::{
@@ -8,7 +8,7 @@ use crate::movies::{
 };
 use command_line::{Command, program_name};
 use commands::{InputForm, Notation, Status, run, run_convert, run_info, run_make};
-use replay_plan::{Keep, Plan, Workers};
+use replay_plan::{Expectations, Keep, Plan, Workers};
 use std::alloc::Global;
 use std::io::{self, Read};
 use std::num::NonZeroU32;
@@ -107,6 +107,16 @@ pub(crate) fn is_converted(alloc: Global) -> Result<(), Failure> {
     Answer { status, text, file }.is(Status::Done, wanted, &conversion())
 }
 
+/// The cartridge of the movie of two frames.
+pub(crate) fn is_taken<R: Threads + Wait + Sync + AllocGlobal>(rt: &R) -> Result<(), Failure> {
+    let wanted = b"cartridge: 2048 bytes\n";
+    answer_to(rt, &Command::Cartridge, &mut two_frames().as_slice()).is(
+        Status::Done,
+        wanted,
+        &two_frames()[14..2062],
+    )
+}
+
 /// The inputs of two frames in which nothing is held.
 pub(crate) fn is_listed<R: Threads + Wait + Sync + AllocGlobal>(
     rt: &R,
@@ -155,6 +165,8 @@ pub(crate) fn is_reported<R: Threads + Wait + Sync + AllocGlobal>(
     let report = Command::Report {
         workers: Workers::new(workers).ok_or(Failure::Wrong)?,
         notation: Notation::Lines,
+        rom: None,
+        expectations: Expectations::NONE,
     };
     let answer = answer_to(rt, &report, &mut two_frames().as_slice());
     let text = answer.text.as_slice();
@@ -176,19 +188,40 @@ pub(crate) fn is_reported_false<R: Threads + Wait + Sync + AllocGlobal>(
     let report = Command::Report {
         workers: Workers::ONE,
         notation: Notation::Json,
+        rom: None,
+        expectations: Expectations::NONE,
     };
     let answer = answer_to(rt, &report, &mut two_frames_with_a_false_claim().as_slice());
     let text = answer.text.as_slice();
     let begins = text.starts_with(
-        b"{\"verdict\":\"false checkpoint\",\"checkpoint\":1,\"frame\":1,\"differs\":[{\"number\":\"memory 80\",\"claimed\":\"07\",\"found\":\"02\"}],\"segments\":\"X.\",\"reason\":\"the inputs of segment 1 don't lead from the start to the first claim\",\"notes\":[\"1 frames after the last checkpoint\"],\"cartridge\":2048,",
+        b"{\"verdict\":\"false checkpoint\",\"checkpoint\":1,\"frame\":1,\"differs\":[{\"number\":\"memory 80\",\"claimed\":\"07\",\"found\":\"02\"}],\"segments\":\"X.\",\"reason\":\"segment 1 doesn't lead from the start to the only claim: that claim or what leads to it was changed\",\"notes\":[\"1 frames after the last checkpoint\"],\"cartridge\":2048,",
     );
     answer.judged(Status::False, begins, text.is_empty())
+}
+
+/// Two frames judged by one worker, and their report, with their cartridge's bytes as the ROM.
+pub(crate) fn is_compared<R: Threads + Wait + Sync + AllocGlobal>(rt: &R) -> Result<(), Failure> {
+    let report = Command::Report {
+        workers: Workers::ONE,
+        notation: Notation::Lines,
+        rom: Some(String::new(rt.alloc())),
+        expectations: Expectations::NONE,
+    };
+    let movie = two_frames();
+    let mut rom = &movie[14..2062];
+    let answer = answer_with(rt, &report, &mut movie.as_slice(), &mut rom);
+    let text = answer.text.as_slice();
+    let begins = text.starts_with(
+        b"genuine: 2 frames, 1 checkpoints\ncartridge expected: yes\nnote: 1 frames after the last checkpoint\n",
+    );
+    answer.judged(Status::Done, begins, text.is_empty())
 }
 
 /// Nine million zeros, which are no movie.
 pub(crate) fn is_refused<R: Threads + Wait + Sync + AllocGlobal>(rt: &R) -> Result<(), Failure> {
     let verify = Command::Verify {
         plan: Plan::without_pictures(Workers::ONE),
+        notation: Notation::Lines,
     };
     answer_to(rt, &verify, &mut io::repeat(0).take(9_000_000)).is(
         Status::Refused,

@@ -17,7 +17,28 @@ pub(crate) struct Answer {
     pub file: Vec<u8>,
 }
 
-/// The answer to a command whose text's writer and whose file's writer take so many bytes each.
+/// The answer to a command with a second input, whose text's writer and whose file's writer take so
+/// many bytes each.
+fn answer_over<T: Threads + Wait + Sync + AllocGlobal, R: Read, S: Read>(
+    rt: &T,
+    command: &Command,
+    input: &mut R,
+    inputs: &mut S,
+    text: usize,
+    file: usize,
+) -> Answer {
+    let mut text = FailingWriter::new(rt.alloc(), text);
+    let mut file = FailingWriter::new(rt.alloc(), file);
+    let status = run_command(rt, command, input, inputs, &mut text, &mut file, &NoGate);
+    Answer {
+        status,
+        text: text.taken,
+        file: file.taken,
+    }
+}
+
+/// The answer to a command whose text's writer and whose file's writer take so many bytes each. Its
+/// second input is empty.
 pub(crate) fn answer_into<T: Threads + Wait + Sync + AllocGlobal, R: Read>(
     rt: &T,
     command: &Command,
@@ -25,23 +46,17 @@ pub(crate) fn answer_into<T: Threads + Wait + Sync + AllocGlobal, R: Read>(
     text: usize,
     file: usize,
 ) -> Answer {
-    let mut text = FailingWriter::new(rt.alloc(), text);
-    let mut file = FailingWriter::new(rt.alloc(), file);
-    let mut inputs = io::empty();
-    let status = run_command(
-        rt,
-        command,
-        input,
-        &mut inputs,
-        &mut text,
-        &mut file,
-        &NoGate,
-    );
-    Answer {
-        status,
-        text: text.taken,
-        file: file.taken,
-    }
+    answer_over(rt, command, input, &mut io::empty(), text, file)
+}
+
+/// The answer to a command with a second input whose writers take all.
+pub(crate) fn answer_with<T: Threads + Wait + Sync + AllocGlobal, R: Read, S: Read>(
+    rt: &T,
+    command: &Command,
+    input: &mut R,
+    inputs: &mut S,
+) -> Answer {
+    answer_over(rt, command, input, inputs, usize::MAX, usize::MAX)
 }
 
 /// The answer to a command whose writers take all.

@@ -3,7 +3,7 @@
 use crate::answer::{answer_into, answer_to, expect_beginning, expect_text};
 use crate::movies::{first_of_two_false, two_frames};
 use command_line::Command;
-use replay_plan::{Address, Details, Watches};
+use replay_plan::{Address, Details, Notation, Watches};
 use std::alloc::{AllocError, Global};
 use std::num::NonZeroU32;
 use std::test::Fail;
@@ -38,6 +38,7 @@ fn byte_80_twice(count: u32) -> Command {
             memory: false,
             digests: false,
         },
+        notation: Notation::Lines,
     }
 }
 
@@ -60,6 +61,7 @@ fn digest_of_a_record_has_its_bank_in_version_1(rt: HostRuntime) -> Result<(), F
             memory: false,
             digests: true,
         },
+        notation: Notation::Lines,
     };
     let wanted = format!(in rt.alloc();
         "frame 1: 13 cycles, 1 rows, checkpoint 1 true, state {STATE}, picture {PICTURE}\n\
@@ -94,6 +96,7 @@ fn memory_stands_between_watched_bytes_and_digests(rt: HostRuntime) -> Result<()
             memory: true,
             digests: true,
         },
+        notation: Notation::Lines,
     };
     let zeros = zeros(rt.alloc())?;
     let wanted = format!(in rt.alloc();

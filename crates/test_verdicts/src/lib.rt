@@ -29,6 +29,8 @@ mod pixmaps;
 #[cfg(test)]
 mod reports;
 #[cfg(test)]
+mod roms;
+#[cfg(test)]
 mod segments;
 #[cfg(test)]
 mod trace;

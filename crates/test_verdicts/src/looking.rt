@@ -7,7 +7,7 @@ use crate::movies::{first_of_two_false, two_frames, two_frames_with_a_last_check
 use crate::pixmaps::two_black_pictures;
 use command_line::Command;
 use commands::{RunError, Status};
-use replay_plan::{Details, Watches};
+use replay_plan::{Details, Notation, Watches};
 use std::num::NonZeroU32;
 use std::test::Fail;
 
@@ -89,6 +89,7 @@ fn failed_read_writes_nothing(rt: HostRuntime) -> Result<(), Fail> {
         first,
         count: 2,
         details: no_details(),
+        notation: Notation::Lines,
     };
     let trace = Command::Trace { frame: first };
     for command in [frames, PICTURES, cut(), trace] {

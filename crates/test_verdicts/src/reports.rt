@@ -5,14 +5,38 @@ use crate::movies::{
     ENDLESS_FRAMES, SEVEN_FRAMES, after_frame, first_of_two_false, movie, power_on, read,
     two_frames,
 };
-use movie_report::report;
-use replay_plan::{Keep, Notation, Workers};
+use movie_file::Movie;
+use movie_report::{Agreement, report};
+use replay_plan::{Expectations, Keep, Notation, Workers};
 use replay_segments::verify_one;
 use std::alloc::Global;
 use std::test::Fail;
 use std::thread::Threads;
 
 /// The report of a movie with its verdict, by a program p and so many workers.
+fn report_with<R: Threads + Sync>(
+    rt: &R,
+    alloc: Global,
+    bytes: &[u8],
+    movie: &Movie,
+    agreement: Agreement,
+    workers: Workers,
+) -> Result<String, Fail> {
+    let verdict = verify_one(alloc, movie, Keep::NONE)?;
+    Ok(report(
+        rt,
+        alloc,
+        Notation::Lines,
+        "p",
+        bytes,
+        movie,
+        &verdict,
+        agreement,
+        workers,
+    )?)
+}
+
+/// The same of bytes, of which nothing is expected.
 fn report_by<R: Threads + Sync>(
     rt: &R,
     alloc: Global,
@@ -20,17 +44,8 @@ fn report_by<R: Threads + Sync>(
     workers: Workers,
 ) -> Result<String, Fail> {
     let movie = read(alloc, bytes)?;
-    let verdict = verify_one(alloc, &movie, Keep::NONE)?;
-    Ok(report(
-        rt,
-        alloc,
-        Notation::Lines,
-        "p",
-        bytes,
-        &movie,
-        &verdict,
-        workers,
-    )?)
+    let agreement = Agreement::of(&movie, None, &Expectations::NONE);
+    report_with(rt, alloc, bytes, &movie, agreement, workers)
 }
 
 /// That by one worker.
@@ -104,5 +119,20 @@ fn fault_has_its_registers_and_its_beam(rt: HostRuntime) -> Result<(), Fail> {
         text.as_str()
             .ends_with("\nprogram: p\nstart line cycle: 23, at power-on 00\n")
     );
+    Ok(())
+}
+
+#[test]
+fn agreement_has_what_is_expected(rt: HostRuntime) -> Result<(), Fail> {
+    let movie = read(rt.alloc(), &two_frames(rt.alloc())?)?;
+    let expectations = Expectations {
+        digest: Some([0; 32]),
+        power_on: true,
+        to_the_end: true,
+    };
+    let agreement = Agreement::of(&movie, Some(movie.cart().bytes()), &expectations);
+    assert!(rt; agreement.cartridge == Some(false) && agreement.start == Some(true));
+    assert!(rt; agreement.last_frame == Some(false) && agreement.disagrees());
+    assert!(rt; !Agreement::of(&movie, None, &Expectations::NONE).disagrees());
     Ok(())
 }

@@ -7,7 +7,7 @@ use crate::gates::Counting;
 use crate::movies::{ENDLESS_FRAMES, run_of, two_frames};
 use crate::pixmaps::two_black_pictures;
 use command_line::Command;
-use commands::{RunError, Status, run};
+use commands::{Notation, RunError, Status, run};
 use movie_file::write_movie;
 use replay_plan::{Keep, Plan, Workers};
 use std::io;
@@ -27,7 +27,10 @@ fn plan() -> Plan {
 
 /// The command of that plan.
 fn verify() -> Command {
-    Command::Verify { plan: plan() }
+    Command::Verify {
+        plan: plan(),
+        notation: Notation::Lines,
+    }
 }
 
 /// The line about two genuine frames.
