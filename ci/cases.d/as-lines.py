@@ -25,6 +25,9 @@ def lines():
         yield f"segments: {signs[at:at + 64]}"
     if "reason" in facts:
         yield facts["reason"]
+    for name in "cartridge", "start", "last_frame":
+        if (answer := facts.get(f"{name}_expected")) is not None:
+            yield f"{name.replace('_', ' ')} expected: {'yes' if answer else 'no'}"
     for note in facts["notes"]:
         yield f"note: {note}"
     yield f"cartridge: {facts['cartridge']} bytes"
