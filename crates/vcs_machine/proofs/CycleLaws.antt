@@ -90,7 +90,7 @@ module _ {S : Type 0} (drawn : S → ℕ → ℕ → ℕ → S) where
       by true e = rw e (iterate-clocked-place _ c.tia)
       by false e = rw e (omega arith)
 
-  turn-place : (start : ℕ) (m next : Machine (Console S)) → IsAt start m → turn (console_rules drawn) m ≡ Went next → IsAt start next
+  pub turn-place : (start : ℕ) (m next : Machine (Console S)) → IsAt start m → turn (console_rules drawn) m ≡ Went next → IsAt start next
   unfolding console_rules
   turn-place start m next at e =
       let t = turn-parts (console_rules drawn) m next e in

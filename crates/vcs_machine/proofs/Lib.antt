@@ -16,3 +16,4 @@ pub mod SinkLemmas
 pub mod StateLaws
 pub mod StateLemmas
 pub mod TimedFacts
+pub mod TotalLemmas

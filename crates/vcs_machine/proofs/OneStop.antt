@@ -30,7 +30,7 @@ module _ {B : Type 0} (rules : Rules B) where
       by (Ok n) is went = record { taken = n; answer = is; same = cc }
 
   -- A turn takes at least two cycles.
-  turn-least : (m next : Machine B) → turn rules m ≡ Went next → m.cycles + 2 ≤ next.cycles
+  pub turn-least : (m next : Machine B) → turn rules m ≡ Went next → m.cycles + 2 ≤ next.cycles
   turn-least m next e =
       let t = turn-parts m next e in
       let least = rw t.answer at (step_of-least rules.meaning m.registers m.bus) in

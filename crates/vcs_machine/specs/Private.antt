@@ -6,3 +6,4 @@ pub mod Logged
 pub mod Mapped
 pub mod Polls
 pub mod Rows
+pub mod Totals

@@ -9,6 +9,7 @@ ghost use Rattle.vcs_machine.specs.Consoles.{meaning_of, after_wait, wait_cycles
 ghost use Rattle.vcs_machine.specs.Consoles.{cycles_to_line_start, passed, read_at};
 ghost use Rattle.vcs_machine.specs.Private.Polls.{GoOn, IsPoll};
 ghost use Rattle.vcs_machine.specs.Inputs.{is_input, is_pressed};
+ghost use Rattle.vcs_machine.specs.Private.Totals.{IsInside, beam_cycles};
 
 use crate::devices::{Devices, LINE_CYCLES, MOST_LAG};
 use crate::input::Input;
@@ -29,9 +30,6 @@ pub struct Console<'a, S: Paint> {
     awaits_line: bool,
     /// VSYNC has fallen in this frame.
     ended: bool,
-    /// One of the two, or a read of the RIOT, perhaps: most instructions do none of these, and the
-    /// loop of a frame asks this alone.
-    has_event: bool,
 }
 
 impl<'a, S: Paint> Model for Console<'a, S> {
@@ -51,7 +49,7 @@ impl<'a, S: Paint> Model for Console<'a, S> {
       sink = sink_seen S.drawn c.devices;
     } };
 
-    ghost invariant = { λ c. IsBehind c.devices × IsEventful c.has_event c.awaits_line c.ended };
+    ghost invariant = { λ c. IsBehind c.devices × IsEventful c.devices.has_event c.awaits_line c.ended };
 }
 
 impl<'a, S: Paint> Bus for Console<'a, S> {
@@ -84,7 +82,7 @@ impl<'a, S: Paint> Bus for Console<'a, S> {
             }
             Place::Ram(index) => self.devices.riot.ram(index),
             Place::Io(number) => {
-                self.has_event = true;
+                self.devices.has_event = true;
                 self.devices.catch_up_riot();
                 self.devices.riot.read(number)
             }
@@ -158,10 +156,10 @@ impl<'a, S: Paint> Console<'a, S> {
                 sink,
                 lag_left: MOST_LAG,
                 riot_ahead: 0,
+                has_event: false,
             },
             awaits_line: false,
             ended: false,
-            has_event: false,
         }
     }
 
@@ -181,7 +179,6 @@ impl<'a, S: Paint> Console<'a, S> {
             mut devices,
             awaits_line: _,
             ended: _,
-            has_event: _,
         } = self;
         devices.catch_up();
         let Devices {
@@ -190,6 +187,7 @@ impl<'a, S: Paint> Console<'a, S> {
             sink,
             lag_left: _,
             riot_ahead: _,
+            has_event: _,
         } = devices;
         (State::of_parts(cpu, &riot, &tia, mapped.bank), sink)
     }
@@ -203,7 +201,7 @@ impl<'a, S: Paint> Console<'a, S> {
         // These don't let the devices catch up, since they change nothing in the TIA.
         if register == WSYNC {
             self.awaits_line = true;
-            self.has_event = true;
+            self.devices.has_event = true;
             return;
         }
         if self.devices.tia.is_unchanged_by(register, value) {
@@ -224,16 +222,27 @@ impl<'a, S: Paint> Console<'a, S> {
             Effect::Sync => self.awaits_line = true,
             Effect::FrameEnd => self.ended = true,
         }
-        self.has_event = true;
+        self.devices.has_event = true;
     }
 
-    /// Whether an instruction may have asked for a wait, ended the frame, or read the RIOT.
+    /// Whether an instruction may have asked for a wait, ended the frame, or read the RIOT, or the
+    /// frame may be too long.
     #[inline(always)]
     pub fn has_event(&self) -> bool
         ensures no_wait { result ≡ false → self.now.awaits_line ≡ false }
         ensures no_end { result ≡ false → self.now.ended ≡ false }
+        ensures early { result ≡ false → self.now.tia.line < 320 }
     {
-        self.has_event
+        self.devices.has_event
+    }
+
+    /// Forgets what instructions have done, but for the frame's end.
+    #[inline(always)]
+    fn forget_event(&mut self)
+        requires { self.old.awaits_line ≡ false }
+        ensures { self.new ≡ self.old }
+    {
+        self.devices.has_event = self.ended || self.devices.is_late();
     }
 
     /// The wait that an instruction left, in cycles: up to the next scanline if it wrote WSYNC.
@@ -244,13 +253,13 @@ impl<'a, S: Paint> Console<'a, S> {
         ensures most { result ≤ 75 }
     {
         if !self.awaits_line {
-            self.has_event = self.ended;
+            self.forget_event();
             return 0;
         }
         let cycles = (LINE_CYCLES - self.devices.line_cycle()) % LINE_CYCLES;
         self.pass(cycles);
         self.awaits_line = false;
-        self.has_event = self.ended;
+        self.forget_event();
         cycles
     }
 
@@ -274,9 +283,20 @@ impl<'a, S: Paint> Console<'a, S> {
         ensures bus { self.new ≡ self.old }
         ensures line { result.0 ≡ self.old.tia.line }
         ensures cycle { result.1 ≡ self.old.tia.fields.clock / 3 }
+        ensures inside { self.old.tia.fields.clock < 228 }
     {
         self.devices.catch_up();
         (self.devices.tia.line(), self.devices.tia.beam() / 3)
+    }
+
+    /// The cycles from the begin of the frame's line 0 to the beam.
+    pub fn beam_cycles(&mut self) -> u32
+        ensures bus { self.new ≡ self.old }
+        ensures cycles { result ≡ beam_cycles self.old }
+        ensures inside { IsInside self.old }
+    {
+        let (line, cycle) = self.beam();
+        LINE_CYCLES as u32 * line as u32 + cycle as u32
     }
 
     /// Whether VSYNC has fallen in this frame.

@@ -1,9 +1,9 @@
 //! The devices of a console, which may be behind its processor.
-ghost use Rattle.std.specs.Prelude.{◌≡◌, ◌≤◌, ◌<◌, ◌+◌, ◌-◌, ◌*◌, ◌/◌};
+ghost use Rattle.std.specs.Prelude.{◌≡◌, ◌≤◌, ◌<◌, ◌+◌, ◌-◌, ◌*◌, ◌/◌, ◌||◌, false};
 ghost use Rattle.std.specs.Fn.{iterate};
 ghost use Rattle.tia_core.specs.Read.{tia_read};
 ghost use Rattle.vcs_machine.specs.Private.Lag.{riot_seen, tia_seen, sink_seen, given_back};
-ghost use Rattle.vcs_machine.specs.Private.Lag.{IsBehind};
+ghost use Rattle.vcs_machine.specs.Private.Lag.{IsBehind, is_late};
 ghost use Rattle.riot_map.specs.Riot.{after_cycles};
 ghost use Rattle.tia_core.specs.Clock.{after_clock, pixels, sink_after_pixels};
 
@@ -15,6 +15,10 @@ pub const LINE_CYCLES: u8 = 76;
 
 /// Most cycles that devices lag behind: those of a scanline, whose clocks fit a call of the TIA.
 pub const MOST_LAG: u8 = LINE_CYCLES;
+
+/// From this line on a frame may be too long before the TIA catches up again: one that began as line
+/// 0 did has then taken 24,244 cycles, and the TIA lags by 76 at most.
+const LATE_LINE: u16 = 319;
 
 /// A RIOT, a TIA and its sink, and how many cycles they lag behind the processor: the TIA by
 /// `MOST_LAG` less the cycles that are left.
@@ -30,6 +34,9 @@ pub struct Devices<S> {
     pub lag_left: u8,
     /// The cycles by which the RIOT is ahead of the TIA.
     pub riot_ahead: u8,
+    /// An instruction wrote WSYNC, ended the frame or read the RIOT, perhaps, or the frame may be too
+    /// long: most instructions do none of these, and the loop of a frame asks this alone.
+    pub has_event: bool,
 }
 
 impl<S: Paint> Devices<S> {
@@ -66,6 +73,7 @@ impl<S: Paint> Devices<S> {
           sink = sink_seen S.drawn self.old;
           lag_left = 76;
           riot_ahead = 0;
+          has_event = self.old.has_event || is_late (tia_seen self.old);
         } }
     {
         self.catch_up_riot();
@@ -73,6 +81,17 @@ impl<S: Paint> Devices<S> {
         self.tia.clocks(3 * lag, &mut self.sink);
         self.lag_left = MOST_LAG;
         self.riot_ahead = 0;
+        if self.is_late() {
+            self.has_event = true;
+        }
+    }
+
+    /// Whether the TIA has seen so many lines that the frame may be too long before it catches up.
+    #[inline(always)]
+    pub fn is_late(&self) -> bool
+        ensures { result ≡ is_late self.now.tia }
+    {
+        self.tia.line() >= LATE_LINE
     }
 
     /// Lets cycles pass.
@@ -84,6 +103,7 @@ impl<S: Paint> Devices<S> {
         ensures riot { riot_seen self.new ≡ after_cycles cycles (riot_seen self.old) }
         ensures tia { tia_seen self.new ≡ iterate after_clock (3 * cycles) (tia_seen self.old) }
         ensures sink { sink_seen S.drawn self.new ≡ sink_after_pixels S.drawn (sink_seen S.drawn self.old) (pixels (3 * cycles) (tia_seen self.old)) }
+        ensures event { self.new.has_event ≡ false → self.old.has_event ≡ false }
     {
         let is_short = self.lag_left < cycles;
         self.lag_left = self.lag_left.wrapping_sub(cycles);
@@ -105,6 +125,7 @@ impl<S: Paint> Devices<S> {
           sink = sink_seen S.drawn (given_back self.old cycles);
           lag_left = 76 - cycles;
           riot_ahead = 0;
+          has_event = self.old.has_event || is_late (tia_seen (given_back self.old cycles));
         } }
     {
         self.lag_left = self.lag_left.wrapping_add(cycles);

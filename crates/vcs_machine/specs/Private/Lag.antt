@@ -1,5 +1,5 @@
 -- Devices that lag: the processor is some cycles ahead of them. This project's own.
-use Rattle.std.specs.Prelude.{ℕ, ◌≡◌, ◌≤◌, ◌-◌, ◌+◌, ◌*◌, ◌%◌, Bool, false}
+use Rattle.std.specs.Prelude.{ℕ, ◌≡◌, ◌≤◌, ◌-◌, ◌+◌, ◌*◌, ◌%◌, nat_le, Bool, false}
 use Rattle.std.specs.Fn.{iterate}
 use Rattle.riot_map.specs.Riot.{RiotState, after_cycles}
 use Rattle.tia_core.specs.Clock.{after_clock, pixels, sink_after_pixels}
@@ -17,11 +17,16 @@ module _ {S : Type 0} where
   abbrev pub sink_seen : (S → ℕ → ℕ → ℕ → S) → Devices S → S
   sink_seen drawn d = sink_after_pixels drawn d.sink (pixels (3 * (76 - d.lag_left)) d.tia)
 
--- What is true of devices that lag: the RIOT is not ahead of the processor, and the lag is at
--- most those of a scanline.
+-- A TIA that has seen so many lines that the frame may be too long before it catches up again.
+abbrev pub is_late : TiaState → Bool
+is_late tia = nat_le 319 tia.line
+
+-- What is true of devices that lag: the RIOT is not ahead of the processor, the lag is at most
+-- those of a scanline, and without an event the frame is not too long before they catch up.
 pub record IsBehind {S : Type 0} (d : Devices S) : Type 0 where
   pub riot_ahead : d.riot_ahead ≤ 76 - d.lag_left
   pub most : d.lag_left ≤ 76
+  pub early : d.has_event ≡ false → is_late d.tia ≡ false
 
 -- Devices to which cycles are given back that were too many.
 abbrev pub given_back : {S : Type 0} → Devices S → ℕ → Devices S

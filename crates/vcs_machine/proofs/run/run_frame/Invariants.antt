@@ -1,12 +1,10 @@
-use Rattle.std.proofs.Common.{◌≡◌, ◌-◌}
-use Rattle.vcs_machine.specs.Consoles.{console_rules}
-use Rattle.vcs_machine.specs.Frame.{stop_of}
+use Rattle.std.proofs.Common.{◌-◌}
+use Rattle.vcs_machine.specs.Private.Totals.{beam_cycles}
+use Rattle.vcs_machine.proofs.TotalLemmas.{IsUnderway}
 use Rattle.vcs_machine.proofs.run.run_frame.Given as goal
 
-abbrev pub invariant-loop-cycles : goal.invariant-loop-cycles
-invariant-loop-cycles g l =
-    stop_of (console_rules g.S.Paint.drawn) (record { registers = l.fn.cpu; bus = l.fn.console; cycles = 0 })
-    ≡ stop_of (console_rules g.S.Paint.drawn) (record { registers = l.cpu; bus = l.console; cycles = l.cycles })
+abbrev pub invariant-loop-fault : goal.invariant-loop-fault
+invariant-loop-fault g l = IsUnderway g.S.Paint.drawn (record { registers = l.fn.cpu; bus = l.fn.console; cycles = 0 }) l.start l.cpu l.console
 
-abbrev pub decreases-loop-cycles : goal.decreases-loop-cycles
-decreases-loop-cycles g l = 24320 - l.cycles
+abbrev pub decreases-loop-fault : goal.decreases-loop-fault
+decreases-loop-fault g l = 24320 - (beam_cycles l.console - l.start)

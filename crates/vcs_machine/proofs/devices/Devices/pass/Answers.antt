@@ -11,4 +11,5 @@ returns-else-is_short g c =
       riot = rw less (riot-later (76 - d.lag_left) d.riot_ahead c.args.cycles d.riot c.requires.behind.riot_ahead);
       tia = rw less (tia-later (76 - d.lag_left) c.args.cycles d.tia);
       sink = rw less (sink-later g.S.Paint.drawn (76 - d.lag_left) c.args.cycles d.tia d.sink);
+      event = λ same. same;
     }
