@@ -14,6 +14,7 @@ mod laws;
 mod making;
 mod movie;
 mod parts;
+mod progress;
 mod reading;
 mod record;
 mod writing;
@@ -30,8 +31,9 @@ pub use laws::{
     law_of_checkpoints, law_of_conversion, law_of_inputs, law_of_judgements, law_of_making,
     law_of_one_movie, law_of_one_spelling, law_of_reading, law_of_records, law_of_runs,
 };
-pub use making::{claim, do_counts_fit, make_movie, version_made};
+pub use making::{claim, do_counts_fit, make_movie, make_movie_with_progress, version_made};
 pub use movie::Movie;
+pub use progress::{NoProgress, Progress, Work};
 pub use reading::{read_inputs, read_movie};
 pub use record::{
     BANK_NUMBERS, BANK_NUMBERS_AT, PROCESSOR_NUMBERS, RIOT_NUMBERS, RIOT_NUMBERS_AT, RecordNumber,

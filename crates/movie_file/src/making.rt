@@ -15,6 +15,7 @@ use crate::checkpoint::Checkpoint;
 use crate::error::MakeError;
 use crate::format::{MOST_CHECKPOINTS, MOST_FRAMES, MOST_FRAMES_OF_VERSION_1};
 use crate::movie::Movie;
+use crate::progress::{NoProgress, Progress, Work};
 use riot_map::Cart;
 use std::alloc::Global;
 use vcs_machine::{Input, State, halt};
@@ -58,12 +59,13 @@ pub fn claim(checkpoints: &mut Vec<Checkpoint>, every: u32, frame: u32, state: &
 }
 
 /// The checkpoints of a run from power-on, put into an empty list that has room for them.
-fn checkpoints_of_run(
+fn checkpoints_of_run<P: Progress>(
     mut checkpoints: Vec<Checkpoint>,
     cart: &Cart,
     start: &State,
     inputs: &[Input],
     every: u32,
+    progress: &P,
 ) -> Result<Vec<Checkpoint>, MakeError>
     requires empty { checkpoints.items ≡ [] }
     requires start { start.now ≡ state_at_power_on cart.now }
@@ -85,6 +87,7 @@ fn checkpoints_of_run(
                 return Err(MakeError::Fault { frame, kind });
             }
         }
+        progress.advance();
     }
     Ok(checkpoints)
 }
@@ -108,6 +111,22 @@ pub fn make_movie(
     ensures refused { IfErr result (Explains cart inputs.items every) }
     ensures counts { IfOk result (λ movie. IsTrue (counts_fit (length inputs.items) every)) }
 {
+    make_movie_with_progress(alloc, cart, inputs, every, &NoProgress)
+}
+
+/// The same. Its frames are told as one work, which begins after that memory was taken.
+pub fn make_movie_with_progress<P: Progress>(
+    alloc: Global,
+    cart: Cart,
+    inputs: Vec<Input>,
+    every: u32,
+    progress: &P,
+) -> Result<Movie, MakeError>
+    ensures made { IfOk result (λ movie. IsMadeOf cart inputs.items every movie) }
+    ensures genuine { IfOk result (λ movie. IsGenuine movie) }
+    ensures refused { IfErr result (Explains cart inputs.items every) }
+    ensures counts { IfOk result (λ movie. IsTrue (counts_fit (length inputs.items) every)) }
+{
     if !do_counts_fit(inputs.len(), every) {
         return Err(MakeError::BadCounts);
     }
@@ -115,7 +134,10 @@ pub fn make_movie(
         return Err(MakeError::NoMemory);
     };
     let start = State::power_on(&cart);
-    let checkpoints = match checkpoints_of_run(checkpoints, &cart, &start, &inputs, every) {
+    progress.begin(Work::Frames(inputs.len() as u32));
+    let run = checkpoints_of_run(checkpoints, &cart, &start, &inputs, every, progress);
+    progress.end();
+    let checkpoints = match run {
         Ok(checkpoints) => checkpoints,
         Err(e) => return Err(e),
     };

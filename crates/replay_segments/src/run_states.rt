@@ -8,7 +8,7 @@ ghost use Rattle.replay_segments.specs.declared.verdict.Verdict.TheVariants.{Fal
 ghost use Rattle.replay_segments.specs.declared.verdict.Verdict.TheVariants.{Fault};
 
 use crate::checkpoints::checkpoints_before;
-use movie_file::Movie;
+use movie_file::{Movie, Progress};
 use run_cursor::Cursor;
 use vcs_machine::{FaultKind, LINE_CYCLES, State, halt};
 
@@ -23,13 +23,13 @@ pub struct LeftState {
 }
 
 /// The state after a frame to which a cursor goes. The run comes to its end.
-fn state_after(cursor: &mut Cursor<'_>, frame: u32) -> State
+fn state_after<P: Progress>(cursor: &mut Cursor<'_>, frame: u32, progress: &P) -> State
     requires later { cursor.old.frame ≤ frame }
     requires within { frame ≤ length cursor.old.movie.inputs }
     requires ends { IsSome (run cursor.old.movie cursor.old.movie.start 0 frame) }
     ensures { run cursor.old.movie cursor.old.movie.start 0 frame ≡ Some result }
 {
-    match cursor.advance_to(frame) {
+    match cursor.work_to(frame, progress) {
         Ok(()) => cursor.state().copy(),
         Err(_) => unreachable!(),
     }
@@ -37,42 +37,47 @@ fn state_after(cursor: &mut Cursor<'_>, frame: u32) -> State
 
 /// The state of the run after a frame, replayed from the checkpoint before index `next`, or from
 /// the start if there is none.
-fn resume(movie: &Movie, next: u16, frame: u32) -> State
+fn resume<P: Progress>(movie: &Movie, next: u16, frame: u32, progress: &P) -> State
     requires { IsResumable movie.now next frame }
     ensures { run movie.now movie.now.start 0 frame ≡ Some result }
 {
     if next == 0 {
         let mut start = Cursor::at_start(movie);
-        return state_after(&mut start, frame);
+        return state_after(&mut start, frame, progress);
     }
     let claim = movie.checkpoint(next);
     let mut cursor = Cursor::at_claim(movie, claim.frame, &claim.state);
-    state_after(&mut cursor, frame)
+    state_after(&mut cursor, frame, progress)
 }
 
 /// The state that a movie's one unbroken run has after the frame of its first false checkpoint.
 ///
 /// The movie is replayed from the checkpoint before the false one, or from its start if there is
-/// none. No memory is taken.
-pub fn found_state(movie: &Movie, number: u16, frame: u32) -> State
+/// none. Its frames are told as one work, if there are some. No memory is taken.
+pub fn found_state<P: Progress>(movie: &Movie, number: u16, frame: u32, progress: &P) -> State
     requires { HasVerdict movie.now (FalseCheckpoint number frame) }
     ensures { run movie.now movie.now.start 0 frame ≡ Some result }
 {
     let _ = movie.frames();
-    resume(movie, number - 1, frame)
+    resume(movie, number - 1, frame, progress)
 }
 
 /// What the frame leaves in which a movie's one unbroken run faults.
 ///
 /// The movie is replayed from the last checkpoint before that frame, or from its start if there
-/// is none. No memory is taken.
+/// is none. The frames before that are told as one work, if there are some. No memory is taken.
 #[tactic(auto, using(crate::proofs::CheckpointLemmas::none_before))]
-pub fn left_state(movie: &Movie, frame: u32, kind: FaultKind) -> LeftState
+pub fn left_state<P: Progress>(
+    movie: &Movie,
+    frame: u32,
+    kind: FaultKind,
+    progress: &P,
+) -> LeftState
     requires { HasVerdict movie.now (Fault frame kind) }
     ensures { left_at movie.now frame ≡ Some result }
 {
     let next = checkpoints_before(movie, 0, frame);
-    let mut state = resume(movie, next, frame - 1);
+    let mut state = resume(movie, next, frame - 1, progress);
     let begun = state.line_cycle();
     let Some(halt) = halt(movie.cart(), &mut state, movie.input(frame)) else {
         unreachable!()

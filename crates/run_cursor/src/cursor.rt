@@ -9,7 +9,7 @@ ghost use Rattle.vcs_machine.specs.Inputs.{InputData};
 ghost use Rattle.vcs_machine.specs.Outcomes.{Played, cycles_of, frame_of};
 ghost use Rattle.vcs_machine.specs.Pictures.{Rows};
 
-use movie_file::Movie;
+use movie_file::{Movie, Progress, Work};
 use std::alloc::Global;
 use std::marker::Model;
 use vcs_machine::{FaultKind, FrameError, State, TimedFrame, halt, timed_frame};
@@ -139,8 +139,8 @@ impl<'a> Cursor<'a> {
     }
 
     /// Goes on to a frame, as long as none faults. It takes no memory. If one does it stays before
-    /// that.
-    pub fn advance_to(&mut self, frame: u32) -> Result<(), RunFault>
+    /// that. Each frame is told, as a part of a work that has begun.
+    pub fn advance_to<P: Progress>(&mut self, frame: u32, progress: &P) -> Result<(), RunFault>
         requires later { self.old.frame ≤ frame }
         requires within { frame ≤ length self.old.movie.inputs }
         ensures ok { OnOk result (IsAt self.old.movie frame self.new) }
@@ -149,7 +149,7 @@ impl<'a> Cursor<'a> {
     {
         for before in self.frame()..frame {
             match self.advance() {
-                Ok(()) => {}
+                Ok(()) => progress.advance(),
                 Err(kind) => {
                     let frame = before + 1;
                     return Err(RunFault { frame, kind });
@@ -157,5 +157,23 @@ impl<'a> Cursor<'a> {
             }
         }
         Ok(())
+    }
+
+    /// The same as a work of its own. None begins if no frame is left.
+    pub fn work_to<P: Progress>(&mut self, frame: u32, progress: &P) -> Result<(), RunFault>
+        requires later { self.old.frame ≤ frame }
+        requires within { frame ≤ length self.old.movie.inputs }
+        ensures ok { OnOk result (IsAt self.old.movie frame self.new) }
+        ensures err { IfErr result (λ fault. FaultsWithin self.old.movie frame fault.frame fault.kind) }
+        ensures before { IfErr result (λ fault. IsAt self.old.movie (fault.frame - 1) self.new) }
+    {
+        let left = frame - self.frame();
+        if left == 0 {
+            return Ok(());
+        }
+        progress.begin(Work::Frames(left));
+        let played = self.advance_to(frame, progress);
+        progress.end();
+        played
     }
 }

@@ -13,20 +13,20 @@ use Rattle.vcs_machine.specs.States.{state_at_power_on}
 use Rattle.movie_file.proofs.making.checkpoints_of_run.Goals as goal
 
 pub claim-requires-clause-room : goal.claim-requires-clause-room
-claim-requires-clause-room c = λ h.
+claim-requires-clause-room g c = λ h.
     let fit = counts_are (length c.args.inputs.now) c.args.every c.requires.counts in
     let count : vec_len c.loop-i.checkpoints ≡ c.loop-i.i / c.args.every = omega (arith, c.loop-i.invariant.made.count, c.loop-i.checkpoints.ok.0) in
     has_room c.args.every c.loop-i.i (length c.args.inputs.now) _ _ fit.2 count c.loop-i-test.true c.loop-i.invariant.room h
 
 pub returns-in-Some-clause-err : goal.returns-in-Some-clause-err
-returns-in-Some-clause-err c =
+returns-in-Some-clause-err g c =
     let at = slice_get_read c.args.inputs.now (length c.args.inputs.now) c.loop-i.i c.index-inputs-i.result refl c.loop-i-test.true c.index-inputs-i.is in
     let m = bare c.args.cart.now c.args.inputs.now in
     let faults = faults-here m m.start 0 c.loop-i.i c.loop-i.i _ _ c.loop-i.invariant.ran (omega arith) at _ _ c.in-Some.ensures.failed in
     (c.loop-i.i, refl, c.loop-i.invariant.sound, faults)
 
 pub loop-i-preserved : goal.loop-i-preserved
-loop-i-preserved c =
+loop-i-preserved g c =
     let m = bare c.args.cart.now c.args.inputs.now in
     let i = c.loop-i.i in
     let input = c.index-inputs-i.result in
@@ -45,7 +45,7 @@ loop-i-preserved c =
     }
 
 pub returns-clause-ok : goal.returns-clause-ok
-returns-clause-ok c =
+returns-clause-ok g c =
     let inputs = c.args.inputs.now in
     let all : c.loop-i.i ≡ length inputs = omega arith in
     let whole : take c.loop-i.i inputs ≡ inputs = take_all c.loop-i.i inputs (omega arith) in

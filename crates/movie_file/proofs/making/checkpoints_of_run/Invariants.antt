@@ -10,7 +10,7 @@ use Rattle.movie_file.specs.Run.{run}
 use Rattle.movie_file.proofs.making.checkpoints_of_run.Given as goal
 
 abbrev pub invariant-loop-i : goal.invariant-loop-i
-invariant-loop-i l = record {
+invariant-loop-i g l = record {
   made : Claims (bare l.cart l.inputs) 0 l.every l.i l.checkpoints.items;
   sound : AllSound (bare l.cart l.inputs) (state_at_power_on l.cart) 0 l.i;
   ran : run (bare l.cart l.inputs) (state_at_power_on l.cart) 0 l.i ≡ Some l.state;

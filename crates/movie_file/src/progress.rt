@@ -1,0 +1,40 @@
+//! What is told of replays that take long.
+
+/// Work that takes long, and how much there is of it.
+#[derive(Clone, Copy)]
+pub enum Work {
+    /// So many segments, replayed in any order, perhaps by several threads.
+    Segments(u32),
+    /// So many frames, played one after the other.
+    Frames(u32),
+    /// So many frames, of which each is written as a line as soon as it was played.
+    Lines(u32),
+}
+
+/// It is called around each work of a command and within it. A command has several works in a row,
+/// or none: each is begun and ended, also where it breaks off, and no other begins before its end.
+///
+/// `begin` and `end` come on the calling thread, `advance` from each thread that replays. They have
+/// to return, and can't change an answer.
+pub trait Progress {
+    /// This work is next.
+    fn begin(&self, work: Work);
+
+    /// One more of its segments or frames is done. One that is passed over or faults is not told.
+    fn advance(&self);
+
+    /// It has come to its end.
+    fn end(&self);
+}
+
+/// Nobody is told.
+#[derive(Clone, Copy, Debug)]
+pub struct NoProgress;
+
+impl Progress for NoProgress {
+    fn begin(&self, _work: Work) {}
+
+    fn advance(&self) {}
+
+    fn end(&self) {}
+}
