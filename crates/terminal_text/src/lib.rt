@@ -1,5 +1,5 @@
 //! Texts for a terminal or a log: names without characters that hide something, and a line that shows
-//! how far a judgement has come.
+//! how far a work has come.
 //!
 //! The texts are this project's own.
 #![tactic(auto)]
@@ -8,4 +8,4 @@ mod shown;
 mod stage;
 
 pub use shown::Shown;
-pub use stage::{Count, Notice, Stage};
+pub use stage::{Count, Notice, Stage, Unit};
