@@ -1,6 +1,7 @@
 pub mod CheckpointLemmas
 pub mod DifferenceLemmas
 pub mod FirstSignLemmas
+pub mod FoundSignLemmas
 pub mod ListLemmas
 pub mod NoteLemmas
 pub mod NumberLemmas

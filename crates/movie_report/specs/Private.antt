@@ -2,4 +2,5 @@
 -- can be read without them.
 pub mod Elements
 pub mod FirstSigns
+pub mod FoundSigns
 pub mod Places

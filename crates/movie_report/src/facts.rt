@@ -17,7 +17,7 @@ use crate::notes::notes;
 use hex::encode;
 use input_text::is_idle;
 use md5::Md5;
-use movie_file::{Movie, STATE_LENGTH, write_state};
+use movie_file::{Movie, Progress, STATE_LENGTH, write_state};
 use replay_plan::{Notation, Workers};
 use replay_segments::Verdict;
 use riot_map::Cart;
@@ -204,9 +204,11 @@ fn notes_and_facts(
 /// As many workers replay the segments, one on the calling thread and each other one in a thread of
 /// its own, which is joined. Where the start of a thread is refused, the calling thread does its
 /// work too, so the only error is that memory was refused. One worker starts no thread, and a
-/// genuine movie none.
+/// genuine movie none. What is replayed is told: the segments by workers as one work, and what the
+/// calling thread replays before and after them as others.
+///
 /// The program's name has no quotation mark, backslash or control character.
-pub fn report<R: Threads + Sync>(
+pub fn report<R: Threads + Sync, P: Progress + Sync>(
     rt: &R,
     alloc: Global,
     notation: Notation,
@@ -216,12 +218,13 @@ pub fn report<R: Threads + Sync>(
     verdict: &Verdict,
     agreement: Agreement,
     workers: Workers,
+    progress: &P,
 ) -> Result<String, AllocError>
     requires { HasVerdict movie.now verdict.now }
     ensures { IfOk result (λ text. IsReport notation program.now bytes.now movie.now verdict.now agreement (string_bytes text)) }
 {
     let head = head(alloc, notation, verdict)?;
-    let failure = failure_facts(rt, alloc, notation, movie, verdict, workers)?;
+    let failure = failure_facts(rt, alloc, notation, movie, verdict, workers, progress)?;
     let expected = agreement.text(alloc, notation)?;
     let rest = notes_and_facts(alloc, notation, program, bytes, movie)?;
     let end = end(notation);

@@ -13,7 +13,7 @@ use crate::differences::{Comparison, differences};
 use crate::reason::reason_in;
 use crate::segments::{Sign, segment_facts, signs_of};
 use mos_cpu::Cpu;
-use movie_file::{Movie, write_state};
+use movie_file::{Movie, Progress, write_state};
 use replay_plan::{Notation, Workers};
 use replay_segments::{LeftState, Verdict, checkpoints_before, found_state, left_state};
 use std::alloc::{AllocError, Global};
@@ -62,24 +62,25 @@ fn beam(alloc: Global, notation: Notation, scanline: u64, cycle: u8) -> Result<S
 }
 
 /// What the frame left that faults.
-fn left_facts(
+fn left_facts<P: Progress>(
     alloc: Global,
     notation: Notation,
     movie: &Movie,
     frame: u32,
     kind: FaultKind,
+    progress: &P,
 ) -> Result<String, AllocError>
     requires { HasVerdict movie.now (Fault frame kind) }
     ensures { IfOk result (λ text. string_bytes text ≡ left_text notation (left_at movie.now frame)) }
 {
-    let LeftState { state, scanline } = left_state(movie, frame, kind);
+    let LeftState { state, scanline } = left_state(movie, frame, kind, progress);
     let registers = registers(alloc, notation, &state.fields().cpu)?;
     let beam = beam(alloc, notation, scanline, state.line_cycle())?;
     format!(in alloc; "{registers}{beam}")
 }
 
 /// What is said after a false checkpoint.
-fn false_facts<R: Threads + Sync>(
+fn false_facts<R: Threads + Sync, P: Progress + Sync>(
     rt: &R,
     alloc: Global,
     notation: Notation,
@@ -87,23 +88,24 @@ fn false_facts<R: Threads + Sync>(
     number: u16,
     frame: u32,
     workers: Workers,
+    progress: &P,
 ) -> Result<String, AllocError>
     requires { HasVerdict movie.now (FalseCheckpoint number frame) }
     ensures { IfOk result (λ text. HasFailure notation movie.now (FalseCheckpoint number frame) (string_bytes text)) }
 {
     let _ = movie.frames();
-    let found = found_state(movie, number, frame);
+    let found = found_state(movie, number, frame, progress);
     let claim = claim_facts(alloc, notation, &movie.checkpoint(number).state, &found)?;
     let before = u32::from(number) - 1;
-    let signs = signs_of(rt, alloc, movie, before, Sign::Differs, workers)?;
+    let signs = signs_of(rt, alloc, movie, before, Sign::Differs, workers, progress)?;
     let segments = segment_facts(alloc, notation, &signs)?;
-    let reason = reason_in(movie, number, frame, &found, &signs);
+    let reason = reason_in(movie, number, frame, &found, &signs, progress);
     let sentence = reason.text(alloc, notation)?;
     format!(in alloc; "{claim}{segments}{sentence}")
 }
 
 /// What is said after a fault.
-fn fault_facts<R: Threads + Sync>(
+fn fault_facts<R: Threads + Sync, P: Progress + Sync>(
     rt: &R,
     alloc: Global,
     notation: Notation,
@@ -111,25 +113,27 @@ fn fault_facts<R: Threads + Sync>(
     frame: u32,
     kind: FaultKind,
     workers: Workers,
+    progress: &P,
 ) -> Result<String, AllocError>
     requires { HasVerdict movie.now (Fault frame kind) }
     ensures { IfOk result (λ text. HasFailure notation movie.now (Fault frame kind) (string_bytes text)) }
 {
-    let left = left_facts(alloc, notation, movie, frame, kind)?;
+    let left = left_facts(alloc, notation, movie, frame, kind, progress)?;
     let before = u32::from(checkpoints_before(movie, 0, frame));
-    let signs = signs_of(rt, alloc, movie, before, Sign::Faults, workers)?;
+    let signs = signs_of(rt, alloc, movie, before, Sign::Faults, workers, progress)?;
     let segments = segment_facts(alloc, notation, &signs)?;
     format!(in alloc; "{left}{segments}")
 }
 
 /// What went wrong, if anything did.
-pub(crate) fn failure_facts<R: Threads + Sync>(
+pub(crate) fn failure_facts<R: Threads + Sync, P: Progress + Sync>(
     rt: &R,
     alloc: Global,
     notation: Notation,
     movie: &Movie,
     verdict: &Verdict,
     workers: Workers,
+    progress: &P,
 ) -> Result<String, AllocError>
     requires { HasVerdict movie.now verdict.now }
     ensures { IfOk result (λ text. HasFailure notation movie.now verdict.now (string_bytes text)) }
@@ -137,10 +141,12 @@ pub(crate) fn failure_facts<R: Threads + Sync>(
     match verdict {
         Verdict::Genuine { .. } => Ok(String::new(alloc)),
         Verdict::FalseCheckpoint { number, frame } => {
-            false_facts(rt, alloc, notation, movie, *number, *frame, workers)
+            false_facts(
+                rt, alloc, notation, movie, *number, *frame, workers, progress,
+            )
         }
         Verdict::Fault { frame, kind } => {
-            fault_facts(rt, alloc, notation, movie, *frame, *kind, workers)
+            fault_facts(rt, alloc, notation, movie, *frame, *kind, workers, progress)
         }
     }
 }

@@ -7,6 +7,7 @@ mod expectations;
 mod facts;
 mod failure;
 mod head;
+mod later_signs;
 mod notation;
 mod notes;
 mod numbers;

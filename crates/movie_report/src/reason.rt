@@ -8,7 +8,7 @@ ghost use Rattle.movie_report.specs.Reasons.{break_next, breaks, broken, is_true
 ghost use Rattle.movie_report.specs.Reasons.{reason_of, reason_of_one, reason_text, sentence_of};
 
 use crate::segments::Sign;
-use movie_file::{Movie, write_state};
+use movie_file::{Movie, Progress, write_state};
 use replay_plan::Notation;
 use run_cursor::Cursor;
 use std::alloc::{AllocError, Global};
@@ -144,7 +144,14 @@ fn break_next(signs: &[Sign], count: usize) -> bool
 
 /// Whether a later checkpoint, if there is one, is true. After the frame of the first false one the
 /// run has this state, and goes on from it.
-fn is_true(movie: &Movie, number: u16, frame: u32, found: &State, later: u16) -> bool
+fn is_true<P: Progress>(
+    movie: &Movie,
+    number: u16,
+    frame: u32,
+    found: &State,
+    later: u16,
+    progress: &P,
+) -> bool
     requires verdict { HasVerdict movie.now (FalseCheckpoint number frame) }
     requires found { run movie.now movie.now.start 0 frame ≡ Some found.now }
     requires later { number < later }
@@ -155,7 +162,7 @@ fn is_true(movie: &Movie, number: u16, frame: u32, found: &State, later: u16) ->
     }
     let claim = movie.checkpoint(later);
     let mut cursor = Cursor::at_claim(movie, frame, found);
-    match cursor.advance_to(claim.frame) {
+    match cursor.work_to(claim.frame, progress) {
         Ok(()) => write_state(&claim.state) == write_state(cursor.state()),
         Err(_) => false,
     }
@@ -169,13 +176,14 @@ fn asks_next(later: &[Sign]) -> bool
 }
 
 /// The same as `is_true` where it is asked, and else false.
-fn is_true_if(
+fn is_true_if<P: Progress>(
     asked: bool,
     movie: &Movie,
     number: u16,
     frame: u32,
     found: &State,
     later: u16,
+    progress: &P,
 ) -> bool
     requires verdict { HasVerdict movie.now (FalseCheckpoint number frame) }
     requires found { run movie.now movie.now.start 0 frame ≡ Some found.now }
@@ -185,19 +193,20 @@ fn is_true_if(
     if !asked {
         return false;
     }
-    is_true(movie, number, frame, found, later)
+    is_true(movie, number, frame, found, later, progress)
 }
 
 /// What the signs of a movie's segments say of its first false checkpoint, after whose frame the run
 /// has this state. Where the signs of the segments after it leave a choice, one or two more are
-/// replayed from that state, on the calling thread.
+/// replayed from that state, on the calling thread, each as a work of its own.
 #[tactic(auto, using(crate::proofs::ReasonLemmas::asked))]
-pub(crate) fn reason_in(
+pub(crate) fn reason_in<P: Progress>(
     movie: &Movie,
     number: u16,
     frame: u32,
     found: &State,
     signs: &[Sign],
+    progress: &P,
 ) -> Reason
     requires verdict { HasVerdict movie.now (FalseCheckpoint number frame) }
     requires found { run movie.now movie.now.start 0 frame ≡ Some found.now }
@@ -205,7 +214,15 @@ pub(crate) fn reason_in(
     ensures { result ≡ reason_in movie.now number signs.now }
 {
     let later = &signs[usize::from(number)..usize::from(movie.checkpoints())];
-    let next = is_true_if(asks_next(later), movie, number, frame, found, number + 1);
+    let next = is_true_if(
+        asks_next(later),
+        movie,
+        number,
+        frame,
+        found,
+        number + 1,
+        progress,
+    );
     let after_next = is_true_if(
         break_next(later, 2),
         movie,
@@ -213,6 +230,7 @@ pub(crate) fn reason_in(
         frame,
         found,
         number + 2,
+        progress,
     );
     Reason::of(number, later, next, after_next)
 }

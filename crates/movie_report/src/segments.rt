@@ -7,12 +7,12 @@ ghost use Rattle.movie_report.specs.Reasons.{breaks};
 ghost use Rattle.movie_report.specs.Segments.{AreSigns, HasSign, character_of};
 ghost use Rattle.movie_report.specs.Segments.{ends_with_checkpoint, sign_of, signs_text};
 
-use movie_file::Movie;
+use crate::later_signs::later_signs;
+use movie_file::{Movie, Progress};
 use replay_plan::{Keep, Notation, Workers};
 use replay_segments::{Cuts, Verdict, replay};
 use std::alloc::{AllocError, Global};
 use std::num::NonZeroU16;
-use std::thread;
 use std::thread::Threads;
 
 /// The signs in a line.
@@ -84,7 +84,7 @@ fn segments_in(movie: &Movie, cuts: &Cuts) -> u32
 }
 
 /// The sign of a segment, counted from 0, of a movie with these cuts. It takes no memory.
-fn segment_sign(alloc: Global, movie: &Movie, cuts: &Cuts, number: u32) -> Sign
+pub(crate) fn segment_sign(alloc: Global, movie: &Movie, cuts: &Cuts, number: u32) -> Sign
     requires fit { Fits cuts.now movie.now }
     requires number { number < length cuts.now + 1 }
     ensures { HasSign movie.now cuts.now number result }
@@ -96,68 +96,16 @@ fn segment_sign(alloc: Global, movie: &Movie, cuts: &Cuts, number: u32) -> Sign
     Sign::of(verdict)
 }
 
-/// Writes the sign of a segment at its place after segment `from`.
-fn write_sign(alloc: Global, movie: &Movie, cuts: &Cuts, from: u32, place: usize, sign: &mut Sign)
-    requires fit { Fits cuts.now movie.now }
-    requires number { from + place < length cuts.now + 1 }
-    ensures { HasSign movie.now cuts.now (from + place) sign.new }
-{
-    let _ = cuts.segments();
-    *sign = segment_sign(alloc, movie, cuts, from + place as u32);
-}
-
-/// Writes the signs of the segments from one on, by workers: one on the calling thread, each other
-/// one in a thread of its own. Where a thread is refused, the calling one does its work.
-fn write_signs<R: Threads + Sync>(
-    rt: &R,
-    alloc: Global,
-    movie: &Movie,
-    cuts: &Cuts,
-    from: u32,
-    workers: Workers,
-    signs: &mut [Sign],
-)
-    requires fit { Fits cuts.now movie.now }
-    requires numbers { from + length signs.old ≤ length cuts.now + 1 }
-    ensures { (i : ℕ) → IfSome (slice_get signs.new i) (HasSign movie.now cuts.now (from + i)) }
-{
-    let workers = usize::from(workers.get());
-    let write = move |place: usize, sign: &mut Sign|
-        requires { Fits cuts.now movie.now × (from + place < length cuts.now + 1) }
-        ensures { HasSign movie.entry.now cuts.entry.now (from + place) sign.exit.now }
-    { write_sign(alloc, movie, cuts, from, place, sign) };
-    thread::for_each_mut(rt, signs, workers, &write);
-}
-
-/// The signs of so many segments from one on, by workers.
-fn later_signs<R: Threads + Sync>(
-    rt: &R,
-    alloc: Global,
-    movie: &Movie,
-    cuts: &Cuts,
-    from: u32,
-    count: u32,
-    workers: Workers,
-) -> Result<Vec<Sign>, AllocError>
-    requires fit { Fits cuts.now movie.now }
-    requires numbers { from + count ≤ length cuts.now + 1 }
-    ensures len { IfOk result (λ signs. length signs.items ≡ count) }
-    ensures each { IfOk result (λ signs. (i : ℕ) → IfSome (slice_get signs.items i) (HasSign movie.now cuts.now (from + i))) }
-{
-    let mut signs = vec![in alloc; Sign::Passes; count as usize]?;
-    write_signs(rt, alloc, movie, cuts, from, workers, &mut signs);
-    Ok(signs)
-}
-
 /// The signs of a movie's segments, in order, of which so many pass before the first that has
 /// another sign, which is this. Those after it are replayed by workers.
-pub(crate) fn signs_of<R: Threads + Sync>(
+pub(crate) fn signs_of<R: Threads + Sync, P: Progress + Sync>(
     rt: &R,
     alloc: Global,
     movie: &Movie,
     before: u32,
     sign: Sign,
     workers: Workers,
+    progress: &P,
 ) -> Result<Vec<Sign>, AllocError>
     requires { IsFirst movie.now before sign }
     ensures signs { IfOk result (λ signs. AreSigns movie.now signs.items) }
@@ -168,7 +116,8 @@ pub(crate) fn signs_of<R: Threads + Sync>(
     let mut signs = vec![in alloc; Sign::Passes; before as usize]?;
     signs.push(sign)?;
     let from = before + 1;
-    let mut later = later_signs(rt, alloc, movie, &cuts, from, segments - from, workers)?;
+    let count = segments - from;
+    let mut later = later_signs(rt, alloc, movie, &cuts, from, count, workers, progress)?;
     signs.append(&mut later)?;
     Ok(signs)
 }

@@ -4,7 +4,7 @@ use Rattle.movie_report.proofs.ReasonLemmas.{reason_of-asked}
 use Rattle.movie_report.proofs.reason.reason_in.Goals as goal
 
 pub returns : goal.returns
-returns c =
+returns g c =
     let m = c.args.movie.now in
     let number = c.args.number in
     let from : c.from.result ≡ number = cc in
