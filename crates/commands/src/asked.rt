@@ -14,7 +14,7 @@ ghost use Rattle.commands.specs.Private.Views.{bytes_shown, picture_of_frame, sh
 
 use crate::frame_line::played_line;
 use crate::stop::Stop;
-use movie_file::Movie;
+use movie_file::{Movie, Progress, Work};
 use picture_file::{WriteFault, ppm, write_bytes};
 use replay_plan::{Details, Notation};
 use replay_segments::checkpoints_before;
@@ -31,6 +31,16 @@ pub(crate) enum View<'a> {
     Line(Notation, &'a Details),
     /// Its picture, as a file.
     Picture,
+}
+
+impl View<'_> {
+    /// So many frames of which this is written.
+    fn work(self, frames: u32) -> Work {
+        match self {
+            View::Line(_, _) => Work::Lines(frames),
+            View::Picture => Work::Frames(frames),
+        }
+    }
 }
 
 /// That of a frame that was played.
@@ -62,14 +72,36 @@ pub(crate) fn frames_asked(movie: &Movie, first: NonZeroU32, count: u32) -> u32
     count.min(movie.frames().saturating_sub(first.get() - 1))
 }
 
-/// A cursor after so many frames of the run, or the first fault of these. It takes no memory.
-pub(crate) fn cursor_after(movie: &Movie, frames: u32) -> Result<Cursor<'_>, RunFault>
+/// A cursor after so many frames of the run, or the first fault of these. The frames are a work of
+/// their own, if there are some. It takes no memory.
+pub(crate) fn cursor_after<'a, P: Progress>(
+    movie: &'a Movie,
+    frames: u32,
+    progress: &P,
+) -> Result<Cursor<'a>, RunFault>
     requires { frames ≤ length movie.now.inputs }
     ensures ok { IfOk result (IsAt movie.now frames) }
     ensures err { IfErr result (λ fault. FaultsWithin movie.now frames fault.frame fault.kind) }
 {
     let mut cursor = Cursor::at_start(movie);
-    match cursor.advance_to(frames) {
+    match cursor.work_to(frames, progress) {
+        Ok(()) => Ok(cursor),
+        Err(fault) => Err(fault),
+    }
+}
+
+/// The same, where the frames are a part of a work that has begun.
+pub(crate) fn cursor_in_work<'a, P: Progress>(
+    movie: &'a Movie,
+    frames: u32,
+    progress: &P,
+) -> Result<Cursor<'a>, RunFault>
+    requires { frames ≤ length movie.now.inputs }
+    ensures ok { IfOk result (IsAt movie.now frames) }
+    ensures err { IfErr result (λ fault. FaultsWithin movie.now frames fault.frame fault.kind) }
+{
+    let mut cursor = Cursor::at_start(movie);
+    match cursor.advance_to(frames, progress) {
         Ok(()) => Ok(cursor),
         Err(fault) => Err(fault),
     }
@@ -109,13 +141,14 @@ fn play(
 }
 
 /// Writes what is asked of the frames that follow, each as soon as it is played. It takes the memory
-/// of one frame at a time.
-fn write_frames<W: Write>(
+/// of one frame at a time. Each frame is told, as a part of a work that has begun.
+fn write_frames<W: Write, P: Progress>(
     alloc: Global,
     view: View<'_>,
     cursor: &mut Cursor<'_>,
     frames: u32,
     writer: &mut W,
+    progress: &P,
 ) -> Result<(), Stop>
     requires within { cursor.old.frame + frames ≤ length cursor.old.movie.inputs }
     ensures ends { OnOk result (Ends cursor.old.movie (cursor.old.frame + frames)) }
@@ -134,19 +167,22 @@ fn write_frames<W: Write>(
             Ok(shown) => shown.write(writer)?,
             Err(error) => return Err(Stop::of_frame(frame, error)),
         }
+        progress.advance();
     }
     Ok(())
 }
 
 /// Runs a movie up to the last of the frames that are asked for, `count` from `first` on, as many as
-/// it has, and writes what is asked of them. The answer is how many they are.
-pub(crate) fn write_asked<W: Write>(
+/// it has, and writes what is asked of them. The answer is how many they are. The frames before them
+/// are one work and they are another, if there are some.
+pub(crate) fn write_asked<W: Write, P: Progress>(
     alloc: Global,
     movie: &Movie,
     view: View<'_>,
     first: NonZeroU32,
     count: u32,
     writer: &mut W,
+    progress: &P,
 ) -> Result<u32, Stop>
     ensures frames { IfOk result (λ frames. frames ≡ frames_asked movie.now (non_zero_u32_get first) count) }
     ensures ends { OnOk result (Ends movie.now (last_asked movie.now (non_zero_u32_get first) count)) }
@@ -160,7 +196,12 @@ pub(crate) fn write_asked<W: Write>(
     if frames == 0 {
         return Ok(frames);
     }
-    let mut cursor = cursor_after(movie, first.get() - 1)?;
-    write_frames(alloc, view, &mut cursor, frames, writer)?;
-    Ok(frames)
+    let mut cursor = cursor_after(movie, first.get() - 1, progress)?;
+    progress.begin(view.work(frames));
+    let written = write_frames(alloc, view, &mut cursor, frames, writer, progress);
+    progress.end();
+    match written {
+        Ok(()) => Ok(frames),
+        Err(stop) => Err(stop),
+    }
 }

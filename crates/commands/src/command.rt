@@ -13,7 +13,6 @@ ghost use Rattle.commands.specs.Streams.{IsTooLong, ReadsAll};
 use crate::answer::Answer;
 use crate::cartridge::cartridge;
 use crate::convert::convert;
-use crate::counted_gate::CountedGate;
 use crate::cut::cut;
 use crate::frames::frames;
 use crate::info::info;
@@ -28,12 +27,13 @@ use crate::streams::{read_all, read_input};
 use crate::trace::trace;
 use crate::verify::verify;
 use command_line::Command;
-use movie_file::Movie;
+use movie_file::{Movie, Progress};
 use replay_plan::Notation;
 use std::alloc::Global;
 use std::io::{Read, Write};
 use std::sync::Wait;
 use std::thread::Threads;
+use verify_pool::Gate;
 
 /// In which notation a command says that bytes are no movie.
 pub fn notation_of(command: &Command) -> Notation
@@ -50,7 +50,7 @@ pub fn notation_of(command: &Command) -> Notation
 
 /// The answer about a movie, which these bytes are, of a command that writes nothing before its
 /// answer is whole, where this ROM was read or none.
-fn answer<T: Threads + Wait + Sync + AllocGlobal, G: CountedGate + Sync>(
+fn answer<T: Threads + Wait + Sync + AllocGlobal, G: Gate + Progress + Sync>(
     rt: &T,
     command: &Command,
     bytes: &[u8],
@@ -93,13 +93,18 @@ fn answer<T: Threads + Wait + Sync + AllocGlobal, G: CountedGate + Sync>(
             first,
             count,
             every,
-        } => Ok(cut(alloc, &movie, *first, *count, every.get())?),
+        } => Ok(cut(alloc, &movie, *first, *count, every.get(), gate)?),
         _ => unreachable!(),
     }
 }
 
 /// Writes the answer about a movie, which these bytes are, where this ROM was read or none.
-fn answer_movie<T: Threads + Wait + Sync + AllocGlobal, W: Write, P: Write, G: CountedGate + Sync>(
+fn answer_movie<
+    T: Threads + Wait + Sync + AllocGlobal,
+    W: Write,
+    P: Write,
+    G: Gate + Progress + Sync,
+>(
     rt: &T,
     command: &Command,
     bytes: &[u8],
@@ -128,11 +133,13 @@ fn answer_movie<T: Threads + Wait + Sync + AllocGlobal, W: Write, P: Write, G: C
             count,
             details,
             notation,
-        } => Ok(frames(alloc, &movie, *notation, details, *first, *count, text)?),
+        } => Ok(frames(
+            alloc, &movie, *notation, details, *first, *count, text, gate,
+        )?),
         Command::Pictures { first, count } => {
-            Ok(pictures(alloc, &movie, *first, *count, file, text)?)
+            Ok(pictures(alloc, &movie, *first, *count, file, text, gate)?)
         }
-        Command::Trace { frame } => Ok(trace(alloc, &movie, *frame, text)?),
+        Command::Trace { frame } => Ok(trace(alloc, &movie, *frame, text, gate)?),
         Command::Verify { .. } => {
             Ok(answer(rt, command, bytes, rom, movie, gate)?.write_text_first(text, file)?)
         }
@@ -163,15 +170,19 @@ fn read_rom<S: Read>(
 /// Input that is refused is a line and `Status::Refused`. After ReadFault, TooLong and NoThread
 /// nothing was written. After NoMemory nothing was written either, or by `frames`, `pictures` and
 /// `trace` the first lines or pictures, each whole. `verify` writes its text before its file, and
-/// each other command after it. The gate is called around each replay of `verify` and `report`, and
-/// before and after all of them. At most 16,777,217 reads of each input are made.
+/// each other command after it. At most 16,777,217 reads of each input are made.
+///
+/// The gate is told of each work while frames are replayed. A work has ended before anything is
+/// written, but for the lines and pictures of `frames` and `pictures`. The segments of a verdict are
+/// a work, around each of which the gate is called; that one is done it hears by `leave`, and of
+/// each other segment or frame by `advance`.
 pub fn run_command<
     T: Threads + Wait + Sync + AllocGlobal,
     R: Read,
     S: Read,
     W: Write,
     P: Write,
-    G: CountedGate + Sync,
+    G: Gate + Progress + Sync,
 >(
     rt: &T,
     command: &Command,
@@ -202,7 +213,7 @@ pub fn run_command<
     let alloc = rt.alloc();
     if let Command::Make { form, every, .. } = command {
         let rom = read_all(alloc, input)?;
-        let answer = make(alloc, rom, *form, inputs, every.get())?;
+        let answer = make(alloc, rom, *form, inputs, every.get(), gate)?;
         return Ok(answer.write_file_first(file, text)?);
     }
     let (bytes, found) = read_input(alloc, input)?;

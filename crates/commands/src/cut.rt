@@ -8,7 +8,7 @@ ghost use Rattle.commands.specs.Cut.{Cuts};
 use crate::answer::Answer;
 use crate::cutting::{CutError, cut_movie};
 use crate::line::Line;
-use movie_file::{Movie, MovieError};
+use movie_file::{Movie, MovieError, Progress};
 use std::alloc::{AllocError, Global};
 use std::num::NonZeroU32;
 
@@ -30,16 +30,17 @@ fn of_cut(alloc: Global, cut: &Movie) -> Result<Answer, AllocError>
 ///
 /// What the movie claims is not looked at. Counts that are refused, and a frame up to the last one of
 /// the cut that faults, are a line and a status without a movie.
-pub(crate) fn cut(
+pub(crate) fn cut<P: Progress>(
     alloc: Global,
     movie: &Movie,
     first: NonZeroU32,
     count: u32,
     every: u32,
+    progress: &P,
 ) -> Result<Answer, AllocError>
     ensures { IfOk result (Cuts movie.now (non_zero_u32_get first) count every) }
 {
-    match cut_movie(alloc, movie, first, count, every) {
+    match cut_movie(alloc, movie, first, count, every, progress) {
         Ok(cut) => of_cut(alloc, &cut),
         Err(CutError::BadCounts) => { Answer::of_line(alloc, Line::Refused(MovieError::BadCounts)) }
         Err(CutError::Fault { frame, kind }) => {

@@ -10,8 +10,8 @@ ghost use Rattle.commands.specs.Cut.{IsCutOf};
 ghost use Rattle.commands.specs.Private.CutErrors.{Explains};
 ghost use Rattle.commands.specs.Asked.{Ends, frames_asked};
 
-use crate::asked::{cursor_after, frames_asked};
-use movie_file::{Checkpoint, Movie, claim, do_counts_fit, movie_of, version_made};
+use crate::asked::{cursor_in_work, frames_asked};
+use movie_file::{Checkpoint, Movie, Progress, Work, claim, do_counts_fit, movie_of, version_made};
 use riot_map::Cart;
 use run_cursor::{Cursor, RunFault};
 use std::alloc::{AllocError, Global};
@@ -63,11 +63,12 @@ fn copy_of(alloc: Global, cart: &Cart) -> Result<Cart, AllocError>
 }
 
 /// The checkpoints of the frames that follow, put into an empty list that has room for them.
-fn checkpoints_after(
+fn checkpoints_after<P: Progress>(
     mut checkpoints: Vec<Checkpoint>,
     cursor: &mut Cursor<'_>,
     frames: u32,
     every: u32,
+    progress: &P,
 ) -> Result<Vec<Checkpoint>, RunFault>
     requires empty { checkpoints.items ≡ [] }
     requires within { cursor.old.frame + frames ≤ length cursor.old.movie.inputs }
@@ -87,21 +88,54 @@ fn checkpoints_after(
                 return Err(RunFault { frame, kind });
             }
         }
+        progress.advance();
     }
     Ok(checkpoints)
 }
 
 /// The movie of `count` frames from `first` on, as many as the movie has, with a checkpoint after
-/// each `every` of them.
-///
-/// `BadCounts` comes first, before any frame is run. `Fault` names the first of the frames up to
-/// the last one of the cut that faults, with its number in the movie.
-pub(crate) fn cut_movie(
+/// each `every` of them. Each frame up to the last of them is told, as a part of a work that has
+/// begun.
+fn cut_of<P: Progress>(
     alloc: Global,
     movie: &Movie,
     first: NonZeroU32,
     count: u32,
     every: u32,
+    progress: &P,
+) -> Result<Movie, CutError>
+    requires { IsTrue (counts_fit (frames_asked movie.now (non_zero_u32_get first) count) every) }
+    ensures lawful { IfOk result (λ cut. IsMovie cut) }
+    ensures cut { IfOk result (λ cut.
+        IsCutOf movie.now (non_zero_u32_get first) count every cut) }
+    ensures refused { IfErr result (Explains movie.now (non_zero_u32_get first) count every) }
+{
+    let from = first.get() - 1;
+    let frames = frames_asked(movie, first, count);
+    let mut cursor = cursor_in_work(movie, from, progress)?;
+    let start = cursor.state().copy();
+    let Ok(checkpoints) = Vec::with_capacity(alloc, (frames / every) as usize) else {
+        return Err(CutError::NoMemory);
+    };
+    let checkpoints = checkpoints_after(checkpoints, &mut cursor, frames, every, progress)?;
+    let asked = &movie.inputs()[from as usize..(from + frames) as usize];
+    let inputs = Vec::from_slice(alloc, asked)?;
+    let cart = copy_of(alloc, movie.cart())?;
+    let version = version_made(&cart, frames as usize);
+    Ok(movie_of(version, cart, start, inputs, checkpoints))
+}
+
+/// The same of any counts. The frames up to the last of the cut are told as one work.
+///
+/// `BadCounts` comes first, before any frame is run. `Fault` names the first of the frames up to
+/// the last one of the cut that faults, with its number in the movie.
+pub(crate) fn cut_movie<P: Progress>(
+    alloc: Global,
+    movie: &Movie,
+    first: NonZeroU32,
+    count: u32,
+    every: u32,
+    progress: &P,
 ) -> Result<Movie, CutError>
     ensures lawful { IfOk result (λ cut. IsMovie cut) }
     ensures cut { IfOk result (λ cut.
@@ -110,20 +144,12 @@ pub(crate) fn cut_movie(
         (counts_fit (frames_asked movie.now (non_zero_u32_get first) count) every)) }
     ensures refused { IfErr result (Explains movie.now (non_zero_u32_get first) count every) }
 {
-    let from = first.get() - 1;
     let frames = frames_asked(movie, first, count);
     if !do_counts_fit(frames as usize, every) {
         return Err(CutError::BadCounts);
     }
-    let mut cursor = cursor_after(movie, from)?;
-    let start = cursor.state().copy();
-    let Ok(checkpoints) = Vec::with_capacity(alloc, (frames / every) as usize) else {
-        return Err(CutError::NoMemory);
-    };
-    let checkpoints = checkpoints_after(checkpoints, &mut cursor, frames, every)?;
-    let asked = &movie.inputs()[from as usize..(from + frames) as usize];
-    let inputs = Vec::from_slice(alloc, asked)?;
-    let cart = copy_of(alloc, movie.cart())?;
-    let version = version_made(&cart, frames as usize);
-    Ok(movie_of(version, cart, start, inputs, checkpoints))
+    progress.begin(Work::Frames(first.get() - 1 + frames));
+    let cut = cut_of(alloc, movie, first, count, every, progress);
+    progress.end();
+    cut
 }

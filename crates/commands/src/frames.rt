@@ -9,7 +9,7 @@ use crate::asked::{View, write_asked};
 use crate::last_line::write_fault;
 use crate::status::Status;
 use crate::stop::{Stop, WriteError};
-use movie_file::Movie;
+use movie_file::{Movie, Progress};
 use replay_plan::{Details, Notation};
 use std::alloc::Global;
 use std::io::Write;
@@ -22,7 +22,7 @@ use std::num::NonZeroU32;
 /// stands after it, whether the claimed state is that of the run; whatever the movie claims, it is
 /// run on. No frame after the last one that is asked for is looked at. Each line is written as soon
 /// as its frame has ended.
-pub(crate) fn frames<L: Write>(
+pub(crate) fn frames<L: Write, P: Progress>(
     alloc: Global,
     movie: &Movie,
     notation: Notation,
@@ -30,6 +30,7 @@ pub(crate) fn frames<L: Write>(
     first: NonZeroU32,
     count: u32,
     lines: &mut L,
+    progress: &P,
 ) -> Result<Status, WriteError>
     ensures ok { IfOk result (λ status. (text : List ℕ) × Describes movie.now notation details.now (non_zero_u32_get first) count status text
         × Appends (L.contents lines.old) (L.contents lines.new) text) }
@@ -46,6 +47,7 @@ pub(crate) fn frames<L: Write>(
         first,
         count,
         lines,
+        progress,
     ) {
         Ok(_) => Ok(Status::Done),
         Err(Stop::Fault { frame, kind }) => {

@@ -9,7 +9,6 @@ mod assembly;
 mod cartridge;
 mod command;
 mod convert;
-mod counted_gate;
 mod cut;
 mod cutting;
 mod frame_line;
@@ -35,9 +34,9 @@ mod verdict_text;
 mod verify;
 
 pub use command::{notation_of, run_command};
-pub use counted_gate::CountedGate;
 pub use laws::law_of_cuts;
 pub use line::Line;
+pub use movie_file::{Progress, Work};
 pub use picture_file::{WriteFault, ppm, rgb};
 pub use replay_plan::{InputForm, Notation};
 pub use run_error::{ReadError, RunError};

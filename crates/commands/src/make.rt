@@ -8,7 +8,7 @@ use crate::line::Line;
 use crate::run_error::ReadError;
 use crate::streams::read_all;
 use input_text::{TextError, read_text};
-use movie_file::{MakeError, MovieError, make_movie, read_inputs};
+use movie_file::{MakeError, MovieError, Progress, make_movie_with_progress, read_inputs};
 use replay_plan::InputForm;
 use riot_map::Cart;
 use std::alloc::{AllocError, Global};
@@ -16,15 +16,16 @@ use std::io::Read;
 use vcs_machine::Input;
 
 /// What is written of a cartridge and inputs.
-fn of_inputs(
+fn of_inputs<P: Progress>(
     alloc: Global,
     cart: Cart,
     inputs: Vec<Input>,
     every: u32,
+    progress: &P,
 ) -> Result<Answer, AllocError>
     ensures { IfOk result (λ answer. MakesOf cart inputs.items every answer) }
 {
-    match make_movie(alloc, cart, inputs, every) {
+    match make_movie_with_progress(alloc, cart, inputs, every, progress) {
         Ok(movie) => {
             let frames = movie.frames();
             let checkpoints = movie.checkpoints();
@@ -46,23 +47,24 @@ fn of_inputs(
 }
 
 /// What is written of a cartridge and the bytes of inputs.
-fn of_bytes(
+fn of_bytes<P: Progress>(
     alloc: Global,
     cart: Cart,
     form: InputForm,
     inputs: &[u8],
     every: u32,
+    progress: &P,
 ) -> Result<Answer, AllocError>
     ensures { IfOk result (λ answer. MakesFrom cart (inputs_by form inputs.now) every answer) }
 {
     match form {
         InputForm::Bytes => match read_inputs(alloc, inputs) {
-            Ok(inputs) => of_inputs(alloc, cart, inputs, every),
+            Ok(inputs) => of_inputs(alloc, cart, inputs, every, progress),
             Err(MovieError::NoMemory) => Err(AllocError),
             Err(error) => Answer::of_line(alloc, Line::Refused(error)),
         },
         InputForm::Text => match read_text(alloc, inputs) {
-            Ok(inputs) => of_inputs(alloc, cart, inputs, every),
+            Ok(inputs) => of_inputs(alloc, cart, inputs, every, progress),
             Err(TextError::NoMemory) => Err(AllocError),
             Err(TextError::BadLine(number)) => Answer::of_line(alloc, Line::BadLine(number)),
         },
@@ -71,12 +73,13 @@ fn of_bytes(
 
 /// A movie of the run from power-on with the cartridge of a ROM and these inputs, with a checkpoint
 /// after each `every` frames; or why none is made. The inputs are read if the ROM is a cartridge.
-pub(crate) fn make<S: Read>(
+pub(crate) fn make<S: Read, P: Progress>(
     alloc: Global,
     rom: Vec<u8>,
     form: InputForm,
     inputs: &mut S,
     every: u32,
+    progress: &P,
 ) -> Result<Answer, ReadError>
     ensures makes { IfOk result (λ answer. Makes form rom.items (S.remaining inputs.old) (S.remaining inputs.new) every answer) }
     ensures too_long { result ≡ Err ReadError.TooLong → IsTooLong (S.remaining inputs.old) }
@@ -85,5 +88,5 @@ pub(crate) fn make<S: Read>(
         return Ok(Answer::of_line(alloc, Line::Refused(MovieError::BadCartSize))?);
     };
     let bytes = read_all(alloc, inputs)?;
-    Ok(of_bytes(alloc, cart, form, &bytes, every)?)
+    Ok(of_bytes(alloc, cart, form, &bytes, every, progress)?)
 }

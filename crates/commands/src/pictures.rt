@@ -13,18 +13,19 @@ use crate::last_line::write_last;
 use crate::line::Line;
 use crate::status::Status;
 use crate::stop::{Stop, WriteError};
-use movie_file::Movie;
+use movie_file::{Movie, Progress};
 use std::alloc::Global;
 use std::io::Write;
 use std::num::NonZeroU32;
 
 /// Writes the pictures of a movie that are asked for, and answers the last line.
-fn draw<P: Write>(
+fn draw<P: Write, G: Progress>(
     alloc: Global,
     movie: &Movie,
     first: NonZeroU32,
     count: u32,
     pictures: &mut P,
+    progress: &G,
 ) -> Result<Line, WriteError>
     ensures ok { IfOk result (λ told. (answer : AnswerData) × Draws movie.now (non_zero_u32_get first) count answer × (status_of told ≡ answer.status)
         × (line_bytes told ≡ answer.text) × Appends (P.contents pictures.old) (P.contents pictures.new) answer.file) }
@@ -33,7 +34,15 @@ fn draw<P: Write>(
     ensures fault { result ≡ Err WriteError.WriteFault → (answer : AnswerData) × Draws movie.now (non_zero_u32_get first) count answer
         × AppendsPrefix (P.contents pictures.old) (P.contents pictures.new) answer.file }
 {
-    match write_asked(alloc, movie, View::Picture, first, count, pictures) {
+    match write_asked(
+        alloc,
+        movie,
+        View::Picture,
+        first,
+        count,
+        pictures,
+        progress,
+    ) {
         Ok(frames) => Ok(Line::Pictures { frames }),
         Err(Stop::Fault { frame, kind }) => Ok(Line::Fault { frame, kind }),
         Err(Stop::NoMemory) => Err(WriteError::NoMemory),
@@ -57,13 +66,14 @@ fn flush<P: Write>(writer: &mut P) -> Result<(), WriteError>
 /// What the movie claims is not looked at, nor any frame after the last one that is asked for. The
 /// pictures before a fault are written. Each picture is written as soon as its frame has ended, and
 /// the pictures' writer is flushed before the line.
-pub(crate) fn pictures<P: Write, L: Write>(
+pub(crate) fn pictures<P: Write, L: Write, G: Progress>(
     alloc: Global,
     movie: &Movie,
     first: NonZeroU32,
     count: u32,
     file: &mut P,
     text: &mut L,
+    progress: &G,
 ) -> Result<Status, WriteError>
     ensures ok { IfOk result (λ status. (answer : AnswerData) × Draws movie.now (non_zero_u32_get first) count answer × (status ≡ answer.status)
         × Appends (P.contents file.old) (P.contents file.new) answer.file × Appends (L.contents text.old) (L.contents text.new) answer.text) }
@@ -72,7 +82,7 @@ pub(crate) fn pictures<P: Write, L: Write>(
     ensures fault { result ≡ Err WriteError.WriteFault → (answer : AnswerData) × Draws movie.now (non_zero_u32_get first) count answer
         × WritesPart (P.contents file.old) (P.contents file.new) answer.file (L.contents text.old) (L.contents text.new) answer.text }
 {
-    let last = draw(alloc, movie, first, count, file)?;
+    let last = draw(alloc, movie, first, count, file, progress)?;
     flush(file)?;
     write_last(alloc, last, text)?;
     Ok(last.status())

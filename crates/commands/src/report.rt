@@ -7,19 +7,19 @@ ghost use Rattle.commands.specs.Report.{Reports, line_in, status_with};
 ghost use Rattle.commands.specs.Verify.{verdict_line};
 
 use crate::answer::Answer;
-use crate::counted_gate::CountedGate;
 use crate::line::Line;
 use crate::run_error::JudgeError;
 use crate::status::Status;
 use crate::verify::verdict_of;
 use command_line::program_name;
-use movie_file::Movie;
+use movie_file::{Movie, Progress};
 use movie_report::Agreement;
 use replay_plan::{Expectations, Notation, Plan, Workers};
 use replay_segments::Verdict;
 use std::alloc::{AllocError, Global};
 use std::sync::Wait;
 use std::thread::Threads;
+use verify_pool::Gate;
 
 /// What is written of a movie that has this verdict: its line before the lines of facts, or an object
 /// of facts.
@@ -56,7 +56,7 @@ fn status_with(agreement: Agreement, status: Status) -> Status
 /// The verdict of the movie that these bytes are, by so many workers, and facts about it: the line of
 /// the verdict and then a line for each fact, or an object of JSON. What is expected of it, beside the
 /// bytes of a ROM if there is one, is among them.
-pub(crate) fn report<T: Threads + Wait + Sync, G: CountedGate + Sync>(
+pub(crate) fn report<T: Threads + Wait + Sync, G: Gate + Progress + Sync>(
     rt: &T,
     alloc: Global,
     bytes: &[u8],
@@ -83,6 +83,7 @@ pub(crate) fn report<T: Threads + Wait + Sync, G: CountedGate + Sync>(
         &verdict,
         agreement,
         workers,
+        gate,
     )?;
     let status = status_with(agreement, Line::of_verdict(movie, &verdict).status());
     let text = text_of(alloc, movie, &verdict, notation, facts)?;

@@ -12,7 +12,6 @@ ghost use Rattle.commands.specs.Streams.{IsTooLong, ReadsAll, WritesPart};
 
 use crate::answer::Answer;
 use crate::convert::convert;
-use crate::counted_gate::CountedGate;
 use crate::info::info;
 use crate::line::Line;
 use crate::make::make;
@@ -20,11 +19,13 @@ use crate::run_error::RunError;
 use crate::status::Status;
 use crate::streams::{read_all, read_input};
 use crate::verify::verify;
+use movie_file::{NoProgress, Progress};
 use replay_plan::{InputForm, Notation, Plan};
 use std::alloc::Global;
 use std::io::{Read, Write};
 use std::sync::Wait;
 use std::thread::Threads;
+use verify_pool::Gate;
 
 /// Reads a movie, judges it by the plan's workers, and writes its line, which ends with a line
 /// feed, and then the kept pictures of a genuine movie.
@@ -35,8 +36,8 @@ use std::thread::Threads;
 /// are made. With more than one worker it joins the threads that it starts.
 ///
 /// The gate is called around each replay, and before and after all of them, if the movie isn't
-/// refused.
-pub fn run<T: Threads + Wait + Sync, R: Read, W: Write, P: Write, G: CountedGate + Sync>(
+/// refused. Its `advance` isn't called.
+pub fn run<T: Threads + Wait + Sync, R: Read, W: Write, P: Write, G: Gate + Progress + Sync>(
     rt: &T,
     alloc: Global,
     movie: &mut R,
@@ -99,7 +100,7 @@ pub fn run_make<R: Read, S: Read, W: Write, L: Write>(
     ensures no_thread { result ≢ Err RunError.NoThread }
 {
     let bytes = read_all(alloc, rom)?;
-    let answer = make(alloc, bytes, form, inputs, every)?;
+    let answer = make(alloc, bytes, form, inputs, every, &NoProgress)?;
     Ok(answer.write_file_first(movie, line)?)
 }
 

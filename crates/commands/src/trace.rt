@@ -16,7 +16,7 @@ use crate::line::Line;
 use crate::status::Status;
 use crate::stop::WriteError;
 use crate::trace_line::trace_line;
-use movie_file::Movie;
+use movie_file::{Movie, Progress};
 use picture_file::write_bytes;
 use std::alloc::Global;
 use std::io::Write;
@@ -116,11 +116,12 @@ fn trace_frame<L: Write>(
 /// accesses it made. What the movie claims is not looked at, nor any frame after that one. Of a frame
 /// that faults the instructions before the fault are written. Each line is written as soon as its
 /// instruction was executed.
-pub(crate) fn trace<L: Write>(
+pub(crate) fn trace<L: Write, P: Progress>(
     alloc: Global,
     movie: &Movie,
     frame: NonZeroU32,
     lines: &mut L,
+    progress: &P,
 ) -> Result<Status, WriteError>
     ensures ok { IfOk result (λ status. (text : List ℕ) × Traces movie.now (non_zero_u32_get frame) status text
         × Appends (L.contents lines.old) (L.contents lines.new) text) }
@@ -134,7 +135,7 @@ pub(crate) fn trace<L: Write>(
         write_last(alloc, Line::NoFrame(frame), lines)?;
         return Ok(Status::Refused);
     }
-    match cursor_after(movie, frame - 1) {
+    match cursor_after(movie, frame - 1, progress) {
         Ok(cursor) => trace_frame(alloc, movie, frame, cursor.state(), lines),
         Err(fault) => {
             let line = Line::Fault {

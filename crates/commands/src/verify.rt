@@ -4,18 +4,18 @@ ghost use Rattle.replay_segments.specs.Verdicts.{IsVerdict};
 ghost use Rattle.commands.specs.Verify.{Verifies};
 
 use crate::answer::Answer;
-use crate::counted_gate::CountedGate;
 use crate::run_error::JudgeError;
-use movie_file::Movie;
+use movie_file::{Movie, Progress, Work};
 use replay_plan::{Notation, Plan};
 use replay_segments::{Cuts, Verdict};
 use std::alloc::Global;
 use std::sync::Wait;
 use std::thread::Threads;
-use verify_pool::{VerifyError, verify as judge};
+use verify_pool::{Gate, VerifyError, verify as judge};
 
-/// The verdict of a movie, by the workers of a plan.
-pub(crate) fn verdict_of<T: Threads + Wait + Sync, G: CountedGate + Sync>(
+/// The verdict of a movie, by the workers of a plan. It is a work, of which the gate hears by `leave`
+/// that a segment is done.
+pub(crate) fn verdict_of<T: Threads + Wait + Sync, G: Gate + Progress + Sync>(
     rt: &T,
     alloc: Global,
     movie: &Movie,
@@ -28,7 +28,7 @@ pub(crate) fn verdict_of<T: Threads + Wait + Sync, G: CountedGate + Sync>(
     let Ok(cuts) = Cuts::every(alloc, movie, plan.every) else {
         return Err(JudgeError::NoMemory);
     };
-    gate.begin(cuts.segments());
+    gate.begin(Work::Segments(cuts.segments()));
     let answer = judge(rt, alloc, movie, &cuts, plan.workers, plan.keep, gate);
     gate.end();
     match answer {
@@ -39,7 +39,7 @@ pub(crate) fn verdict_of<T: Threads + Wait + Sync, G: CountedGate + Sync>(
 }
 
 /// The line or the object of a movie's verdict, and the kept pictures of a genuine movie.
-pub(crate) fn verify<T: Threads + Wait + Sync, G: CountedGate + Sync>(
+pub(crate) fn verify<T: Threads + Wait + Sync, G: Gate + Progress + Sync>(
     rt: &T,
     alloc: Global,
     movie: &Movie,

@@ -1,5 +1,6 @@
 //! What is called around each replay.
 
+use movie_file::{Progress, Work};
 use replay_segments::Piece;
 use segment_desk::Ticket;
 
@@ -43,4 +44,12 @@ impl Gate for NoGate {
     fn enter(&self, _ticket: &Ticket, _segment: u32) {}
 
     fn leave(&self, _ticket: &Ticket, _piece: &Piece) {}
+}
+
+impl Progress for NoGate {
+    fn begin(&self, _work: Work) {}
+
+    fn advance(&self) {}
+
+    fn end(&self) {}
 }

@@ -21,22 +21,21 @@ returns-in_err-cursor-clause-err g c =
     _ _ (g.W.Write.contents c.args.writer.now) c.in_err-cursor.ensures.err in
     rw (p.1, p.2) (rw (last, first, frames) at stops)
 
-pub returns-in_err-write_frames-clause-err : goal.returns-in_err-write_frames-clause-err
-returns-in_err-write_frames-clause-err g c =
+pub returns-in-Err-clause-err : goal.returns-in-Err-clause-err
+returns-in-Err-clause-err g c =
     let at = c.in_ok-cursor.ensures.ok in
     let first = c.get.ensures.value in
     let frames = c.frames_asked-frames.ensures.value in
     let last = last_is c.args.movie.now _ c.args.count _ _ first frames c.if-frames-eq0.false in
-    let p = err_from_is_err_and c.from_residual-in_err-write_frames.result c.from_residual-in_err-write_frames.ensures.1 in
-    rw (p.1, p.2) (rw (at.movie_is, at.frame_is, last, first, frames) at c.in_err-write_frames.ensures.err)
+    rw (at.movie_is, at.frame_is, last, first, frames) at c.in-Err.ensures.err
 
-pub returns-clause-ends : goal.returns-clause-ends
-returns-clause-ends g c =
+pub returns-in-Ok-clause-ends : goal.returns-in-Ok-clause-ends
+returns-in-Ok-clause-ends g c =
     let at = c.in_ok-cursor.ensures.ok in
     let last = last_is c.args.movie.now _ c.args.count _ _ c.get.ensures.value c.frames_asked-frames.ensures.value c.if-frames-eq0.false in
-    rw (at.movie_is, at.frame_is, last) at c.in_ok-write_frames.ensures.ends
+    rw (at.movie_is, at.frame_is, last) at c.in-Ok.ensures.ends
 
-pub returns-clause-ok : goal.returns-clause-ok
-returns-clause-ok g c =
+pub returns-in-Ok-clause-ok : goal.returns-in-Ok-clause-ok
+returns-in-Ok-clause-ok g c =
     let at = c.in_ok-cursor.ensures.ok in
-    rw (at.movie_is, at.frame_is, c.get.ensures.value, c.frames_asked-frames.ensures.value) at c.in_ok-write_frames.ensures.ok
+    rw (at.movie_is, at.frame_is, c.get.ensures.value, c.frames_asked-frames.ensures.value) at c.in-Ok.ensures.ok
