@@ -6,8 +6,8 @@ use Rattle.vcs_machine.specs.Faults.{hex2, hex4}
 use Rattle.movie_hints.specs.declared.hint.Hint.{Hint}
 use Rattle.movie_hints.specs.declared.hint.Hint.TheVariants as hints
 use Rattle.movie_hints.specs.declared.look.Look.{Look}
-use Rattle.movie_hints.specs.declared.look.Look.TheVariants.{Gzip, Xz, Zstd, Bzip2, BizHawkMovie}
-use Rattle.movie_hints.specs.declared.look.Look.TheVariants.{Zip, Tar, Png, MameInputs, InputLog}
+use Rattle.movie_hints.specs.declared.look.Look.TheVariants.{Gzip, Xz, Zstd, Bzip2, SevenZip, Rar, BizHawkMovie}
+use Rattle.movie_hints.specs.declared.look.Look.TheVariants.{Zip, Tar, Png, Gif, Jpeg, MameInputs, InputLog, SmallMagic}
 use Rattle.movie_hints.specs.declared.mismatch.Expected.{Expected}
 use Rattle.movie_hints.specs.declared.mismatch.Expected.TheVariants as expected
 use Rattle.movie_hints.specs.declared.mismatch.Field.{Field}
@@ -66,12 +66,17 @@ look_text Gzip = codes "a gzip file: unpack it first"
 look_text Xz = codes "an xz file: unpack it first"
 look_text Zstd = codes "a zstd file: unpack it first"
 look_text Bzip2 = codes "a bzip2 file: unpack it first"
+look_text SevenZip = codes "a 7z file: unpack it first"
+look_text Rar = codes "a RAR file: unpack it first"
 look_text BizHawkMovie = codes "a BizHawk movie: see vcs_import"
 look_text Zip = codes "a zip file: unpack it first"
 look_text Tar = codes "a tar file: unpack it first"
 look_text Png = codes "a PNG image"
+look_text Gif = codes "a GIF image"
+look_text Jpeg = codes "a JPEG image"
 look_text MameInputs = codes "a MAME input file"
 look_text InputLog = codes "an input log of BizHawk: see vcs_import"
+look_text SmallMagic = codes "a movie, but for small letters at byte 0: expected A26M"
 
 -- The whole of a hint.
 abbrev pub hint_text : Hint → List ℕ

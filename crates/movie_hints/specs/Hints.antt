@@ -1,9 +1,11 @@
 -- What a hint says of the bytes that were refused. This project's own.
 use Rattle.std.specs.Prelude.{◌≡◌, ◌≢◌, ◌<◌, ◌≤◌, ◌+◌, ◌-◌, ◌%◌, ◌==◌, ◌&&◌, ◌||◌, ◌⊎◌, ℕ, Bool, true, false}
-use Rattle.std.specs.Prelude.{List, [], ◌∷◌, find, length, nat_le, nat_lt, not, slice_get, slice_index}
+use Rattle.std.specs.Prelude.{List, [], ◌∷◌, ◌++◌, find, length, nat_le, nat_lt, not, slice_get, slice_index}
 use Rattle.std.specs.Prelude.{bit_and, Option, Some, None, IfSome, Err, IsOk}
 use Rattle.std.specs.Int.{w16, w32, from_be_bytes}
 use Rattle.std.specs.List.{list_all, list_any, starts_with}
+use Rattle.std.specs.Char.{is_ascii_digit}
+use Rattle.std.specs.Str.{is_utf8}
 use Rattle.input_text.specs.Mistakes.{IsMeant, IsMistake}
 use Rattle.input_text.specs.Texts.{inputs_in}
 use Rattle.input_text.specs.Words.{lines_of, words_of}
@@ -11,7 +13,7 @@ use Rattle.input_text.specs.declared.mistake.Mistake.{Mistake}
 use Rattle.input_text.specs.declared.mistake.Mistake.TheVariants.{NoCount, NoName, TooManyFrames}
 use Rattle.vcs_machine.specs.Inputs.{InputData}
 use Rattle.movie_file.specs.InputLists.{SpellsInputs}
-use Rattle.movie_hints.specs.Looks.{is_like, looks}
+use Rattle.movie_hints.specs.Looks.{has_at, is_like, looks}
 use Rattle.riot_map.specs.Cart.{is_cart_length}
 use Rattle.movie_file.specs.Format.{magic, most_checkpoints}
 use Rattle.movie_file.specs.declared.error.MovieError.{MovieError}
@@ -57,12 +59,31 @@ Unclaims frames every (Some other) = ⊥
 abbrev pub Holds : List ℕ → ℕ → ℕ → Type 0
 Holds bytes at found = found ≡ slice_index bytes at
 
--- A printed character of ASCII, a tab or a line end; and a text of these alone.
+-- A printed character of ASCII, a tab or a line end.
 abbrev pub is_printed : ℕ → Bool
 is_printed byte = (nat_le 0x20 byte && nat_lt byte 0x7F) || (nat_le 9 byte && nat_lt byte 14)
 
+-- A text in UTF-8 whose characters of ASCII are these alone.
+abbrev pub is_utf8_text : List ℕ → Bool
+is_utf8_text bytes =
+    not (length bytes == 0) && list_all (λ byte. is_printed byte || nat_le 0x80 byte) bytes && is_utf8 bytes
+
+-- Two bytes at a place are one of these in UTF-16: of the lower byte first, or of the higher one.
+abbrev pub is_low_first : List ℕ → ℕ → Bool
+is_low_first bytes at = is_printed (slice_index bytes at) && (slice_index bytes (at + 1) == 0)
+
+abbrev pub is_high_first : List ℕ → ℕ → Bool
+is_high_first bytes at = (slice_index bytes at == 0) && is_printed (slice_index bytes (at + 1))
+
+-- A text begins in UTF-16: with a byte order mark and one of these, or with four of them.
+abbrev pub is_utf16 : List ℕ → Bool
+is_utf16 bytes =
+    (has_at bytes 0 (0xFF ∷ 0xFE ∷ []) && is_low_first bytes 2) || (has_at bytes 0 (0xFE ∷ 0xFF ∷ []) && is_high_first bytes 2)
+    || (is_low_first bytes 0 && is_low_first bytes 2 && is_low_first bytes 4 && is_low_first bytes 6)
+    || (is_high_first bytes 0 && is_high_first bytes 2 && is_high_first bytes 4 && is_high_first bytes 6)
+
 abbrev pub is_text : List ℕ → Bool
-is_text bytes = not (length bytes == 0) && list_all is_printed bytes
+is_text bytes = is_utf8_text bytes || is_utf16 bytes
 
 -- The number that a field is said to be, and that its bytes say so from this one on.
 abbrev pub number_of : Found → ℕ
@@ -125,10 +146,11 @@ IsTrueOf bytes hints.LooksLikeCartridge =
     (find (is_like bytes) looks ≡ None) × (is_text bytes ≡ false) × (is_cart_length (length bytes) ≡ true)
 IsTrueOf bytes hints.LooksLikeMovie = Begins bytes magic
 IsTrueOf bytes (hints.NoCartridge found) = found ≡ length bytes
+IsTrueOf bytes hints.Exchanged = is_cart_length (length bytes) ≡ true
 IsTrueOf bytes hints.LooksLikeText = IsOk (inputs_in bytes)
 IsTrueOf bytes hints.LooksLikeBytes = (inputs : List InputData) × SpellsInputs bytes inputs
 IsTrueOf bytes hints.ByteOrderMark = Begins bytes (0xEF ∷ 0xBB ∷ 0xBF ∷ [])
-IsTrueOf bytes hints.Utf16 = Begins bytes (0xFF ∷ 0xFE ∷ []) ⊎ Begins bytes (0xFE ∷ 0xFF ∷ [])
+IsTrueOf bytes hints.Utf16 = Begins bytes (0xFF ∷ 0xFE ∷ []) ⊎ Begins bytes (0xFE ∷ 0xFF ∷ []) ⊎ (is_utf16 bytes ≡ true)
 IsTrueOf bytes hints.CarriageReturns = (has_byte bytes 13 ≡ true) × (has_byte bytes 10 ≡ false)
 IsTrueOf bytes (hints.OddLength extra found) = (found ≡ length bytes) × (extra ≡ found % 3)
 IsTrueOf bytes other = Unit {0}
@@ -144,10 +166,16 @@ abbrev pub IsBadLine : List ℕ → ℕ → Mistake → Type 0
 IsBadLine text line mistake =
     (inputs_in text ≡ Err line) × IfSome (slice_get (lines_of text) (line - 1)) (λ bytes. IsMistake (words_of bytes) mistake)
 
+-- A word is the number of a frame, as lines of inputs can begin: digits and a colon.
+abbrev pub IsFrameNumber : List ℕ → Type 0
+IsFrameNumber word =
+    (digits : List ℕ) × (word ≡ digits ++ 58 ∷ []) × (digits ≢ []) × (list_all is_ascii_digit digits ≡ true)
+
 -- The same of a hint at a text. A name is said to be meant if one is near to the word.
 abbrev pub IsTrueOfText : List ℕ → TextHint → Type 0
 IsTrueOfText text (texts.Whole hint) = IsTrueOf text hint
 IsTrueOfText text (texts.NoCount line word) = IsBadLine text line (NoCount word.bytes)
+IsTrueOfText text (texts.FrameNumber line word) = IsBadLine text line (NoCount word.bytes) × IsFrameNumber word.bytes.now
 IsTrueOfText text (texts.NoName line word) = IsBadLine text line (NoName word.bytes) × IsMeant word.bytes.now None
 IsTrueOfText text (texts.Meant line word name) = IsBadLine text line (NoName word.bytes) × IsMeant word.bytes.now (Some name)
 IsTrueOfText text (texts.TooManyFrames line) = IsBadLine text line TooManyFrames

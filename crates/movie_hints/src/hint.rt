@@ -30,7 +30,7 @@ pub enum Hint {
     LooksLikeMovie,
     /// No cartridge has so many bytes.
     NoCartridge(usize),
-    /// A ROM and inputs are exchanged.
+    /// A ROM and inputs are exchanged, or a ROM is given as inputs, too.
     Exchanged,
     LooksLikeText,
     LooksLikeBytes,

@@ -7,9 +7,11 @@ ghost use Rattle.movie_hints.specs.Looks.{is_like, looks};
 
 use crate::hint::Hint;
 use crate::look::Look;
-use crate::refusals::{is_text, wrong_input};
+use crate::plain_text::{is_text, is_utf16};
+use crate::refusals::wrong_input;
 use input_text::read_text;
 use movie_file::{MOST_CHECKPOINTS, MOST_FRAMES, MovieError};
+use riot_map::Cart;
 use std::alloc::Global;
 use std::num::NonZeroU32;
 
@@ -37,11 +39,15 @@ pub fn hint_of_inputs(alloc: Global, bytes: &[u8], error: MovieError) -> Option<
     if !bytes.is_empty() && read_text(alloc, bytes).is_ok() {
         return Some(Hint::LooksLikeText);
     }
+    if is_utf16(bytes) {
+        return Some(Hint::Utf16);
+    }
     if is_text(bytes) {
         return Some(Hint::Text);
     }
     let length = bytes.len();
     match error {
+        MovieError::Short if Cart::is_length(length) => Some(Hint::Exchanged),
         MovieError::Short => Some(Hint::OddLength {
             extra: length % 3,
             length,

@@ -10,6 +10,7 @@ mod inputs;
 mod look;
 mod mismatch;
 mod places;
+mod plain_text;
 mod refusals;
 mod state_rules;
 mod texts;

@@ -11,33 +11,44 @@ pub enum Look {
     Xz,
     Zstd,
     Bzip2,
+    SevenZip,
+    Rar,
     /// A zip file of which the first part is one of a movie of BizHawk.
     BizHawkMovie,
     Zip,
     Tar,
     Png,
+    Gif,
+    Jpeg,
     /// What MAME records.
     MameInputs,
     /// An input log of BizHawk.
     InputLog,
+    /// A movie, but that letters of its magic are small ones.
+    SmallMagic,
 }
 
 /// What is looked for, in this order.
-const LOOKS: [Look; 10] = [
+const LOOKS: [Look; 15] = [
     Look::Gzip,
     Look::Xz,
     Look::Zstd,
     Look::Bzip2,
+    Look::SevenZip,
+    Look::Rar,
     Look::BizHawkMovie,
     Look::Zip,
     Look::Tar,
     Look::Png,
+    Look::Gif,
+    Look::Jpeg,
     Look::MameInputs,
     Look::InputLog,
+    Look::SmallMagic,
 ];
 
 /// Whether bytes have these at a place.
-fn has_at(bytes: &[u8], place: usize, wanted: &[u8]) -> bool
+pub(crate) fn has_at(bytes: &[u8], place: usize, wanted: &[u8]) -> bool
     ensures { result ≡ has_at bytes.now place wanted.now }
 {
     bytes.get(place..).unwrap_or(&[]).starts_with(wanted)
@@ -60,6 +71,8 @@ impl Look {
             Look::Xz => has_at(bytes, 0, &[0xFD, 0x37, 0x7A, 0x58, 0x5A, 0x00]),
             Look::Zstd => has_at(bytes, 0, &[0x28, 0xB5, 0x2F, 0xFD]),
             Look::Bzip2 => has_at(bytes, 0, b"BZh"),
+            Look::SevenZip => has_at(bytes, 0, &[0x37, 0x7A, 0xBC, 0xAF, 0x27, 0x1C]),
+            Look::Rar => has_at(bytes, 0, &[0x52, 0x61, 0x72, 0x21, 0x1A, 0x07]),
             Look::BizHawkMovie => {
                 has_at(bytes, 0, &[0x50, 0x4B, 0x03, 0x04])
                     && (has_first_part(bytes, b"Header.txt", 10)
@@ -68,8 +81,13 @@ impl Look {
             Look::Zip => has_at(bytes, 0, &[0x50, 0x4B, 0x03, 0x04]),
             Look::Tar => has_at(bytes, 257, b"ustar"),
             Look::Png => has_at(bytes, 0, &[0x89, 0x50, 0x4E, 0x47, 0x0D, 0x0A, 0x1A, 0x0A]),
+            Look::Gif => has_at(bytes, 0, b"GIF87a") || has_at(bytes, 0, b"GIF89a"),
+            Look::Jpeg => has_at(bytes, 0, &[0xFF, 0xD8, 0xFF]),
             Look::MameInputs => has_at(bytes, 0, b"MAMEINP"),
             Look::InputLog => has_at(bytes, 0, b"[Input]") || has_at(bytes, 0, b"LogKey:"),
+            Look::SmallMagic => {
+                has_at(bytes, 0, b"a26m") || has_at(bytes, 0, b"a26M") || has_at(bytes, 0, b"A26m")
+            }
         }
     }
 
@@ -93,12 +111,19 @@ impl fmt::Display for Look {
             Look::Xz => write!(f, "an xz file: unpack it first"),
             Look::Zstd => write!(f, "a zstd file: unpack it first"),
             Look::Bzip2 => write!(f, "a bzip2 file: unpack it first"),
+            Look::SevenZip => write!(f, "a 7z file: unpack it first"),
+            Look::Rar => write!(f, "a RAR file: unpack it first"),
             Look::BizHawkMovie => write!(f, "a BizHawk movie: see vcs_import"),
             Look::Zip => write!(f, "a zip file: unpack it first"),
             Look::Tar => write!(f, "a tar file: unpack it first"),
             Look::Png => write!(f, "a PNG image"),
+            Look::Gif => write!(f, "a GIF image"),
+            Look::Jpeg => write!(f, "a JPEG image"),
             Look::MameInputs => write!(f, "a MAME input file"),
             Look::InputLog => write!(f, "an input log of BizHawk: see vcs_import"),
+            Look::SmallMagic => {
+                write!(f, "a movie, but for small letters at byte 0: expected A26M")
+            }
         }
     }
 }

@@ -13,7 +13,7 @@ pub(crate) fn byte_at(bytes: &[u8], at: usize) -> u8
 
 /// The byte so many places further on.
 #[tactic(auto, using(std::proofs::lemmas::List::get_or_past))]
-fn byte_after(bytes: &[u8], at: usize, places: usize) -> u8
+pub(crate) fn byte_after(bytes: &[u8], at: usize, places: usize) -> u8
     ensures { result ≡ slice_index bytes.now (at + places) }
 {
     match at.checked_add(places) {

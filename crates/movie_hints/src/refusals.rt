@@ -1,28 +1,15 @@
 //! What is wrong with refused bytes.
-ghost use Rattle.std.specs.Prelude.{◌≡◌, IfSome};
-ghost use Rattle.movie_hints.specs.Hints.{Explains, IsTrueOf, is_printed, is_text};
+ghost use Rattle.std.specs.Prelude.{IfSome};
+ghost use Rattle.movie_hints.specs.Hints.{Explains, IsTrueOf};
 
 use crate::hint::Hint;
 use crate::look::Look;
 use crate::mismatch::{Expected, Field, Found};
 use crate::places::{Places, byte_at, four_at, two_at};
+use crate::plain_text::is_text;
 use crate::state_rules::broken_number;
 use movie_file::{HEADER_LENGTH, MOST_CHECKPOINTS, MovieError, most_frames};
 use riot_map::Cart;
-
-/// Whether a byte is a printed character of ASCII, a tab or a line end.
-fn is_printed(byte: u8) -> bool
-    ensures { result ≡ is_printed byte }
-{
-    (0x20..0x7F).contains(&byte) || (9..14).contains(&byte)
-}
-
-/// Whether bytes look like a text: none is a control character but tabs and line ends.
-pub(crate) fn is_text(bytes: &[u8]) -> bool
-    ensures { result ≡ is_text bytes.now }
-{
-    !bytes.is_empty() && bytes.iter().all(|byte| is_printed(*byte))
-}
 
 /// What a file looks like that doesn't begin as a movie does.
 fn without_magic(bytes: &[u8]) -> Hint

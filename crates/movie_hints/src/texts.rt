@@ -5,9 +5,11 @@ ghost use Rattle.movie_hints.specs.Hints.{IsTrueOf, IsTrueOfText};
 
 use crate::hint::Hint;
 use crate::inputs::look_of;
+use crate::plain_text::{is_frame_number, is_text, is_utf16};
 use crate::word::Word;
 use input_text::{Mistake, TextError, line_at, meant_by, mistake_in, read_text};
 use movie_file::read_inputs;
+use riot_map::Cart;
 use std::alloc::Global;
 use thiserror::Error;
 
@@ -19,6 +21,11 @@ pub enum TextHint<'a> {
     Whole(Hint),
     #[error("line {line}: '{word}' is no number of frames from 1 to 262143")]
     NoCount {
+        line: u64,
+        word: Word<'a>,
+    },
+    #[error("line {line}: '{word}' is the number of a frame, as inputs --numbers prints it: leave it out")]
+    FrameNumber {
         line: u64,
         word: Word<'a>,
     },
@@ -45,7 +52,10 @@ fn storage_of(bytes: &[u8]) -> Option<Hint>
 {
     if bytes.starts_with(&[0xEF, 0xBB, 0xBF]) {
         Some(Hint::ByteOrderMark)
-    } else if bytes.starts_with(&[0xFF, 0xFE]) || bytes.starts_with(&[0xFE, 0xFF]) {
+    } else if bytes.starts_with(&[0xFF, 0xFE])
+        || bytes.starts_with(&[0xFE, 0xFF])
+        || is_utf16(bytes)
+    {
         Some(Hint::Utf16)
     } else if bytes.contains(&b'\r') && !bytes.contains(&b'\n') {
         Some(Hint::CarriageReturns)
@@ -64,6 +74,9 @@ fn hint_of_whole(alloc: Global, bytes: &[u8]) -> Option<Hint>
     if read_inputs(alloc, bytes).is_ok() {
         return Some(Hint::LooksLikeBytes);
     }
+    if Cart::is_length(bytes.len()) && !is_text(bytes) {
+        return Some(Hint::Exchanged);
+    }
     storage_of(bytes)
 }
 
@@ -74,6 +87,10 @@ fn hint_of_line(text: &[u8], number: u64) -> Option<TextHint<'_>>
 {
     let line = line_at(text, number)?;
     match mistake_in(line) {
+        Mistake::NoCount(word) if is_frame_number(word) => Some(TextHint::FrameNumber {
+            line: number,
+            word: Word { bytes: word },
+        }),
         Mistake::NoCount(word) => Some(TextHint::NoCount {
             line: number,
             word: Word { bytes: word },
