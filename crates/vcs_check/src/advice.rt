@@ -1,6 +1,6 @@
 //! What `clap` advises about words that are no command.
 
-use command_line::parse_line;
+use command_line::{LineFault, parse_line};
 use std::alloc::{AllocError, Global};
 
 /// How the advice begins to let a word follow `--`.
@@ -8,6 +8,56 @@ const BEGINS: &str = "  tip: to pass '";
 
 /// What follows the word there.
 const GOES_ON: &str = "' as a value";
+
+/// How it is said that a word is no command.
+const NO_COMMAND: &str = "error: unrecognized subcommand '";
+
+/// How it is said of `version`.
+const NO_VERSION: &str = "error: unrecognized subcommand 'version'";
+
+/// How it is said that a word is no option, up to its name.
+const NO_OPTION: &str = "error: unexpected argument '--";
+
+/// What follows the name there.
+const FOUND: &str = "' found";
+
+/// What stands before the usage.
+const USAGE: &str = "\n\nUsage: ";
+
+/// How the usage ends of the program, and of none of its commands.
+const ANY_COMMAND: &str = " [OPTIONS] [COMMAND]\n";
+
+/// What stands before advice.
+const TIP: &str = "\n\n  tip: ";
+
+/// An option that is none, and like none.
+const UNLIKE: &str = "--0";
+
+/// Whether words are a command.
+fn are_command(alloc: Global, words: &[&str]) -> Result<bool, AllocError> {
+    match parse_line(alloc, words) {
+        Err(LineFault::Memory) => Err(AllocError),
+        answer => Ok(answer.is_ok()),
+    }
+}
+
+/// Whether words ask for help.
+fn ask_for_help(alloc: Global, words: &[&str]) -> Result<bool, AllocError> {
+    match parse_line(alloc, words) {
+        Err(LineFault::Memory) => Err(AllocError),
+        Err(LineFault::Help { .. }) => Ok(true),
+        _ => Ok(false),
+    }
+}
+
+/// What is said of words that are no command.
+fn text_of(alloc: Global, words: &[&str]) -> Result<Option<String>, AllocError> {
+    match parse_line(alloc, words) {
+        Err(LineFault::Memory) => Err(AllocError),
+        Err(LineFault::Usage { text }) => Ok(Some(text)),
+        _ => Ok(None),
+    }
+}
 
 /// Whether words are a command if `--` stands before the first that is this one.
 fn are_command_with_dashes(
@@ -25,12 +75,12 @@ fn are_command_with_dashes(
         }
         advised.push(other.as_str())?;
     }
-    Ok(parse_line(alloc, &advised).is_ok())
+    are_command(alloc, &advised)
 }
 
 /// What is said of words that are no command, without the advice to let one of them follow `--` if
 /// they are no command then either.
-pub(crate) fn with_good_advice(
+fn without_vain_dashes(
     alloc: Global,
     words: &[String],
     text: String,
@@ -48,4 +98,133 @@ pub(crate) fn with_good_advice(
         return Ok(text);
     };
     format!(in alloc; "{before}{after}")
+}
+
+/// The usage in what is said of words where an option is none that is like no other.
+fn usage_without(
+    alloc: Global,
+    words: &[String],
+    option: &str,
+) -> Result<Option<String>, AllocError> {
+    let mut others = Vec::with_capacity(alloc, words.len())?;
+    for word in words {
+        if word.as_str() == option {
+            others.push(UNLIKE)?;
+        } else {
+            others.push(word.as_str())?;
+        }
+    }
+    let Some(text) = text_of(alloc, &others)? else {
+        return Ok(None);
+    };
+    match text.split_once(USAGE) {
+        Some((_, usage)) => Ok(Some(String::from_str(alloc, usage)?)),
+        None => Ok(None),
+    }
+}
+
+/// What is said of an option that is none and stands where a command does, with the advice that a command
+/// has its name, if one has.
+fn with_command(alloc: Global, words: &[String], text: String) -> Result<String, AllocError> {
+    let (Some((_, rest)), [program, first, ..]) = (text.split_once(NO_OPTION), words) else {
+        return Ok(text);
+    };
+    let Some((name, _)) = rest.split_once(FOUND) else {
+        return Ok(text);
+    };
+    let option = format!(in alloc; "--{name}")?;
+    if first.as_str() != option.as_str()
+        || !ask_for_help(alloc, &[program.as_str(), "help", name])?
+    {
+        return Ok(text);
+    }
+    match usage_without(alloc, words, option.as_str())? {
+        Some(usage) => {
+            format!(in alloc;
+                "{NO_OPTION}{name}{FOUND}{TIP}a command exists: '{name}'{USAGE}{usage}"
+            )
+        }
+        None => Ok(text),
+    }
+}
+
+/// What is said of the word `version`, which is no command, with the advice that an option is called so.
+fn with_version(alloc: Global, text: String) -> Result<String, AllocError> {
+    match (text.contains(NO_VERSION), text.split_once(USAGE)) {
+        (true, Some((_, usage))) => {
+            format!(in alloc; "{NO_VERSION}{TIP}an option exists: '--version'{USAGE}{usage}")
+        }
+        _ => Ok(text),
+    }
+}
+
+/// Whether words are a command with `verify` as the first.
+fn are_command_after_verify(alloc: Global, words: &[String]) -> Result<bool, AllocError> {
+    let [program, others @ ..] = words else {
+        return Ok(false);
+    };
+    let mut advised = Vec::with_capacity(alloc, words.len() + 1)?;
+    advised.push(program.as_str())?;
+    advised.push("verify")?;
+    for word in others {
+        advised.push(word.as_str())?;
+    }
+    are_command(alloc, &advised)
+}
+
+/// What is said of words that name no command, with the advice to judge a movie, if that makes a command
+/// of them and there is no other advice.
+fn with_verify(alloc: Global, words: &[String], text: String) -> Result<String, AllocError> {
+    if text.contains(TIP) || !text.contains(ANY_COMMAND) || asked_of_help(words).is_some() {
+        return Ok(text);
+    }
+    let Some((reason, usage)) = text.split_once(USAGE) else {
+        return Ok(text);
+    };
+    if !are_command_after_verify(alloc, words)? {
+        return Ok(text);
+    }
+    format!(in alloc; "{reason}{TIP}to judge a movie, put 'verify' first{USAGE}{usage}")
+}
+
+/// The words after `help`, if that is the first.
+fn asked_of_help(words: &[String]) -> Option<&[String]> {
+    match words {
+        [_, first, others @ ..] if first.as_str() == "help" => Some(others),
+        _ => None,
+    }
+}
+
+/// What is said of words that ask for help on something that is no command: what is said of it without
+/// `help`, which names commands that are like it.
+fn without_help(alloc: Global, words: &[String], text: String) -> Result<String, AllocError> {
+    let (Some(others), [program, ..]) = (asked_of_help(words), words) else {
+        return Ok(text);
+    };
+    if !text.contains(NO_COMMAND) {
+        return Ok(text);
+    }
+    let mut asked = Vec::with_capacity(alloc, words.len())?;
+    asked.push(program.as_str())?;
+    for word in others {
+        asked.push(word.as_str())?;
+    }
+    match text_of(alloc, &asked)? {
+        Some(other) if other.contains(NO_COMMAND) => Ok(other),
+        _ => Ok(text),
+    }
+}
+
+/// What is said of words that are no command, with no advice that leads to none or to another command
+/// than was meant, as far as that is known.
+pub(crate) fn with_good_advice(
+    alloc: Global,
+    words: &[String],
+    text: String,
+) -> Result<String, AllocError> {
+    let text = without_help(alloc, words, text)?;
+    let text = with_command(alloc, words, text)?;
+    let text = with_version(alloc, text)?;
+    let text = with_verify(alloc, words, text)?;
+    without_vain_dashes(alloc, words, text)
 }

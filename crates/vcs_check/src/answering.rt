@@ -13,8 +13,9 @@ ghost use Rattle.vcs_check.specs.Failures.{IsNoThread};
 ghost use Rattle.vcs_check.specs.Private.Inputs.{ReadsBoth, ReadsFirstly, ReadsWith};
 
 use crate::failure::Failure;
+use crate::kept::Kept;
 use command_line::{Command, CommandLine};
-use commands::{CountedGate, RunError, Status, run_command};
+use commands::{Gate, Progress, RunError, Status, run_command};
 use named_files::{
     FileError, Identity, Named, Whole, check_standard_output, create, open, open_beside,
 };
@@ -69,7 +70,7 @@ fn run<
     S: Read,
     P: Write,
     W: Write,
-    G: CountedGate + Sync,
+    G: Gate + Progress + Sync,
 >(
     rt: &T,
     command: &Command,
@@ -95,7 +96,7 @@ fn run_into<
     S: Read,
     P: Write,
     W: Write,
-    G: CountedGate + Sync,
+    G: Gate + Progress + Sync,
 >(
     rt: &T,
     command: &Command,
@@ -128,7 +129,7 @@ fn write<
     S: Read,
     P: Write + Drop,
     W: Write,
-    G: CountedGate + Sync,
+    G: Gate + Progress + Sync,
 >(
     rt: &T,
     command: &Command,
@@ -160,7 +161,7 @@ fn tell<
     M: Read,
     S: Read,
     W: Write,
-    G: CountedGate + Sync,
+    G: Gate + Progress + Sync,
 >(
     rt: &R,
     line: &'a CommandLine,
@@ -194,7 +195,7 @@ fn write_to<
     M: Read,
     S: Read,
     W: Write,
-    G: CountedGate + Sync,
+    G: Gate + Progress + Sync,
 >(
     rt: &R,
     line: &'a CommandLine,
@@ -231,7 +232,7 @@ fn write_to_standard_output<
     S: Read,
     W: Write,
     E: Write,
-    G: CountedGate + Sync,
+    G: Gate + Progress + Sync,
 >(
     rt: &R,
     line: &'a CommandLine,
@@ -276,7 +277,7 @@ fn answer<
     S: Read,
     W: Write,
     E: Write,
-    G: CountedGate + Sync,
+    G: Gate + Progress + Sync,
 >(
     rt: &R,
     line: &'a CommandLine,
@@ -303,16 +304,22 @@ fn answer<
     }
 }
 
-/// Opens an input of a command line, beside its output if that has a name.
-fn open_input<'a, R: Files>(
+/// Opens an input of a command line, beside its output if that has a name. What is read of it is kept
+/// if reasons are wanted.
+fn open_input<'a, R: Files + AllocGlobal>(
     rt: &R,
     line: &'a CommandLine,
     name: &'a str,
 ) -> Result<Named<'a, R::File>, FileError<'a>> {
-    match line.output.as_deref() {
-        Some(output) if output != STANDARD => open_beside(rt, name, output),
-        _ => open(rt, name),
-    }
+    let input = match line.output.as_deref() {
+        Some(output) if output != STANDARD => open_beside(rt, name, output)?,
+        _ => open(rt, name)?,
+    };
+    Ok(if line.explain {
+        input.keeping(rt.alloc())
+    } else {
+        input
+    })
 }
 
 /// What tells an input from the output of a command line, if it has one.
@@ -355,13 +362,14 @@ fn answer_with_file<
     M: Read,
     W: Write,
     E: Write,
-    G: CountedGate + Sync,
+    G: Gate + Progress + Sync,
 >(
     rt: &R,
     line: &'a CommandLine,
     input: &mut M,
     identity: Option<Identity>,
     second: &'a str,
+    kept: &mut Kept,
     output: &mut W,
     error: &mut E,
     gate: &G,
@@ -383,7 +391,10 @@ fn answer_with_file<
         error,
         gate,
     ) {
-        Ok(status) => Ok(status),
+        Ok(status) => {
+            kept.second = inputs.take_copy();
+            Ok(status)
+        }
         Err(failure) => Err(failure.by_input(inputs.file_error())),
     }
 }
@@ -397,13 +408,14 @@ fn answer_with<
     I: Read,
     W: Write,
     E: Write,
-    G: CountedGate + Sync,
+    G: Gate + Progress + Sync,
 >(
     rt: &R,
     line: &'a CommandLine,
     input: &mut M,
     identity: Option<Identity>,
     standard: &mut I,
+    kept: &mut Kept,
     output: &mut W,
     error: &mut E,
     gate: &G,
@@ -420,7 +432,9 @@ fn answer_with<
         return answer(rt, line, input, standard, &identities, output, error, gate);
     }
     match second_input(&line.command) {
-        Some(second) => { answer_with_file(rt, line, input, identity, second, output, error, gate) }
+        Some(second) => answer_with_file(
+            rt, line, input, identity, second, kept, output, error, gate,
+        ),
         None => answer(
             rt,
             line,
@@ -441,11 +455,12 @@ fn answer_file<
     I: Read,
     W: Write,
     E: Write,
-    G: CountedGate + Sync,
+    G: Gate + Progress + Sync,
 >(
     rt: &R,
     line: &'a CommandLine,
     standard: &mut I,
+    kept: &mut Kept,
     output: &mut W,
     error: &mut E,
     gate: &G,
@@ -461,9 +476,12 @@ fn answer_file<
     let mut input = open_input(rt, line, &line.input)?;
     let identity = identity_of(line, &input)?;
     match answer_with(
-        rt, line, &mut input, identity, standard, output, error, gate,
+        rt, line, &mut input, identity, standard, kept, output, error, gate,
     ) {
-        Ok(status) => Ok(status),
+        Ok(status) => {
+            kept.first = input.take_copy();
+            Ok(status)
+        }
         Err(failure) => Err(failure.by_input(input.file_error())),
     }
 }
@@ -486,18 +504,19 @@ pub(crate) fn reads_second(line: &CommandLine) -> bool
 }
 
 /// Does what a command line asks for, whose inputs aren't both standard input. The gate is called
-/// around replays.
+/// around replays. What is read of inputs that are no standard input is kept, if reasons are wanted.
 pub(crate) fn answer_line<
     'a,
     R: Files + Threads + Wait + Sync + AllocGlobal,
     I: Read,
     W: Write,
     E: Write,
-    G: CountedGate + Sync,
+    G: Gate + Progress + Sync,
 >(
     rt: &R,
     line: &'a CommandLine,
     input: &mut I,
+    kept: &mut Kept,
     output: &mut W,
     error: &mut E,
     gate: &G,
@@ -509,7 +528,7 @@ pub(crate) fn answer_line<
     ensures no_thread { IfErr result (λ failure. IsNoThread failure → StartsThreads line.now.command) }
 {
     if !reads_first(line) {
-        return answer_file(rt, line, input, output, error, gate);
+        return answer_file(rt, line, input, kept, output, error, gate);
     }
     let identity = identity_of_standard_input(rt, line)?;
     answer_with(
@@ -518,6 +537,7 @@ pub(crate) fn answer_line<
         input,
         identity,
         &mut io::empty(),
+        kept,
         output,
         error,
         gate,

@@ -2,8 +2,8 @@
 //! hold and how they were played.
 //!
 //! Status 0: done; 1: a false checkpoint; 2: a fault; 3: refused; 4: no command; 5: an error of
-//! files, memory or threads, which is printed on standard error. Without arguments it does what
-//! `verify -` does.
+//! files, memory or threads, which is printed on standard error; 6: genuine, but not what a report
+//! was asked to expect. Without arguments it does what `verify -` does.
 #![tactic(auto)]
 
 mod advice;
@@ -11,6 +11,7 @@ mod answering;
 mod ending;
 mod error_object;
 mod failure;
+mod kept;
 mod progress;
 mod reasons;
 mod remarks;
@@ -29,15 +30,16 @@ ghost use Rattle.std.specs.Process.{exit_status};
 use advice::with_good_advice;
 use answering::{answer_line, draws, reads_first, reads_second, takes_file};
 use command_line::{CommandLine, LineFault, parse_line};
-use commands::{CountedGate, RunError, Status};
+use commands::{Gate, Progress, RunError, Status};
 use ending::{Ending, not_written};
 use error_object::{says_errors, write_error_object};
 use failure::Failure;
+use kept::Kept;
 use named_files::{
     FileError, Limited, Named, Quota, Reason, STANDARD_ERROR, STANDARD_INPUT, STANDARD_OUTPUT,
     null_if_closed, sync_standard_output,
 };
-use progress::Progress;
+use progress::ProgressLine;
 use reasons::{has_explain, is_explained, write_reason};
 use remarks::remark;
 use std::alloc::{AllocError, Global};
@@ -130,17 +132,33 @@ fn say_error<R: Files + AllocGlobal, W: Write>(
     }
 }
 
+/// Says what is to be told of an answer with this status, if reasons are wanted.
+fn explain<R: Files + AllocGlobal + Eprint, I>(
+    rt: &R,
+    line: &CommandLine,
+    input: &mut Named<'_, I>,
+    kept: &mut Kept,
+    status: Status,
+)
+    ensures { input.new.stream ≡ input.old.stream }
+{
+    if line.explain {
+        kept.take_standard(line, input);
+        remark(rt, line, kept, status);
+    }
+}
+
 /// Does what a command asks for, says the reason if reasons are wanted, and answers the exit status.
 fn carry_out<
     R: Files + Threads + Wait + Sync + AllocGlobal + Print + Eprint,
     I: Read,
     W: Write,
     E: Write,
-    G: CountedGate + Sync,
+    G: Gate + Progress + Sync,
 >(
     rt: &R,
-    explain: bool,
     input: &mut Named<'_, I>,
+    kept: &mut Kept,
     output: &mut Named<'_, W>,
     error: &mut Named<'_, E>,
     line: &CommandLine,
@@ -152,20 +170,18 @@ fn carry_out<
         × EndsQuiet line.now (W.contents output.old.stream) (W.contents output.new.stream) answer
         × LeavesPart line.now (ReadsInputs line.now (I.remaining input.old.stream) (I.remaining input.new.stream)) (W.contents output.old.stream) (W.contents output.new.stream) answer }
 {
-    match answer_line(rt, line, input, output, error, gate) {
+    match answer_line(rt, line, input, kept, output, error, gate) {
         Ok(status) => match settle(rt, output) {
             Ok(()) => {
-                if explain {
-                    remark(rt, line, input.length(), status);
-                }
+                explain(rt, line, input, kept, status);
                 ExitCode::from(status.code())
             }
-            Err(error) => not_written(error).report(rt, explain),
+            Err(error) => not_written(error).report(rt, line.explain),
         },
         Err(failure) => {
             let failure = of_streams(failure, input, output, error);
             say_error(rt, line, &failure, output);
-            Ending::Failed(failure).report(rt, explain)
+            Ending::Failed(failure).report(rt, line.explain)
         }
     }
 }
@@ -213,9 +229,12 @@ fn main(rt: HostRuntime) -> ExitCode {
         Ok(line) => line,
         Err(ending) => return ending.report(&rt, is_terminal || has_explain(&words)),
     };
-    let explain = is_terminal || line.explain;
+    let line = CommandLine {
+        explain: is_terminal || line.explain,
+        ..line
+    };
     if takes_file(&line) && rt.stdout().is_terminal() {
-        return to_terminal().report(&rt, explain);
+        return to_terminal().report(&rt, line.explain);
     }
     if words.len() < 2 && rt.stdin().is_terminal() {
         write_reason(
@@ -223,17 +242,23 @@ fn main(rt: HostRuntime) -> ExitCode {
             "reads a movie from standard input; vcs_check --help says more",
         );
     }
-    let mut input = Named::new(STANDARD_INPUT, rt.stdin());
+    let input = Named::new(STANDARD_INPUT, rt.stdin());
+    let mut input = if line.explain {
+        input.keeping(rt.alloc())
+    } else {
+        input
+    };
+    let mut kept = Kept::nothing();
     let output = Limited::new(io::writer(&rt), Quota::of_standard_output(&rt));
     let error = Limited::new(rt.stderr(), Quota::of_standard_error(&rt));
     let mut error = Named::new(STANDARD_ERROR, error);
-    let progress = Progress::new(&rt, is_terminal);
+    let progress = ProgressLine::new(&rt, is_terminal, rt.stdout().is_terminal());
     if !takes_file(&line) || !draws(&line.command) {
         let mut output = Named::new(STANDARD_OUTPUT, output);
         return carry_out(
             &rt,
-            explain,
             &mut input,
+            &mut kept,
             &mut output,
             &mut error,
             &line,
@@ -246,14 +271,14 @@ fn main(rt: HostRuntime) -> ExitCode {
             let mut output = Named::new(STANDARD_OUTPUT, output);
             carry_out(
                 &rt,
-                explain,
                 &mut input,
+                &mut kept,
                 &mut output,
                 &mut error,
                 &line,
                 &progress,
             )
         }
-        Err(_) => Ending::Failed(Failure::from(RunError::NoMemory)).report(&rt, explain),
+        Err(_) => Ending::Failed(Failure::from(RunError::NoMemory)).report(&rt, line.explain),
     }
 }

@@ -1,7 +1,8 @@
 //! What is told after an answer where reasons are wanted: why something was refused, and what no
-//! checkpoint claims. Files are read again for it, so that nothing before is another then.
+//! checkpoint claims.
 
 use crate::answering::{STANDARD, takes_file};
+use crate::kept::Kept;
 use crate::reasons::write_reason;
 use command_line::{Command, CommandLine};
 use commands::{InputForm, Status, read_all};
@@ -121,17 +122,6 @@ fn hint_of_bytes(alloc: Global, command: &Command, bytes: &[u8]) -> Option<Hint>
     }
 }
 
-/// What an input holds that can be read again. Of standard input so many bytes were read, up to its
-/// end: these are the last ones of its file, what came before them was read by somebody else.
-fn read_input_again<R: Files + AllocGlobal>(rt: &R, input: &str, length: u64) -> Option<Vec<u8>> {
-    let bytes = read_again(rt, path_of(input))?;
-    if input != STANDARD {
-        return Some(bytes);
-    }
-    let before = (bytes.len() as u64).checked_sub(length)?;
-    bytes.get(before as usize..)?.to_vec(rt.alloc()).ok()
-}
-
 /// What is wrong with inputs as text: they can't be read, or are too many.
 fn hint_of_lines(alloc: Global, bytes: &[u8], every: NonZeroU32) -> Option<TextHint<'_>> {
     match read_text(alloc, bytes) {
@@ -151,65 +141,52 @@ fn hint_of_triples(alloc: Global, bytes: &[u8], every: NonZeroU32) -> Option<Hin
     }
 }
 
-/// Says what is wrong with inputs of a cartridge. Of standard input so many bytes were read.
+/// Says what is wrong with inputs of a cartridge.
 fn tell_of_inputs<R: Files + AllocGlobal + Eprint>(
     rt: &R,
     inputs: &str,
-    length: u64,
+    bytes: &[u8],
     form: InputForm,
     every: NonZeroU32,
 ) {
-    let Some(bytes) = read_input_again(rt, inputs, length) else {
-        return;
-    };
     let name = name_of(inputs);
     match form {
-        InputForm::Text => tell(rt, name, hint_of_lines(rt.alloc(), &bytes, every)),
-        InputForm::Bytes => tell_whole(rt, name, hint_of_triples(rt.alloc(), &bytes, every)),
+        InputForm::Text => tell(rt, name, hint_of_lines(rt.alloc(), bytes, every)),
+        InputForm::Bytes => tell_whole(rt, name, hint_of_triples(rt.alloc(), bytes, every)),
     }
 }
 
-/// Says which file keeps a movie from being made, and what is wrong with it. Of standard input so many
-/// bytes were read.
-fn tell_of_making<R: Files + AllocGlobal + Eprint>(
-    rt: &R,
-    rom: &str,
-    inputs: &str,
-    length: u64,
-    form: InputForm,
-    every: NonZeroU32,
-) {
-    let Some(cartridge) = read_input_again(rt, rom, length) else {
-        return;
-    };
-    if Cart::is_length(cartridge.len()) {
-        return tell_of_inputs(rt, inputs, length, form, every);
-    }
+/// Says that these bytes are no cartridge, and which file is one, if it is that of the inputs.
+fn tell_of_rom<R: Files + Eprint>(rt: &R, rom: &str, bytes: &[u8], inputs: &str) {
     match fs::metadata(rt, path_of(inputs)) {
         Ok(metadata) if Cart::is_length(metadata.len() as usize) => {
             tell_whole(rt, name_of(inputs), Some(Hint::Exchanged));
         }
-        _ => tell_whole(rt, name_of(rom), Some(hint_of_rom(&cartridge))),
+        _ => tell_whole(rt, name_of(rom), Some(hint_of_rom(bytes))),
     }
 }
 
-/// Says which file of a command was refused, and what is wrong with it. Of standard input so many
-/// bytes were read.
-fn tell_of_refusal<R: Files + AllocGlobal + Eprint>(rt: &R, line: &CommandLine, length: u64) {
-    let command = &line.command;
-    if let Command::Make {
+/// Says which file was refused, and what is wrong with it. Inputs were read only if the ROM is a
+/// cartridge.
+fn tell_of_refusal<R: Files + AllocGlobal + Eprint>(rt: &R, line: &CommandLine, kept: &Kept) {
+    let Some(first) = &kept.first else {
+        return;
+    };
+    let Command::Make {
         inputs,
         form,
         every,
-    } = command
-    {
-        return tell_of_making(rt, &line.input, inputs, length, *form, *every);
-    }
-    let Some(bytes) = read_input_again(rt, &line.input, length) else {
-        return;
+    } = &line.command
+    else {
+        let hint = hint_of_bytes(rt.alloc(), &line.command, first);
+        return tell_whole(rt, name_of(&line.input), hint);
     };
-    let hint = hint_of_bytes(rt.alloc(), command, &bytes);
-    tell_whole(rt, name_of(&line.input), hint);
+    if !Cart::is_length(first.len()) {
+        return tell_of_rom(rt, &line.input, first, inputs);
+    }
+    if let Some(second) = &kept.second {
+        tell_of_inputs(rt, inputs, second, *form, *every);
+    }
 }
 
 /// Says which frames at the end of a movie that was written no checkpoint follows, if any.
@@ -239,9 +216,8 @@ fn first_frame(command: &Command) -> Option<u32> {
     }
 }
 
-/// Says how many frames a movie has, if it has none of those that a command looks at. Of standard
-/// input so many bytes were read.
-fn tell_of_no_frame<R: Files + AllocGlobal + Eprint>(rt: &R, line: &CommandLine, length: u64) {
+/// Says how many frames a movie has, if it has none of those that a command looks at.
+fn tell_of_no_frame<R: Files + AllocGlobal + Eprint>(rt: &R, line: &CommandLine, kept: &Kept) {
     let Some(first) = first_frame(&line.command) else {
         return;
     };
@@ -249,10 +225,10 @@ fn tell_of_no_frame<R: Files + AllocGlobal + Eprint>(rt: &R, line: &CommandLine,
     if first == 1 {
         return;
     }
-    let Some(bytes) = read_input_again(rt, &line.input, length) else {
+    let Some(bytes) = &kept.first else {
         return;
     };
-    match read_movie(rt.alloc(), &bytes) {
+    match read_movie(rt.alloc(), bytes) {
         Ok(movie) if movie.frames() < first => {
             let hint = Hint::HasFrames {
                 frames: movie.frames(),
@@ -264,18 +240,17 @@ fn tell_of_no_frame<R: Files + AllocGlobal + Eprint>(rt: &R, line: &CommandLine,
 }
 
 /// Says which file was refused and why, how many frames a movie has that has none of those that were
-/// asked for, and which frames of a movie that was written no checkpoint follows. Of standard input so
-/// many bytes were read.
+/// asked for, and which frames of a movie that was written no checkpoint follows.
 pub(crate) fn remark<R: Files + AllocGlobal + Eprint>(
     rt: &R,
     line: &CommandLine,
-    length: u64,
+    kept: &Kept,
     status: Status,
 ) {
     match status {
-        Status::Refused => tell_of_refusal(rt, line, length),
+        Status::Refused => tell_of_refusal(rt, line, kept),
         Status::Done => {
-            tell_of_no_frame(rt, line, length);
+            tell_of_no_frame(rt, line, kept);
             tell_of_output(rt, line);
         }
         Status::False | Status::Fault | Status::Unexpected => {}

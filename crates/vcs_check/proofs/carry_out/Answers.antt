@@ -24,7 +24,7 @@ returns-in-Err g c =
     c.say_error.ensures.object c.say_error.ensures.none in
     (Err c.of_streams-failure.result, grind (arith, c.report-in-Err.ensures), tt, both.0, both.1)
 
-pub returns-after-explain : goal.returns-after-explain
-returns-after-explain g c =
+pub returns-in-Ok-settle : goal.returns-in-Ok-settle
+returns-in-Ok-settle g c =
     let ok = c.in-Ok.ensures.ok in
-    (Ok c.in-Ok.status, (cc), (ok.0, ok.1, appends_kept _ _ _ ok.0 ok.2 c.settle.ensures), tt, tt)
+    (Ok c.in-Ok.status, (cc), rw c.explain.ensures (ok.0, ok.1, appends_kept _ _ _ ok.0 ok.2 c.settle.ensures), tt, tt)

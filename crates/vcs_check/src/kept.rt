@@ -1,0 +1,35 @@
+//! What was read of a command's inputs.
+ghost use Rattle.std.specs.Prelude.{◌≡◌};
+
+use crate::answering::{reads_first, reads_second};
+use command_line::CommandLine;
+use named_files::Named;
+
+/// What was read of the inputs of a command whose reasons are wanted: of each that was read, if memory
+/// was there for all of it.
+#[derive(Drop)]
+pub(crate) struct Kept {
+    pub first: Option<Vec<u8>>,
+    pub second: Option<Vec<u8>>,
+}
+
+impl Kept {
+    /// Before anything is read.
+    pub(crate) fn nothing() -> Kept {
+        Kept {
+            first: None,
+            second: None,
+        }
+    }
+
+    /// Takes what was read of standard input, if one of a command line's inputs is that.
+    pub(crate) fn take_standard<S>(&mut self, line: &CommandLine, input: &mut Named<'_, S>)
+        ensures { input.new.stream ≡ input.old.stream }
+    {
+        if reads_first(line) {
+            self.first = input.take_copy();
+        } else if reads_second(line) {
+            self.second = input.take_copy();
+        }
+    }
+}
