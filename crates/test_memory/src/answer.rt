@@ -1,9 +1,10 @@
 //! What commands answer and write, without memory of their own.
 
 use crate::failure::{Failure, right};
+use crate::gate::Counting;
 use arrayvec::ArrayVec;
 use command_line::Command;
-use commands::{NoGate, RunError, Status, run_command};
+use commands::{RunError, Status, run_command};
 use std::io::{self, Read};
 use std::sync::Wait;
 use std::thread::Threads;
@@ -20,6 +21,8 @@ pub(crate) struct Answer {
     pub status: Result<Status, RunError>,
     pub text: Text,
     pub file: File,
+    /// Whether each work that began has ended, as the gate was told.
+    pub has_ended: bool,
 }
 
 /// The answer to a command over this input. Its second input is empty.
@@ -40,8 +43,14 @@ pub(crate) fn answer_with<T: Threads + Wait + Sync + AllocGlobal, R: Read, S: Re
 ) -> Answer {
     let mut text = Text::new();
     let mut file = File::new();
-    let status = run_command(rt, command, input, inputs, &mut text, &mut file, &NoGate);
-    Answer { status, text, file }
+    let gate = Counting::new();
+    let status = run_command(rt, command, input, inputs, &mut text, &mut file, &gate);
+    Answer {
+        status,
+        text,
+        file,
+        has_ended: gate.has_ended_as_begun(),
+    }
 }
 
 impl Answer {
@@ -66,13 +75,16 @@ impl Answer {
     }
 
     /// Right where the status is wanted, and what was written. But for a failed write, an error is
-    /// wrong after what may not be written before it.
+    /// wrong after what may not be written before it. A work that has not ended is always wrong.
     pub(crate) fn judged(
         &self,
         status: Status,
         is_wanted: bool,
         is_beginning: bool,
     ) -> Result<(), Failure> {
+        if !self.has_ended {
+            return Err(Failure::Wrong);
+        }
         match self.status {
             Ok(found) => right(found == status && is_wanted),
             Err(error) if is_beginning || error == RunError::WriteFault => {

@@ -48,6 +48,32 @@ pub(crate) fn are_told<R: Threads + Wait + Sync + AllocGlobal>(
     )
 }
 
+/// The objects about the two frames.
+const OBJECTS: &str =
+    "{\"frame\":1,\"cycles\":13,\"rows\":1,\"checkpoint\":1,\"claim_is_true\":true}
+{\"frame\":2,\"cycles\":16,\"rows\":1}
+";
+
+/// The same as objects of JSON.
+pub(crate) fn are_told_as_json<R: Threads + Wait + Sync + AllocGlobal>(
+    rt: &R,
+) -> Result<(), Failure> {
+    let frames = Command::Frames {
+        first: NonZeroU32::MIN,
+        count: 3,
+        details: Details {
+            watches: Watches::none(),
+            memory: false,
+            digests: false,
+        },
+        notation: Notation::Json,
+    };
+    answer_to(rt, &frames, &mut two_frames().as_slice()).is_in_lines(
+        Status::Done,
+        OBJECTS.as_bytes(),
+    )
+}
+
 /// How the first line with the memory begins.
 const FIRST: &[u8] = b"frame 1: 13 cycles, 1 rows, checkpoint 1 true, memory 020000";
 

@@ -1,11 +1,11 @@
 //! A gate that counts its calls.
 
-use commands::CountedGate;
+use commands::{Progress, Work};
 use replay_segments::Piece;
 use std::sync::atomic::{AtomicU64, Ordering};
 use verify_pool::{Gate, Ticket};
 
-/// A gate that counts the judgements that begin and those that end.
+/// A gate that counts the works that begin and those that end.
 #[derive(Drop)]
 pub(crate) struct Counting {
     begun: AtomicU64,
@@ -32,10 +32,12 @@ impl Gate for Counting {
     fn leave(&self, _ticket: &Ticket, _piece: &Piece) {}
 }
 
-impl CountedGate for Counting {
-    fn begin(&self, _segments: u32) {
+impl Progress for Counting {
+    fn begin(&self, _work: Work) {
         self.begun.fetch_add(1, Ordering::SeqCst);
     }
+
+    fn advance(&self) {}
 
     fn end(&self) {
         self.ended.fetch_add(1, Ordering::SeqCst);

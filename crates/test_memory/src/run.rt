@@ -50,11 +50,15 @@ pub(crate) fn is_judged<R: Threads + Wait + Sync>(
         &mut file,
         &gate,
     );
-    if !gate.has_ended_as_begun() {
-        return Err(Failure::Wrong);
-    }
     let wanted = b"genuine: 2 frames, 1 checkpoints\n";
-    Answer { status, text, file }.is(Status::Done, wanted, &two_pictures())
+    let has_ended = gate.has_ended_as_begun();
+    Answer {
+        status,
+        text,
+        file,
+        has_ended,
+    }
+    .is(Status::Done, wanted, &two_pictures())
 }
 
 /// A movie with a checkpoint at every two frames, byte by byte, made of inputs in a form.
@@ -75,7 +79,13 @@ pub(crate) fn is_made(alloc: Global, form: InputForm) -> Result<(), Failure> {
         &mut file,
         &mut text,
     );
-    Answer { status, text, file }.is(Status::Done, b"made: 2 frames, 1 checkpoints\n", &wanted)
+    Answer {
+        status,
+        text,
+        file,
+        has_ended: true,
+    }
+    .is(Status::Done, b"made: 2 frames, 1 checkpoints\n", &wanted)
 }
 
 /// What the movie of two frames holds.
@@ -84,7 +94,13 @@ pub(crate) fn is_told(alloc: Global) -> Result<(), Failure> {
     let file = File::new();
     let status = run_info(alloc, &mut two_frames().as_slice(), &mut text);
     let wanted = b"movie: version 1, cartridge 2048, 2 frames, 1 checkpoints\n";
-    Answer { status, text, file }.is(Status::Done, wanted, &[])
+    Answer {
+        status,
+        text,
+        file,
+        has_ended: true,
+    }
+    .is(Status::Done, wanted, &[])
 }
 
 /// The same as JSON.
@@ -104,7 +120,13 @@ pub(crate) fn is_converted(alloc: Global) -> Result<(), Failure> {
     let mut file = File::new();
     let status = run_convert(alloc, &mut two_frames().as_slice(), &mut file, &mut text);
     let wanted = b"converted: 2 frames, 1 checkpoints\n";
-    Answer { status, text, file }.is(Status::Done, wanted, &conversion())
+    Answer {
+        status,
+        text,
+        file,
+        has_ended: true,
+    }
+    .is(Status::Done, wanted, &conversion())
 }
 
 /// The cartridge of the movie of two frames.
@@ -180,13 +202,14 @@ pub(crate) fn is_reported<R: Threads + Wait + Sync + AllocGlobal>(
     )
 }
 
-/// A false movie of two segments, and its report as JSON. The second segment passes, since its frame
-/// stores what the claim has otherwise.
+/// A false movie of two segments, and its report as JSON, by so many workers. The second segment
+/// passes, since its frame stores what the claim has otherwise.
 pub(crate) fn is_reported_false<R: Threads + Wait + Sync + AllocGlobal>(
     rt: &R,
+    workers: u8,
 ) -> Result<(), Failure> {
     let report = Command::Report {
-        workers: Workers::ONE,
+        workers: Workers::new(workers).ok_or(Failure::Wrong)?,
         notation: Notation::Json,
         rom: None,
         expectations: Expectations::NONE,
@@ -197,6 +220,36 @@ pub(crate) fn is_reported_false<R: Threads + Wait + Sync + AllocGlobal>(
         b"{\"verdict\":\"false checkpoint\",\"checkpoint\":1,\"frame\":1,\"differs\":[{\"number\":\"memory 80\",\"claimed\":\"07\",\"found\":\"02\"}],\"segments\":\"X.\",\"reason\":\"segment 1 doesn't lead from the start to the only claim: that claim or what leads to it was changed\",\"notes\":[\"1 frames after the last checkpoint\"],\"cartridge\":2048,",
     );
     answer.judged(Status::False, begins, text.is_empty())
+}
+
+/// Two frames judged by one worker, and the verdict as JSON.
+pub(crate) fn is_judged_as_json<R: Threads + Wait + Sync + AllocGlobal>(
+    rt: &R,
+) -> Result<(), Failure> {
+    let verify = Command::Verify {
+        plan: Plan::without_pictures(Workers::ONE),
+        notation: Notation::Json,
+    };
+    let wanted = b"{\"verdict\":\"genuine\",\"frames\":2,\"checkpoints\":1}\n";
+    answer_to(rt, &verify, &mut two_frames().as_slice()).is(Status::Done, wanted, &[])
+}
+
+/// A movie of two frames with another magic number, and its refusal as JSON.
+pub(crate) fn is_refused_as_json<R: Threads + Wait + Sync + AllocGlobal>(
+    rt: &R,
+) -> Result<(), Failure> {
+    let verify = Command::Verify {
+        plan: Plan::without_pictures(Workers::ONE),
+        notation: Notation::Json,
+    };
+    let mut movie = two_frames();
+    movie[3] = b'N';
+    let answer = answer_to(rt, &verify, &mut movie.as_slice());
+    let text = answer.text.as_slice();
+    let begins = text.starts_with(
+        b"{\"verdict\":\"refused\",\"refusal\":\"BadMagic\",\"byte\":0,\"field\":\"magic\",\"expected\":\"4132364D\",\"found\":\"4132364E\",",
+    );
+    answer.judged(Status::Refused, begins, text.is_empty())
 }
 
 /// Two frames judged by one worker, and their report, with their cartridge's bytes as the ROM.

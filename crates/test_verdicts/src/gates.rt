@@ -1,6 +1,6 @@
 //! Gates that note which segments are replayed, and hold workers for a while.
 
-use commands::CountedGate;
+use commands::{Progress, Work};
 use replay_segments::Piece;
 use std::sync::atomic::{AtomicU64, Ordering};
 use std::thread;
@@ -142,46 +142,65 @@ impl Gate for Meeting {
     fn leave(&self, _ticket: &Ticket, _piece: &Piece) {}
 }
 
-/// A gate that adds up the segments of the judgements that begin, and counts their ends and the
-/// entries before them.
+/// A gate that adds up the segments, the frames and the lines of the works that begin and what of
+/// them is done, and counts the beginnings and the ends.
 #[derive(Drop)]
 pub(crate) struct Counting {
-    pub segments: AtomicU64,
-    pub entered: AtomicU64,
-    pub ended: AtomicU64,
+    segments: AtomicU64,
+    frames: AtomicU64,
+    lines: AtomicU64,
+    done: AtomicU64,
+    begun: AtomicU64,
+    ended: AtomicU64,
 }
 
 impl Counting {
     pub(crate) fn new() -> Counting {
         Counting {
             segments: AtomicU64::new(0),
-            entered: AtomicU64::new(0),
+            frames: AtomicU64::new(0),
+            lines: AtomicU64::new(0),
+            done: AtomicU64::new(0),
+            begun: AtomicU64::new(0),
             ended: AtomicU64::new(0),
         }
     }
 
-    /// The segments that it was told of, those that were entered, and its ends.
-    pub(crate) fn counts(&self) -> [u64; 3] {
+    /// The segments, frames and lines that it was told of, what of them is done, and how many works
+    /// have begun and ended.
+    pub(crate) fn counts(&self) -> [u64; 6] {
         [
             self.segments.load(Ordering::SeqCst),
-            self.entered.load(Ordering::SeqCst),
+            self.frames.load(Ordering::SeqCst),
+            self.lines.load(Ordering::SeqCst),
+            self.done.load(Ordering::SeqCst),
+            self.begun.load(Ordering::SeqCst),
             self.ended.load(Ordering::SeqCst),
         ]
     }
 }
 
 impl Gate for Counting {
-    fn enter(&self, _ticket: &Ticket, _segment: u32) {
-        self.entered.fetch_add(1, Ordering::SeqCst);
-    }
+    fn enter(&self, _ticket: &Ticket, _segment: u32) {}
 
-    fn leave(&self, _ticket: &Ticket, _piece: &Piece) {}
+    fn leave(&self, _ticket: &Ticket, _piece: &Piece) {
+        self.done.fetch_add(1, Ordering::SeqCst);
+    }
 }
 
-impl CountedGate for Counting {
-    fn begin(&self, segments: u32) {
-        self.segments
-            .fetch_add(u64::from(segments), Ordering::SeqCst);
+impl Progress for Counting {
+    fn begin(&self, work: Work) {
+        let (counter, all) = match work {
+            Work::Segments(all) => (&self.segments, all),
+            Work::Frames(all) => (&self.frames, all),
+            Work::Lines(all) => (&self.lines, all),
+        };
+        counter.fetch_add(u64::from(all), Ordering::SeqCst);
+        self.begun.fetch_add(1, Ordering::SeqCst);
+    }
+
+    fn advance(&self) {
+        self.done.fetch_add(1, Ordering::SeqCst);
     }
 
     fn end(&self) {

@@ -27,6 +27,8 @@ mod numbering;
 #[cfg(test)]
 mod pixmaps;
 #[cfg(test)]
+mod progress;
+#[cfg(test)]
 mod reports;
 #[cfg(test)]
 mod roms;

@@ -5,7 +5,7 @@ use crate::movies::{
     ENDLESS_FRAMES, SEVEN_FRAMES, after_frame, first_of_two_false, movie, power_on, read,
     two_frames,
 };
-use movie_file::Movie;
+use movie_file::{Movie, NoProgress};
 use movie_report::{Agreement, report};
 use replay_plan::{Expectations, Keep, Notation, Workers};
 use replay_segments::verify_one;
@@ -33,6 +33,7 @@ fn report_with<R: Threads + Sync>(
         &verdict,
         agreement,
         workers,
+        &NoProgress,
     )?)
 }
 

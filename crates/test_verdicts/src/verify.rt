@@ -114,7 +114,7 @@ fn failed_write_leaves_the_line_and_a_prefix_of_the_pictures(rt: HostRuntime) ->
 }
 
 /// What a gate was told of a run of five frames with a checkpoint after each, cut at every so many.
-fn told<T: Threads + Wait + Sync + AllocGlobal>(rt: &T, every: u16) -> Result<[u64; 3], Fail> {
+fn told<T: Threads + Wait + Sync + AllocGlobal>(rt: &T, every: u16) -> Result<[u64; 6], Fail> {
     let plan = Plan {
         every: NonZeroU16::new(every).ok_or("every")?,
         ..plan()
@@ -136,15 +136,14 @@ fn told<T: Threads + Wait + Sync + AllocGlobal>(rt: &T, every: u16) -> Result<[u
 
 #[test]
 fn gate_is_told_of_each_segment(rt: HostRuntime) -> Result<(), Fail> {
-    expect_equal(&rt, told(&rt, 1)?, [6, 6, 1]);
+    expect_equal(&rt, told(&rt, 1)?, [6, 0, 0, 6, 1, 1]);
     Ok(())
 }
 
 #[test]
 fn movie_is_cut_at_every_so_many_checkpoints(rt: HostRuntime) -> Result<(), Fail> {
     for (every, segments) in [(2, 3), (5, 2), (6, 1)] {
-        let [_, entered, _] = told(&rt, every)?;
-        expect_equal(&rt, entered, segments);
+        expect_equal(&rt, told(&rt, every)?, [segments, 0, 0, segments, 1, 1]);
     }
     Ok(())
 }

@@ -1,0 +1,168 @@
+//! What a gate is told of the work of each command. Each count is worked out from the movie: its
+//! segments, its frames, those of them that are done, and the works that begin and end.
+
+use crate::devices::FailingWriter;
+use crate::expectation::expect_equal;
+use crate::gates::Counting;
+use crate::movies::{
+    ENDLESS_FRAMES, SEVEN_FRAMES, first_of_two_false, movie, power_on, rom, run_of,
+};
+use command_line::Command;
+use commands::{InputForm, Notation, run_command};
+use movie_file::write_movie;
+use replay_plan::{Details, Expectations, Watches, Workers};
+use std::alloc::Global;
+use std::num::NonZeroU32;
+use std::sync::Wait;
+use std::test::Fail;
+use std::thread::Threads;
+
+/// What a gate was told of a command whose text's writer takes so many bytes.
+fn told_over<T: Threads + Wait + Sync + AllocGlobal>(
+    rt: &T,
+    command: &Command,
+    input: &[u8],
+    inputs: &[u8],
+    text: usize,
+) -> [u64; 6] {
+    let mut input = input;
+    let mut inputs = inputs;
+    let mut text = FailingWriter::new(rt.alloc(), text);
+    let mut file = FailingWriter::new(rt.alloc(), usize::MAX);
+    let gate = Counting::new();
+    let _status = run_command(
+        rt,
+        command,
+        &mut input,
+        &mut inputs,
+        &mut text,
+        &mut file,
+        &gate,
+    );
+    gate.counts()
+}
+
+/// What it was told of a command about a movie, whose writers take all.
+fn told<T: Threads + Wait + Sync + AllocGlobal>(
+    rt: &T,
+    command: &Command,
+    input: &[u8],
+) -> [u64; 6] {
+    told_over(rt, command, input, &[], usize::MAX)
+}
+
+/// The lines of so many frames from one on.
+fn frames(first: NonZeroU32, count: u32) -> Command {
+    Command::Frames {
+        first,
+        count,
+        details: Details {
+            watches: Watches::none(),
+            memory: false,
+            digests: false,
+        },
+        notation: Notation::Lines,
+    }
+}
+
+/// A report by one worker.
+fn report() -> Command {
+    Command::Report {
+        workers: Workers::ONE,
+        notation: Notation::Lines,
+        rom: None,
+        expectations: Expectations::NONE,
+    }
+}
+
+/// A run of five frames with a checkpoint after each.
+fn five_frames(alloc: Global) -> Result<Vec<u8>, Fail> {
+    let mut bytes = Vec::new(alloc);
+    write_movie(&run_of(alloc, &ENDLESS_FRAMES, 5)?, &mut bytes)?;
+    Ok(bytes)
+}
+
+/// Seven frames, of which the last one faults.
+fn seven_frames(alloc: Global) -> Result<Vec<u8>, Fail> {
+    movie(alloc, &SEVEN_FRAMES, &power_on(), 7, 1, &[])
+}
+
+/// Frames 3 and 4 of five.
+#[test]
+fn frames_are_told_up_to_the_last_one(rt: HostRuntime) -> Result<(), Fail> {
+    let bytes = five_frames(rt.alloc())?;
+    let first = NonZeroU32::MIN.saturating_add(2);
+    let count = 2;
+    let every = NonZeroU32::MIN;
+    for (command, wanted) in [
+        (frames(first, count), [0, 2, 2, 4, 2, 2]),
+        (Command::Pictures { first, count }, [0, 4, 0, 4, 2, 2]),
+        (
+            Command::Cut {
+                first,
+                count,
+                every,
+            },
+            [0, 4, 0, 4, 1, 1],
+        ),
+        (Command::Trace { frame: first }, [0, 2, 0, 2, 1, 1]),
+        (Command::Trace { frame: every }, [0, 0, 0, 0, 0, 0]),
+        (report(), [6, 0, 0, 6, 1, 1]),
+    ] {
+        expect_equal(&rt, told(&rt, &command, &bytes), wanted);
+    }
+    Ok(())
+}
+
+#[test]
+fn frames_of_a_movie_that_is_made_are_told(rt: HostRuntime) {
+    let make = Command::Make {
+        inputs: String::new(rt.alloc()),
+        form: InputForm::Bytes,
+        every: NonZeroU32::MIN,
+    };
+    let inputs = [0xFF, 0x3F, 0, 0xFF, 0x3F, 0];
+    let told = told_over(&rt, &make, &rom(&ENDLESS_FRAMES), &inputs, usize::MAX);
+    expect_equal(&rt, told, [0, 2, 0, 2, 1, 1]);
+}
+
+/// A fault in frame 7, in its segment, among the frames and before them.
+#[test]
+fn works_end_at_a_fault(rt: HostRuntime) -> Result<(), Fail> {
+    let bytes = seven_frames(rt.alloc())?;
+    let seventh = NonZeroU32::MIN.saturating_add(6);
+    for (command, wanted) in [
+        (frames(NonZeroU32::MIN, 7), [0, 0, 7, 6, 1, 1]),
+        (
+            Command::Cut {
+                first: seventh,
+                count: 1,
+                every: seventh,
+            },
+            [0, 7, 0, 6, 1, 1],
+        ),
+        (report(), [1, 6, 0, 7, 2, 2]),
+    ] {
+        expect_equal(&rt, told(&rt, &command, &bytes), wanted);
+    }
+    Ok(())
+}
+
+/// The first of five lines is taken, and not the second.
+#[test]
+fn works_end_at_a_failed_write(rt: HostRuntime) -> Result<(), Fail> {
+    let bytes = five_frames(rt.alloc())?;
+    let command = frames(NonZeroU32::MIN, 5);
+    let told = told_over(&rt, &command, &bytes, &[], 50);
+    expect_equal(&rt, told, [0, 0, 5, 1, 1, 1]);
+    Ok(())
+}
+
+/// Of three segments the first is replayed for the verdict, its frame for the state that was found,
+/// the others for their signs, and the second frame for the sentence.
+#[test]
+fn signs_are_a_work_of_their_own(rt: HostRuntime) -> Result<(), Fail> {
+    let bytes = first_of_two_false(rt.alloc())?;
+    expect_equal(&rt, told(&rt, &report(), &bytes), [5, 2, 0, 5, 4, 4]);
+    Ok(())
+}
