@@ -10,7 +10,7 @@ use Rattle.mos_cpu.specs.declared.status.Flag.{Flag}
 use Rattle.mos_cpu.specs.declared.status.Flag.TheVariants.{Carry}
 
 -- Two numbers made of a byte, or two tests of it, that are equal for each byte.
-at_byte : (f g : ℕ → ℕ) → agree_below (λ q. nat_eq (f q) (g q)) (λ q. true) 256 ≡ true → (p : ℕ) → p < 256 → f p ≡ g p
+pub at_byte : (f g : ℕ → ℕ) → agree_below (λ q. nat_eq (f q) (g q)) (λ q. true) 256 ≡ true → (p : ℕ) → p < 256 → f p ≡ g p
 at_byte f g e p h = eqb-true _ _ (agree_below_at (λ q. nat_eq (f q) (g q)) (λ q. true) 256 p e h)
 
 test_at_byte : (f g : ℕ → Bool) → agree_below f g 256 ≡ true → (p : ℕ) → p < 256 → f p ≡ g p

@@ -7,7 +7,6 @@ use Rattle.std.proofs.lemmas.Int.{ints, int_rem_euclid_is}
 use Rattle.std.proofs.lemmas.Bool.Decides.{nat_tests}
 use Rattle.std.proofs.lemmas.Nat.{or_shifted}
 use Rattle.std.proofs.lemmas.Nat.Bits.{and_pow, bit_at_and, bit_at_xor}
-use Rattle.mos_cpu.proofs.StatusLemmas.{and_one}
 use Rattle.mos_cpu.specs.Numbers.{signed, overflows, modulo}
 use Rattle.mos_cpu.specs.Sums.{sum_of, less_borrow, binary_adc_of, binary_sbc_of}
 
@@ -35,10 +34,10 @@ pub top_bits-overflow : (a m x y c v : ℕ) → x < 256 → y < 256 → a / 128 
 top_bits-overflow a m x y c v hx hy ha hm hc hv = rw (top_bit a m v, ha, hm) (grind (arith, ints, nat_tests))
 
 -- A rotated value with the carry below.
-pub or_carry : (m p : ℕ) → bit_or (m * 2 % 256) (bit_and p 1) ≡ (2 * m + p % 2) % 256
-or_carry m p =
+pub or_carry : (m carry : ℕ) → carry < 2 → bit_or (m * 2 % 256) carry ≡ (2 * m + carry) % 256
+or_carry m carry h =
     let e : m * 2 % 256 ≡ m % 128 * 2 ^ 1 = omega arith in
-    rw (and_one p, e) (or_shifted (m % 128) 1 (p % 2) (omega arith) ∙ omega arith)
+    rw e (or_shifted (m % 128) 1 carry (omega arith) ∙ omega arith)
 
 -- A signed sum modulo 256 is the sum of the bytes.
 pub signed_sum-modulo : (x y c : ℕ) → x < 256 → y < 256

@@ -6,7 +6,7 @@ ghost use Rattle.mos_cpu.specs.Operands.{branch_target, next_in_page_of};
 ghost use Rattle.mos_cpu.specs.Private.OpcodeRuns.{IsLow};
 
 use crate::bus::Bus;
-use crate::registers::Cpu;
+use crate::running_cpu::RunningCpu;
 
 /// The pointer at a place in page zero, where it wraps.
 #[inline(always)]
@@ -35,7 +35,7 @@ pub struct Target {
 
 /// The number of the two bytes after the opcode. None if the second isn't there.
 #[inline(always)]
-pub fn word_after<B: Bus>(cpu: &Cpu, bus: &B, low: u8) -> Option<u16>
+pub fn word_after<B: Bus>(cpu: &RunningCpu, bus: &B, low: u8) -> Option<u16>
     requires { IsLow B.meaning (B.state bus.now) cpu.now low }
     ensures some { IfSome result (λ word. operand_word B.meaning (B.state bus.now) cpu.now ≡ Ok word) }
     ensures none { IfNone result (IsErr (operand_word B.meaning (B.state bus.now) cpu.now)) }

@@ -9,16 +9,17 @@ use crate::addressing::branch_by;
 use crate::bus::Bus;
 use crate::mode::Mode;
 use crate::operation::Operation;
-use crate::registers::Cpu;
-use crate::status::{Flag, has};
+use crate::running_cpu::RunningCpu;
+use crate::running_status::RunningStatus;
+use crate::status::Flag;
 
 /// A branch.
 pub trait Conditional {
     ghost operation: { Operation };
 
     /// Whether it is taken at a status.
-    fn is_taken(p: u8) -> bool
-        ensures { result ≡ is_taken operation p };
+    fn is_taken(status: &RunningStatus) -> bool
+        ensures { result ≡ is_taken operation status.now };
 
     ghost goes: { IsBranch operation };
 }
@@ -31,8 +32,8 @@ impl Conditional for Bcc {
     ghost goes = { record { untouched = λ _ _ _. refl; plain = refl; goes = λ _ _ _. refl } };
 
     #[inline(always)]
-    fn is_taken(p: u8) -> bool {
-        !has(p, Flag::Carry)
+    fn is_taken(status: &RunningStatus) -> bool {
+        !status.has(Flag::Carry)
     }
 }
 
@@ -44,8 +45,8 @@ impl Conditional for Bcs {
     ghost goes = { record { untouched = λ _ _ _. refl; plain = refl; goes = λ _ _ _. refl } };
 
     #[inline(always)]
-    fn is_taken(p: u8) -> bool {
-        has(p, Flag::Carry)
+    fn is_taken(status: &RunningStatus) -> bool {
+        status.has(Flag::Carry)
     }
 }
 
@@ -57,8 +58,8 @@ impl Conditional for Beq {
     ghost goes = { record { untouched = λ _ _ _. refl; plain = refl; goes = λ _ _ _. refl } };
 
     #[inline(always)]
-    fn is_taken(p: u8) -> bool {
-        has(p, Flag::Zero)
+    fn is_taken(status: &RunningStatus) -> bool {
+        status.has(Flag::Zero)
     }
 }
 
@@ -70,8 +71,8 @@ impl Conditional for Bmi {
     ghost goes = { record { untouched = λ _ _ _. refl; plain = refl; goes = λ _ _ _. refl } };
 
     #[inline(always)]
-    fn is_taken(p: u8) -> bool {
-        has(p, Flag::Negative)
+    fn is_taken(status: &RunningStatus) -> bool {
+        status.has(Flag::Negative)
     }
 }
 
@@ -83,8 +84,8 @@ impl Conditional for Bne {
     ghost goes = { record { untouched = λ _ _ _. refl; plain = refl; goes = λ _ _ _. refl } };
 
     #[inline(always)]
-    fn is_taken(p: u8) -> bool {
-        !has(p, Flag::Zero)
+    fn is_taken(status: &RunningStatus) -> bool {
+        !status.has(Flag::Zero)
     }
 }
 
@@ -96,8 +97,8 @@ impl Conditional for Bpl {
     ghost goes = { record { untouched = λ _ _ _. refl; plain = refl; goes = λ _ _ _. refl } };
 
     #[inline(always)]
-    fn is_taken(p: u8) -> bool {
-        !has(p, Flag::Negative)
+    fn is_taken(status: &RunningStatus) -> bool {
+        !status.has(Flag::Negative)
     }
 }
 
@@ -109,8 +110,8 @@ impl Conditional for Bvc {
     ghost goes = { record { untouched = λ _ _ _. refl; plain = refl; goes = λ _ _ _. refl } };
 
     #[inline(always)]
-    fn is_taken(p: u8) -> bool {
-        !has(p, Flag::Overflow)
+    fn is_taken(status: &RunningStatus) -> bool {
+        !status.has(Flag::Overflow)
     }
 }
 
@@ -122,20 +123,20 @@ impl Conditional for Bvs {
     ghost goes = { record { untouched = λ _ _ _. refl; plain = refl; goes = λ _ _ _. refl } };
 
     #[inline(always)]
-    fn is_taken(p: u8) -> bool {
-        has(p, Flag::Overflow)
+    fn is_taken(status: &RunningStatus) -> bool {
+        status.has(Flag::Overflow)
     }
 }
 
 /// A branch by the byte after the opcode. If it is taken it has one cycle more, and if its
 /// target is on another page than the next instruction, two.
-pub fn branch<O: Conditional, B: Bus>(cpu: &mut Cpu, bus: &mut B, low: u8) -> Option<u8>
+pub fn branch<O: Conditional, B: Bus>(cpu: &mut RunningCpu, bus: &mut B, low: u8) -> Option<u8>
     requires row { IsRow B.meaning (B.state bus.old) cpu.old O.operation Mode.Relative 2 false }
     requires low { IsLow B.meaning (B.state bus.old) cpu.old low }
     ensures { IsOpcodeRun B.meaning cpu.old (B.state bus.old) result cpu.new (B.state bus.new) }
 {
     let next = cpu.pc.wrapping_add(2);
-    if !O::is_taken(cpu.p) {
+    if !O::is_taken(&cpu.status) {
         cpu.set_pc(next);
         bus.pass(2);
         return Some(2);

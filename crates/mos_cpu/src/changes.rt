@@ -5,12 +5,14 @@ ghost use Rattle.mos_cpu.specs.Effects.{changed_of};
 ghost use Rattle.mos_cpu.specs.declared.operation.Operation.{Operation};
 ghost use Rattle.mos_cpu.specs.Private.OpcodeRuns.{IsChanger, IsRow, IsLow, IsOpcodeRun};
 
-use crate::arithmetic::{Alu, dec, inc};
+use crate::arithmetic::{dec, inc};
 use crate::bus::Bus;
 use crate::mode::Mode;
 use crate::operation::Operation;
+use crate::outcome::Outcome;
 use crate::places::PlaceMode;
-use crate::registers::Cpu;
+use crate::running_cpu::RunningCpu;
+use crate::running_status::RunningStatus;
 use crate::shifts::{asl, lsr, rol, ror};
 
 /// An operation that changes a byte.
@@ -18,9 +20,9 @@ pub trait Changer {
     ghost operation: { Operation };
 
     /// What it makes of a byte.
-    fn change(m: u8, p: u8) -> Alu
-        ensures result { result ≡ changed_of operation m p }
-        ensures status { result.p / 16 % 4 ≡ p / 16 % 4 };
+    fn change(m: u8, status: &RunningStatus) -> Outcome
+        ensures result { result ≡ changed_of operation m status.now }
+        ensures status { result.p / 16 % 4 ≡ status.now / 16 % 4 };
 
     ghost changes: { IsChanger operation };
 }
@@ -33,8 +35,8 @@ impl Changer for Asl {
     ghost changes = { record { used = refl; plain = refl; in_memory = λ _ _ _ _. refl; in_a = λ _ _. refl } };
 
     #[inline(always)]
-    fn change(m: u8, p: u8) -> Alu {
-        asl(m, p)
+    fn change(m: u8, status: &RunningStatus) -> Outcome {
+        asl(m, status)
     }
 }
 
@@ -46,8 +48,8 @@ impl Changer for Dec {
     ghost changes = { record { used = refl; plain = refl; in_memory = λ _ _ _ _. refl; in_a = λ _ _. refl } };
 
     #[inline(always)]
-    fn change(m: u8, p: u8) -> Alu {
-        dec(m, p)
+    fn change(m: u8, status: &RunningStatus) -> Outcome {
+        dec(m, status)
     }
 }
 
@@ -59,8 +61,8 @@ impl Changer for Inc {
     ghost changes = { record { used = refl; plain = refl; in_memory = λ _ _ _ _. refl; in_a = λ _ _. refl } };
 
     #[inline(always)]
-    fn change(m: u8, p: u8) -> Alu {
-        inc(m, p)
+    fn change(m: u8, status: &RunningStatus) -> Outcome {
+        inc(m, status)
     }
 }
 
@@ -72,8 +74,8 @@ impl Changer for Lsr {
     ghost changes = { record { used = refl; plain = refl; in_memory = λ _ _ _ _. refl; in_a = λ _ _. refl } };
 
     #[inline(always)]
-    fn change(m: u8, p: u8) -> Alu {
-        lsr(m, p)
+    fn change(m: u8, status: &RunningStatus) -> Outcome {
+        lsr(m, status)
     }
 }
 
@@ -85,8 +87,8 @@ impl Changer for Rol {
     ghost changes = { record { used = refl; plain = refl; in_memory = λ _ _ _ _. refl; in_a = λ _ _. refl } };
 
     #[inline(always)]
-    fn change(m: u8, p: u8) -> Alu {
-        rol(m, p)
+    fn change(m: u8, status: &RunningStatus) -> Outcome {
+        rol(m, status)
     }
 }
 
@@ -98,14 +100,18 @@ impl Changer for Ror {
     ghost changes = { record { used = refl; plain = refl; in_memory = λ _ _ _ _. refl; in_a = λ _ _. refl } };
 
     #[inline(always)]
-    fn change(m: u8, p: u8) -> Alu {
-        ror(m, p)
+    fn change(m: u8, status: &RunningStatus) -> Outcome {
+        ror(m, status)
     }
 }
 
 /// The byte of a place is read, written back, and written as the operation makes it, in the last
 /// three cycles.
-pub fn change<O: Changer, M: PlaceMode, B: Bus>(cpu: &mut Cpu, bus: &mut B, low: u8) -> Option<u8>
+pub fn change<O: Changer, M: PlaceMode, B: Bus>(
+    cpu: &mut RunningCpu,
+    bus: &mut B,
+    low: u8,
+) -> Option<u8>
     requires row { IsRow B.meaning (B.state bus.old) cpu.old O.operation M.mode (M.CYCLES + 2 + (if M.INDEXED then 1 else 0)) false }
     requires low { IsLow B.meaning (B.state bus.old) cpu.old low }
     ensures { IsOpcodeRun B.meaning cpu.old (B.state bus.old) result cpu.new (B.state bus.new) }
@@ -118,20 +124,21 @@ pub fn change<O: Changer, M: PlaceMode, B: Bus>(cpu: &mut Cpu, bus: &mut B, low:
     bus.pass(1);
     bus.write(target.address, byte);
     bus.pass(1);
-    let outcome = O::change(byte, cpu.p);
+    let outcome = O::change(byte, &cpu.status);
     bus.write(target.address, outcome.value);
     bus.pass(0);
-    cpu.set_p(outcome.p);
+    cpu.set_status_of(outcome);
     Some(reading + 2)
 }
 
 /// A is changed.
-pub fn change_a<O: Changer, B: Bus>(cpu: &mut Cpu, bus: &mut B) -> Option<u8>
+pub fn change_a<O: Changer, B: Bus>(cpu: &mut RunningCpu, bus: &mut B) -> Option<u8>
     requires { IsRow B.meaning (B.state bus.old) cpu.old O.operation Mode.Accumulator 2 false }
     ensures { IsOpcodeRun B.meaning cpu.old (B.state bus.old) result cpu.new (B.state bus.new) }
 {
     cpu.set_pc(cpu.pc.wrapping_add(1));
-    cpu.set_a(O::change(cpu.a, cpu.p));
+    let outcome = O::change(cpu.a, &cpu.status);
+    cpu.set_a(outcome);
     bus.pass(2);
     Some(2)
 }

@@ -10,15 +10,15 @@ use crate::arithmetic::{dec, inc, load};
 use crate::bus::Bus;
 use crate::mode::Mode;
 use crate::operation::Operation;
-use crate::registers::Cpu;
-use crate::status::{Flag, with_flag};
+use crate::running_cpu::RunningCpu;
+use crate::status::Flag;
 
 /// An operation on registers alone.
 pub trait ImpliedOperation {
     ghost operation: { Operation };
 
     /// What it does to the registers.
-    fn act(cpu: &mut Cpu)
+    fn act(cpu: &mut RunningCpu)
         ensures { cpu.new ≡ effect operation Register cpu.old [] };
 
     ghost implied: { IsImplied operation };
@@ -32,8 +32,8 @@ impl ImpliedOperation for Clc {
     ghost implied = { record { used = refl; plain = refl } };
 
     #[inline(always)]
-    fn act(cpu: &mut Cpu) {
-        cpu.set_p(with_flag(cpu.p, Flag::Carry, false));
+    fn act(cpu: &mut RunningCpu) {
+        cpu.put_flag(Flag::Carry, false);
     }
 }
 
@@ -45,8 +45,8 @@ impl ImpliedOperation for Cld {
     ghost implied = { record { used = refl; plain = refl } };
 
     #[inline(always)]
-    fn act(cpu: &mut Cpu) {
-        cpu.set_p(with_flag(cpu.p, Flag::Decimal, false));
+    fn act(cpu: &mut RunningCpu) {
+        cpu.put_flag(Flag::Decimal, false);
     }
 }
 
@@ -58,8 +58,8 @@ impl ImpliedOperation for Cli {
     ghost implied = { record { used = refl; plain = refl } };
 
     #[inline(always)]
-    fn act(cpu: &mut Cpu) {
-        cpu.set_p(with_flag(cpu.p, Flag::Interrupt, false));
+    fn act(cpu: &mut RunningCpu) {
+        cpu.put_flag(Flag::Interrupt, false);
     }
 }
 
@@ -71,8 +71,8 @@ impl ImpliedOperation for Clv {
     ghost implied = { record { used = refl; plain = refl } };
 
     #[inline(always)]
-    fn act(cpu: &mut Cpu) {
-        cpu.set_p(with_flag(cpu.p, Flag::Overflow, false));
+    fn act(cpu: &mut RunningCpu) {
+        cpu.put_flag(Flag::Overflow, false);
     }
 }
 
@@ -84,8 +84,9 @@ impl ImpliedOperation for Dex {
     ghost implied = { record { used = refl; plain = refl } };
 
     #[inline(always)]
-    fn act(cpu: &mut Cpu) {
-        cpu.set_x(dec(cpu.x, cpu.p));
+    fn act(cpu: &mut RunningCpu) {
+        let outcome = dec(cpu.x, &cpu.status);
+        cpu.set_x(outcome);
     }
 }
 
@@ -97,8 +98,9 @@ impl ImpliedOperation for Dey {
     ghost implied = { record { used = refl; plain = refl } };
 
     #[inline(always)]
-    fn act(cpu: &mut Cpu) {
-        cpu.set_y(dec(cpu.y, cpu.p));
+    fn act(cpu: &mut RunningCpu) {
+        let outcome = dec(cpu.y, &cpu.status);
+        cpu.set_y(outcome);
     }
 }
 
@@ -110,8 +112,9 @@ impl ImpliedOperation for Inx {
     ghost implied = { record { used = refl; plain = refl } };
 
     #[inline(always)]
-    fn act(cpu: &mut Cpu) {
-        cpu.set_x(inc(cpu.x, cpu.p));
+    fn act(cpu: &mut RunningCpu) {
+        let outcome = inc(cpu.x, &cpu.status);
+        cpu.set_x(outcome);
     }
 }
 
@@ -123,8 +126,9 @@ impl ImpliedOperation for Iny {
     ghost implied = { record { used = refl; plain = refl } };
 
     #[inline(always)]
-    fn act(cpu: &mut Cpu) {
-        cpu.set_y(inc(cpu.y, cpu.p));
+    fn act(cpu: &mut RunningCpu) {
+        let outcome = inc(cpu.y, &cpu.status);
+        cpu.set_y(outcome);
     }
 }
 
@@ -136,7 +140,7 @@ impl ImpliedOperation for Nop {
     ghost implied = { record { used = refl; plain = refl } };
 
     #[inline(always)]
-    fn act(cpu: &mut Cpu) {}
+    fn act(cpu: &mut RunningCpu) {}
 }
 
 pub struct Sec;
@@ -147,8 +151,8 @@ impl ImpliedOperation for Sec {
     ghost implied = { record { used = refl; plain = refl } };
 
     #[inline(always)]
-    fn act(cpu: &mut Cpu) {
-        cpu.set_p(with_flag(cpu.p, Flag::Carry, true));
+    fn act(cpu: &mut RunningCpu) {
+        cpu.put_flag(Flag::Carry, true);
     }
 }
 
@@ -160,8 +164,8 @@ impl ImpliedOperation for Sed {
     ghost implied = { record { used = refl; plain = refl } };
 
     #[inline(always)]
-    fn act(cpu: &mut Cpu) {
-        cpu.set_p(with_flag(cpu.p, Flag::Decimal, true));
+    fn act(cpu: &mut RunningCpu) {
+        cpu.put_flag(Flag::Decimal, true);
     }
 }
 
@@ -173,8 +177,8 @@ impl ImpliedOperation for Sei {
     ghost implied = { record { used = refl; plain = refl } };
 
     #[inline(always)]
-    fn act(cpu: &mut Cpu) {
-        cpu.set_p(with_flag(cpu.p, Flag::Interrupt, true));
+    fn act(cpu: &mut RunningCpu) {
+        cpu.put_flag(Flag::Interrupt, true);
     }
 }
 
@@ -186,8 +190,9 @@ impl ImpliedOperation for Tax {
     ghost implied = { record { used = refl; plain = refl } };
 
     #[inline(always)]
-    fn act(cpu: &mut Cpu) {
-        cpu.set_x(load(cpu.a, cpu.p));
+    fn act(cpu: &mut RunningCpu) {
+        let outcome = load(cpu.a, &cpu.status);
+        cpu.set_x(outcome);
     }
 }
 
@@ -199,8 +204,9 @@ impl ImpliedOperation for Tay {
     ghost implied = { record { used = refl; plain = refl } };
 
     #[inline(always)]
-    fn act(cpu: &mut Cpu) {
-        cpu.set_y(load(cpu.a, cpu.p));
+    fn act(cpu: &mut RunningCpu) {
+        let outcome = load(cpu.a, &cpu.status);
+        cpu.set_y(outcome);
     }
 }
 
@@ -212,8 +218,9 @@ impl ImpliedOperation for Tsx {
     ghost implied = { record { used = refl; plain = refl } };
 
     #[inline(always)]
-    fn act(cpu: &mut Cpu) {
-        cpu.set_x(load(cpu.s, cpu.p));
+    fn act(cpu: &mut RunningCpu) {
+        let outcome = load(cpu.s, &cpu.status);
+        cpu.set_x(outcome);
     }
 }
 
@@ -225,8 +232,9 @@ impl ImpliedOperation for Txa {
     ghost implied = { record { used = refl; plain = refl } };
 
     #[inline(always)]
-    fn act(cpu: &mut Cpu) {
-        cpu.set_a(load(cpu.x, cpu.p));
+    fn act(cpu: &mut RunningCpu) {
+        let outcome = load(cpu.x, &cpu.status);
+        cpu.set_a(outcome);
     }
 }
 
@@ -238,7 +246,7 @@ impl ImpliedOperation for Txs {
     ghost implied = { record { used = refl; plain = refl } };
 
     #[inline(always)]
-    fn act(cpu: &mut Cpu) {
+    fn act(cpu: &mut RunningCpu) {
         cpu.set_s(cpu.x);
     }
 }
@@ -251,13 +259,14 @@ impl ImpliedOperation for Tya {
     ghost implied = { record { used = refl; plain = refl } };
 
     #[inline(always)]
-    fn act(cpu: &mut Cpu) {
-        cpu.set_a(load(cpu.y, cpu.p));
+    fn act(cpu: &mut RunningCpu) {
+        let outcome = load(cpu.y, &cpu.status);
+        cpu.set_a(outcome);
     }
 }
 
 /// An operation on registers, whose opcode is the whole instruction.
-pub fn implied<O: ImpliedOperation, B: Bus>(cpu: &mut Cpu, bus: &mut B) -> Option<u8>
+pub fn implied<O: ImpliedOperation, B: Bus>(cpu: &mut RunningCpu, bus: &mut B) -> Option<u8>
     requires { IsRow B.meaning (B.state bus.old) cpu.old O.operation Mode.Implied 2 false }
     ensures { IsOpcodeRun B.meaning cpu.old (B.state bus.old) result cpu.new (B.state bus.new) }
 {

@@ -8,7 +8,7 @@ ghost use Rattle.mos_cpu.specs.declared.mode.Mode.{Mode};
 use crate::addressing::{Target, direct, offset_by, pointer, word_after};
 use crate::bus::Bus;
 use crate::mode::Mode;
-use crate::registers::Cpu;
+use crate::running_cpu::RunningCpu;
 
 /// An addressing mode that names a place.
 ///
@@ -26,7 +26,7 @@ pub trait PlaceMode {
     ghost mode: { Mode };
 
     /// The place by the byte after the opcode. None if a byte of the instruction isn't there.
-    fn target<B: Bus>(cpu: &Cpu, bus: &B, low: u8) -> Option<Target>
+    fn target<B: Bus>(cpu: &RunningCpu, bus: &B, low: u8) -> Option<Target>
         requires { IsLow B.meaning (B.state bus.now) cpu.now low }
         ensures { IsNamed B.meaning (B.state bus.now) cpu.now mode result };
 
@@ -49,7 +49,7 @@ impl PlaceMode for ZeroPage {
     ghost short = { Prim.search rules };
 
     #[inline(always)]
-    fn target<B: Bus>(cpu: &Cpu, _bus: &B, low: u8) -> Option<Target> {
+    fn target<B: Bus>(cpu: &RunningCpu, _bus: &B, low: u8) -> Option<Target> {
         Some(direct(low as u16, cpu.pc.wrapping_add(2)))
     }
 }
@@ -70,7 +70,7 @@ impl PlaceMode for ZeroPageX {
     ghost short = { Prim.search rules };
 
     #[inline(always)]
-    fn target<B: Bus>(cpu: &Cpu, _bus: &B, low: u8) -> Option<Target> {
+    fn target<B: Bus>(cpu: &RunningCpu, _bus: &B, low: u8) -> Option<Target> {
         Some(direct(low.wrapping_add(cpu.x) as u16, cpu.pc.wrapping_add(2)))
     }
 }
@@ -91,7 +91,7 @@ impl PlaceMode for ZeroPageY {
     ghost short = { Prim.search rules };
 
     #[inline(always)]
-    fn target<B: Bus>(cpu: &Cpu, _bus: &B, low: u8) -> Option<Target> {
+    fn target<B: Bus>(cpu: &RunningCpu, _bus: &B, low: u8) -> Option<Target> {
         Some(direct(low.wrapping_add(cpu.y) as u16, cpu.pc.wrapping_add(2)))
     }
 }
@@ -112,7 +112,7 @@ impl PlaceMode for Absolute {
     ghost short = { Prim.search rules };
 
     #[inline(always)]
-    fn target<B: Bus>(cpu: &Cpu, bus: &B, low: u8) -> Option<Target> {
+    fn target<B: Bus>(cpu: &RunningCpu, bus: &B, low: u8) -> Option<Target> {
         let address = word_after(cpu, bus, low)?;
         Some(direct(address, cpu.pc.wrapping_add(3)))
     }
@@ -134,7 +134,7 @@ impl PlaceMode for AbsoluteX {
     ghost short = { Prim.search rules };
 
     #[inline(always)]
-    fn target<B: Bus>(cpu: &Cpu, bus: &B, low: u8) -> Option<Target> {
+    fn target<B: Bus>(cpu: &RunningCpu, bus: &B, low: u8) -> Option<Target> {
         let base = word_after(cpu, bus, low)?;
         Some(offset_by(base, cpu.x as u16, cpu.pc.wrapping_add(3)))
     }
@@ -156,7 +156,7 @@ impl PlaceMode for AbsoluteY {
     ghost short = { Prim.search rules };
 
     #[inline(always)]
-    fn target<B: Bus>(cpu: &Cpu, bus: &B, low: u8) -> Option<Target> {
+    fn target<B: Bus>(cpu: &RunningCpu, bus: &B, low: u8) -> Option<Target> {
         let base = word_after(cpu, bus, low)?;
         Some(offset_by(base, cpu.y as u16, cpu.pc.wrapping_add(3)))
     }
@@ -178,7 +178,7 @@ impl PlaceMode for IndirectX {
     ghost short = { Prim.search rules };
 
     #[inline(always)]
-    fn target<B: Bus>(cpu: &Cpu, bus: &B, low: u8) -> Option<Target> {
+    fn target<B: Bus>(cpu: &RunningCpu, bus: &B, low: u8) -> Option<Target> {
         let at = low.wrapping_add(cpu.x);
         Some(direct(pointer(bus, at), cpu.pc.wrapping_add(2)))
     }
@@ -200,7 +200,7 @@ impl PlaceMode for IndirectY {
     ghost short = { Prim.search rules };
 
     #[inline(always)]
-    fn target<B: Bus>(cpu: &Cpu, bus: &B, low: u8) -> Option<Target> {
+    fn target<B: Bus>(cpu: &RunningCpu, bus: &B, low: u8) -> Option<Target> {
         let base = pointer(bus, low);
         Some(offset_by(base, cpu.y as u16, cpu.pc.wrapping_add(2)))
     }

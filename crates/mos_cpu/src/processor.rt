@@ -23,6 +23,7 @@ use crate::places::{
 };
 use crate::reads::{Adc, And, Bit, Cmp, Cpx, Cpy, Eor, Lda, Ldx, Ldy, Ora, Sbc, read, value};
 use crate::registers::Cpu;
+use crate::running_cpu::RunningCpu;
 use crate::stack::{brk, jmp, jmp_indirect, jsr, pha, php, pla, plp, rti, rts};
 use crate::stores::{Sta, Stx, Sty, store};
 
@@ -54,7 +55,7 @@ fn low_byte<B: Bus>(cpu: Cpu, bus: &B, opcode: u8) -> Option<u8>
 /// The instruction of this opcode, which is at the program counter, with the byte after it. None,
 /// with nothing done, if it has a fault.
 #[inline(always)]
-fn run_bytes<B: Bus>(cpu: &mut Cpu, bus: &mut B, opcode: u8, low: u8) -> Option<u8>
+fn run_bytes<B: Bus>(cpu: &mut RunningCpu, bus: &mut B, opcode: u8, low: u8) -> Option<u8>
     requires opcode { B.meaning.peeked (B.state bus.old) cpu.old.pc ≡ Some opcode }
     requires low { has_low opcode ≡ true → IsLow B.meaning (B.state bus.old) cpu.old low }
     ensures { IsOpcodeRun B.meaning cpu.old (B.state bus.old) result cpu.new (B.state bus.new) }
@@ -218,13 +219,13 @@ fn run_bytes<B: Bus>(cpu: &mut Cpu, bus: &mut B, opcode: u8, low: u8) -> Option<
 /// The instruction at the program counter, by its opcode. None, with nothing done, if it has a
 /// fault.
 #[inline(always)]
-fn run_opcode<B: Bus>(cpu: &mut Cpu, bus: &mut B) -> Option<u8>
+fn run_opcode<B: Bus>(cpu: &mut RunningCpu, bus: &mut B) -> Option<u8>
     ensures { IsOpcodeRun B.meaning cpu.old (B.state bus.old) result cpu.new (B.state bus.new) }
 {
     let opcode = bus.peek(cpu.pc)?;
     let low = match bus.peek_after(cpu.pc) {
         Some(low) => low,
-        None => low_byte(*cpu, bus, opcode)?,
+        None => low_byte(cpu.registers(), bus, opcode)?,
     };
     run_bytes(cpu, bus, opcode, low)
 }
@@ -320,8 +321,30 @@ pub fn step<B: Bus>(cpu: &mut Cpu, bus: &mut B) -> Result<u8, CpuFault>
         let start = clock (B.state bus.old) in
         IfOk result (λ cycles. clock (B.state bus.new) ≡ advance start cycles) }
 {
+    let mut running = RunningCpu::of(cpu);
+    let answer = step_running(&mut running, bus);
+    *cpu = running.registers();
+    answer
+}
+
+/// The same as `step`, for a caller with a loop over instructions.
+#[inline(always)]
+pub fn step_running<B: Bus>(cpu: &mut RunningCpu, bus: &mut B) -> Result<u8, CpuFault>
+    ensures answer { result ≡ (step_of B.meaning cpu.old (B.state bus.old)).answer }
+    ensures registers { cpu.new ≡ (step_of B.meaning cpu.old (B.state bus.old)).registers }
+    ensures bus { B.state bus.new ≡ (step_of B.meaning cpu.old (B.state bus.old)).bus }
+
+    ensures fault_cpu { OnErr result (cpu.new ≡ cpu.old) }
+    ensures fault_bus { OnErr result (B.state bus.new ≡ B.state bus.old) }
+
+    ensures least { IfOk result (λ cycles. 2 ≤ cycles) }
+    ensures most { IfOk result (λ cycles. cycles ≤ 7) }
+    ensures clock { (advance : ℕ → ℕ → ℕ) (clock : B.State → ℕ) → IsClock B.meaning advance clock →
+        let start = clock (B.state bus.old) in
+        IfOk result (λ cycles. clock (B.state bus.new) ≡ advance start cycles) }
+{
     match run_opcode(cpu, bus) {
         Some(cycles) => Ok(cycles),
-        None => Err(fault(*cpu, bus)),
+        None => Err(fault(cpu.registers(), bus)),
     }
 }

@@ -12,7 +12,7 @@ use crate::bus::Bus;
 use crate::mode::Mode;
 use crate::operation::Operation;
 use crate::places::PlaceMode;
-use crate::registers::Cpu;
+use crate::running_cpu::RunningCpu;
 use crate::sums::{adc, sbc};
 
 /// An operation that reads a byte.
@@ -20,7 +20,7 @@ pub trait Reader {
     ghost operation: { Operation };
 
     /// What it does to the registers with a byte.
-    fn take(cpu: &mut Cpu, m: u8)
+    fn take(cpu: &mut RunningCpu, m: u8)
         ensures { cpu.new ≡ effect operation (Value m) cpu.old [] };
 
     ghost reads: { IsReader operation };
@@ -34,8 +34,9 @@ impl Reader for Adc {
     ghost reads = { record { used = refl; plain = refl; same = λ _ _ _ _. refl } };
 
     #[inline(always)]
-    fn take(cpu: &mut Cpu, m: u8) {
-        cpu.set_a(adc(cpu.a, m, cpu.p));
+    fn take(cpu: &mut RunningCpu, m: u8) {
+        let outcome = adc(cpu.a, m, &cpu.status);
+        cpu.set_a(outcome);
     }
 }
 
@@ -47,8 +48,9 @@ impl Reader for And {
     ghost reads = { record { used = refl; plain = refl; same = λ _ _ _ _. refl } };
 
     #[inline(always)]
-    fn take(cpu: &mut Cpu, m: u8) {
-        cpu.set_a(and(cpu.a, m, cpu.p));
+    fn take(cpu: &mut RunningCpu, m: u8) {
+        let outcome = and(cpu.a, m, &cpu.status);
+        cpu.set_a(outcome);
     }
 }
 
@@ -60,8 +62,9 @@ impl Reader for Bit {
     ghost reads = { record { used = refl; plain = refl; same = λ _ _ _ _. refl } };
 
     #[inline(always)]
-    fn take(cpu: &mut Cpu, m: u8) {
-        cpu.set_p(bit(cpu.a, m, cpu.p).p);
+    fn take(cpu: &mut RunningCpu, m: u8) {
+        let outcome = bit(cpu.a, m, &cpu.status);
+        cpu.set_status_of(outcome);
     }
 }
 
@@ -73,8 +76,9 @@ impl Reader for Cmp {
     ghost reads = { record { used = refl; plain = refl; same = λ _ _ _ _. refl } };
 
     #[inline(always)]
-    fn take(cpu: &mut Cpu, m: u8) {
-        cpu.set_p(compare(cpu.a, m, cpu.p).p);
+    fn take(cpu: &mut RunningCpu, m: u8) {
+        let outcome = compare(cpu.a, m, &cpu.status);
+        cpu.set_status_of(outcome);
     }
 }
 
@@ -86,8 +90,9 @@ impl Reader for Cpx {
     ghost reads = { record { used = refl; plain = refl; same = λ _ _ _ _. refl } };
 
     #[inline(always)]
-    fn take(cpu: &mut Cpu, m: u8) {
-        cpu.set_p(compare(cpu.x, m, cpu.p).p);
+    fn take(cpu: &mut RunningCpu, m: u8) {
+        let outcome = compare(cpu.x, m, &cpu.status);
+        cpu.set_status_of(outcome);
     }
 }
 
@@ -99,8 +104,9 @@ impl Reader for Cpy {
     ghost reads = { record { used = refl; plain = refl; same = λ _ _ _ _. refl } };
 
     #[inline(always)]
-    fn take(cpu: &mut Cpu, m: u8) {
-        cpu.set_p(compare(cpu.y, m, cpu.p).p);
+    fn take(cpu: &mut RunningCpu, m: u8) {
+        let outcome = compare(cpu.y, m, &cpu.status);
+        cpu.set_status_of(outcome);
     }
 }
 
@@ -112,8 +118,9 @@ impl Reader for Eor {
     ghost reads = { record { used = refl; plain = refl; same = λ _ _ _ _. refl } };
 
     #[inline(always)]
-    fn take(cpu: &mut Cpu, m: u8) {
-        cpu.set_a(eor(cpu.a, m, cpu.p));
+    fn take(cpu: &mut RunningCpu, m: u8) {
+        let outcome = eor(cpu.a, m, &cpu.status);
+        cpu.set_a(outcome);
     }
 }
 
@@ -125,8 +132,9 @@ impl Reader for Lda {
     ghost reads = { record { used = refl; plain = refl; same = λ _ _ _ _. refl } };
 
     #[inline(always)]
-    fn take(cpu: &mut Cpu, m: u8) {
-        cpu.set_a(load(m, cpu.p));
+    fn take(cpu: &mut RunningCpu, m: u8) {
+        let outcome = load(m, &cpu.status);
+        cpu.set_a(outcome);
     }
 }
 
@@ -138,8 +146,9 @@ impl Reader for Ldx {
     ghost reads = { record { used = refl; plain = refl; same = λ _ _ _ _. refl } };
 
     #[inline(always)]
-    fn take(cpu: &mut Cpu, m: u8) {
-        cpu.set_x(load(m, cpu.p));
+    fn take(cpu: &mut RunningCpu, m: u8) {
+        let outcome = load(m, &cpu.status);
+        cpu.set_x(outcome);
     }
 }
 
@@ -151,8 +160,9 @@ impl Reader for Ldy {
     ghost reads = { record { used = refl; plain = refl; same = λ _ _ _ _. refl } };
 
     #[inline(always)]
-    fn take(cpu: &mut Cpu, m: u8) {
-        cpu.set_y(load(m, cpu.p));
+    fn take(cpu: &mut RunningCpu, m: u8) {
+        let outcome = load(m, &cpu.status);
+        cpu.set_y(outcome);
     }
 }
 
@@ -164,8 +174,9 @@ impl Reader for Ora {
     ghost reads = { record { used = refl; plain = refl; same = λ _ _ _ _. refl } };
 
     #[inline(always)]
-    fn take(cpu: &mut Cpu, m: u8) {
-        cpu.set_a(ora(cpu.a, m, cpu.p));
+    fn take(cpu: &mut RunningCpu, m: u8) {
+        let outcome = ora(cpu.a, m, &cpu.status);
+        cpu.set_a(outcome);
     }
 }
 
@@ -177,13 +188,18 @@ impl Reader for Sbc {
     ghost reads = { record { used = refl; plain = refl; same = λ _ _ _ _. refl } };
 
     #[inline(always)]
-    fn take(cpu: &mut Cpu, m: u8) {
-        cpu.set_a(sbc(cpu.a, m, cpu.p));
+    fn take(cpu: &mut RunningCpu, m: u8) {
+        let outcome = sbc(cpu.a, m, &cpu.status);
+        cpu.set_a(outcome);
     }
 }
 
 /// An operation with the byte of a place, which is read in the last cycle.
-pub fn read<O: Reader, M: PlaceMode, B: Bus>(cpu: &mut Cpu, bus: &mut B, low: u8) -> Option<u8>
+pub fn read<O: Reader, M: PlaceMode, B: Bus>(
+    cpu: &mut RunningCpu,
+    bus: &mut B,
+    low: u8,
+) -> Option<u8>
     requires row { IsRow B.meaning (B.state bus.old) cpu.old O.operation M.mode M.CYCLES M.INDEXED }
     requires low { IsLow B.meaning (B.state bus.old) cpu.old low }
     ensures { IsOpcodeRun B.meaning cpu.old (B.state bus.old) result cpu.new (B.state bus.new) }
@@ -203,7 +219,7 @@ pub fn read<O: Reader, M: PlaceMode, B: Bus>(cpu: &mut Cpu, bus: &mut B, low: u8
 }
 
 /// An operation with the byte after the opcode.
-pub fn value<O: Reader, B: Bus>(cpu: &mut Cpu, bus: &mut B, low: u8) -> Option<u8>
+pub fn value<O: Reader, B: Bus>(cpu: &mut RunningCpu, bus: &mut B, low: u8) -> Option<u8>
     requires row { IsRow B.meaning (B.state bus.old) cpu.old O.operation Mode.Immediate 2 false }
     requires low { IsLow B.meaning (B.state bus.old) cpu.old low }
     ensures { IsOpcodeRun B.meaning cpu.old (B.state bus.old) result cpu.new (B.state bus.new) }

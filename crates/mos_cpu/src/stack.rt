@@ -9,8 +9,9 @@ use crate::arithmetic::load;
 use crate::bus::Bus;
 use crate::mode::Mode;
 use crate::operation::Operation;
-use crate::registers::Cpu;
-use crate::status::{Flag, pulled_status, pushed_status, with_flag};
+use crate::running_cpu::RunningCpu;
+use crate::running_status::RunningStatus;
+use crate::status::{Flag, pulled_status, pushed_status};
 
 /// Where the n-th push goes, counted from 0.
 #[inline(always)]
@@ -30,7 +31,7 @@ fn pulled_at(s: u8, n: u8) -> u16
 
 /// JMP to the address after the opcode.
 #[tactic(auto, using(crate::proofs::OpcodeRunLemmas::outside))]
-pub fn jmp<B: Bus>(cpu: &mut Cpu, bus: &mut B, low: u8) -> Option<u8>
+pub fn jmp<B: Bus>(cpu: &mut RunningCpu, bus: &mut B, low: u8) -> Option<u8>
     requires row { IsRow B.meaning (B.state bus.old) cpu.old Operation.Jmp Mode.Absolute 3 false }
     requires low { IsLow B.meaning (B.state bus.old) cpu.old low }
     ensures { IsOpcodeRun B.meaning cpu.old (B.state bus.old) result cpu.new (B.state bus.new) }
@@ -43,7 +44,7 @@ pub fn jmp<B: Bus>(cpu: &mut Cpu, bus: &mut B, low: u8) -> Option<u8>
 
 /// JSR: pushes the address of its last byte, high byte first, and jumps.
 #[tactic(auto, using(crate::proofs::OpcodeRunLemmas::outside))]
-pub fn jsr<B: Bus>(cpu: &mut Cpu, bus: &mut B, low: u8) -> Option<u8>
+pub fn jsr<B: Bus>(cpu: &mut RunningCpu, bus: &mut B, low: u8) -> Option<u8>
     requires row { IsRow B.meaning (B.state bus.old) cpu.old Operation.Jsr Mode.Absolute 6 false }
     requires low { IsLow B.meaning (B.state bus.old) cpu.old low }
     ensures { IsOpcodeRun B.meaning cpu.old (B.state bus.old) result cpu.new (B.state bus.new) }
@@ -61,7 +62,7 @@ pub fn jsr<B: Bus>(cpu: &mut Cpu, bus: &mut B, low: u8) -> Option<u8>
 }
 
 /// RTS: pulls an address, and goes to the one after it.
-pub fn rts<B: Bus>(cpu: &mut Cpu, bus: &mut B) -> Option<u8>
+pub fn rts<B: Bus>(cpu: &mut RunningCpu, bus: &mut B) -> Option<u8>
     requires { IsRow B.meaning (B.state bus.old) cpu.old Operation.Rts Mode.Implied 6 false }
     ensures { IsOpcodeRun B.meaning cpu.old (B.state bus.old) result cpu.new (B.state bus.new) }
 {
@@ -76,7 +77,7 @@ pub fn rts<B: Bus>(cpu: &mut Cpu, bus: &mut B) -> Option<u8>
 }
 
 /// PHA: pushes A.
-pub fn pha<B: Bus>(cpu: &mut Cpu, bus: &mut B) -> Option<u8>
+pub fn pha<B: Bus>(cpu: &mut RunningCpu, bus: &mut B) -> Option<u8>
     requires { IsRow B.meaning (B.state bus.old) cpu.old Operation.Pha Mode.Implied 3 false }
     ensures { IsOpcodeRun B.meaning cpu.old (B.state bus.old) result cpu.new (B.state bus.new) }
 {
@@ -89,7 +90,7 @@ pub fn pha<B: Bus>(cpu: &mut Cpu, bus: &mut B) -> Option<u8>
 }
 
 /// PLA: pulls A, with N and Z.
-pub fn pla<B: Bus>(cpu: &mut Cpu, bus: &mut B) -> Option<u8>
+pub fn pla<B: Bus>(cpu: &mut RunningCpu, bus: &mut B) -> Option<u8>
     requires { IsRow B.meaning (B.state bus.old) cpu.old Operation.Pla Mode.Implied 4 false }
     ensures { IsOpcodeRun B.meaning cpu.old (B.state bus.old) result cpu.new (B.state bus.new) }
 {
@@ -97,18 +98,19 @@ pub fn pla<B: Bus>(cpu: &mut Cpu, bus: &mut B) -> Option<u8>
     let byte = bus.read(pulled_at(cpu.s, 1));
     bus.pass(0);
     cpu.set_s(cpu.s.wrapping_add(1));
-    cpu.set_a(load(byte, cpu.p));
+    let outcome = load(byte, &cpu.status);
+    cpu.set_a(outcome);
     cpu.set_pc(cpu.pc.wrapping_add(1));
     Some(4)
 }
 
 /// PHP: pushes the status, with bits 5 and 4 set.
-pub fn php<B: Bus>(cpu: &mut Cpu, bus: &mut B) -> Option<u8>
+pub fn php<B: Bus>(cpu: &mut RunningCpu, bus: &mut B) -> Option<u8>
     requires { IsRow B.meaning (B.state bus.old) cpu.old Operation.Php Mode.Implied 3 false }
     ensures { IsOpcodeRun B.meaning cpu.old (B.state bus.old) result cpu.new (B.state bus.new) }
 {
     bus.pass(3);
-    bus.write(pushed_at(cpu.s, 0), pushed_status(cpu.p));
+    bus.write(pushed_at(cpu.s, 0), pushed_status(cpu.status.byte()));
     bus.pass(0);
     cpu.set_s(cpu.s.wrapping_sub(1));
     cpu.set_pc(cpu.pc.wrapping_add(1));
@@ -116,7 +118,7 @@ pub fn php<B: Bus>(cpu: &mut Cpu, bus: &mut B) -> Option<u8>
 }
 
 /// PLP: pulls the status.
-pub fn plp<B: Bus>(cpu: &mut Cpu, bus: &mut B) -> Option<u8>
+pub fn plp<B: Bus>(cpu: &mut RunningCpu, bus: &mut B) -> Option<u8>
     requires { IsRow B.meaning (B.state bus.old) cpu.old Operation.Plp Mode.Implied 4 false }
     ensures { IsOpcodeRun B.meaning cpu.old (B.state bus.old) result cpu.new (B.state bus.new) }
 {
@@ -124,13 +126,13 @@ pub fn plp<B: Bus>(cpu: &mut Cpu, bus: &mut B) -> Option<u8>
     let byte = bus.read(pulled_at(cpu.s, 1));
     bus.pass(0);
     cpu.set_s(cpu.s.wrapping_add(1));
-    cpu.set_p(pulled_status(byte));
+    cpu.set_status(RunningStatus::of(pulled_status(byte)));
     cpu.set_pc(cpu.pc.wrapping_add(1));
     Some(4)
 }
 
 /// RTI: pulls the status and an address, and goes there.
-pub fn rti<B: Bus>(cpu: &mut Cpu, bus: &mut B) -> Option<u8>
+pub fn rti<B: Bus>(cpu: &mut RunningCpu, bus: &mut B) -> Option<u8>
     requires { IsRow B.meaning (B.state bus.old) cpu.old Operation.Rti Mode.Implied 6 false }
     ensures { IsOpcodeRun B.meaning cpu.old (B.state bus.old) result cpu.new (B.state bus.new) }
 {
@@ -142,13 +144,13 @@ pub fn rti<B: Bus>(cpu: &mut Cpu, bus: &mut B) -> Option<u8>
     let high = bus.read(pulled_at(cpu.s, 3));
     bus.pass(0);
     cpu.set_s(cpu.s.wrapping_add(3));
-    cpu.set_p(pulled_status(status));
+    cpu.set_status(RunningStatus::of(pulled_status(status)));
     cpu.set_pc(u16::from_le_bytes([low, high]));
     Some(6)
 }
 
 /// BRK: pushes the address two bytes on and the status, sets I, and goes where the vector says.
-pub fn brk<B: Bus>(cpu: &mut Cpu, bus: &mut B) -> Option<u8>
+pub fn brk<B: Bus>(cpu: &mut RunningCpu, bus: &mut B) -> Option<u8>
     requires { IsRow B.meaning (B.state bus.old) cpu.old Operation.Brk Mode.Implied 7 false }
     ensures { IsOpcodeRun B.meaning cpu.old (B.state bus.old) result cpu.new (B.state bus.new) }
 {
@@ -160,17 +162,17 @@ pub fn brk<B: Bus>(cpu: &mut Cpu, bus: &mut B) -> Option<u8>
     bus.pass(1);
     bus.write(pushed_at(cpu.s, 1), return_low);
     bus.pass(1);
-    bus.write(pushed_at(cpu.s, 2), pushed_status(cpu.p));
+    bus.write(pushed_at(cpu.s, 2), pushed_status(cpu.status.byte()));
     bus.pass(2);
     cpu.set_s(cpu.s.wrapping_sub(3));
-    cpu.set_p(with_flag(cpu.p, Flag::Interrupt, true));
+    cpu.put_flag(Flag::Interrupt, true);
     cpu.set_pc(u16::from_le_bytes([low, high]));
     Some(7)
 }
 
 /// JMP to the address that stands at the one after the opcode.
 #[tactic(auto, using(crate::proofs::OpcodeRunLemmas::outside))]
-pub fn jmp_indirect<B: Bus>(cpu: &mut Cpu, bus: &mut B, low: u8) -> Option<u8>
+pub fn jmp_indirect<B: Bus>(cpu: &mut RunningCpu, bus: &mut B, low: u8) -> Option<u8>
     requires row { IsRow B.meaning (B.state bus.old) cpu.old Operation.Jmp Mode.Indirect 5 false }
     requires low { IsLow B.meaning (B.state bus.old) cpu.old low }
     ensures { IsOpcodeRun B.meaning cpu.old (B.state bus.old) result cpu.new (B.state bus.new) }

@@ -2,7 +2,7 @@
 
 ghost use Rattle.std.specs.Prelude.{◌≡◌, ◌+◌, ◌/◌, ◌%◌};
 ghost use Rattle.mos_cpu.specs.Registers.{IsStatus};
-ghost use Rattle.mos_cpu.specs.Status.{flag_weight, has_flag, put_flag, with_nz, pushed_of};
+ghost use Rattle.mos_cpu.specs.Status.{flag_weight, has_flag, put_flag, pushed_of};
 ghost use Rattle.mos_cpu.specs.Status.{pulled_of};
 
 /// A flag of the status register.
@@ -48,19 +48,6 @@ pub const fn with_flag(p: u8, flag: Flag, on: bool) -> u8
 {
     let others = p & !mask(flag);
     if on { others | mask(flag) } else { others }
-}
-
-/// The status with N and Z of a value.
-#[inline(always)]
-pub const fn with_sign(p: u8, value: u8) -> u8
-    ensures value { result ≡ with_nz value p }
-    ensures status { result / 16 % 4 ≡ p / 16 % 4 }
-{
-    with_flag(
-        with_flag(p, Flag::Zero, value == 0),
-        Flag::Negative,
-        has(value, Flag::Negative),
-    )
 }
 
 /// The status as it is pushed: with bits 5 and 4 set.

@@ -9,7 +9,7 @@ use crate::addressing::Target;
 use crate::bus::Bus;
 use crate::operation::Operation;
 use crate::places::PlaceMode;
-use crate::registers::Cpu;
+use crate::running_cpu::RunningCpu;
 
 /// An operation that stores a register.
 pub trait Storer {
@@ -20,7 +20,7 @@ pub trait Storer {
     ghost what: { StoredByte };
 
     /// The byte that it stores.
-    fn value(cpu: &Cpu) -> u8
+    fn value(cpu: &RunningCpu) -> u8
         ensures { result ≡ stored_byte what cpu.now };
 
     ghost stores: { IsStorer operation what };
@@ -36,7 +36,7 @@ impl Storer for Sta {
     ghost stores = { record { used = refl; plain = refl; idle = λ _ _ _. refl } };
 
     #[inline(always)]
-    fn value(cpu: &Cpu) -> u8 {
+    fn value(cpu: &RunningCpu) -> u8 {
         cpu.a
     }
 }
@@ -51,7 +51,7 @@ impl Storer for Stx {
     ghost stores = { record { used = refl; plain = refl; idle = λ _ _ _. refl } };
 
     #[inline(always)]
-    fn value(cpu: &Cpu) -> u8 {
+    fn value(cpu: &RunningCpu) -> u8 {
         cpu.x
     }
 }
@@ -66,13 +66,17 @@ impl Storer for Sty {
     ghost stores = { record { used = refl; plain = refl; idle = λ _ _ _. refl } };
 
     #[inline(always)]
-    fn value(cpu: &Cpu) -> u8 {
+    fn value(cpu: &RunningCpu) -> u8 {
         cpu.y
     }
 }
 
 /// A byte is stored at a place in the last cycle.
-pub fn store<O: Storer, M: PlaceMode, B: Bus>(cpu: &mut Cpu, bus: &mut B, low: u8) -> Option<u8>
+pub fn store<O: Storer, M: PlaceMode, B: Bus>(
+    cpu: &mut RunningCpu,
+    bus: &mut B,
+    low: u8,
+) -> Option<u8>
     requires row { IsRow B.meaning (B.state bus.old) cpu.old O.operation M.mode (M.CYCLES + (if M.INDEXED then 1 else 0)) false }
     requires low { IsLow B.meaning (B.state bus.old) cpu.old low }
     ensures { IsOpcodeRun B.meaning cpu.old (B.state bus.old) result cpu.new (B.state bus.new) }

@@ -1,5 +1,5 @@
 use Rattle.mos_cpu.proofs.StepLaws.{step_of-least, step_of-most, step_of-clock}
-use Rattle.mos_cpu.proofs.processor.step.Goals as goal
+use Rattle.mos_cpu.proofs.processor.step_running.Goals as goal
 
 pub returns-in-Some-clause-least : goal.returns-in-Some-clause-least
 returns-in-Some-clause-least g c = rw (rw c.in-Some.is at c.run_opcode.ensures) at (step_of-least g.B.Bus.meaning c.args.cpu.now (g.B.Bus.state c.args.bus.now))
