@@ -10,10 +10,12 @@ use Rattle.std.proofs.lemmas.Nat.{or_block}
 use Rattle.std.proofs.lemmas.Nat.Bits.{bit_at_or, same_from_bits}
 use Rattle.tia_core.specs.Collision.{collision_byte, met_byte, number_from, pairs_list, pairs_of}
 use Rattle.tia_core.specs.Objects.{objects_at}
-use Rattle.tia_core.specs.Private.Stretches.{has_two, union_of, set_number, stretch_pairs, IsBound}
+use Rattle.tia_core.specs.Private.Stretches.{has_two, set_number, stretch_pairs, union_of, visible_objects}
+use Rattle.tia_core.specs.Private.Stretches.{IsBound}
 use Rattle.tia_core.specs.declared.fields.TiaFields.{TiaFields}
 use Rattle.tia_core.specs.declared.objects.Objects.{Objects}
 use Rattle.tia_core.specs.declared.objects.TheConstants.{PAIRS}
+use Rattle.tia_core.proofs.Shapes.{visible-joined}
 
 -- ---- what a test says of each set of objects is tried at each of the 64
 both : (Bool → Bool) → Bool
@@ -97,7 +99,12 @@ latched-first t c x k =
 -- the bits of all pairs are a bound
 pub all-bound : (t : TiaFields) → IsBound t 65535
 unfolding both pairs_of
-all-bound t x h = eqb-true _ _ (at_set (λ s. bit_or 65535 (pairs_of s) == 65535) refl (objects_at t x))
+all-bound t = eqb-true _ _ (at_set (λ s. bit_or 65535 (pairs_of s) == 65535) refl (visible_objects t))
+
+-- and so are those of the objects that may be visible
+pub visible-bound : (t : TiaFields) → IsBound t (pairs_of (visible_objects t))
+unfolding both pairs_of
+visible-bound t = eqb-true _ _ (at_set (λ s. bit_or (pairs_of s) (pairs_of s) == pairs_of s) refl (visible_objects t))
 
 or-within : (c bound n : ℕ) → bit_or bound n ≡ bound → bit_or c bound ≡ c → bit_or c n ≡ c
 or-within c bound n h e = ap (λ (a : ℕ). bit_or a n) (sym e) ∙ or_assoc c bound n ∙ ap (bit_or c) h ∙ e
@@ -111,8 +118,10 @@ stretch-idle t c x (suc k) h =
     ∙ sym (latched-first t c x k)
 
 -- where a bound is latched already, a stretch latches nothing
-pub stretch-bounded : (t : TiaFields) (bound c x k : ℕ) → IsBound t bound → bit_or c bound ≡ c → x + k ≤ 160 → c ≡ latched t c x k
-stretch-bounded t bound c x k h e fits = stretch-idle t c x k (λ y le lt. or-within c bound _ (h y (omega arith)) e)
+pub stretch-bounded : (t : TiaFields) (bound c x k : ℕ) → IsBound t bound → bit_or c bound ≡ c → c ≡ latched t c x k
+stretch-bounded t bound c x k h e = stretch-idle t c x k (λ y le lt.
+    let within = pairs-within (visible_objects t) (objects_at t y) (visible-joined t y) in
+    or-within c bound _ (or-within bound (pairs_of (visible_objects t)) _ within h) e)
 
 -- a stretch without pairs latches nothing
 pub stretch-none : (t : TiaFields) (c x k : ℕ) → ((y : ℕ) → x ≤ y → y < x + k → pairs_of (objects_at t y) ≡ 0) → c ≡ latched t c x k

@@ -21,3 +21,6 @@ distance_of-round x position copy k h p =
 pub list_any-same : (p q : ℕ → Bool) (xs : List ℕ) → ((x : ℕ) → p x ≡ q x) → list_any p xs ≡ list_any q xs
 list_any-same p q [] h = refl
 list_any-same p q (x ∷ xs) h = rw (h x, list_any-same p q xs h) refl
+
+pub distance_of-inside : (x position copy : ℕ) → position < 160 → distance_of x position copy < 160
+distance_of-inside x position copy h = omega (arith, distance_of-natural x position copy h)

@@ -7,8 +7,12 @@ use Rattle.std.proofs.lemmas.Bool.{cases_eq, cases_lt}
 use Rattle.std.proofs.lemmas.Bool.Decides.{nat_tests}
 use Rattle.std.proofs.lemmas.Nat.{le_or_l, le_or_r}
 use Rattle.tia_core.specs.Bits.{has_bit}
-use Rattle.tia_core.specs.Coverage.{copies_of, distance_of, width_of, is_shown_at, player_covers}
+use Rattle.tia_core.specs.Coverage.{ball_covers, copies_of, distance_of, is_shown_at, missile_covers}
+use Rattle.tia_core.specs.Coverage.{player_covers, width_of}
+use Rattle.tia_core.specs.Objects.{objects_at, size_of, value_by_delay}
 use Rattle.tia_core.specs.Playfield.{playfield_bit, playfield_index}
+use Rattle.tia_core.specs.Private.Stretches.{union_of, visible_objects}
+use Rattle.tia_core.specs.declared.fields.TiaFields.{TiaFields}
 use Rattle.tia_core.proofs.RoundTheLine.{distance_of-natural}
 use Rattle.tia_core.proofs.WordLemmas.{bit-low, bit-high, bit-zero, cat-low, cat-high}
 
@@ -85,19 +89,31 @@ list_any-none p (x ∷ xs) h = rw (h x) (list_any-none p xs h)
 is_shown_at-empty : (width : ℕ) (reflected : Bool) (d : ℕ) → is_shown_at width reflected 0 d ≡ false
 is_shown_at-empty width reflected d = grind (arith, bit-zero)
 
-pub player-unseen : (mode : ℕ) (reflected : Bool) (graphic position x : ℕ)
+player-unseen : (mode : ℕ) (reflected : Bool) (graphic position x : ℕ)
     → (not (graphic == 0) || player_covers mode reflected graphic position x) ≡ not (graphic == 0)
 player-unseen mode reflected graphic position x = elim (cases_eq graphic 0) [
   | inl e ↦ rw e (list_any-none _ (copies_of mode) (λ copy. is_shown_at-empty (width_of mode) reflected (distance_of x position copy)))
   | inr ne ↦ (let f : (graphic == 0) ≡ false = grind (arith, nat_tests) in rw f refl)
 ]
 
-pub shown-or : (a b : Bool) → (a || (a && b)) ≡ a
+shown-or : (a b : Bool) → (a || (a && b)) ≡ a
 shown-or a b = grind arith
 
-pub missile-unseen : (a b c : Bool) → ((a && b) || (a && b && c)) ≡ (a && b)
+missile-unseen : (a b c : Bool) → (a || (a && b && c)) ≡ a
 missile-unseen a b c = grind arith
 
-pub playfield-unseen : (pf0 pf1 pf2 i : ℕ) → (not (bit_or (bit_or pf0 pf1) pf2 == 0) || playfield_bit pf0 pf1 pf2 i) ≡ not (bit_or (bit_or pf0 pf1) pf2 == 0)
+playfield-unseen : (pf0 pf1 pf2 i : ℕ) → (not (bit_or (bit_or pf0 pf1) pf2 == 0) || playfield_bit pf0 pf1 pf2 i) ≡ not (bit_or (bit_or pf0 pf1) pf2 == 0)
 playfield-unseen pf0 pf1 pf2 i =
     grind (arith, nat_tests, bit-zero, le_or_l pf0 pf1, le_or_r pf0 pf1, le_or_l (bit_or pf0 pf1) pf2, le_or_r (bit_or pf0 pf1) pf2)
+
+-- the objects that may be visible are all that cover a pixel, and others
+pub visible-joined : (t : TiaFields) (x : ℕ) → union_of (visible_objects t) (objects_at t x) ≡ visible_objects t
+unfolding objects_at
+visible-joined t x = rw (
+  player-unseen (t.nusiz0 % 8) (has_bit t.refp0 3) (value_by_delay t.vdelp0 t.grp0_old t.grp0_new) t.position_p0 x,
+  player-unseen (t.nusiz1 % 8) (has_bit t.refp1 3) (value_by_delay t.vdelp1 t.grp1_old t.grp1_new) t.position_p1 x,
+  missile-unseen (has_bit t.enam0 1) (not (has_bit t.resmp0 1)) (missile_covers (t.nusiz0 % 8) (size_of t.nusiz0) t.position_m0 x),
+  missile-unseen (has_bit t.enam1 1) (not (has_bit t.resmp1 1)) (missile_covers (t.nusiz1 % 8) (size_of t.nusiz1) t.position_m1 x),
+  shown-or (has_bit (value_by_delay t.vdelbl t.enabl_old t.enabl_new) 1) (ball_covers (size_of t.ctrlpf) t.position_bl x),
+  playfield-unseen t.pf0 t.pf1 t.pf2 (playfield_index (has_bit t.ctrlpf 0) x),
+) refl

@@ -10,11 +10,11 @@ use Rattle.std.proofs.lemmas.Bool.Decides.{nat_tests}
 use Rattle.std.proofs.lemmas.Nat.{and_le_l}
 use Rattle.std.proofs.lemmas.Nat.Bits.{bit_at-trailing_zeros}
 use Rattle.tia_core.specs.Bits.{has_bit}
-use Rattle.tia_core.specs.Collision.{pairs_of}
+use Rattle.tia_core.specs.Collision.{number_from, pairs_of}
 use Rattle.tia_core.specs.Coverage.{distance_of}
 use Rattle.tia_core.specs.Objects.{objects_at}
 use Rattle.tia_core.specs.Private.Words.{word_bit}
-use Rattle.tia_core.specs.Private.Stretches.{AreInWindow, IsWindowOf, has_two, meet_within}
+use Rattle.tia_core.specs.Private.Stretches.{AreInWindow, IsWindowOf, has_two, meet_within, one}
 use Rattle.tia_core.specs.declared.fields.TiaFields.{TiaFields}
 use Rattle.tia_core.specs.declared.objects.Objects.{Objects}
 use Rattle.tia_core.specs.declared.window.Window.{Window}
@@ -67,28 +67,6 @@ three-copies row x position copy third moved after h p le le3 e f =
       copy-bit row x position copy moved h p le e,
       copy-bit row x position third after h p le3 f,
     ) (grind arith)
-
--- ---- a row from a pixel on
-pub row-from : (row d first position k : ℕ) → d ≡ (first + 160 - position) % 160 → position < 160 → d < 128 → k < 32 → first + k < 160
-    → has_bit (row / 2 ^ d % 2 ^ 32) k ≡ has_bit row (distance_of (first + k) position 0)
-row-from row d first position k e p near lt most =
-    let n = distance_of-natural (first + k) position 0 p in
-    let at : d + k ≡ distance_of (first + k) position 0 = omega arith in
-    bit-low (row / 2 ^ d) 32 k lt ∙ bit-high row d k ∙ ap (has_bit row) at
-
-pub row-round : (row d first position k : ℕ) → row < 2 ^ 128 → d ≡ (first + 160 - position) % 160 → position < 160 → 128 ≤ d → k < 32
-    → first + k < 160
-    → has_bit (row % 2 ^ 32 * 2 ^ (160 - d) % 2 ^ 64 % 2 ^ 32) k ≡ has_bit row (distance_of (first + k) position 0)
-row-round row d first position k h e p far lt most =
-    let n = distance_of-natural (first + k) position 0 p in
-    let low : ℕ = row % 2 ^ 32 in
-    bit-low (low * 2 ^ (160 - d) % 2 ^ 64) 32 k lt ∙ bit-low (low * 2 ^ (160 - d)) 64 k (omega arith)
-    ∙ elim (cases_lt k (160 - d)) [
-      | inl before ↦ bit-shifted_low low (160 - d) k before
-          ∙ sym (bit-above row 128 (distance_of (first + k) position 0) h (omega arith))
-      | inr after ↦ (let at : k - (160 - d) ≡ distance_of (first + k) position 0 = omega arith in
-          bit-shifted low (160 - d) k after ∙ bit-low row 32 (k - (160 - d)) (omega arith) ∙ ap (has_bit row) at)
-    ]
 
 -- ---- a window in two words
 pub joined-bit : (low high first k : ℕ) → low < 2 ^ 32 → k < 32
@@ -167,3 +145,22 @@ window-met t from to within most short inside a b v w false va wb some none = sy
     let there : has_bit within k ≡ true = inside k ∙ is-before k (to - from) (omega arith) in
     let clear : (has_bit v k && has_bit w k) ≡ false = sym (bit_and-is v w k) ∙ unset (bit_and v w) within k (none refl) there in
     rw (← at, ← va k (omega arith) (omega arith), ← wb k (omega arith) (omega arith)) clear))
+
+-- an object without a pixel within a window meets none there
+pub window-without : (t : TiaFields) (from to within : ℕ) → to ≤ 160 → to - from ≤ 32 → ((k : ℕ) → has_bit within k ≡ nat_lt k (to - from))
+    → (a b : Objects → Bool) (v w : ℕ) → IsWindowOf t a from v → IsWindowOf t b from w → bit_and v within ≡ 0
+    → false ≡ meet_within t a b from (to - from)
+window-without t from to within most short inside a b v w va wb none = sym
+    (any_from-none (λ y. a (objects_at t y) && b (objects_at t y)) from (to - from) (λ y le lt.
+    let k : ℕ = y - from in
+    let at : from + k ≡ y = omega arith in
+    let there : has_bit within k ≡ true = inside k ∙ is-before k (to - from) (omega arith) in
+    let clear : has_bit v k ≡ false = unset v within k none there in
+    rw (← at, ← va k (omega arith) (omega arith), clear) refl))
+
+-- fifteen bits by groups
+pub number-by-groups : (a b c d e f g h i j k l m n o : Bool)
+    → (16384 * one a + 8192 * one b + 64 * one i + 32 * one j + one o) + (4096 * one c + 2048 * one d + 16 * one k + 8 * one l)
+    + (1024 * one e + 512 * one f + 2 * one n) + (256 * one g + 128 * one h) + 4 * one m
+    ≡ number_from 0 (a ∷ b ∷ c ∷ d ∷ e ∷ f ∷ g ∷ h ∷ i ∷ j ∷ k ∷ l ∷ m ∷ n ∷ o ∷ [])
+number-by-groups a b c d e f g h i j k l m n o = omega arith

@@ -1,6 +1,7 @@
 //! Collision bits.
 ghost use Rattle.std.specs.Prelude.{◌≡◌, ◌<◌, ◌≤◌, ◌^◌, bit_or, length};
 ghost use Rattle.tia_core.specs.Collision.{number_from};
+ghost use Rattle.tia_core.specs.Private.Stretches.{one};
 
 /// The number with these bits, highest first.
 #[inline]
@@ -14,6 +15,14 @@ pub fn number_of(bits: &[bool]) -> u16
         number = 2 * number + u16::from(*bit);
     }
     number
+}
+
+/// 1 if two objects meet, else 0.
+#[inline(always)]
+pub fn bit(met: bool) -> u16
+    ensures { result ≡ one met }
+{
+    u16::from(met)
 }
 
 /// The collision bits `collisions` with those of `pairs`.

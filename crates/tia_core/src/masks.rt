@@ -1,10 +1,11 @@
 //! The masks of the six objects, and the pairs that meet in them.
-ghost use Rattle.std.specs.Prelude.{◌≡◌, ◌<◌, ◌≤◌, ◌-◌, ◌+◌, ◌*◌, ◌/◌, ◌^◌, ℕ, false, bit_or};
+ghost use Rattle.std.specs.Prelude.{◌≡◌, ◌<◌, ◌≤◌, ◌-◌, ◌+◌, ◌*◌, ◌/◌, ◌^◌, ◌||◌, ℕ, false, bit_or, if◌then◌else◌};
+ghost use Rattle.tia_core.specs.Bits.{has_bit};
 ghost use Rattle.tia_core.specs.Clock.{sink_after_pixels};
 ghost use Rattle.tia_core.specs.Collision.{number_from, pairs_of};
 ghost use Rattle.tia_core.specs.Mask.{covers};
 ghost use Rattle.tia_core.specs.Objects.{ball_at, is_in, missile_at, object_of, objects_at};
-ghost use Rattle.tia_core.specs.Private.Stretches.{bl, with_stale, m0, m1, no_objects, objects_in};
+ghost use Rattle.tia_core.specs.Private.Stretches.{bl, m0, m1, no_objects, objects_in, with_change, with_shapes};
 ghost use Rattle.tia_core.specs.Private.Stretches.{p0, p1, pf, stretch_pairs, stretch_pixels};
 ghost use Rattle.tia_core.specs.Private.Stretches.{AreInWindow, AreShown, IsBound, IsMaskOf};
 ghost use Rattle.tia_core.specs.Private.Stretches.{MasksFit};
@@ -18,12 +19,12 @@ use crate::mask::{Mask, first_change};
 use crate::numbers::least;
 use crate::objects::{Objects, is_shown, size, value_by_delay};
 use crate::paint::Paint;
-use crate::shape::{ball_mask, missile_mask, player_mask, playfield_mask};
-use crate::window::{
-    MOST_PIXELS, Window, pixels, window_of_ball, window_of_missile0, window_of_missile1,
-    window_of_player0, window_of_player1,
+use crate::patterns::{
+    Patterns, reshape_ball, reshape_missile0, reshape_missile1, reshape_player0, reshape_player1,
 };
-use crate::write::NOTHING;
+use crate::shape::{ball_mask, missile_mask, player_mask, playfield_mask};
+use crate::window::{MOST_PIXELS, Window, pixels};
+use crate::write::{ALL_BUT_PLAYFIELD, Changed, NO_OBJECTS};
 
 /// The masks of the six objects.
 #[derive(Drop)]
@@ -36,10 +37,16 @@ pub struct Masks {
     pub playfield: Mask,
     /// The objects whose masks are to be made anew.
     pub stale: Objects,
-    /// Collision bits: those of all pairs that meet on a line, and perhaps others.
+    /// The patterns of the objects that move.
+    pub patterns: Patterns,
+    /// The objects whose patterns are to be made anew, and the playfield if its mask may be.
+    pub reshaped: Objects,
+    /// Whether `reshaped` may have an object.
+    pub is_reshaped: bool,
+    /// Collision bits: those of all pairs of objects that may be visible, and perhaps others.
     pub bound: u16,
-    /// How many windows were made since an object was marked, at most two.
-    pub windows_made: u8,
+    /// Whether it is known that no two objects meet on the line.
+    pub are_apart: bool,
 }
 
 /// A bound that says nothing: no collision bits, so that those of all pairs are told from it.
@@ -65,21 +72,68 @@ impl Masks {
                 ball: true,
                 playfield: true,
             },
+            patterns: Patterns::empty(),
+            reshaped: Objects {
+                player0: true,
+                player1: true,
+                missile0: true,
+                missile1: true,
+                ball: true,
+                playfield: true,
+            },
+            is_reshaped: true,
             bound: UNKNOWN,
-            windows_made: 0,
+            are_apart: false,
         }
     }
 
-    /// Marks the objects that have changed.
+    /// Marks what has changed. Objects that only moved keep their patterns.
     #[inline]
-    pub fn mark(&mut self, changed: Objects)
-        ensures { self.new ≡ with_stale self.old changed }
+    pub fn mark(&mut self, changed: Changed)
+        ensures { self.new ≡ with_change self.old changed }
     {
-        if changed.has_any() {
-            self.stale = self.stale.union(changed);
-            self.bound = UNKNOWN;
-            self.windows_made = 0;
+        match changed {
+            Changed::Nothing => {}
+            Changed::Places => {
+                self.stale = self.stale.union(ALL_BUT_PLAYFIELD);
+                self.are_apart = false;
+            }
+            Changed::Shapes(objects) => self.mark_shapes(objects),
+            Changed::Visibility(objects) => {
+                self.mark_shapes(objects);
+                self.bound = UNKNOWN;
+            }
         }
+    }
+
+    /// Marks objects whose shapes have changed, one by one: unions of the sets take more than twice
+    /// as many host instructions.
+    #[inline(always)]
+    fn mark_shapes(&mut self, objects: Objects)
+        ensures { self.new ≡ with_shapes self.old objects }
+    {
+        let stale = &mut self.stale;
+        let reshaped = &mut self.reshaped;
+        mark_shape(objects.player0, &mut stale.player0, &mut reshaped.player0);
+        mark_shape(objects.player1, &mut stale.player1, &mut reshaped.player1);
+        mark_shape(
+            objects.missile0,
+            &mut stale.missile0,
+            &mut reshaped.missile0,
+        );
+        mark_shape(
+            objects.missile1,
+            &mut stale.missile1,
+            &mut reshaped.missile1,
+        );
+        mark_shape(objects.ball, &mut stale.ball, &mut reshaped.ball);
+        mark_shape(
+            objects.playfield,
+            &mut stale.playfield,
+            &mut reshaped.playfield,
+        );
+        self.is_reshaped = true;
+        self.are_apart = false;
     }
 
     /// Makes anew each mask that is to be.
@@ -96,7 +150,7 @@ impl Masks {
         renew_missile1(&mut self.missile1, self.stale.missile1, tia);
         renew_ball(&mut self.ball, self.stale.ball, tia);
         renew_playfield(&mut self.playfield, self.stale.playfield, tia);
-        self.stale = NOTHING;
+        self.stale = NO_OBJECTS;
     }
 
     /// The collision bits with those of the pairs that meet in pixels `from..to`.
@@ -110,6 +164,9 @@ impl Masks {
         ensures range { result < 2 ^ 15 }
         ensures fit { MasksFit tia.now self.new }
     {
+        if self.are_apart {
+            return tia.collisions;
+        }
         self.find_bound(tia);
         if tia.collisions | self.bound == tia.collisions {
             return tia.collisions;
@@ -117,8 +174,26 @@ impl Masks {
         self.latched_anew(tia, from, to)
     }
 
-    /// The same in at most 32 pixels, by a window of them.
+    /// The collision bits with those of the pairs that meet in pixels `from..to`, of which some may
+    /// not be latched yet.
     #[inline(never)]
+    fn latched_anew(&mut self, tia: &TiaFields, from: u8, to: u8) -> u16
+        requires lawful { IsLawfulTia tia.now }
+        requires fit { MasksFit tia.now self.old }
+        requires order { from ≤ to }
+        requires range { to ≤ 160 }
+        ensures value { result ≡ bit_or tia.now.collisions (number_from 0 (stretch_pairs tia.now from (to - from))) }
+        ensures range { result < 2 ^ 15 }
+        ensures fit { MasksFit tia.now self.new }
+    {
+        if from < to && to - from <= MOST_PIXELS {
+            return self.latched_in_window(tia, from, to);
+        }
+        self.latched_by_masks(tia, from, to)
+    }
+
+    /// The same in at most 32 pixels, by a window of them.
+    #[inline(always)]
     fn latched_in_window(&mut self, tia: &TiaFields, from: u8, to: u8) -> u16
         requires lawful { IsLawfulTia tia.now }
         requires fit { MasksFit tia.now self.old }
@@ -136,8 +211,7 @@ impl Masks {
         tia.collisions
     }
 
-    /// The window of each object from pixel `first` on. Masks that are to be made anew stay so the
-    /// first two times, as a program that changes many objects in a line would pay for each.
+    /// The window of each object from pixel `first` on.
     #[inline(always)]
     fn window(&mut self, tia: &TiaFields, first: u8) -> Window
         requires lawful { IsLawfulTia tia.now }
@@ -146,26 +220,57 @@ impl Masks {
         ensures window { AreInWindow tia.now first result }
         ensures fit { MasksFit tia.now self.new }
     {
-        if self.windows_made >= 2 {
-            self.renew(tia);
-        } else {
-            renew_playfield(&mut self.playfield, self.stale.playfield, tia);
-            self.stale.playfield = false;
-            self.windows_made += 1;
-        }
+        self.find_patterns(tia);
         Window {
-            player0: window_of_player0(&self.player0, self.stale.player0, tia, first),
-            player1: window_of_player1(&self.player1, self.stale.player1, tia, first),
-            missile0: window_of_missile0(&self.missile0, self.stale.missile0, tia, first),
-            missile1: window_of_missile1(&self.missile1, self.stale.missile1, tia, first),
-            ball: window_of_ball(&self.ball, self.stale.ball, tia, first),
+            player0: self.patterns.player0.window(first, tia.position_p0),
+            player1: self.patterns.player1.window(first, tia.position_p1),
+            missile0: unlocked(
+                self.patterns.missile0.window(first, tia.position_m0),
+                tia.resmp0,
+            ),
+            missile1: unlocked(
+                self.patterns.missile1.window(first, tia.position_m1),
+                tia.resmp1,
+            ),
+            ball: self.patterns.ball.window(first, tia.position_bl),
             playfield: self.playfield.window(first),
         }
     }
 
-    /// The collision bits with those of the pairs that meet in pixels `from..to`, by the masks.
+    /// Makes the patterns and the playfield's mask anew if one of them may have to be.
+    #[inline(always)]
+    fn find_patterns(&mut self, tia: &TiaFields)
+        requires { MasksFit tia.now self.old }
+        ensures fit { MasksFit tia.now self.new }
+        ensures fresh { self.new.reshaped ≡ no_objects }
+    {
+        if self.is_reshaped {
+            self.reshape(tia);
+        }
+    }
+
+    /// Makes anew each pattern that is to be, and the playfield's mask if it is to be.
     #[inline(never)]
-    fn latched_anew(&mut self, tia: &TiaFields, from: u8, to: u8) -> u16
+    fn reshape(&mut self, tia: &TiaFields)
+        requires { MasksFit tia.now self.old }
+        ensures fit { MasksFit tia.now self.new }
+        ensures fresh { self.new.reshaped ≡ no_objects }
+    {
+        let patterns = &mut self.patterns;
+        reshape_player0(&mut patterns.player0, self.reshaped.player0, tia);
+        reshape_player1(&mut patterns.player1, self.reshaped.player1, tia);
+        reshape_missile0(&mut patterns.missile0, self.reshaped.missile0, tia);
+        reshape_missile1(&mut patterns.missile1, self.reshaped.missile1, tia);
+        reshape_ball(&mut patterns.ball, self.reshaped.ball, tia);
+        renew_playfield(&mut self.playfield, self.stale.playfield, tia);
+        self.stale.playfield = false;
+        self.reshaped = NO_OBJECTS;
+        self.is_reshaped = false;
+    }
+
+    /// The same by the masks of the whole line.
+    #[inline(never)]
+    fn latched_by_masks(&mut self, tia: &TiaFields, from: u8, to: u8) -> u16
         requires lawful { IsLawfulTia tia.now }
         requires fit { MasksFit tia.now self.old }
         requires order { from ≤ to }
@@ -174,16 +279,13 @@ impl Masks {
         ensures range { result < 2 ^ 15 }
         ensures fit { MasksFit tia.now self.new }
     {
-        if from < to && to - from <= MOST_PIXELS {
-            return self.latched_in_window(tia, from, to);
-        }
         self.renew(tia);
         if self.any_two_meet(from, to) {
             return with_pairs(tia.collisions, self.pairs(tia, from, to));
         }
         // Then none meet on the whole line.
         if from == 0 && to == 160 {
-            self.bound = 0;
+            self.are_apart = true;
         }
         tia.collisions
     }
@@ -315,6 +417,26 @@ impl Masks {
             | self.ball.changes(x)
             | self.playfield.changes(x);
         least(x + first_change(changes), least(edge_after(x), to))
+    }
+}
+
+/// The pixels of a missile, which are none if it is locked to its player.
+#[inline(always)]
+fn unlocked(window: u32, resmp: u8) -> u32
+    ensures { result ≡ (if has_bit resmp 1 then 0 else window) }
+{
+    if has_bit(resmp, 1) { 0 } else { window }
+}
+
+/// Marks an object if its shape has changed.
+#[inline(always)]
+fn mark_shape(changed: bool, stale: &mut bool, reshaped: &mut bool)
+    ensures stale { stale.new ≡ (stale.old || changed) }
+    ensures reshaped { reshaped.new ≡ (reshaped.old || changed) }
+{
+    if changed {
+        *stale = true;
+        *reshaped = true;
     }
 }
 

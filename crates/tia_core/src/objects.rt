@@ -1,9 +1,9 @@
 //! The objects that cover a pixel.
-ghost use Rattle.std.specs.Prelude.{◌≡◌, ◌<◌, ◌≤◌, ◌^◌, ◌&&◌, not, ℕ};
+ghost use Rattle.std.specs.Prelude.{◌≡◌, ◌<◌, ◌≤◌, ◌^◌, ◌&&◌, not};
 ghost use Rattle.tia_core.specs.Bits.{has_bit};
 ghost use Rattle.tia_core.specs.Collision.{pairs_of};
-ghost use Rattle.tia_core.specs.Objects.{objects_at, value_by_delay, size_of};
-ghost use Rattle.tia_core.specs.Private.Stretches.{has_any, union_of, set_number};
+ghost use Rattle.tia_core.specs.Objects.{value_by_delay, size_of};
+ghost use Rattle.tia_core.specs.Private.Stretches.{set_number, union_of, visible_objects};
 
 use crate::bits::has_bit;
 use crate::fields::TiaFields;
@@ -30,17 +30,17 @@ pub struct Objects {
 }
 
 impl Objects {
-    /// The objects that may be visible: a player or a playfield with a bit set, a missile or a ball
-    /// that is enabled.
+    /// The objects that may be visible, wherever they stand: a player or a playfield with a bit set,
+    /// a missile or a ball that is enabled, be it locked to its player or not.
     #[inline]
     pub fn visible(tia: &TiaFields) -> Self
-        ensures { (x : ℕ) → union_of result (objects_at tia.now x) ≡ result }
+        ensures { result ≡ visible_objects tia.now }
     {
         Objects {
             player0: value_by_delay(tia.vdelp0, tia.grp0_old, tia.grp0_new) != 0,
             player1: value_by_delay(tia.vdelp1, tia.grp1_old, tia.grp1_new) != 0,
-            missile0: is_shown(tia.enam0, tia.resmp0),
-            missile1: is_shown(tia.enam1, tia.resmp1),
+            missile0: has_bit(tia.enam0, 1),
+            missile1: has_bit(tia.enam1, 1),
             ball: has_bit(value_by_delay(tia.vdelbl, tia.enabl_old, tia.enabl_new), 1),
             playfield: tia.pf0 | tia.pf1 | tia.pf2 != 0,
         }
@@ -59,14 +59,6 @@ impl Objects {
             ball: self.ball | other.ball,
             playfield: self.playfield | other.playfield,
         }
-    }
-
-    /// Whether an object is in the set.
-    #[inline]
-    pub fn has_any(self) -> bool
-        ensures { result ≡ has_any self }
-    {
-        self.player0 | self.player1 | self.missile0 | self.missile1 | self.ball | self.playfield
     }
 
     /// The number of the set: each object has a bit, from player 0 in the lowest to the playfield

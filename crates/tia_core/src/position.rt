@@ -1,7 +1,7 @@
 //! Where objects stand: the position strobes, horizontal motion, missiles released from their
 //! players.
-ghost use Rattle.std.specs.Prelude.{◌≡◌, ◌<◌, ◌≤◌, pos, ◌+ℤ◌, ◌-ℤ◌};
-ghost use Rattle.tia_core.specs.Position.{modulo_160, strobed_position, moved_position, release_of};
+ghost use Rattle.std.specs.Prelude.{◌≡◌, ◌<◌, ◌≤◌, ◌-◌, ◌/◌, ◌%◌, nat_lt, if◌then◌else◌};
+ghost use Rattle.tia_core.specs.Position.{strobed_position, moved_position, release_of};
 ghost use Rattle.tia_core.specs.Position.{released_position};
 
 use crate::bits::has_bit;
@@ -21,45 +21,28 @@ pub fn strobed_position(blank: u8, delay: u8, clock: u8) -> u8
     }
 }
 
-/// The position `count` pixels to the left, going round from 0 to 159.
-#[inline(always)]
-fn left(position: u8, count: u8) -> u8
-    requires position { position < 160 }
-    requires count { count < 16 }
-    ensures value { result ≡ modulo_160 (pos position -ℤ pos count) }
-    ensures range { result < 160 }
-{
-    if position >= count {
-        position - count
-    } else {
-        position + (160 - count)
-    }
-}
+/// How many pixels to the right an object moves at HMOVE, going round from 159 to 0, by the high
+/// nibble of its motion.
+const MOVES: &[u8; 16] = &[0, 159, 158, 157, 156, 155, 154, 153, 8, 7, 6, 5, 4, 3, 2, 1];
 
-/// The position `count` pixels to the right, going round from 159 to 0.
+/// How many pixels to the right an object of this motion moves at HMOVE, going round from 159 to 0.
 #[inline(always)]
-fn right(position: u8, count: u8) -> u8
-    requires position { position < 160 }
-    requires count { count < 16 }
-    ensures value { result ≡ modulo_160 (pos position +ℤ pos count) }
+fn pixels_right(motion: u8) -> u8
+    ensures value { result ≡ (if nat_lt (motion / 16) 8 then (160 - motion / 16) % 160 else 16 - motion / 16) }
     ensures range { result < 160 }
 {
-    let moved = position + count;
-    if moved < 160 { moved } else { moved - 160 }
+    MOVES[(motion / 16) as usize]
 }
 
 /// Where an object is after HMOVE.
+#[inline(always)]
 pub fn moved_position(motion: u8, position: u8) -> u8
     requires { position < 160 }
     ensures value { result ≡ moved_position motion position }
     ensures range { result < 160 }
 {
-    let nibble = motion / 16;
-    if nibble < 8 {
-        left(position, nibble)
-    } else {
-        right(position, 16 - nibble)
-    }
+    let moved = u32::from(position) + u32::from(pixels_right(motion));
+    (if moved < 160 { moved } else { moved - 160 }) as u8
 }
 
 /// How far right of its player a missile is released.

@@ -9,6 +9,7 @@ ghost use Rattle.tia_core.specs.Playfield.{playfield_bit, playfield_index};
 
 use crate::coverage::copies;
 use crate::mask::Mask;
+use crate::pattern::Pattern;
 use crate::row::{missile_row, player_row, quadruple_bits, reverse_bits, reversed_half};
 
 /// The mask of a row at each copy of an object.
@@ -51,58 +52,30 @@ fn row_of_copies(row: u32, mode: u8) -> u128
     }
 }
 
-/// The 32 pixels from `first` on of a row that begins at `position`, and has no bit above 127.
-#[inline(always)]
-fn window(row: u128, first: u8, position: u8) -> u32
-    requires first { first < 160 }
-    requires position { position < 160 }
-    ensures { (k : ℕ) → k < 32 → first + k < 160 → has_bit result k ≡ has_bit row (distance_of (first + k) position 0) }
+/// The pattern of a player.
+#[inline]
+pub fn player_pattern(mode: u8, reflected: bool, graphic: u8) -> Pattern
+    ensures { (x p : ℕ) → p < 160 → covers result (distance_of x p 0) ≡ player_covers mode reflected graphic p x }
 {
-    let distance = if first >= position {
-        first - position
-    } else {
-        first + (160 - position)
-    };
-    if distance < 128 {
-        ((row >> distance) % 0x1_0000_0000) as u32
-    } else {
-        let low = (row % 0x1_0000_0000) as u64;
-        ((low << (160 - distance)) % 0x1_0000_0000) as u32
-    }
+    Pattern::of_row(row_of_copies(player_row(mode, reflected, graphic), mode))
 }
 
-/// The 32 pixels from `first` on of a player.
-#[inline(always)]
-pub fn player_window(mode: u8, reflected: bool, graphic: u8, position: u8, first: u8) -> u32
-    requires first { first < 160 }
-    requires position { position < 160 }
-    ensures { (k : ℕ) → k < 32 → first + k < 160 → has_bit result k ≡ player_covers mode reflected graphic position (first + k) }
+/// The pattern of a missile of this size.
+#[inline]
+pub fn missile_pattern(mode: u8, size: u8) -> Pattern
+    requires { size ≤ 8 }
+    ensures { (x p : ℕ) → p < 160 → covers result (distance_of x p 0) ≡ missile_covers mode size p x }
 {
-    let row = row_of_copies(player_row(mode, reflected, graphic), mode);
-    window(row, first, position)
+    Pattern::of_row(row_of_copies(missile_row(size), mode))
 }
 
-/// The 32 pixels from `first` on of a missile of this size.
-#[inline(always)]
-pub fn missile_window(mode: u8, size: u8, position: u8, first: u8) -> u32
-    requires first { first < 160 }
-    requires position { position < 160 }
-    requires size { size ≤ 8 }
-    ensures { (k : ℕ) → k < 32 → first + k < 160 → has_bit result k ≡ missile_covers mode size position (first + k) }
+/// The pattern of a ball of this size.
+#[inline]
+pub fn ball_pattern(size: u8) -> Pattern
+    requires { size ≤ 8 }
+    ensures { (x p : ℕ) → p < 160 → covers result (distance_of x p 0) ≡ ball_covers size p x }
 {
-    let row = row_of_copies(missile_row(size), mode);
-    window(row, first, position)
-}
-
-/// The 32 pixels from `first` on of a ball of this size.
-#[inline(always)]
-pub fn ball_window(size: u8, position: u8, first: u8) -> u32
-    requires first { first < 160 }
-    requires position { position < 160 }
-    requires size { size ≤ 8 }
-    ensures { (k : ℕ) → k < 32 → first + k < 160 → has_bit result k ≡ ball_covers size position (first + k) }
-{
-    window(u128::from(missile_row(size)), first, position)
+    Pattern::of_row(u128::from(missile_row(size)))
 }
 
 /// The mask of a player.

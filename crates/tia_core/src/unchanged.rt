@@ -49,6 +49,8 @@ pub fn is_unchanged(fields: &TiaFields, number: u8, value: u8) -> bool
         0x25 => Register::Vdelp0.keep(value) == fields.vdelp0,
         0x26 => Register::Vdelp1.keep(value) == fields.vdelp1,
         0x27 => Register::Vdelbl.keep(value) == fields.vdelbl,
+        0x28 => Register::Resmp0.keep(value) == fields.resmp0,
+        0x29 => Register::Resmp1.keep(value) == fields.resmp1,
         _ => false,
     }
 }

@@ -1,17 +1,13 @@
 //! The six objects in a few pixels of a line, and the pairs that meet there.
-ghost use Rattle.std.specs.Prelude.{◌≡◌, ◌<◌, ◌≤◌, ◌+◌, ◌-◌, ◌^◌, ℕ, true, false, nat_lt};
+ghost use Rattle.std.specs.Prelude.{◌≡◌, ◌<◌, ◌≤◌, ◌-◌, ◌^◌, ℕ, true, false, nat_lt};
 ghost use Rattle.tia_core.specs.Bits.{has_bit};
 ghost use Rattle.tia_core.specs.Collision.{number_from};
-ghost use Rattle.tia_core.specs.Private.Stretches.{bl, has_two, m0, m1, p0, p1, stretch_pairs};
-ghost use Rattle.tia_core.specs.Private.Stretches.{AreInWindow, IsMaskOf, IsWindowOf};
-ghost use Rattle.tia_core.specs.Private.Lawful.{IsLawfulTia};
+ghost use Rattle.tia_core.specs.Private.Stretches.{has_two, pairs_of_bl, pairs_of_m0, pairs_of_m1, pairs_of_p0};
+ghost use Rattle.tia_core.specs.Private.Stretches.{pairs_of_p1, stretch_pairs, AreInWindow};
 
-use crate::bits::has_bit as is_set;
-use crate::collision::number_of;
+use crate::collision::bit;
 use crate::fields::TiaFields;
-use crate::mask::{Mask, all_overlap, overlap, set_twice};
-use crate::objects::{is_shown, size, value_by_delay};
-use crate::shape::{ball_window, missile_window, player_window};
+use crate::mask::{all_overlap, overlap, set_twice};
 
 /// The most pixels of a window.
 pub const MOST_PIXELS: u8 = 32;
@@ -57,25 +53,107 @@ impl Window {
         ensures value { result ≡ number_from 0 (stretch_pairs tia.now from (to - from)) }
         ensures range { result < 2 ^ 15 }
     {
+        self.pairs_of_missile0(tia, from, to)
+            + self.pairs_of_missile1(tia, from, to)
+            + self.pairs_of_player0(tia, from, to)
+            + self.pairs_of_player1(tia, from, to)
+            + self.pairs_of_ball(tia, from, to)
+    }
+
+    /// The collision bits of the pairs of missile 0, which aren't looked at if it covers no pixel. So
+    /// it is with the next three.
+    #[inline(always)]
+    fn pairs_of_missile0(&self, tia: &TiaFields, from: u8, to: u8) -> u16
+        requires window { AreInWindow tia.now from self.now }
+        requires order { from ≤ to }
+        requires range { to ≤ 160 }
+        requires short { to - from ≤ 32 }
+        ensures value { result ≡ pairs_of_m0 tia.now from (to - from) }
+        ensures range { result ≤ 24673 }
+    {
         let within = pixels(to - from);
-        let pairs = [
-            all_overlap(self.missile0, self.player1, within),
-            all_overlap(self.missile0, self.player0, within),
-            all_overlap(self.missile1, self.player0, within),
-            all_overlap(self.missile1, self.player1, within),
-            all_overlap(self.player0, self.playfield, within),
-            all_overlap(self.player0, self.ball, within),
-            all_overlap(self.player1, self.playfield, within),
-            all_overlap(self.player1, self.ball, within),
-            all_overlap(self.missile0, self.playfield, within),
-            all_overlap(self.missile0, self.ball, within),
-            all_overlap(self.missile1, self.playfield, within),
-            all_overlap(self.missile1, self.ball, within),
-            all_overlap(self.ball, self.playfield, within),
-            all_overlap(self.player0, self.player1, within),
-            all_overlap(self.missile0, self.missile1, within),
-        ];
-        number_of(&pairs)
+        if overlap(self.missile0, within) {
+            16384 * bit(all_overlap(self.missile0, self.player1, within))
+                + 8192 * bit(all_overlap(self.missile0, self.player0, within))
+                + 64 * bit(all_overlap(self.missile0, self.playfield, within))
+                + 32 * bit(all_overlap(self.missile0, self.ball, within))
+                + bit(all_overlap(self.missile0, self.missile1, within))
+        } else {
+            0
+        }
+    }
+
+    /// The collision bits of the pairs of missile 1, but for that with missile 0.
+    #[inline(always)]
+    fn pairs_of_missile1(&self, tia: &TiaFields, from: u8, to: u8) -> u16
+        requires window { AreInWindow tia.now from self.now }
+        requires order { from ≤ to }
+        requires range { to ≤ 160 }
+        requires short { to - from ≤ 32 }
+        ensures value { result ≡ pairs_of_m1 tia.now from (to - from) }
+        ensures range { result ≤ 6168 }
+    {
+        let within = pixels(to - from);
+        if overlap(self.missile1, within) {
+            4096 * bit(all_overlap(self.missile1, self.player0, within))
+                + 2048 * bit(all_overlap(self.missile1, self.player1, within))
+                + 16 * bit(all_overlap(self.missile1, self.playfield, within))
+                + 8 * bit(all_overlap(self.missile1, self.ball, within))
+        } else {
+            0
+        }
+    }
+
+    /// The collision bits of the pairs of player 0, but for those with missiles.
+    #[inline(always)]
+    fn pairs_of_player0(&self, tia: &TiaFields, from: u8, to: u8) -> u16
+        requires window { AreInWindow tia.now from self.now }
+        requires order { from ≤ to }
+        requires range { to ≤ 160 }
+        requires short { to - from ≤ 32 }
+        ensures value { result ≡ pairs_of_p0 tia.now from (to - from) }
+        ensures range { result ≤ 1538 }
+    {
+        let within = pixels(to - from);
+        if overlap(self.player0, within) {
+            1024 * bit(all_overlap(self.player0, self.playfield, within))
+                + 512 * bit(all_overlap(self.player0, self.ball, within))
+                + 2 * bit(all_overlap(self.player0, self.player1, within))
+        } else {
+            0
+        }
+    }
+
+    /// The collision bits of the pairs of player 1, but for those with missiles and player 0.
+    #[inline(always)]
+    fn pairs_of_player1(&self, tia: &TiaFields, from: u8, to: u8) -> u16
+        requires window { AreInWindow tia.now from self.now }
+        requires order { from ≤ to }
+        requires range { to ≤ 160 }
+        requires short { to - from ≤ 32 }
+        ensures value { result ≡ pairs_of_p1 tia.now from (to - from) }
+        ensures range { result ≤ 384 }
+    {
+        let within = pixels(to - from);
+        if overlap(self.player1, within) {
+            256 * bit(all_overlap(self.player1, self.playfield, within))
+                + 128 * bit(all_overlap(self.player1, self.ball, within))
+        } else {
+            0
+        }
+    }
+
+    /// The collision bit of the ball and the playfield.
+    #[inline(always)]
+    fn pairs_of_ball(&self, tia: &TiaFields, from: u8, to: u8) -> u16
+        requires window { AreInWindow tia.now from self.now }
+        requires order { from ≤ to }
+        requires range { to ≤ 160 }
+        requires short { to - from ≤ 32 }
+        ensures value { result ≡ pairs_of_bl tia.now from (to - from) }
+        ensures range { result ≤ 4 }
+    {
+        4 * bit(all_overlap(self.ball, self.playfield, pixels(to - from)))
     }
 }
 
@@ -86,105 +164,4 @@ pub fn pixels(count: u8) -> u32
     ensures { (k : ℕ) → has_bit result k ≡ nat_lt k count }
 {
     ((1u64 << count) - 1) as u32
-}
-
-/// The window of player 0 from pixel `first` on, by its mask if that isn't to be made anew.
-#[inline(always)]
-#[tactic(auto, unfolding(crate::specs::Objects::objects_at))]
-pub fn window_of_player0(mask: &Mask, stale: bool, tia: &TiaFields, first: u8) -> u32
-    requires lawful { IsLawfulTia tia.now }
-    requires fit { stale ≡ false → IsMaskOf tia.now p0 mask.now }
-    requires first { first < 160 }
-    ensures { IsWindowOf tia.now p0 first result }
-{
-    if stale {
-        let graphic = value_by_delay(tia.vdelp0, tia.grp0_old, tia.grp0_new);
-        player_window(
-            tia.nusiz0 % 8,
-            is_set(tia.refp0, 3),
-            graphic,
-            tia.position_p0,
-            first,
-        )
-    } else {
-        mask.window(first)
-    }
-}
-
-/// The window of player 1 from pixel `first` on.
-#[inline(always)]
-#[tactic(auto, unfolding(crate::specs::Objects::objects_at))]
-pub fn window_of_player1(mask: &Mask, stale: bool, tia: &TiaFields, first: u8) -> u32
-    requires lawful { IsLawfulTia tia.now }
-    requires fit { stale ≡ false → IsMaskOf tia.now p1 mask.now }
-    requires first { first < 160 }
-    ensures { IsWindowOf tia.now p1 first result }
-{
-    if stale {
-        let graphic = value_by_delay(tia.vdelp1, tia.grp1_old, tia.grp1_new);
-        player_window(
-            tia.nusiz1 % 8,
-            is_set(tia.refp1, 3),
-            graphic,
-            tia.position_p1,
-            first,
-        )
-    } else {
-        mask.window(first)
-    }
-}
-
-/// The window of missile 0 from pixel `first` on.
-#[inline(always)]
-#[tactic(auto, unfolding(crate::specs::Objects::objects_at))]
-pub fn window_of_missile0(mask: &Mask, stale: bool, tia: &TiaFields, first: u8) -> u32
-    requires lawful { IsLawfulTia tia.now }
-    requires fit { stale ≡ false → IsMaskOf tia.now m0 mask.now }
-    requires first { first < 160 }
-    ensures { IsWindowOf tia.now m0 first result }
-{
-    if !stale {
-        mask.window(first)
-    } else if is_shown(tia.enam0, tia.resmp0) {
-        missile_window(tia.nusiz0 % 8, size(tia.nusiz0), tia.position_m0, first)
-    } else {
-        0
-    }
-}
-
-/// The window of missile 1 from pixel `first` on.
-#[inline(always)]
-#[tactic(auto, unfolding(crate::specs::Objects::objects_at))]
-pub fn window_of_missile1(mask: &Mask, stale: bool, tia: &TiaFields, first: u8) -> u32
-    requires lawful { IsLawfulTia tia.now }
-    requires fit { stale ≡ false → IsMaskOf tia.now m1 mask.now }
-    requires first { first < 160 }
-    ensures { IsWindowOf tia.now m1 first result }
-{
-    if !stale {
-        mask.window(first)
-    } else if is_shown(tia.enam1, tia.resmp1) {
-        missile_window(tia.nusiz1 % 8, size(tia.nusiz1), tia.position_m1, first)
-    } else {
-        0
-    }
-}
-
-/// The window of the ball from pixel `first` on.
-#[inline(always)]
-#[tactic(auto, unfolding(crate::specs::Objects::objects_at))]
-pub fn window_of_ball(mask: &Mask, stale: bool, tia: &TiaFields, first: u8) -> u32
-    requires lawful { IsLawfulTia tia.now }
-    requires fit { stale ≡ false → IsMaskOf tia.now bl mask.now }
-    requires first { first < 160 }
-    ensures { IsWindowOf tia.now bl first result }
-{
-    let enabl = value_by_delay(tia.vdelbl, tia.enabl_old, tia.enabl_new);
-    if !stale {
-        mask.window(first)
-    } else if is_set(enabl, 1) {
-        ball_window(size(tia.ctrlpf), tia.position_bl, first)
-    } else {
-        0
-    }
 }

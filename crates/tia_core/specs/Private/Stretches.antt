@@ -1,18 +1,21 @@
 -- What the masks of a line are to say, and which pairs of objects meet in a stretch of it. This
 -- project's own.
-use Rattle.std.specs.Prelude.{◌≡◌, ◌<◌, ℕ, ◌+◌, ◌*◌, ◌&&◌, ◌||◌, Bool, false}
+use Rattle.std.specs.Prelude.{◌≡◌, ◌==◌, ◌<◌, ℕ, ◌+◌, ◌*◌, ◌&&◌, ◌||◌, not, Bool, true, false}
 use Rattle.std.specs.Prelude.{if◌then◌else◌, List, [], ◌∷◌, bit_or, map}
 use Rattle.std.specs.List.{range_with_len}
 use Rattle.tia_core.specs.Bits.{has_bit}
 use Rattle.tia_core.specs.Clock.{Pixel}
 use Rattle.tia_core.specs.Collision.{pairs_of}
 use Rattle.tia_core.specs.Colour.{colour_at}
+use Rattle.tia_core.specs.Coverage.{distance_of}
 use Rattle.tia_core.specs.Mask.{any_from, covers}
-use Rattle.tia_core.specs.Objects.{objects_at}
+use Rattle.tia_core.specs.Objects.{objects_at, value_by_delay}
 use Rattle.tia_core.specs.declared.fields.TiaFields.{TiaFields}
 use Rattle.tia_core.specs.declared.masks.Masks.{Masks}
 use Rattle.tia_core.specs.declared.objects.Objects.{Objects}
 use Rattle.tia_core.specs.declared.window.Window.{Window}
+use Rattle.tia_core.specs.declared.write.Changed.{Changed}
+use Rattle.tia_core.specs.declared.write.Changed.TheVariants.{Nothing, Places, Shapes, Visibility}
 
 -- the objects, one by one
 abbrev pub p0 : Objects → Bool
@@ -50,11 +53,47 @@ pub record AreInWindow (t : TiaFields) (first : ℕ) (w : Window) : Type 0 where
   pub ball : IsWindowOf t bl first w.ball
   pub playfield : IsWindowOf t pf first w.playfield
 
--- all pairs that meet on a line are among these
-abbrev pub IsBound : TiaFields → ℕ → Type 0
-IsBound t bound = (x : ℕ) → x < 160 → bit_or bound (pairs_of (objects_at t x)) ≡ bound
+-- the numbers with the five movable objects at these pixels, and no missile locked to its player
+abbrev pub placed : TiaFields → ℕ → ℕ → ℕ → ℕ → ℕ → TiaFields
+placed t a b c d e = record t {
+  position_p0 = a;
+  position_p1 = b;
+  position_m0 = c;
+  position_m1 = d;
+  position_bl = e;
+  resmp0 = 0;
+  resmp1 = 0;
+}
 
--- each mask that isn't to be made anew is its object's
+-- a pattern is this object's, wherever it stands, and as if it were not locked
+abbrev pub IsPatternOf : TiaFields → (Objects → Bool) → List Bool → Type 0
+IsPatternOf t object pattern = (x p : ℕ) → p < 160 → covers pattern (distance_of x p 0) ≡ object (objects_at (placed t p p p p p) x)
+
+-- the objects that may be visible, wherever they stand: a player or a playfield with a bit set, a
+-- missile or a ball that is enabled, be it locked to its player or not
+abbrev pub visible_objects : TiaFields → Objects
+visible_objects t = record {
+  player0 = not (value_by_delay t.vdelp0 t.grp0_old t.grp0_new == 0);
+  player1 = not (value_by_delay t.vdelp1 t.grp1_old t.grp1_new == 0);
+  missile0 = has_bit t.enam0 1;
+  missile1 = has_bit t.enam1 1;
+  ball = has_bit (value_by_delay t.vdelbl t.enabl_old t.enabl_new) 1;
+  playfield = not (bit_or (bit_or t.pf0 t.pf1) t.pf2 == 0);
+}
+
+-- all pairs of objects that may be visible are among these
+abbrev pub IsBound : TiaFields → ℕ → Type 0
+IsBound t bound = bit_or bound (pairs_of (visible_objects t)) ≡ bound
+
+-- no two objects meet on a line
+abbrev pub AreApart : TiaFields → Type 0
+AreApart t = (x : ℕ) → x < 160 → pairs_of (objects_at t x) ≡ 0
+
+-- no object
+abbrev pub no_objects : Objects
+no_objects = record { player0 = false; player1 = false; missile0 = false; missile1 = false; ball = false; playfield = false }
+
+-- each mask and pattern that isn't to be made anew is its object's
 pub record MasksFit (t : TiaFields) (m : Masks) : Type 0 where
   pub player0 : m.stale.player0 ≡ false → IsMaskOf t p0 m.player0
   pub player1 : m.stale.player1 ≡ false → IsMaskOf t p1 m.player1
@@ -62,11 +101,15 @@ pub record MasksFit (t : TiaFields) (m : Masks) : Type 0 where
   pub missile1 : m.stale.missile1 ≡ false → IsMaskOf t m1 m.missile1
   pub ball : m.stale.ball ≡ false → IsMaskOf t bl m.ball
   pub playfield : m.stale.playfield ≡ false → IsMaskOf t pf m.playfield
+  pub pattern_p0 : m.reshaped.player0 ≡ false → IsPatternOf t p0 m.patterns.player0
+  pub pattern_p1 : m.reshaped.player1 ≡ false → IsPatternOf t p1 m.patterns.player1
+  pub pattern_m0 : m.reshaped.missile0 ≡ false → IsPatternOf t m0 m.patterns.missile0
+  pub pattern_m1 : m.reshaped.missile1 ≡ false → IsPatternOf t m1 m.patterns.missile1
+  pub pattern_bl : m.reshaped.ball ≡ false → IsPatternOf t bl m.patterns.ball
+  pub pattern_pf : m.reshaped.playfield ≡ false → IsMaskOf t pf m.playfield
+  pub none_reshaped : m.is_reshaped ≡ false → m.reshaped ≡ no_objects
   pub bound : IsBound t m.bound
-
--- no object
-abbrev pub no_objects : Objects
-no_objects = record { player0 = false; player1 = false; missile0 = false; missile1 = false; ball = false; playfield = false }
+  pub apart : m.are_apart ≡ true → AreApart t
 
 -- the objects of both sets
 abbrev pub union_of : Objects → Objects → Objects
@@ -79,10 +122,6 @@ union_of a b = record {
   playfield = a.playfield || b.playfield;
 }
 
--- whether an object is in a set
-abbrev pub has_any : Objects → Bool
-has_any o = o.player0 || o.player1 || o.missile0 || o.missile1 || o.ball || o.playfield
-
 -- the objects of `new` if they are of this set, else those of `old`
 abbrev pub with_objects : Objects → Objects → Objects → Objects
 with_objects o new old = record {
@@ -94,13 +133,44 @@ with_objects o new old = record {
   playfield = if o.playfield then new.playfield else old.playfield;
 }
 
--- the masks once these objects have changed
-abbrev pub with_stale : Masks → Objects → Masks
-with_stale m o = record m {
+-- the objects that move
+abbrev pub all_but_playfield : Objects
+all_but_playfield = record { player0 = true; player1 = true; missile0 = true; missile1 = true; ball = true; playfield = false }
+
+-- the objects that may cover other pixels after a change
+abbrev pub touched_by : Changed → Objects
+touched_by Nothing = no_objects
+touched_by Places = all_but_playfield
+touched_by (Shapes o) = o
+touched_by (Visibility o) = o
+
+-- the objects that may have another shape after a change
+abbrev pub reshaped_by : Changed → Objects
+reshaped_by Nothing = no_objects
+reshaped_by Places = no_objects
+reshaped_by (Shapes o) = o
+reshaped_by (Visibility o) = o
+
+-- whether other objects may be visible after a change
+abbrev pub shows_others : Changed → Bool
+shows_others (Visibility o) = true
+shows_others _ = false
+
+-- the masks once the shapes of objects have changed
+abbrev pub with_shapes : Masks → Objects → Masks
+with_shapes m o = record m {
   stale = union_of m.stale o;
-  bound = if has_any o then 65535 else m.bound;
-  windows_made = if has_any o then 0 else m.windows_made;
+  reshaped = union_of m.reshaped o;
+  is_reshaped = true;
+  are_apart = false;
 }
+
+-- the masks once objects have changed
+abbrev pub with_change : Masks → Changed → Masks
+with_change m Nothing = m
+with_change m Places = record m { stale = union_of m.stale all_but_playfield; are_apart = false }
+with_change m (Shapes o) = with_shapes m o
+with_change m (Visibility o) = record (with_shapes m o) { bound = 65535 }
 
 -- whether two objects meet within k pixels from x
 abbrev pub meet_within : TiaFields → (Objects → Bool) → (Objects → Bool) → ℕ → ℕ → Bool
@@ -113,6 +183,31 @@ stretch_pairs t x k =
     ∷ meet_within t p0 pf x k ∷ meet_within t p0 bl x k ∷ meet_within t p1 pf x k ∷ meet_within t p1 bl x k
     ∷ meet_within t m0 pf x k ∷ meet_within t m0 bl x k ∷ meet_within t m1 pf x k ∷ meet_within t m1 bl x k
     ∷ meet_within t bl pf x k ∷ meet_within t p0 p1 x k ∷ meet_within t m0 m1 x k ∷ []
+
+-- their collision bits by groups: those of missile 0, and of each next object those without an
+-- object that had its group before
+abbrev pub one : Bool → ℕ
+one met = if met then 1 else 0
+
+abbrev pub pairs_of_m0 : TiaFields → ℕ → ℕ → ℕ
+pairs_of_m0 t x k =
+    16384 * one (meet_within t m0 p1 x k) + 8192 * one (meet_within t m0 p0 x k) + 64 * one (meet_within t m0 pf x k)
+    + 32 * one (meet_within t m0 bl x k) + one (meet_within t m0 m1 x k)
+
+abbrev pub pairs_of_m1 : TiaFields → ℕ → ℕ → ℕ
+pairs_of_m1 t x k =
+    4096 * one (meet_within t m1 p0 x k) + 2048 * one (meet_within t m1 p1 x k) + 16 * one (meet_within t m1 pf x k)
+    + 8 * one (meet_within t m1 bl x k)
+
+abbrev pub pairs_of_p0 : TiaFields → ℕ → ℕ → ℕ
+pairs_of_p0 t x k =
+    1024 * one (meet_within t p0 pf x k) + 512 * one (meet_within t p0 bl x k) + 2 * one (meet_within t p0 p1 x k)
+
+abbrev pub pairs_of_p1 : TiaFields → ℕ → ℕ → ℕ
+pairs_of_p1 t x k = 256 * one (meet_within t p1 pf x k) + 128 * one (meet_within t p1 bl x k)
+
+abbrev pub pairs_of_bl : TiaFields → ℕ → ℕ → ℕ
+pairs_of_bl t x k = 4 * one (meet_within t bl pf x k)
 
 -- a pixel of a line
 abbrev pub pixel_at : TiaFields → ℕ → ℕ → Pixel

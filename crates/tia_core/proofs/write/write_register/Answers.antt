@@ -1,8 +1,8 @@
-use Rattle.tia_core.proofs.MotionLemmas.{moved-objects}
+use Rattle.tia_core.proofs.MotionLemmas.{unmoved-objects}
 use Rattle.tia_core.proofs.write.write_register.Goals as goal
 
-pub returns-in-Hmove-clause-changed : goal.returns-in-Hmove-clause-changed
-returns-in-Hmove-clause-changed c = λ x.
+pub returns-then-tia-eq0-clause-touched : goal.returns-then-tia-eq0-clause-touched
+returns-then-tia-eq0-clause-touched c = λ x.
     rw (
       c.moved_position-tia.ensures.value,
       c.moved_position-tia-in-Hmove.ensures.value,
@@ -10,4 +10,4 @@ returns-in-Hmove-clause-changed c = λ x.
       c.moved_position-tia-in-Hmove-3.ensures.value,
       c.moved_position-tia-in-Hmove-4.ensures.value,
       c.comb-tia.ensures.value,
-    ) (moved-objects c.args.tia.now c.args.fire0 c.args.fire1 c.args.value x c.requires)
+    ) (unmoved-objects c.args.tia.now c.args.fire0 c.args.fire1 c.args.value x c.requires c.if-tia-eq0.true)

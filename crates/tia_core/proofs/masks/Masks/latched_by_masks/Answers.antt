@@ -1,7 +1,7 @@
 use Rattle.std.proofs.Common.{◌∙◌, ◌-◌, ◌<◌, sym, ap, arith}
 use Rattle.tia_core.specs.Collision.{pairs_of}
 use Rattle.tia_core.proofs.PairLemmas.{stretch-none}
-use Rattle.tia_core.proofs.masks.Masks.latched_anew.Goals as goal
+use Rattle.tia_core.proofs.masks.Masks.latched_by_masks.Goals as goal
 
 pub returns-clause-value : goal.returns-clause-value
 returns-clause-value c =

@@ -1,0 +1,29 @@
+use Rattle.std.proofs.Common.{refl}
+use Rattle.tia_core.specs.Private.Stretches.{bl, p1, pf}
+use Rattle.tia_core.proofs.Windows.{window-met, window-without}
+use Rattle.tia_core.proofs.window.Window.pairs_of_player1.Goals as goal
+
+pub returns-then-overlap-clause-value : goal.returns-then-overlap-clause-value
+returns-then-overlap-clause-value c =
+    let a = c.args in
+    let r = c.requires in
+    let w = c.requires.window in
+    let met = window-met a.tia.now a.from a.to c.pixels-within.result r.range r.short c.pixels-within.ensures in
+    rw (
+      c.bit.ensures,
+      c.bit-then-overlap.ensures,
+      met p1 pf _ _ _ w.player1 w.playfield c.all_overlap.ensures.some c.all_overlap.ensures.none,
+      met p1 bl _ _ _ w.player1 w.ball c.all_overlap-then-overlap.ensures.some c.all_overlap-then-overlap.ensures.none,
+    ) refl
+
+pub returns-else-overlap-clause-value : goal.returns-else-overlap-clause-value
+returns-else-overlap-clause-value c =
+    let a = c.args in
+    let r = c.requires in
+    let w = c.requires.window in
+    let none = window-without a.tia.now a.from a.to c.pixels-within.result r.range r.short c.pixels-within.ensures in
+    let clear = c.overlap.ensures c.if-overlap.false in
+    rw (
+      ← none p1 pf _ _ w.player1 w.playfield clear,
+      ← none p1 bl _ _ w.player1 w.ball clear,
+    ) refl
