@@ -8,7 +8,7 @@ ghost use Rattle.vcs_machine.specs.Private.Totals.{IsBegun, beam_cycles, machine
 
 use crate::console::Console;
 use crate::fault::{FaultKind, Halt};
-use mos_cpu::{Cpu, load, step};
+use mos_cpu::{Cpu, RunningCpu, load, step_running};
 use tia_core::Paint;
 
 /// Cycles after which a frame that has not ended is too long.
@@ -57,7 +57,12 @@ fn pass_rounds<S: Paint>(cpu: Cpu, console: &mut Console<S>, start: u32) -> Cpu
 /// The same after an instruction that was followed by so long a wait, for the processor at its place.
 /// One that waited wrote WSYNC, and didn't read the timer.
 #[inline(always)]
-fn pass_rounds_after<S: Paint>(waited: u8, cpu: &mut Cpu, console: &mut Console<S>, start: u32)
+fn pass_rounds_after<S: Paint>(
+    waited: u8,
+    cpu: &mut RunningCpu,
+    console: &mut Console<S>,
+    start: u32,
+)
     requires no_wait { console.old.awaits_line ≡ false }
     requires no_end { console.old.ended ≡ false }
     requires begun { IsBegun start console.old }
@@ -67,7 +72,7 @@ fn pass_rounds_after<S: Paint>(waited: u8, cpu: &mut Cpu, console: &mut Console<
     ensures later { beam_cycles console.old ≤ beam_cycles console.new }
 {
     if waited == 0 {
-        *cpu = pass_rounds(*cpu, console, start);
+        *cpu = RunningCpu::of(&pass_rounds(cpu.registers(), console, start));
     }
 }
 
@@ -76,7 +81,7 @@ fn pass_rounds_after<S: Paint>(waited: u8, cpu: &mut Cpu, console: &mut Console<
 ///
 /// They aren't counted: the beam tells them, and it is asked where the frame may stop.
 #[inline(always)]
-pub fn run_frame<S: Paint>(cpu: &mut Cpu, console: &mut Console<S>) -> Result<u32, Halt>
+fn run_until_stop<S: Paint>(cpu: &mut RunningCpu, console: &mut Console<S>) -> Result<u32, Halt>
     requires line { console.old.tia.line ≡ 0 }
     ensures ok { IfOk result (λ total. stop_of (console_rules S.drawn) (record { registers = cpu.old; bus = console.old; cycles = 0 })
         ≡ Ended (record { registers = cpu.new; bus = console.new; cycles = total })) }
@@ -86,7 +91,7 @@ pub fn run_frame<S: Paint>(cpu: &mut Cpu, console: &mut Console<S>) -> Result<u3
 {
     let start = console.beam_cycles();
     loop {
-        if let Err(fault) = step(cpu, console) {
+        if let Err(fault) = step_running(cpu, console) {
             let kind = FaultKind::from(fault);
             let cycles = console.beam_cycles() - start;
             return Err(Halt { kind, cycles });
@@ -106,4 +111,20 @@ pub fn run_frame<S: Paint>(cpu: &mut Cpu, console: &mut Console<S>) -> Result<u3
             }
         }
     }
+}
+
+/// The same for a processor as it is before and after a frame.
+#[inline(always)]
+pub fn run_frame<S: Paint>(cpu: &mut Cpu, console: &mut Console<S>) -> Result<u32, Halt>
+    requires line { console.old.tia.line ≡ 0 }
+    ensures ok { IfOk result (λ total. stop_of (console_rules S.drawn) (record { registers = cpu.old; bus = console.old; cycles = 0 })
+        ≡ Ended (record { registers = cpu.new; bus = console.new; cycles = total })) }
+    ensures err { IfErr result (λ halt. stop_of (console_rules S.drawn) (record { registers = cpu.old; bus = console.old; cycles = 0 })
+        ≡ stop_with halt.kind (record { registers = cpu.new; bus = console.new; cycles = halt.cycles })) }
+    ensures most { IfOk result (λ total. total ≤ most_frame_cycles) }
+{
+    let mut running = RunningCpu::of(cpu);
+    let answer = run_until_stop(&mut running, console);
+    *cpu = running.registers();
+    answer
 }

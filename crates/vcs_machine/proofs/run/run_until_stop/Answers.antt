@@ -7,7 +7,7 @@ use Rattle.vcs_machine.specs.Frame.{Machine, Faulted}
 use Rattle.vcs_machine.specs.Private.Totals.{beam_cycles}
 use Rattle.vcs_machine.proofs.OneStop.{stops-long}
 use Rattle.vcs_machine.proofs.TotalLemmas.{early-short, faulty-stop, quiet-on, waited-on}
-use Rattle.vcs_machine.proofs.run.run_frame.Goals as goal
+use Rattle.vcs_machine.proofs.run.run_until_stop.Goals as goal
 
 -- The stop of a processor's fault.
 halted-kind_of : {B : Type 0} (fault : CpuFault) (m : Machine B) → stop_with (kind_of fault) m ≡ Faulted fault m
@@ -33,7 +33,7 @@ returns-then-has_ended-clause-ok g c =
     let e = c.in_default.ensures in
     let w = waited-on g.S.Paint.drawn (record { registers = c.args.cpu.now; bus = c.args.console.now; cycles = 0 })
     c.beam_cycles-start.result c.loop-fault.cpu c.loop-fault.console c.loop-fault.invariant c.in_default.field-0 _ _ e.answer e.registers e.bus in
-    let over : (after_wait g.S.Paint.drawn c.step.new.bus).ended ≡ true = cc in
+    let over : (after_wait g.S.Paint.drawn c.step_running.new.bus).ended ≡ true = cc in
     rw (c.beam_cycles-then-has_ended.ensures.cycles, c.beam_cycles-then-has_ended.ensures.bus, c.wait-waited.ensures.bus) (w.over over)
 
 pub returns-then-has_ended-clause-most : goal.returns-then-has_ended-clause-most
@@ -55,7 +55,7 @@ returns-then-cycles-ge-TOO_MANY_CYCLES-clause-err g c =
     let e = c.in_default.ensures in
     let w = waited-on g.S.Paint.drawn (record { registers = c.args.cpu.now; bus = c.args.console.now; cycles = 0 })
     c.beam_cycles-start.result c.loop-fault.cpu c.loop-fault.console c.loop-fault.invariant c.in_default.field-0 _ _ e.answer e.registers e.bus in
-    let going : (after_wait g.S.Paint.drawn c.step.new.bus).ended ≡ false = cc in
+    let going : (after_wait g.S.Paint.drawn c.step_running.new.bus).ended ≡ false = cc in
     let told = c.beam_cycles-then-has_event-2.ensures.cycles in
     let long = rw told at c.if-cycles-ge-TOO_MANY_CYCLES.true in
     rw (told, c.beam_cycles-then-has_event-2.ensures.bus)
@@ -80,7 +80,7 @@ loop-fault-preserved-else-cycles-ge-TOO_MANY_CYCLES g c =
     let e = c.in_default.ensures in
     let w = waited-on g.S.Paint.drawn (record { registers = c.args.cpu.now; bus = c.args.console.now; cycles = 0 })
     c.beam_cycles-start.result c.loop-fault.cpu c.loop-fault.console c.loop-fault.invariant c.in_default.field-0 _ _ e.answer e.registers e.bus in
-    let going : (after_wait g.S.Paint.drawn c.step.new.bus).ended ≡ false = cc in
+    let going : (after_wait g.S.Paint.drawn c.step_running.new.bus).ended ≡ false = cc in
     let stops = rw c.wait-waited.ensures.bus at c.pass_rounds_after.ensures.stops in
     let short = rw c.beam_cycles-then-has_event-2.ensures.cycles at c.if-cycles-ge-TOO_MANY_CYCLES.false in
     rw c.beam_cycles-then-has_event-2.ensures.bus
@@ -102,7 +102,7 @@ loop-fault-preserved-else-has_event-2 g c =
     let e = c.in_default.ensures in
     let w = waited-on g.S.Paint.drawn (record { registers = c.args.cpu.now; bus = c.args.console.now; cycles = 0 })
     c.beam_cycles-start.result c.loop-fault.cpu c.loop-fault.console c.loop-fault.invariant c.in_default.field-0 _ _ e.answer e.registers e.bus in
-    let going : (after_wait g.S.Paint.drawn c.step.new.bus).ended ≡ false = cc in
+    let going : (after_wait g.S.Paint.drawn c.step_running.new.bus).ended ≡ false = cc in
     let stops = rw c.wait-waited.ensures.bus at c.pass_rounds_after.ensures.stops in
     let begun = c.pass_rounds_after.ensures.begun in
     record {

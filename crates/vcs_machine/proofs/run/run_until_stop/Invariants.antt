@@ -1,7 +1,7 @@
 use Rattle.std.proofs.Common.{◌-◌}
 use Rattle.vcs_machine.specs.Private.Totals.{beam_cycles}
 use Rattle.vcs_machine.proofs.TotalLemmas.{IsUnderway}
-use Rattle.vcs_machine.proofs.run.run_frame.Given as goal
+use Rattle.vcs_machine.proofs.run.run_until_stop.Given as goal
 
 abbrev pub invariant-loop-fault : goal.invariant-loop-fault
 invariant-loop-fault g l = IsUnderway g.S.Paint.drawn (record { registers = l.fn.cpu; bus = l.fn.console; cycles = 0 }) l.start l.cpu l.console
