@@ -172,10 +172,9 @@ fn read_rom<S: Read>(
 /// `trace` the first lines or pictures, each whole. `verify` writes its text before its file, and
 /// each other command after it. At most 16,777,217 reads of each input are made.
 ///
-/// The gate is told of each work while frames are replayed. A work has ended before anything is
-/// written, but for the lines and pictures of `frames` and `pictures`. The segments of a verdict are
-/// a work, around each of which the gate is called; that one is done it hears by `leave`, and of
-/// each other segment or frame by `advance`.
+/// The progress of each replay is told to the gate, as a work. A work has ended before anything is
+/// written, but for the lines and pictures of `frames` and `pictures`. That of a verdict counts
+/// segments, around each of which the gate is called too, or frames if there are few segments.
 pub fn run_command<
     T: Threads + Wait + Sync + AllocGlobal,
     R: Read,

@@ -35,8 +35,8 @@ use verify_pool::Gate;
 /// or the whole line and the pictures' writer a prefix of the pictures. At most 16,777,217 reads
 /// are made. With more than one worker it joins the threads that it starts.
 ///
-/// The gate is called around each replay, and before and after all of them, if the movie isn't
-/// refused. Its `advance` isn't called.
+/// The gate is called around each replay, and the progress of the verdict is told to it as a work, if
+/// the movie isn't refused.
 pub fn run<T: Threads + Wait + Sync, R: Read, W: Write, P: Write, G: Gate + Progress + Sync>(
     rt: &T,
     alloc: Global,

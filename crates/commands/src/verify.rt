@@ -5,16 +5,15 @@ ghost use Rattle.commands.specs.Verify.{Verifies};
 
 use crate::answer::Answer;
 use crate::run_error::JudgeError;
-use movie_file::{Movie, Progress, Work};
+use movie_file::{Movie, Progress};
 use replay_plan::{Notation, Plan};
 use replay_segments::{Cuts, Verdict};
 use std::alloc::Global;
 use std::sync::Wait;
 use std::thread::Threads;
-use verify_pool::{Gate, VerifyError, verify as judge};
+use verify_pool::{Gate, VerifyError, verify_with_progress};
 
-/// The verdict of a movie, by the workers of a plan. It is a work, of which the gate hears by `leave`
-/// that a segment is done.
+/// The verdict of a movie, by the workers of a plan. It is a work.
 pub(crate) fn verdict_of<T: Threads + Wait + Sync, G: Gate + Progress + Sync>(
     rt: &T,
     alloc: Global,
@@ -28,10 +27,7 @@ pub(crate) fn verdict_of<T: Threads + Wait + Sync, G: Gate + Progress + Sync>(
     let Ok(cuts) = Cuts::every(alloc, movie, plan.every) else {
         return Err(JudgeError::NoMemory);
     };
-    gate.begin(Work::Segments(cuts.segments()));
-    let answer = judge(rt, alloc, movie, &cuts, plan.workers, plan.keep, gate);
-    gate.end();
-    match answer {
+    match verify_with_progress(rt, alloc, movie, &cuts, plan.workers, plan.keep, gate) {
         Ok(verdict) => Ok(verdict),
         Err(VerifyError::NoMemory) => Err(JudgeError::NoMemory),
         Err(VerifyError::NoThread) => Err(JudgeError::NoThread),

@@ -1,4 +1,4 @@
-//! What is told of replays that take long.
+//! How the progress of a long replay is told.
 
 /// Work that takes long, and how much there is of it.
 #[derive(Clone, Copy)]
@@ -20,14 +20,15 @@ pub trait Progress {
     /// This work is next.
     fn begin(&self, work: Work);
 
-    /// One more of its segments or frames is done. One that is passed over or faults is not told.
+    /// One more of its segments or frames is done. It isn't called for a frame that faults, or for a
+    /// segment that is passed over.
     fn advance(&self);
 
     /// It has come to its end.
     fn end(&self);
 }
 
-/// Nobody is told.
+/// Progress that is told to nobody.
 #[derive(Clone, Copy, Debug)]
 pub struct NoProgress;
 

@@ -7,7 +7,7 @@ ghost use Rattle.replay_segments.specs.Private.Steps.{IsFrameStep, IsClaim, IsAd
 ghost use Rattle.replay_segments.specs.Verdicts.{IsJudged, IsVerdict};
 
 use crate::verdict::Verdict;
-use movie_file::Movie;
+use movie_file::{Movie, NoProgress, Progress};
 use replay_plan::Keep;
 use std::alloc::{AllocError, Global};
 use vcs_machine::{FrameError, Picture, Pictures, State, frame};
@@ -83,8 +83,9 @@ fn compare(movie: &Movie, next: u16, frame: u32, state: &State) -> Claim
 /// Judges `len` frames from a state that stands after frame `from`. `first` is the index of the
 /// first checkpoint after that.
 ///
-/// The list of the kept pictures is grown once, before the first frame.
-pub(crate) fn judge_frames(
+/// The list of the kept pictures is grown once, before the first frame. Each frame that is played is
+/// told, as a part of a work that has begun.
+pub(crate) fn judge_frames<P: Progress>(
     alloc: Global,
     movie: &Movie,
     keep: Keep,
@@ -92,6 +93,7 @@ pub(crate) fn judge_frames(
     from: u32,
     len: u32,
     first: u16,
+    progress: &P,
 ) -> Result<Verdict, AllocError>
     requires range { from + len ≤ length movie.now.inputs }
     requires short { from + len < 2 ^ 32 }
@@ -108,7 +110,7 @@ pub(crate) fn judge_frames(
     for k in 0..len {
         let frame = from + k + 1;
         match advance(alloc, movie, keep, from + k, &mut state, &mut pictures) {
-            Ok(()) => {}
+            Ok(()) => progress.advance(),
             Err(FrameError::Fault(kind)) => return Ok(Verdict::Fault { frame, kind }),
             Err(FrameError::NoMemory) => return Err(AllocError),
         }
@@ -131,5 +133,6 @@ pub fn verify_one(alloc: Global, movie: &Movie, keep: Keep) -> Result<Verdict, A
     ensures verdict { IfOk result (λ verdict. IsVerdict movie.now keep verdict) }
     ensures refused { OnErr result (0 < kept_count keep 0 (length movie.now.inputs)) }
 {
-    judge_frames(alloc, movie, keep, movie.start(), 0, movie.frames(), 0)
+    let frames = movie.frames();
+    judge_frames(alloc, movie, keep, movie.start(), 0, frames, 0, &NoProgress)
 }

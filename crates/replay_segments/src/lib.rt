@@ -26,5 +26,5 @@ pub use laws::{law_of_converted_verdicts, law_of_one_outcome, law_of_one_verdict
 pub use outcome::Outcome;
 pub use piece::Piece;
 pub use run_states::{LeftState, found_state, left_state};
-pub use segment::replay;
+pub use segment::{replay, replay_with_progress};
 pub use verdict::Verdict;

@@ -10,7 +10,7 @@ use crate::judge::judge_frames;
 use crate::outcome::Outcome;
 use crate::piece::Piece;
 use crate::verdict::Verdict;
-use movie_file::Movie;
+use movie_file::{Movie, NoProgress, Progress};
 use replay_plan::Keep;
 use std::alloc::{AllocError, Global};
 use std::snapshot::Snapshot;
@@ -31,13 +31,14 @@ fn end(movie: &Movie, cuts: &Cuts, i: u32) -> u32
 }
 
 /// Replays the segment that begins at cut `i`, counted from 0.
-fn from_cut(
+fn from_cut<P: Progress>(
     alloc: Global,
     movie: &Movie,
     cuts: &Cuts,
     keep: Keep,
     i: u32,
     end: u32,
+    progress: &P,
 ) -> Result<Verdict, AllocError>
     requires fit { Fits cuts.now movie.now }
     requires number { i < length cuts.now }
@@ -51,13 +52,20 @@ fn from_cut(
         unreachable!()
     };
     let checkpoint = movie.checkpoint(cut);
-    let from = checkpoint.frame;
-    judge_frames(alloc, movie, keep, &checkpoint.state, from, end - from, cut)
+    let (from, state) = (checkpoint.frame, &checkpoint.state);
+    judge_frames(alloc, movie, keep, state, from, end - from, cut, progress)
 }
 
 /// The outcome of a segment.
 #[tactic(auto, using(crate::proofs::CheckpointLemmas::at_start))]
-fn outcome_of(alloc: Global, movie: &Movie, cuts: &Cuts, keep: Keep, number: u32) -> Outcome
+fn outcome_of<P: Progress>(
+    alloc: Global,
+    movie: &Movie,
+    cuts: &Cuts,
+    keep: Keep,
+    number: u32,
+    progress: &P,
+) -> Outcome
     requires fit { Fits cuts.now movie.now }
     requires number { number < length cuts.now + 1 }
     ensures job { IsJob (job_of movie.now cuts.now keep) }
@@ -67,9 +75,9 @@ fn outcome_of(alloc: Global, movie: &Movie, cuts: &Cuts, keep: Keep, number: u32
 {
     let end = end(movie, cuts, number);
     let judged = if number == 0 {
-        judge_frames(alloc, movie, keep, movie.start(), 0, end, 0)
+        judge_frames(alloc, movie, keep, movie.start(), 0, end, 0, progress)
     } else {
-        from_cut(alloc, movie, cuts, keep, number - 1, end)
+        from_cut(alloc, movie, cuts, keep, number - 1, end, progress)
     };
     match judged {
         Ok(verdict) => Outcome::Judged(verdict),
@@ -89,7 +97,26 @@ pub fn replay(alloc: Global, movie: &Movie, cuts: &Cuts, keep: Keep, number: u32
     ensures memory { result.outcome ≡ Outcome.NoMemory
         → HasKept (job_of movie.now cuts.now keep) number }
 {
-    let outcome = outcome_of(alloc, movie, cuts, keep, number);
+    replay_with_progress(alloc, movie, cuts, keep, number, &NoProgress)
+}
+
+/// The same. Each frame that is played is told, as a part of a work that has begun.
+pub fn replay_with_progress<P: Progress>(
+    alloc: Global,
+    movie: &Movie,
+    cuts: &Cuts,
+    keep: Keep,
+    number: u32,
+    progress: &P,
+) -> Piece
+    requires fit { Fits cuts.now movie.now }
+    requires number { number < length cuts.now + 1 }
+    ensures number { result.number ≡ number }
+    ensures job { result.job ≡ job_of movie.now cuts.now keep }
+    ensures memory { result.outcome ≡ Outcome.NoMemory
+        → HasKept (job_of movie.now cuts.now keep) number }
+{
+    let outcome = outcome_of(alloc, movie, cuts, keep, number, progress);
     Piece {
         number,
         outcome,

@@ -53,3 +53,28 @@ impl Progress for NoGate {
 
     fn end(&self) {}
 }
+
+/// A gate whose progress is told to nobody.
+#[derive(Drop)]
+pub(crate) struct Untold<'a, G> {
+    /// What is called around each replay.
+    pub(crate) gate: &'a G,
+}
+
+impl<'a, G: Gate> Gate for Untold<'a, G> {
+    fn enter(&self, ticket: &Ticket, segment: u32) {
+        self.gate.enter(ticket, segment);
+    }
+
+    fn leave(&self, ticket: &Ticket, piece: &Piece) {
+        self.gate.leave(ticket, piece);
+    }
+}
+
+impl<'a, G> Progress for Untold<'a, G> {
+    fn begin(&self, _work: Work) {}
+
+    fn advance(&self) {}
+
+    fn end(&self) {}
+}

@@ -4,11 +4,12 @@
 mod gate;
 mod hand;
 mod verification;
+mod work;
 mod worker;
 mod workers;
 
 pub use gate::{Gate, NoGate};
 pub use hand::Hand;
 pub use segment_desk::{Desk, Ticket};
-pub use verification::{VerifyError, verify};
+pub use verification::{VerifyError, verify, verify_with_progress};
 pub use workers::{NoThread, crew};

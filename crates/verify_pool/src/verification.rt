@@ -5,10 +5,11 @@ ghost use Rattle.replay_segments.specs.Verdicts.{IsVerdict};
 ghost use Rattle.verify_pool.specs.Crew.{AreReady, shares};
 ghost use Rattle.segment_desk.specs.Views.{first_ticket};
 
-use crate::gate::Gate;
+use crate::gate::{Gate, Untold};
 use crate::hand::Hand;
-use crate::workers::crew;
-use movie_file::Movie;
+use crate::work::work_of;
+use crate::workers::crew_with_progress;
+use movie_file::{Movie, Progress};
 use replay_plan::{Keep, Workers};
 use replay_segments::{Cuts, GatherError, Verdict, gather};
 use segment_desk::{Desk, Ticket};
@@ -51,6 +52,40 @@ fn hands_of(
     Ok(hands)
 }
 
+/// The verdict of a movie, by workers, who tell what they replay as a part of a work that has begun.
+fn verdict_of<G: Gate + Progress + Sync, R: Threads + Wait + Sync>(
+    rt: &R,
+    alloc: Global,
+    movie: &Movie,
+    cuts: &Cuts,
+    workers: Workers,
+    keep: Keep,
+    gate: &G,
+) -> Result<Verdict, VerifyError>
+    requires fit { Fits cuts.now movie.now }
+    ensures verdict { IfOk result (λ verdict. IsVerdict movie.now keep verdict) }
+    ensures no_thread { result ≡ Err VerifyError.NoThread → (2 ≤ workers.number) × (2 ≤ length cuts.now + 1) }
+{
+    let segments = cuts.segments();
+    let workers = u32::from(workers.get()).min(segments) as u8;
+    let Ok((desk, tickets)) = Desk::new(alloc, segments, workers) else {
+        return Err(VerifyError::NoMemory);
+    };
+    let Ok(hands) = hands_of(alloc, &desk, segments, tickets) else {
+        return Err(VerifyError::NoMemory);
+    };
+    let Ok(hand) = crew_with_progress(rt, alloc, movie, cuts, keep, &desk, hands, gate) else {
+        return Err(VerifyError::NoThread);
+    };
+    let Hand { ticket, pieces } = hand;
+    drop(ticket);
+    match gather(alloc, pieces, segments) {
+        Ok(verdict) => Ok(verdict),
+        Err(GatherError::NoMemory) => Err(VerifyError::NoMemory),
+        Err(GatherError::Missing(_)) => unreachable!(),
+    }
+}
+
 /// The verdict of a movie, which is that of one unbroken run from its start state, by workers, who
 /// replay the segments between the cuts: one on the calling thread, each other one in a thread of
 /// its own. The cuts fit the movie. If there is one worker, or one segment, no thread is
@@ -72,22 +107,27 @@ pub fn verify<G: Gate + Sync, R: Threads + Wait + Sync>(
     ensures verdict { IfOk result (λ verdict. IsVerdict movie.now keep verdict) }
     ensures no_thread { result ≡ Err VerifyError.NoThread → (2 ≤ workers.number) × (2 ≤ length cuts.now + 1) }
 {
-    let segments = cuts.segments();
-    let workers = u32::from(workers.get()).min(segments) as u8;
-    let Ok((desk, tickets)) = Desk::new(alloc, segments, workers) else {
-        return Err(VerifyError::NoMemory);
-    };
-    let Ok(hands) = hands_of(alloc, &desk, segments, tickets) else {
-        return Err(VerifyError::NoMemory);
-    };
-    let Ok(hand) = crew(rt, alloc, movie, cuts, keep, &desk, hands, gate) else {
-        return Err(VerifyError::NoThread);
-    };
-    let Hand { ticket, pieces } = hand;
-    drop(ticket);
-    match gather(alloc, pieces, segments) {
-        Ok(verdict) => Ok(verdict),
-        Err(GatherError::NoMemory) => Err(VerifyError::NoMemory),
-        Err(GatherError::Missing(_)) => unreachable!(),
-    }
+    verify_with_progress(rt, alloc, movie, cuts, workers, keep, &Untold { gate })
+}
+
+/// The same. It is a work: of the movie's frames if there are at most two segments, and else of its
+/// segments. A frame that is played is told between `enter` and `leave`, and a segment that is replayed
+/// after `leave`.
+pub fn verify_with_progress<G: Gate + Progress + Sync, R: Threads + Wait + Sync>(
+    rt: &R,
+    alloc: Global,
+    movie: &Movie,
+    cuts: &Cuts,
+    workers: Workers,
+    keep: Keep,
+    gate: &G,
+) -> Result<Verdict, VerifyError>
+    requires fit { Fits cuts.now movie.now }
+    ensures verdict { IfOk result (λ verdict. IsVerdict movie.now keep verdict) }
+    ensures no_thread { result ≡ Err VerifyError.NoThread → (2 ≤ workers.number) × (2 ≤ length cuts.now + 1) }
+{
+    gate.begin(work_of(movie, cuts));
+    let verdict = verdict_of(rt, alloc, movie, cuts, workers, keep, gate);
+    gate.end();
+    verdict
 }

@@ -14,9 +14,10 @@ ghost use Rattle.segment_desk.specs.Views.{IsOf};
 
 use crate::gate::Gate;
 use crate::hand::Hand;
-use movie_file::Movie;
+use crate::work::counts_frames;
+use movie_file::{Movie, Progress};
 use replay_plan::Keep;
-use replay_segments::{Cuts, Piece, replay};
+use replay_segments::{Cuts, Piece, replay, replay_with_progress};
 use segment_desk::{Desk, Ticket};
 use std::alloc::Global;
 
@@ -33,7 +34,7 @@ pub(crate) struct Shared<'s, G> {
     pub(crate) keep: Keep,
     /// Where segments are drawn and reported.
     pub(crate) desk: &'s Desk,
-    /// What is called around each replay.
+    /// What is called around each replay, and to which its progress is told.
     pub(crate) gate: &'s G,
     ghost fit: { Fits cuts.now movie.now },
     ghost size: { desk.now.segments ≡ length cuts.now + 1 },
@@ -56,8 +57,24 @@ fn report_unless_passed(desk: &Desk, ticket: &mut Ticket, piece: &Piece)
     }
 }
 
-impl<'s, G: Gate> Shared<'s, G> {
-    /// Replays the segment that the ticket drew last, and reports it unless it passes.
+impl<'s, G: Gate + Progress> Shared<'s, G> {
+    /// Replays a segment, whose frames are told if the verdict counts frames.
+    fn replay(&self, number: u32) -> Piece
+        requires { number < length self.now.cuts.now + 1 }
+        ensures number { result.number ≡ number }
+        ensures job { result.job ≡ job_of self.now.movie.now self.now.cuts.now self.now.keep }
+        ensures memory { result.outcome ≡ Outcome.NoMemory → HasKept (job_of self.now.movie.now self.now.cuts.now self.now.keep) number }
+    {
+        if counts_frames(self.cuts) {
+            return replay_with_progress(
+                self.alloc, self.movie, self.cuts, self.keep, number, self.gate,
+            );
+        }
+        replay(self.alloc, self.movie, self.cuts, self.keep, number)
+    }
+
+    /// Replays the segment that the ticket drew last, and reports it unless it passes. That it is
+    /// done is told, unless its frames were.
     fn replay_drawn(&self, ticket: &mut Ticket, number: u32) -> Piece
         requires number { number < length self.now.cuts.now + 1 }
         requires own { IsOf self.now.desk.now ticket.old }
@@ -70,9 +87,12 @@ impl<'s, G: Gate> Shared<'s, G> {
         ensures replayed { IsReplayed (passed result.outcome) number ticket.old.part ticket.new.part }
     {
         self.gate.enter(ticket, number);
-        let piece = replay(self.alloc, self.movie, self.cuts, self.keep, number);
+        let piece = self.replay(number);
         report_unless_passed(self.desk, ticket, &piece);
         self.gate.leave(ticket, &piece);
+        if !counts_frames(self.cuts) {
+            self.gate.advance();
+        }
         piece
     }
 

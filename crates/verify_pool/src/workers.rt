@@ -6,10 +6,10 @@ ghost use Rattle.replay_segments.specs.Pieces.{Job, job_of};
 ghost use Rattle.verify_pool.specs.Crew.{AreReady, IsReady, IsWorked, first_room, shares};
 ghost use Rattle.segment_desk.specs.Views.{IsOf};
 
-use crate::gate::Gate;
+use crate::gate::{Gate, Untold};
 use crate::hand::Hand;
 use crate::worker::Shared;
-use movie_file::Movie;
+use movie_file::{Movie, Progress};
 use replay_plan::Keep;
 use replay_segments::Cuts;
 use segment_desk::Desk;
@@ -68,7 +68,7 @@ fn unite(desk: &Desk, first: Hand, second: Hand) -> Hand
 
 /// Starts a thread that works on a hand. Its handle promises what a worker does of what is shared
 /// and of that hand.
-fn start<'s, E, G: Gate + Sync>(
+fn start<'s, E, G: Gate + Progress + Sync>(
     scope: &'s Scope<'s, E>,
     shared: &Shared<'s, G>,
     hand: Hand,
@@ -123,7 +123,7 @@ fn start<'s, E, G: Gate + Sync>(
 
 /// Works on all hands, the last one in a thread of its own, and the first one on the calling
 /// thread.
-fn crew_within<'s, E, G: Gate + Sync, R: Threads + Wait + Sync>(
+fn crew_within<'s, E, G: Gate + Progress + Sync, R: Threads + Wait + Sync>(
     scope: &'s Scope<'s, E>,
     rt: &'s R,
     shared: &Shared<'s, G>,
@@ -162,6 +162,26 @@ fn crew_within<'s, E, G: Gate + Sync, R: Threads + Wait + Sync>(
 /// One hand is worked on by the calling thread, without another. NoThread comes if the start of
 /// a thread was refused, for any cause, after those that were started have ended.
 pub fn crew<G: Gate + Sync, R: Threads + Wait + Sync>(
+    rt: &R,
+    alloc: Global,
+    movie: &Movie,
+    cuts: &Cuts,
+    keep: Keep,
+    desk: &Desk,
+    hands: Vec<Hand>,
+    gate: &G,
+) -> Result<Hand, NoThread>
+    requires fit { Fits cuts.now movie.now }
+    requires desk { desk.now.segments ≡ length cuts.now + 1 }
+    requires ready { AreReady desk.now hands.items }
+    ensures worked { IfOk result (λ hand. IsWorked desk.now (job_of movie.now cuts.now keep) (shares hands.items) hand) }
+    ensures refused { OnErr result (2 ≤ length hands.items) }
+{
+    crew_with_progress(rt, alloc, movie, cuts, keep, desk, hands, &Untold { gate })
+}
+
+/// The same. What is replayed is told, as a part of a work that has begun.
+pub(crate) fn crew_with_progress<G: Gate + Progress + Sync, R: Threads + Wait + Sync>(
     rt: &R,
     alloc: Global,
     movie: &Movie,

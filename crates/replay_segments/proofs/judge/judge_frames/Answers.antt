@@ -6,13 +6,13 @@ use Rattle.replay_segments.proofs.KeepLemmas.{kept_count-next, kept_count-zero}
 use Rattle.replay_segments.proofs.judge.judge_frames.Goals as goal
 
 pub returns-in-False-clause-judged : goal.returns-in-False-clause-judged
-returns-in-False-clause-judged c =
+returns-in-False-clause-judged g c =
     let a = c.in-Ok-advance.ensures.advance in
     IsJudged-false c.args.movie.now c.args.keep c.args.start.now c.args.from c.loop-k.k c.loop-k.state c.advance.new.state a.0 c.loop-k.pictures.items
     c.loop-k.invariant.far a.1 c.args.len c.loop-k.next c.in-False.number c.loop-k-test.true c.in-False.ensures
 
 pub loop-k-preserved : goal.loop-k-preserved
-loop-k-preserved c =
+loop-k-preserved g c =
     let a = c.in-Ok-advance.ensures.advance in
     let claim = c.in-Holds.ensures in
     record {
@@ -27,7 +27,7 @@ loop-k-preserved c =
     }
 
 pub loop-k-init : goal.loop-k-init
-loop-k-init c = record {
+loop-k-init g c = record {
   far = rw (c.copy-state.ensures.value, c.in-Ok.ensures.items) (record { state_is = refl; sound = λ i less. absurd (omega arith); kept_are = refl });
   count = let none = kept_count-zero c.args.keep c.args.from in let empty = c.in-Ok.ensures.len in omega arith;
   room = let more = c.in-Ok.ensures.capacity in let room = c.count-room.ensures in omega arith;
@@ -35,7 +35,7 @@ loop-k-init c = record {
 }
 
 pub returns-clause-judged : goal.returns-clause-judged
-returns-clause-judged c =
+returns-clause-judged g c =
     let all : c.loop-k.k ≡ c.args.len = omega arith in
     let far =
     subst (λ (k : ℕ). SoFar c.args.movie.now c.args.keep c.args.start.now c.args.from k c.loop-k.state c.loop-k.pictures.items) all c.loop-k.invariant.far in

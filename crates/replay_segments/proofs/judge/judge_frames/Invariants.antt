@@ -5,7 +5,7 @@ use Rattle.replay_segments.specs.Private.Steps.{SoFar}
 use Rattle.replay_segments.proofs.judge.judge_frames.Given as goal
 
 abbrev pub invariant-loop-k : goal.invariant-loop-k
-invariant-loop-k l = record {
+invariant-loop-k g l = record {
   far : SoFar l.movie l.keep l.start l.from l.k l.state l.pictures.items;
   count : vec_len l.pictures ≡ kept_count l.keep l.from l.k;
   room : kept_count l.keep l.from l.len ≤ vec_capacity l.pictures;
