@@ -1,6 +1,7 @@
 //! What `clap` advises about words that are no command.
 
-use command_line::{LineFault, parse_line};
+use crate::reasons::has_explain;
+use command_line::{CommandLine, LineFault, parse_line};
 use std::alloc::{AllocError, Global};
 
 /// How the advice begins to let a word follow `--`.
@@ -158,7 +159,35 @@ fn with_version(alloc: Global, text: String) -> Result<String, AllocError> {
     }
 }
 
-/// Whether words are a command with `verify` as the first.
+/// What is said of a word that is no command, with the advice that it is one in small letters, if so and
+/// if there is no other advice.
+fn with_small_letters(alloc: Global, words: &[String], text: String) -> Result<String, AllocError> {
+    if text.contains(TIP) {
+        return Ok(text);
+    }
+    let (Some((_, rest)), [program, ..]) = (text.split_once(NO_COMMAND), words) else {
+        return Ok(text);
+    };
+    let (Some((word, _)), Some((reason, usage))) = (rest.split_once("'"), text.split_once(USAGE))
+    else {
+        return Ok(text);
+    };
+    let name = word.to_ascii_lowercase(alloc)?;
+    if !ask_for_help(alloc, &[program.as_str(), "help", name.as_str()])? {
+        return Ok(text);
+    }
+    format!(in alloc; "{reason}{TIP}a similar subcommand exists: '{name}'{USAGE}{usage}")
+}
+
+/// Whether each file of a command line has a name.
+fn has_names(line: &CommandLine) -> bool {
+    match line.output.as_deref() {
+        Some("") => false,
+        _ => !line.input.is_empty(),
+    }
+}
+
+/// Whether words are a command with `verify` as the first, and each of its files has a name.
 fn are_command_after_verify(alloc: Global, words: &[String]) -> Result<bool, AllocError> {
     let [program, others @ ..] = words else {
         return Ok(false);
@@ -169,7 +198,11 @@ fn are_command_after_verify(alloc: Global, words: &[String]) -> Result<bool, All
     for word in others {
         advised.push(word.as_str())?;
     }
-    are_command(alloc, &advised)
+    match parse_line(alloc, &advised) {
+        Ok(line) => Ok(has_names(&line)),
+        Err(LineFault::Memory) => Err(AllocError),
+        Err(_) => Ok(false),
+    }
 }
 
 /// What is said of words that name no command, with the advice to judge a movie, if that makes a command
@@ -195,6 +228,28 @@ fn asked_of_help(words: &[String]) -> Option<&[String]> {
     }
 }
 
+/// The words without `--explain`.
+fn without_explain(alloc: Global, words: &[String]) -> Result<Vec<String>, AllocError> {
+    let mut others = Vec::with_capacity(alloc, words.len())?;
+    for word in words {
+        if word.as_str() != "--explain" {
+            others.push(String::from_str(alloc, word)?)?;
+        }
+    }
+    Ok(others)
+}
+
+/// The words without `--explain`, if it stands after `help`: `clap` takes each word there for a command.
+pub(crate) fn help_without_explain(
+    alloc: Global,
+    words: &[String],
+) -> Result<Option<Vec<String>>, AllocError> {
+    if asked_of_help(words).is_none() || !has_explain(words) {
+        return Ok(None);
+    }
+    Ok(Some(without_explain(alloc, words)?))
+}
+
 /// What is said of words that ask for help on something that is no command: what is said of it without
 /// `help`, which names commands that are like it.
 fn without_help(alloc: Global, words: &[String], text: String) -> Result<String, AllocError> {
@@ -217,14 +272,22 @@ fn without_help(alloc: Global, words: &[String], text: String) -> Result<String,
 
 /// What is said of words that are no command, with no advice that leads to none or to another command
 /// than was meant, as far as that is known.
-pub(crate) fn with_good_advice(
-    alloc: Global,
-    words: &[String],
-    text: String,
-) -> Result<String, AllocError> {
+fn with_good_advice(alloc: Global, words: &[String], text: String) -> Result<String, AllocError> {
     let text = without_help(alloc, words, text)?;
     let text = with_command(alloc, words, text)?;
     let text = with_version(alloc, text)?;
+    let text = with_small_letters(alloc, words, text)?;
     let text = with_verify(alloc, words, text)?;
     without_vain_dashes(alloc, words, text)
+}
+
+/// What is said of words that are no command: what is said of them without `--explain`, if they are none
+/// then either, since most advice depends on the first of them.
+pub(crate) fn advised(alloc: Global, words: &[String], text: String) -> Result<String, AllocError> {
+    let others = without_explain(alloc, words)?;
+    match parse_line(alloc, &others) {
+        Err(LineFault::Memory) => Err(AllocError),
+        Err(LineFault::Usage { text }) => with_good_advice(alloc, &others, text),
+        _ => with_good_advice(alloc, words, text),
+    }
 }

@@ -27,7 +27,7 @@ ghost use Rattle.vcs_check.specs.Private.FileErrors.{by_input, by_output};
 ghost use Rattle.std.specs.Io.KnownBytes.{Keeps};
 ghost use Rattle.std.specs.Process.{exit_status};
 
-use advice::with_good_advice;
+use advice::{advised, help_without_explain};
 use answering::{answer_line, draws, reads_first, reads_second, takes_file};
 use command_line::{CommandLine, LineFault, parse_line};
 use commands::{Gate, Progress, RunError, Status};
@@ -52,14 +52,14 @@ use std::thread::Threads;
 use terminal_text::Shown;
 
 /// The same reason why words are no command, without advice that leads to none.
-fn fault_with_good_advice(
+fn advised_fault(
     alloc: Global,
     words: &[String],
     fault: LineFault,
 ) -> Result<LineFault, AllocError> {
     match fault {
         LineFault::Usage { text } => Ok(LineFault::Usage {
-            text: with_good_advice(alloc, words, text)?,
+            text: advised(alloc, words, text)?,
         }),
         other => Ok(other),
     }
@@ -73,7 +73,7 @@ fn fault_of_shown(alloc: Global, words: &[String]) -> Result<LineFault, AllocErr
         shown.push(format!(in alloc; "{}", Shown::name(word))?)?;
     }
     match parse_line(alloc, &shown) {
-        Err(fault) => fault_with_good_advice(alloc, &shown, fault),
+        Err(fault) => advised_fault(alloc, &shown, fault),
         Ok(_) => {
             let text = String::from_str(alloc, "error: no command\n")?;
             Ok(LineFault::Usage { text })
@@ -88,8 +88,16 @@ fn line_of(alloc: Global, words: &[String]) -> Result<CommandLine, LineFault> {
     let is_plain = words.iter().all(|word| Shown::name(word).is_all_plain());
     match answer {
         Err(LineFault::Usage { .. }) if !is_plain => Err(fault_of_shown(alloc, words)?),
-        Err(fault) => Err(fault_with_good_advice(alloc, words, fault)?),
+        Err(fault) => Err(advised_fault(alloc, words, fault)?),
         answer => answer,
+    }
+}
+
+/// The same, also where `--explain` stands after `help`.
+fn line_of_all(alloc: Global, words: &[String]) -> Result<CommandLine, LineFault> {
+    match help_without_explain(alloc, words)? {
+        Some(asked) => line_of(alloc, &asked),
+        None => line_of(alloc, words),
     }
 }
 
@@ -200,7 +208,7 @@ fn words_of_program<R: Env + AllocGlobal>(rt: &R) -> Result<Vec<String>, Ending<
 fn line_of_words(alloc: Global, words: &[String]) -> Result<CommandLine, Ending<'static>>
     ensures { IfOk result (λ line. ReadsTwice line → ⊥) }
 {
-    let line = line_of(alloc, words)?;
+    let line = line_of_all(alloc, words)?;
     if reads_first(&line) && reads_second(&line) {
         return Err(Ending::Twice);
     }

@@ -58,9 +58,7 @@ impl<'a, R: Eprint + Clock + Wait> ProgressLine<'a, R> {
 impl<R: Eprint + Clock + Wait> Gate for ProgressLine<'_, R> {
     fn enter(&self, _ticket: &Ticket, _segment: u32) {}
 
-    fn leave(&self, _ticket: &Ticket, _piece: &Piece) {
-        self.advance();
-    }
+    fn leave(&self, _ticket: &Ticket, _piece: &Piece) {}
 }
 
 impl<R: Eprint + Clock + Wait> Progress for ProgressLine<'_, R> {
