@@ -183,9 +183,7 @@ impl Counting {
 impl Gate for Counting {
     fn enter(&self, _ticket: &Ticket, _segment: u32) {}
 
-    fn leave(&self, _ticket: &Ticket, _piece: &Piece) {
-        self.done.fetch_add(1, Ordering::SeqCst);
-    }
+    fn leave(&self, _ticket: &Ticket, _piece: &Piece) {}
 }
 
 impl Progress for Counting {

@@ -1,23 +1,25 @@
-//! What a gate is told of the work of each command. Each count is worked out from the movie: its
-//! segments, its frames, those of them that are done, and the works that begin and end.
+//! How the progress of each command is told. Each count is worked out from the movie: its segments,
+//! its frames, those of them that are done, and the works that begin and end.
 
 use crate::devices::FailingWriter;
 use crate::expectation::expect_equal;
 use crate::gates::Counting;
 use crate::movies::{
-    ENDLESS_FRAMES, SEVEN_FRAMES, first_of_two_false, movie, power_on, rom, run_of,
+    ENDLESS_FRAMES, SEVEN_FRAMES, first_of_two_false, movie, power_on, rom, run_of, two,
 };
 use command_line::Command;
 use commands::{InputForm, Notation, run_command};
 use movie_file::write_movie;
-use replay_plan::{Details, Expectations, Watches, Workers};
+use replay_plan::{Details, Expectations, Keep, Plan, Watches, Workers};
+use replay_segments::{Cuts, replay_with_progress};
 use std::alloc::Global;
-use std::num::NonZeroU32;
+use std::num::{NonZeroU16, NonZeroU32};
 use std::sync::Wait;
 use std::test::Fail;
 use std::thread::Threads;
+use verify_pool::{verify, verify_with_progress};
 
-/// What a gate was told of a command whose text's writer takes so many bytes.
+/// What a gate counts while a command is done whose text's writer takes so many bytes.
 fn told_over<T: Threads + Wait + Sync + AllocGlobal>(
     rt: &T,
     command: &Command,
@@ -42,7 +44,7 @@ fn told_over<T: Threads + Wait + Sync + AllocGlobal>(
     gate.counts()
 }
 
-/// What it was told of a command about a movie, whose writers take all.
+/// What it counts while a command about a movie is done, whose writers take all.
 fn told<T: Threads + Wait + Sync + AllocGlobal>(
     rt: &T,
     command: &Command,
@@ -75,6 +77,15 @@ fn report() -> Command {
     }
 }
 
+/// A verdict by two workers, of a movie that is cut at every so many checkpoints.
+fn verdict(every: NonZeroU16) -> Command {
+    let plan = Plan::without_pictures(Workers::new(2).unwrap());
+    Command::Verify {
+        plan: Plan { every, ..plan },
+        notation: Notation::Lines,
+    }
+}
+
 /// A run of five frames with a checkpoint after each.
 fn five_frames(alloc: Global) -> Result<Vec<u8>, Fail> {
     let mut bytes = Vec::new(alloc);
@@ -85,6 +96,59 @@ fn five_frames(alloc: Global) -> Result<Vec<u8>, Fail> {
 /// Seven frames, of which the last one faults.
 fn seven_frames(alloc: Global) -> Result<Vec<u8>, Fail> {
     movie(alloc, &SEVEN_FRAMES, &power_on(), 7, 1, &[])
+}
+
+/// Of five frames without checkpoints, of five with some at which no cut is, and up to the first of
+/// three, whose checkpoint is false.
+#[test]
+fn frames_of_one_segment_are_told(rt: HostRuntime) -> Result<(), Fail> {
+    let alloc = rt.alloc();
+    let uncut = verdict(NonZeroU16::MIN.saturating_add(5));
+    let without = movie(alloc, &ENDLESS_FRAMES, &power_on(), 5, 1, &[])?;
+    expect_equal(&rt, told(&rt, &uncut, &without), [0, 5, 0, 5, 1, 1]);
+    let five = five_frames(alloc)?;
+    expect_equal(&rt, told(&rt, &uncut, &five), [0, 5, 0, 5, 1, 1]);
+    let wrong = first_of_two_false(alloc)?;
+    expect_equal(&rt, told(&rt, &uncut, &wrong), [0, 3, 0, 1, 1, 1]);
+    Ok(())
+}
+
+/// Each of two segments has one frame, which is told in a work of the caller.
+#[test]
+fn frames_of_each_segment_are_told(rt: HostRuntime) -> Result<(), Fail> {
+    let movie = two(rt.alloc())?;
+    let cuts = Cuts::every(rt.alloc(), &movie, NonZeroU16::MIN)?;
+    let gate = Counting::new();
+    if cuts.fits(&movie) {
+        for number in 0..cuts.segments() {
+            let piece = replay_with_progress(rt.alloc(), &movie, &cuts, Keep::NONE, number, &gate);
+            assert!(rt; piece.passed());
+        }
+    }
+    expect_equal(&rt, gate.counts(), [0, 0, 0, 2, 0, 0]);
+    Ok(())
+}
+
+/// `verify` takes a gate, and no progress.
+#[test]
+fn verdict_is_told_where_that_is_asked_for(rt: HostRuntime) -> Result<(), Fail> {
+    let alloc = rt.alloc();
+    let movie = two(alloc)?;
+    let cuts = Cuts::every(alloc, &movie, NonZeroU16::MIN)?;
+    let gate = Counting::new();
+    let _verdict = verify(&rt, alloc, &movie, &cuts, Workers::ONE, Keep::NONE, &gate)?;
+    expect_equal(&rt, gate.counts(), [0, 0, 0, 0, 0, 0]);
+    let _verdict = verify_with_progress(
+        &rt,
+        alloc,
+        &movie,
+        &cuts,
+        Workers::ONE,
+        Keep::NONE,
+        &gate,
+    )?;
+    expect_equal(&rt, gate.counts(), [0, 2, 0, 2, 1, 1]);
+    Ok(())
 }
 
 /// Frames 3 and 4 of five.
@@ -126,7 +190,7 @@ fn frames_of_a_movie_that_is_made_are_told(rt: HostRuntime) {
     expect_equal(&rt, told, [0, 2, 0, 2, 1, 1]);
 }
 
-/// A fault in frame 7, in its segment, among the frames and before them.
+/// A fault in frame 7, in a verdict, among the frames that are asked for and before them.
 #[test]
 fn works_end_at_a_fault(rt: HostRuntime) -> Result<(), Fail> {
     let bytes = seven_frames(rt.alloc())?;
@@ -141,7 +205,8 @@ fn works_end_at_a_fault(rt: HostRuntime) -> Result<(), Fail> {
             },
             [0, 7, 0, 6, 1, 1],
         ),
-        (report(), [1, 6, 0, 7, 2, 2]),
+        (verdict(NonZeroU16::MIN), [0, 7, 0, 6, 1, 1]),
+        (report(), [0, 13, 0, 12, 2, 2]),
     ] {
         expect_equal(&rt, told(&rt, &command, &bytes), wanted);
     }
