@@ -1,12 +1,14 @@
 """The command line of a program: its name, its arguments, its messages, and how it ends."""
 
 import argparse
+import contextlib
 import os
 import pathlib
 import re
 import signal
 import sys
-from collections.abc import Callable
+import threading
+from collections.abc import Callable, Iterator
 from typing import Any, NoReturn
 
 from votmeshaw.names import printable, readable
@@ -70,11 +72,36 @@ def reason(error: OSError) -> str:
     return f"{readable(os.fsdecode(error.filename))}: {error.strerror}"
 
 
-def _end(number: int, _: object) -> NoReturn:
+class _Held:
+    """Whether a signal has to wait, and the one that does."""
+
+    is_on = False
+    number = 0
+
+
+def _end(number: int, _: object) -> None:
     """What a signal does: it ends the run in its order. Another one changes nothing."""
     for it in ENDING:
         signal.signal(it, signal.SIG_IGN)
-    raise Ended(number)
+    if _Held.is_on:
+        _Held.number = number
+    else:
+        raise Ended(number)
+
+
+@contextlib.contextmanager
+def signals_held() -> Iterator[None]:
+    """Lets a signal wait until a block has ended, as while a process is started: one that is not known yet could not be ended."""
+    if threading.current_thread() is not threading.main_thread():
+        yield
+        return
+    _Held.is_on = True
+    try:
+        yield
+    finally:
+        _Held.is_on = False
+        if _Held.number:
+            raise Ended(_Held.number)
 
 
 def _open_streams() -> None:

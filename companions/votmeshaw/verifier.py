@@ -8,7 +8,7 @@ import threading
 from collections.abc import Iterator
 from typing import Any, NamedTuple
 
-from votmeshaw.command import Stop
+from votmeshaw.command import Stop, signals_held
 from votmeshaw.names import readable
 
 # Starts a program with a limit on its memory, in kilobytes.
@@ -117,7 +117,7 @@ class Verifier:
             file.write(movie)
             file.seek(0)
             pipes = {"stdin": file, "stdout": subprocess.PIPE, "stderr": subprocess.PIPE, **how}
-            with self.lock:
+            with signals_held(), self.lock:
                 if self.is_stopped:
                     raise NoAnswer("the run ends")
                 process = subprocess.Popen([*self.words, *words, *self.explain], process_group=0, **pipes)
