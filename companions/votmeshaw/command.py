@@ -100,8 +100,9 @@ def signals_held() -> Iterator[None]:
         yield
     finally:
         _Held.is_on = False
-        if _Held.number:
-            raise Ended(_Held.number)
+        number, _Held.number = _Held.number, 0
+        if number:
+            raise Ended(number)
 
 
 def _open_streams() -> None:
