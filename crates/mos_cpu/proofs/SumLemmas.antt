@@ -1,7 +1,7 @@
 -- Sums and differences over the whole numbers, in natural ones and in bits.
 use Rattle.std.proofs.Common.{◌≡◌, ℕ, ◌+◌, ◌-◌, ◌*◌, ◌/◌, ◌%◌, ◌^◌, ◌<◌}
 use Rattle.std.proofs.Common.{nat_eq, refl, ap, ◌∙◌, arith, bit_and, bit_or}
-use Rattle.std.specs.Prelude.{not, nat_le, min, bit_xor, ℤ, pos, ◌+ℤ◌}
+use Rattle.std.specs.Prelude.{not, nat_le, min, bit_xor, ◌==◌, ℤ, pos, ◌+ℤ◌, ◌-ℤ◌}
 use Rattle.std.specs.Prelude.{int_le, unsigned_abs}
 use Rattle.std.proofs.lemmas.Int.{ints, int_rem_euclid_is}
 use Rattle.std.proofs.lemmas.Bool.Decides.{nat_tests}
@@ -13,6 +13,13 @@ use Rattle.mos_cpu.specs.Sums.{sum_of, less_borrow, binary_adc_of, binary_sbc_of
 -- A number modulo n, by a natural one that is some times n more.
 pub modulo_is : (z : ℤ) (n k m : ℕ) → 0 < n → z +ℤ pos (k * n) ≡ pos m → modulo z n ≡ m % n
 modulo_is z n k m h e = ap unsigned_abs (int_rem_euclid_is z (pos n) n k m h refl e)
+
+-- The difference of two bytes, as the code makes it, and whether it is 0.
+pub difference_byte : (a m : ℕ) → m < 256 → modulo (pos a -ℤ pos m) 256 ≡ (a + (256 - m)) % 256
+difference_byte a m h = modulo_is _ 256 1 (a + (256 - m)) (omega arith) (omega (arith, ints))
+
+pub difference_zero : (a m : ℕ) → a < 256 → m < 256 → ((a + (256 - m)) % 256 == 0) ≡ (a == m)
+difference_zero a m ha hm = grind (arith, nat_tests)
 
 -- The top bit, in a test as the code makes it.
 top_bit : (a m v : ℕ)

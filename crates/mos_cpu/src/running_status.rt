@@ -59,7 +59,6 @@ impl RunningStatus {
         with_flag(zero, Flag::Negative, self.sign_and_zero >= 0x80)
     }
 
-    #[tactic(auto, using(crate::proofs::RunningStatusLemmas::flags))]
     #[inline(always)]
     pub const fn has(&self, flag: Flag) -> bool
         ensures { result ≡ has_flag flag self.now }
@@ -81,7 +80,6 @@ impl RunningStatus {
     }
 
     /// The status with a flag set or cleared, other than N and Z.
-    #[tactic(auto, using(crate::proofs::RunningStatusLemmas::flag_put))]
     #[inline(always)]
     pub const fn with_flag(&self, flag: Flag, on: bool) -> Self
         requires { is_apart flag ≡ true }
@@ -103,7 +101,6 @@ impl RunningStatus {
     }
 
     /// The status with N and Z of a value.
-    #[tactic(auto, using(crate::proofs::RunningStatusLemmas::signs))]
     #[inline(always)]
     pub const fn with_sign(&self, value: u8) -> Self
         ensures value { result ≡ with_nz value self.now }
@@ -117,7 +114,6 @@ impl RunningStatus {
     }
 
     /// The status with N of one value, and Z of another that has bit 7 only if the first has it.
-    #[tactic(auto, using(crate::proofs::RunningStatusLemmas::signs))]
     #[inline(always)]
     pub const fn with_sign_and_zero(&self, sign: u8, zero: u8) -> Self
         requires { zero ≤ sign }

@@ -56,7 +56,6 @@ pub const fn sbc(a: u8, m: u8, status: &RunningStatus) -> Outcome
 }
 
 /// The difference as the sum with the operand's complement.
-#[tactic(auto, using(crate::proofs::SumLemmas::binary_sbc_adc))]
 #[inline(always)]
 const fn binary_sbc(a: u8, m: u8, status: &RunningStatus) -> Outcome
     ensures result { result ≡ binary_sbc_of a m status.now }
