@@ -9,7 +9,7 @@ use Rattle.tia_core.specs.Coverage.{distance_of, missile_covers}
 use Rattle.tia_core.specs.Mask.{covers}
 use Rattle.tia_core.specs.Objects.{objects_at, size_of}
 use Rattle.tia_core.specs.Private.Stretches.{all_but_playfield, bl, m0, m1}
-use Rattle.tia_core.specs.Private.Stretches.{meet_within, objects_in, p0, p1, pf, placed}
+use Rattle.tia_core.specs.Private.Stretches.{meet_within, numbered, objects_in, p0, p1, pf, placed}
 use Rattle.tia_core.specs.Private.Stretches.{reshaped_by, shows_others, touched_by, visible_objects}
 use Rattle.tia_core.specs.Private.Stretches.{with_change, with_objects, with_shapes}
 use Rattle.tia_core.specs.Private.Stretches.{AreApart, AreShown, IsBound, IsMaskOf, IsPatternOf}
@@ -84,9 +84,9 @@ unknown-apart : (u : TiaFields) → false ≡ true → AreApart u
 unknown-apart u e = cc
 
 -- masks and patterns fit once the objects whose shapes may be others are marked
-fit-shaped : (t u : TiaFields) (m : Masks) (o : Objects) (bound : ℕ) → Touched t u (Shapes o) → Reshaped t u (Shapes o)
-    → IsBound u bound → MasksFit t m → MasksFit u (record (with_shapes m o) { bound = bound })
-fit-shaped t u m o bound same wherever known f = record {
+fit-shaped : (t u : TiaFields) (m : Masks) (n bound : ℕ) → Touched t u (Shapes n) → Reshaped t u (Shapes n)
+    → IsBound u bound → MasksFit t m → MasksFit u (record (with_shapes m (numbered n)) { bound = bound })
+fit-shaped t u m n bound same wherever known f = let o = numbered n in record {
   player0 = mask-kept t u o p0 m.player0 m.stale.player0 (λ new old e. rw e refl) same f.player0;
   player1 = mask-kept t u o p1 m.player1 m.stale.player1 (λ new old e. rw e refl) same f.player1;
   missile0 = mask-kept t u o m0 m.missile0 m.stale.missile0 (λ new old e. rw e refl) same f.missile0;
@@ -140,9 +140,9 @@ fit-marked t u m Places same visible wherever f = record {
   bound = bound-same t u m.bound (visible refl) f.bound;
   apart = unknown-apart u;
 }
-fit-marked t u m (Shapes o) same visible wherever f =
-    fit-shaped t u m o m.bound same wherever (bound-same t u m.bound (visible refl) f.bound) f
-fit-marked t u m (Visibility o) same visible wherever f = fit-shaped t u m o 65535 same wherever (all-bound u) f
+fit-marked t u m (Shapes n) same visible wherever f =
+    fit-shaped t u m n m.bound same wherever (bound-same t u m.bound (visible refl) f.bound) f
+fit-marked t u m (Visibility n) same visible wherever f = fit-shaped t u m n 65535 same wherever (all-bound u) f
 
 -- ---- windows by patterns
 -- a bit of the window of a missile that may be locked

@@ -110,18 +110,18 @@ or-within : (c bound n : ℕ) → bit_or bound n ≡ bound → bit_or c bound �
 or-within c bound n h e = ap (λ (a : ℕ). bit_or a n) (sym e) ∙ or_assoc c bound n ∙ ap (bit_or c) h ∙ e
 
 -- a stretch of whose pixels each latches nothing latches nothing
-stretch-idle : (t : TiaFields) (c x k : ℕ) → ((y : ℕ) → x ≤ y → y < x + k → bit_or c (pairs_of (objects_at t y)) ≡ c) → c ≡ latched t c x k
+pub stretch-idle : (t : TiaFields) (c x k : ℕ) → ((y : ℕ) → x ≤ y → y < x + k → bit_or c (pairs_of (objects_at t y)) ≡ c) → c ≡ latched t c x k
 stretch-idle t c x zero h = sym (or_zero_r c)
 stretch-idle t c x (suc k) h =
     stretch-idle t c (x + 1) k (λ y le lt. h y (omega arith) (omega arith))
     ∙ ap (λ (n : ℕ). latched t n (x + 1) k) (sym (h x (omega arith) (omega arith)))
     ∙ sym (latched-first t c x k)
 
--- where a bound is latched already, a stretch latches nothing
-pub stretch-bounded : (t : TiaFields) (bound c x k : ℕ) → IsBound t bound → bit_or c bound ≡ c → c ≡ latched t c x k
-stretch-bounded t bound c x k h e = stretch-idle t c x k (λ y le lt.
-    let within = pairs-within (visible_objects t) (objects_at t y) (visible-joined t y) in
-    or-within c bound _ (or-within bound (pairs_of (visible_objects t)) _ within h) e)
+-- where a bound is latched already, a pixel latches nothing
+pub bound-latched : (t : TiaFields) (bound c x : ℕ) → IsBound t bound → bit_or c bound ≡ c → bit_or c (pairs_of (objects_at t x)) ≡ c
+bound-latched t bound c x h e =
+    let within = pairs-within (visible_objects t) (objects_at t x) (visible-joined t x) in
+    or-within c bound _ (or-within bound (pairs_of (visible_objects t)) _ within h) e
 
 -- a stretch without pairs latches nothing
 pub stretch-none : (t : TiaFields) (c x k : ℕ) → ((y : ℕ) → x ≤ y → y < x + k → pairs_of (objects_at t y) ≡ 0) → c ≡ latched t c x k

@@ -1,17 +1,15 @@
 -- Windows: up to 32 pixels of a line, by words of which the lowest bit is the first pixel.
 use Rattle.std.proofs.Common.{◌≡◌, ℕ, ◌+◌, ◌-◌, ◌*◌, ◌/◌, ◌%◌, ◌^◌, ◌<◌, ◌≤◌, ◌&&◌, nat_lt}
-use Rattle.std.proofs.Common.{Bool, true, false, if◌then◌else◌, List, [], ◌∷◌, bit_and, bit_or}
+use Rattle.std.proofs.Common.{Bool, true, false, if◌then◌else◌, List, [], ◌∷◌, bit_and}
 use Rattle.std.proofs.Common.{◌==◌, slice_index_or}
 use Rattle.std.proofs.Common.{inl, inr, refl, sym, ap, ◌∙◌, arith}
 use Rattle.std.specs.Int.{trailing_zeros, w32}
-use Rattle.std.specs.List.{list_any}
 use Rattle.std.proofs.lemmas.Bool.{cases_lt}
 use Rattle.std.proofs.lemmas.Bool.Decides.{nat_tests}
 use Rattle.std.proofs.lemmas.Nat.{and_le_l}
 use Rattle.std.proofs.lemmas.Nat.Bits.{bit_at-trailing_zeros}
 use Rattle.tia_core.specs.Bits.{has_bit}
 use Rattle.tia_core.specs.Collision.{number_from, pairs_of}
-use Rattle.tia_core.specs.Coverage.{distance_of}
 use Rattle.tia_core.specs.Objects.{objects_at}
 use Rattle.tia_core.specs.Private.Words.{word_bit}
 use Rattle.tia_core.specs.Private.Stretches.{AreInWindow, IsWindowOf, has_two, meet_within, one}
@@ -19,54 +17,12 @@ use Rattle.tia_core.specs.declared.fields.TiaFields.{TiaFields}
 use Rattle.tia_core.specs.declared.objects.Objects.{Objects}
 use Rattle.tia_core.specs.declared.window.Window.{Window}
 use Rattle.tia_core.proofs.PairLemmas.{no-two}
-use Rattle.tia_core.proofs.RoundTheLine.{distance_of-natural}
-use Rattle.tia_core.proofs.WordLemmas.{any_from-none, any_from-some, bit-above, bit-high, bit-low}
+use Rattle.tia_core.proofs.WordLemmas.{any_from-none, any_from-some, bit-high, bit-low}
 use Rattle.tia_core.proofs.WordLemmas.{cat-high, cat-low}
-use Rattle.tia_core.proofs.WordLemmas.{bit-shifted, bit-shifted_low, bit-zero, bit_and-is, bit_or-is}
+use Rattle.tia_core.proofs.WordLemmas.{bit-zero, bit_and-is}
 
 pub is-before : (k n : ℕ) → k < n → nat_lt k n ≡ true
 is-before k n h = grind (arith, nat_tests)
-
--- ---- a row at copies of an object
--- how far a pixel lies from a copy, by how far it lies from the object
-before-copy : (x position copy : ℕ) → position < 160 → copy ≤ 64 → distance_of x position 0 < copy → 32 ≤ distance_of x position copy
-before-copy x position copy p le lt =
-    let d = distance_of-natural x position 0 p in
-    let e = distance_of-natural x position copy p in
-    omega arith
-
-from-copy : (x position copy : ℕ) → position < 160 → copy ≤ 64 → copy ≤ distance_of x position 0
-    → distance_of x position 0 - copy ≡ distance_of x position copy
-from-copy x position copy p le far =
-    let d = distance_of-natural x position 0 p in
-    let e = distance_of-natural x position copy p in
-    omega arith
-
-copy-bit : (row x position copy moved : ℕ) → row < 2 ^ 32 → position < 160 → copy ≤ 64 → moved ≡ row * 2 ^ copy
-    → has_bit moved (distance_of x position 0) ≡ has_bit row (distance_of x position copy)
-copy-bit row x position copy moved h p le e = rw e (elim (cases_lt (distance_of x position 0) copy) [
-  | inl lt ↦ bit-shifted_low row copy (distance_of x position 0) lt
-      ∙ sym (bit-above row 32 (distance_of x position copy) h (before-copy x position copy p le lt))
-  | inr far ↦ bit-shifted row copy (distance_of x position 0) far ∙ ap (has_bit row) (from-copy x position copy p le far)
-])
-
-pub two-copies : (row x position copy moved : ℕ) → row < 2 ^ 32 → position < 160 → copy ≤ 64 → moved ≡ row * 2 ^ copy
-    → has_bit (bit_or row moved) (distance_of x position 0)
-    ≡ list_any (λ c. has_bit row (distance_of x position c)) (0 ∷ copy ∷ [])
-two-copies row x position copy moved h p le e =
-    rw (bit_or-is row moved (distance_of x position 0), copy-bit row x position copy moved h p le e) (grind arith)
-
-pub three-copies : (row x position copy third moved after : ℕ) → row < 2 ^ 32 → position < 160 → copy ≤ 64 → third ≤ 64
-    → moved ≡ row * 2 ^ copy → after ≡ row * 2 ^ third
-    → has_bit (bit_or (bit_or row moved) after) (distance_of x position 0)
-    ≡ list_any (λ c. has_bit row (distance_of x position c)) (0 ∷ copy ∷ third ∷ [])
-three-copies row x position copy third moved after h p le le3 e f =
-    rw (
-      bit_or-is (bit_or row moved) after (distance_of x position 0),
-      bit_or-is row moved (distance_of x position 0),
-      copy-bit row x position copy moved h p le e,
-      copy-bit row x position third after h p le3 f,
-    ) (grind arith)
 
 -- ---- a window in two words
 pub joined-bit : (low high first k : ℕ) → low < 2 ^ 32 → k < 32

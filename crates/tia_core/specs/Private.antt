@@ -3,4 +3,5 @@
 pub mod Lawful
 pub mod Stretches
 pub mod Unchanged
+pub mod Unseen
 pub mod Words

@@ -1,15 +1,16 @@
 //! The masks of the six objects, and the pairs that meet in them.
-ghost use Rattle.std.specs.Prelude.{◌≡◌, ◌<◌, ◌≤◌, ◌-◌, ◌+◌, ◌*◌, ◌/◌, ◌^◌, ◌||◌, ℕ, false, bit_or, if◌then◌else◌};
+ghost use Rattle.std.specs.Prelude.{◌≡◌, ◌<◌, ◌≤◌, ◌-◌, ◌+◌, ◌*◌, ◌/◌, ◌^◌, ◌||◌, ℕ, true, false, bit_or, if◌then◌else◌};
 ghost use Rattle.tia_core.specs.Bits.{has_bit};
 ghost use Rattle.tia_core.specs.Clock.{sink_after_pixels};
 ghost use Rattle.tia_core.specs.Collision.{number_from, pairs_of};
 ghost use Rattle.tia_core.specs.Mask.{covers};
 ghost use Rattle.tia_core.specs.Objects.{ball_at, is_in, missile_at, object_of, objects_at};
-ghost use Rattle.tia_core.specs.Private.Stretches.{bl, m0, m1, no_objects, objects_in, with_change, with_shapes};
+ghost use Rattle.tia_core.specs.Private.Stretches.{bl, m0, m1, no_objects, objects_in, with_change};
 ghost use Rattle.tia_core.specs.Private.Stretches.{p0, p1, pf, stretch_pairs, stretch_pixels};
-ghost use Rattle.tia_core.specs.Private.Stretches.{AreInWindow, AreShown, IsBound, IsMaskOf};
+ghost use Rattle.tia_core.specs.Private.Stretches.{AreInWindow, AreShown, IsBound, IsIdle, IsMaskOf};
 ghost use Rattle.tia_core.specs.Private.Stretches.{MasksFit};
 ghost use Rattle.tia_core.specs.Private.Lawful.{IsLawfulTia};
+ghost use Rattle.tia_core.specs.declared.write.Changed.TheVariants.{Places, Shapes, Visibility};
 
 use crate::bits::has_bit;
 use crate::collision::{number_of, with_pairs};
@@ -24,7 +25,6 @@ use crate::patterns::{
 };
 use crate::shape::{ball_mask, missile_mask, player_mask, playfield_mask};
 use crate::window::{MOST_PIXELS, Window, pixels};
-use crate::write::{ALL_BUT_PLAYFIELD, Changed, NO_OBJECTS};
 
 /// The masks of the six objects.
 #[derive(Drop)]
@@ -48,6 +48,26 @@ pub struct Masks {
     /// Whether it is known that no two objects meet on the line.
     pub are_apart: bool,
 }
+
+/// No object.
+const NO_OBJECTS: Objects = Objects {
+    player0: false,
+    player1: false,
+    missile0: false,
+    missile1: false,
+    ball: false,
+    playfield: false,
+};
+
+/// The objects that move.
+const ALL_BUT_PLAYFIELD: Objects = Objects {
+    player0: true,
+    player1: true,
+    missile0: true,
+    missile1: true,
+    ball: true,
+    playfield: false,
+};
 
 /// A bound that says nothing: no collision bits, so that those of all pairs are told from it.
 const UNKNOWN: u16 = 0xFFFF;
@@ -87,51 +107,48 @@ impl Masks {
         }
     }
 
-    /// Marks what has changed. Objects that only moved keep their patterns.
+    /// Marks that objects stand elsewhere, or that a missile is locked or released. All keep their
+    /// patterns.
     #[inline]
-    pub fn mark(&mut self, changed: Changed)
-        ensures { self.new ≡ with_change self.old changed }
+    pub fn mark_places(&mut self)
+        ensures { self.new ≡ with_change self.old Places }
     {
-        match changed {
-            Changed::Nothing => {}
-            Changed::Places => {
-                self.stale = self.stale.union(ALL_BUT_PLAYFIELD);
-                self.are_apart = false;
-            }
-            Changed::Shapes(objects) => self.mark_shapes(objects),
-            Changed::Visibility(objects) => {
-                self.mark_shapes(objects);
-                self.bound = UNKNOWN;
-            }
-        }
+        self.stale = self.stale.union(ALL_BUT_PLAYFIELD);
+        self.are_apart = false;
+    }
+
+    /// Marks objects that may be visible now, or not any more.
+    #[inline]
+    pub fn mark_visibility(&mut self, objects: u8)
+        ensures { self.new ≡ with_change self.old (Visibility objects) }
+    {
+        self.mark_shapes(objects);
+        self.forget_bound();
+    }
+
+    /// Forgets the bound of the pairs, since other objects may be visible.
+    #[inline]
+    pub fn forget_bound(&mut self)
+        ensures { self.new ≡ record self.old { bound = 65535 } }
+    {
+        self.bound = UNKNOWN;
     }
 
     /// Marks objects whose shapes have changed, one by one: unions of the sets take more than twice
-    /// as many host instructions.
-    #[inline(always)]
-    fn mark_shapes(&mut self, objects: Objects)
-        ensures { self.new ≡ with_shapes self.old objects }
+    /// as many host instructions. A set comes as its number: of a constant one the compiler leaves
+    /// two stores for each object.
+    #[inline]
+    pub fn mark_shapes(&mut self, objects: u8)
+        ensures { self.new ≡ with_change self.old (Shapes objects) }
     {
         let stale = &mut self.stale;
         let reshaped = &mut self.reshaped;
-        mark_shape(objects.player0, &mut stale.player0, &mut reshaped.player0);
-        mark_shape(objects.player1, &mut stale.player1, &mut reshaped.player1);
-        mark_shape(
-            objects.missile0,
-            &mut stale.missile0,
-            &mut reshaped.missile0,
-        );
-        mark_shape(
-            objects.missile1,
-            &mut stale.missile1,
-            &mut reshaped.missile1,
-        );
-        mark_shape(objects.ball, &mut stale.ball, &mut reshaped.ball);
-        mark_shape(
-            objects.playfield,
-            &mut stale.playfield,
-            &mut reshaped.playfield,
-        );
+        mark_shape(objects, 0, &mut stale.player0, &mut reshaped.player0);
+        mark_shape(objects, 1, &mut stale.player1, &mut reshaped.player1);
+        mark_shape(objects, 2, &mut stale.missile0, &mut reshaped.missile0);
+        mark_shape(objects, 3, &mut stale.missile1, &mut reshaped.missile1);
+        mark_shape(objects, 4, &mut stale.ball, &mut reshaped.ball);
+        mark_shape(objects, 5, &mut stale.playfield, &mut reshaped.playfield);
         self.is_reshaped = true;
         self.are_apart = false;
     }
@@ -153,40 +170,64 @@ impl Masks {
         self.stale = NO_OBJECTS;
     }
 
-    /// The collision bits with those of the pairs that meet in pixels `from..to`.
+    /// Whether it is known that the beam latches nothing on the line, be it that no two objects meet
+    /// there, or that all pairs of those that may be visible are latched.
     #[inline(always)]
-    pub fn collisions_after(&mut self, tia: &TiaFields, from: u8, to: u8) -> u16
+    pub fn is_idle(&self, tia: &TiaFields) -> bool
+        requires { MasksFit tia.now self.now }
+        ensures { result ≡ true → IsIdle tia.now }
+    {
+        self.are_apart || self.are_latched(tia)
+    }
+
+    /// Whether it is known that all pairs of the objects that may be visible are latched.
+    #[inline(always)]
+    fn are_latched(&self, tia: &TiaFields) -> bool
+        requires { MasksFit tia.now self.now }
+        ensures { result ≡ true → IsIdle tia.now }
+    {
+        tia.collisions | self.bound == tia.collisions
+    }
+
+    /// The collision bits with those of the pairs that meet in pixels `from..to`. Whether the beam is
+    /// idle isn't asked again if it was, with the bound that is known.
+    #[inline(always)]
+    pub fn collisions_after(&mut self, tia: &TiaFields, from: u8, to: u8, was_asked: bool) -> u16
         requires lawful { IsLawfulTia tia.now }
         requires fit { MasksFit tia.now self.old }
+        requires first { from < 160 }
         requires order { from ≤ to }
         requires range { to ≤ 160 }
         ensures value { result ≡ bit_or tia.now.collisions (number_from 0 (stretch_pairs tia.now from (to - from))) }
         ensures range { result < 2 ^ 15 }
         ensures fit { MasksFit tia.now self.new }
     {
-        if self.are_apart {
+        if !was_asked && self.is_idle(tia) {
             return tia.collisions;
         }
-        self.find_bound(tia);
-        if tia.collisions | self.bound == tia.collisions {
-            return tia.collisions;
+        if !was_asked || self.bound == UNKNOWN {
+            self.find_bound(tia);
+            if self.are_latched(tia) {
+                return tia.collisions;
+            }
         }
         self.latched_anew(tia, from, to)
     }
 
     /// The collision bits with those of the pairs that meet in pixels `from..to`, of which some may
     /// not be latched yet.
-    #[inline(never)]
+    #[inline(always)]
     fn latched_anew(&mut self, tia: &TiaFields, from: u8, to: u8) -> u16
         requires lawful { IsLawfulTia tia.now }
         requires fit { MasksFit tia.now self.old }
+        requires first { from < 160 }
         requires order { from ≤ to }
         requires range { to ≤ 160 }
         ensures value { result ≡ bit_or tia.now.collisions (number_from 0 (stretch_pairs tia.now from (to - from))) }
         ensures range { result < 2 ^ 15 }
         ensures fit { MasksFit tia.now self.new }
     {
-        if from < to && to - from <= MOST_PIXELS {
+        if to - from <= MOST_PIXELS {
             return self.latched_in_window(tia, from, to);
         }
         self.latched_by_masks(tia, from, to)
@@ -197,7 +238,8 @@ impl Masks {
     fn latched_in_window(&mut self, tia: &TiaFields, from: u8, to: u8) -> u16
         requires lawful { IsLawfulTia tia.now }
         requires fit { MasksFit tia.now self.old }
-        requires order { from < to }
+        requires first { from < 160 }
+        requires order { from ≤ to }
         requires range { to ≤ 160 }
         requires short { to - from ≤ 32 }
         ensures value { result ≡ bit_or tia.now.collisions (number_from 0 (stretch_pairs tia.now from (to - from))) }
@@ -250,7 +292,7 @@ impl Masks {
     }
 
     /// Makes anew each pattern that is to be, and the playfield's mask if it is to be.
-    #[inline(never)]
+    #[inline(always)]
     fn reshape(&mut self, tia: &TiaFields)
         requires { MasksFit tia.now self.old }
         ensures fit { MasksFit tia.now self.new }
@@ -428,13 +470,14 @@ fn unlocked(window: u32, resmp: u8) -> u32
     if has_bit(resmp, 1) { 0 } else { window }
 }
 
-/// Marks an object if its shape has changed.
+/// Marks an object if it is of a set.
 #[inline(always)]
-fn mark_shape(changed: bool, stale: &mut bool, reshaped: &mut bool)
-    ensures stale { stale.new ≡ (stale.old || changed) }
-    ensures reshaped { reshaped.new ≡ (reshaped.old || changed) }
+fn mark_shape(objects: u8, object: u8, stale: &mut bool, reshaped: &mut bool)
+    requires { object < 8 }
+    ensures stale { stale.new ≡ (stale.old || has_bit objects object) }
+    ensures reshaped { reshaped.new ≡ (reshaped.old || has_bit objects object) }
 {
-    if changed {
+    if has_bit(objects, object) {
         *stale = true;
         *reshaped = true;
     }
@@ -479,7 +522,7 @@ pub fn mask_of(tia: &TiaFields, object: u8) -> Mask
 }
 
 /// The collision bits of all pairs of the objects that may be visible.
-#[inline(never)]
+#[inline(always)]
 fn most_pairs(tia: &TiaFields) -> u16
     ensures { IsBound tia.now result }
 {

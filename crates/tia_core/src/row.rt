@@ -1,7 +1,7 @@
 //! Rows of bits, of which the lowest is the leftmost pixel.
-ghost use Rattle.std.specs.Prelude.{◌≡◌, ◌<◌, ◌≤◌, ◌-◌, ◌/◌, ℕ, nat_lt, if◌then◌else◌};
+ghost use Rattle.std.specs.Prelude.{◌≡◌, ◌<◌, ◌≤◌, ◌-◌, ◌/◌, ℕ, nat_lt, if◌then◌else◌, [], ◌∷◌};
 ghost use Rattle.tia_core.specs.Bits.{has_bit};
-ghost use Rattle.tia_core.specs.Coverage.{is_shown_at, width_of};
+ghost use Rattle.tia_core.specs.Coverage.{copies_of, is_shown_at, width_of};
 
 /// Four bits the other way round.
 const REVERSED: &[u8; 16] = &[
@@ -118,7 +118,8 @@ pub fn player_dots(reflected: bool, graphic: u8) -> u8
 /// A copy of a player, from its first pixel on.
 #[inline]
 pub fn player_row(mode: u8, reflected: bool, graphic: u8) -> u32
-    ensures { (d : ℕ) → has_bit result d ≡ is_shown_at (width_of mode) reflected graphic d }
+    ensures value { (d : ℕ) → has_bit result d ≡ is_shown_at (width_of mode) reflected graphic d }
+    ensures narrow { 256 ≤ result → copies_of mode ≡ 0 ∷ [] }
 {
     let dots = player_dots(reflected, graphic);
     match mode {
@@ -132,7 +133,8 @@ pub fn player_row(mode: u8, reflected: bool, graphic: u8) -> u32
 #[inline]
 pub fn missile_row(size: u8) -> u32
     requires { size ≤ 8 }
-    ensures { (d : ℕ) → has_bit result d ≡ nat_lt d size }
+    ensures value { (d : ℕ) → has_bit result d ≡ nat_lt d size }
+    ensures range { result < 256 }
 {
     (1 << size) - 1
 }

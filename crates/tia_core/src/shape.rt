@@ -1,5 +1,5 @@
 //! The masks of the six objects.
-ghost use Rattle.std.specs.Prelude.{◌≡◌, ◌<◌, ◌≤◌, ◌+◌, ◌-◌, ◌%◌, ℕ, if◌then◌else◌};
+ghost use Rattle.std.specs.Prelude.{◌≡◌, ◌<◌, ◌≤◌, ◌+◌, ◌-◌, ◌%◌, ℕ, if◌then◌else◌, [], ◌∷◌};
 ghost use Rattle.std.specs.List.{list_any};
 ghost use Rattle.tia_core.specs.Bits.{has_bit};
 ghost use Rattle.tia_core.specs.Coverage.{ball_covers, copies_of, distance_of, missile_covers};
@@ -35,26 +35,34 @@ fn right_of(position: u8, copy: u8) -> u8
     ((position as u16 + copy as u16) % 160) as u8
 }
 
-/// A row at each copy of an object, from the object's first pixel on.
+/// A pixel at each copy of an object, by its mode.
+const COPIES: &[u128; 8] = &[
+    0x1,
+    0x1_0001,
+    0x1_0000_0001,
+    0x1_0001_0001,
+    0x1_0000_0000_0000_0001,
+    0x1,
+    0x1_0000_0001_0000_0001,
+    0x1,
+];
+
+/// A row at each copy of an object, from the object's first pixel on. A row of more than eight pixels
+/// has one copy.
 #[inline(always)]
 fn row_of_copies(row: u32, mode: u8) -> u128
+    requires mode { mode < 8 }
+    requires narrow { 256 ≤ row → copies_of mode ≡ 0 ∷ [] }
     ensures { (x position : ℕ) → position < 160 → has_bit result (distance_of x position 0)
         ≡ list_any (λ c. has_bit row (distance_of x position c)) (copies_of mode) }
 {
-    let row = u128::from(row);
-    match mode {
-        1 => row | row << 16,
-        2 => row | row << 32,
-        3 => row | row << 16 | row << 32,
-        4 => row | row << 64,
-        6 => row | row << 32 | row << 64,
-        _ => row,
-    }
+    u128::from(row) * COPIES[mode as usize]
 }
 
 /// The pattern of a player.
 #[inline]
 pub fn player_pattern(mode: u8, reflected: bool, graphic: u8) -> Pattern
+    requires { mode < 8 }
     ensures { (x p : ℕ) → p < 160 → covers result (distance_of x p 0) ≡ player_covers mode reflected graphic p x }
 {
     Pattern::of_row(row_of_copies(player_row(mode, reflected, graphic), mode))
@@ -63,7 +71,8 @@ pub fn player_pattern(mode: u8, reflected: bool, graphic: u8) -> Pattern
 /// The pattern of a missile of this size.
 #[inline]
 pub fn missile_pattern(mode: u8, size: u8) -> Pattern
-    requires { size ≤ 8 }
+    requires mode { mode < 8 }
+    requires size { size ≤ 8 }
     ensures { (x p : ℕ) → p < 160 → covers result (distance_of x p 0) ≡ missile_covers mode size p x }
 {
     Pattern::of_row(row_of_copies(missile_row(size), mode))

@@ -89,6 +89,10 @@ IsBound t bound = bit_or bound (pairs_of (visible_objects t)) ≡ bound
 abbrev pub AreApart : TiaFields → Type 0
 AreApart t = (x : ℕ) → x < 160 → pairs_of (objects_at t x) ≡ 0
 
+-- whatever meets on a line is latched
+abbrev pub IsIdle : TiaFields → Type 0
+IsIdle t = (x : ℕ) → x < 160 → bit_or t.collisions (pairs_of (objects_at t x)) ≡ t.collisions
+
 -- no object
 abbrev pub no_objects : Objects
 no_objects = record { player0 = false; player1 = false; missile0 = false; missile1 = false; ball = false; playfield = false }
@@ -137,23 +141,35 @@ with_objects o new old = record {
 abbrev pub all_but_playfield : Objects
 all_but_playfield = record { player0 = true; player1 = true; missile0 = true; missile1 = true; ball = true; playfield = false }
 
+-- the objects of the set with this number: each has a bit, from player 0 in the lowest to the
+-- playfield in bit 5
+abbrev pub numbered : ℕ → Objects
+numbered n = record {
+  player0 = has_bit n 0;
+  player1 = has_bit n 1;
+  missile0 = has_bit n 2;
+  missile1 = has_bit n 3;
+  ball = has_bit n 4;
+  playfield = has_bit n 5;
+}
+
 -- the objects that may cover other pixels after a change
 abbrev pub touched_by : Changed → Objects
 touched_by Nothing = no_objects
 touched_by Places = all_but_playfield
-touched_by (Shapes o) = o
-touched_by (Visibility o) = o
+touched_by (Shapes n) = numbered n
+touched_by (Visibility n) = numbered n
 
 -- the objects that may have another shape after a change
 abbrev pub reshaped_by : Changed → Objects
 reshaped_by Nothing = no_objects
 reshaped_by Places = no_objects
-reshaped_by (Shapes o) = o
-reshaped_by (Visibility o) = o
+reshaped_by (Shapes n) = numbered n
+reshaped_by (Visibility n) = numbered n
 
 -- whether other objects may be visible after a change
 abbrev pub shows_others : Changed → Bool
-shows_others (Visibility o) = true
+shows_others (Visibility n) = true
 shows_others _ = false
 
 -- the masks once the shapes of objects have changed
@@ -169,8 +185,8 @@ with_shapes m o = record m {
 abbrev pub with_change : Masks → Changed → Masks
 with_change m Nothing = m
 with_change m Places = record m { stale = union_of m.stale all_but_playfield; are_apart = false }
-with_change m (Shapes o) = with_shapes m o
-with_change m (Visibility o) = record (with_shapes m o) { bound = 65535 }
+with_change m (Shapes n) = with_shapes m (numbered n)
+with_change m (Visibility n) = record (with_shapes m (numbered n)) { bound = 65535 }
 
 -- whether two objects meet within k pixels from x
 abbrev pub meet_within : TiaFields → (Objects → Bool) → (Objects → Bool) → ℕ → ℕ → Bool

@@ -4,5 +4,5 @@ use Rattle.tia_core.specs.Bits.{has_bit}
 use Rattle.tia_core.proofs.Tables.{ones-is}
 use Rattle.tia_core.proofs.row.missile_row.Goals as goal
 
-pub returns : goal.returns
-returns c = λ d. ap (λ (n : ℕ). has_bit (n - 1) d) (one_shl c.args.size 32 (omega arith)) ∙ ones-is c.args.size d
+pub returns-clause-value : goal.returns-clause-value
+returns-clause-value c = λ d. ap (λ (n : ℕ). has_bit (n - 1) d) (one_shl c.args.size 32 (omega arith)) ∙ ones-is c.args.size d

@@ -4,4 +4,4 @@ use Rattle.tia_core.proofs.shape.ball_mask.Goals as goal
 
 pub returns : goal.returns
 returns c = λ x h.
-    c.place.ensures x h ∙ rw (c.empty-mask.ensures x h) (c.missile_row.ensures (distance_of x c.args.position 0))
+    c.place.ensures x h ∙ rw (c.empty-mask.ensures x h) (c.missile_row.ensures.value (distance_of x c.args.position 0))
