@@ -23,8 +23,21 @@ pub riot-add : (a b : ℕ) (r : RiotState) → after_cycles b (after_cycles a r)
 unfolding after_cycles
 riot-add a b r = ap (λ (t : Countdown). record r { timer = t }) (sym (iterate-add after_cycle a b r.timer))
 
-pub riot-later : (lag ahead n : ℕ) (r : RiotState) → ahead ≤ lag → after_cycles (lag + n - ahead) r ≡ after_cycles n (after_cycles (lag - ahead) r)
-riot-later lag ahead n r h = let e : lag + n - ahead ≡ lag - ahead + n = omega arith in rw e (sym (riot-add (lag - ahead) n r))
+pub riot-later : (riot_left left n : ℕ) (r : RiotState) → n ≤ left → left ≤ 76 → left ≤ riot_left
+    → after_cycles (riot_left - (left + (256 - n)) % 256) r ≡ after_cycles n (after_cycles (riot_left - left) r)
+riot-later riot_left left n r h most behind =
+    let e : riot_left - (left + (256 - n)) % 256 ≡ riot_left - left + n = omega arith in
+    rw e (sym (riot-add (riot_left - left) n r))
+
+pub riot-caught_up : (left : ℕ) (r : RiotState) → after_cycles (left - left) r ≡ r
+unfolding after_cycles
+riot-caught_up left r = let e : left - left ≡ 0 = omega arith in rw e refl
+
+pub riot-lagging : (riot_left n : ℕ) (r : RiotState) → n ≤ 76 → 76 ≤ riot_left
+    → after_cycles (riot_left - (76 - n)) r ≡ after_cycles n (after_cycles (riot_left - 76) r)
+riot-lagging riot_left n r most behind =
+    let e : riot_left - (76 - n) ≡ riot_left - 76 + n = omega arith in
+    rw e (sym (riot-add (riot_left - 76) n r))
 
 three : (m n : ℕ) → 3 * (m + n) ≡ 3 * m + 3 * n
 three m n = omega arith
@@ -73,6 +86,11 @@ read-pairs n s t r e h =
     rw is_pairs (ap (λ (f : TiaFields). collision_byte f.collisions (r % 16)) (iterate-clocked-numbers n s t e))
 
 -- ---- writes
+-- No write moves the beam to another line.
+pub written-line : (s t : TiaState) (register v : ℕ) → t ≡ tia_after_write s register v → t.line ≡ s.line
+unfolding tia_after_write
+written-line s t register v e = ap (λ (z : TiaState). z.line) e
+
 -- A write that changes nothing after any clocks changes nothing in a console.
 pub written-unchanged : {S : Type 0} (c : Console S) (n : ℕ) (t : TiaState) (register v : ℕ) → c.tia ≡ iterate after_clock n t
     → ((k : ℕ) → tia_after_write (iterate after_clock k t) register v ≡ iterate after_clock k t)

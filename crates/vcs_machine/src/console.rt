@@ -77,7 +77,7 @@ impl<'a, S: Paint> Bus for Console<'a, S> {
                 byte
             }
             Place::Tia(register) => {
-                self.devices.catch_up();
+                self.devices.catch_up_tia_apart();
                 self.devices.tia.read(register)
             }
             Place::Ram(index) => self.devices.riot.ram(index),
@@ -155,7 +155,7 @@ impl<'a, S: Paint> Console<'a, S> {
                 tia,
                 sink,
                 lag_left: MOST_LAG,
-                riot_ahead: 0,
+                riot_left: MOST_LAG,
                 has_event: false,
             },
             awaits_line: false,
@@ -180,13 +180,14 @@ impl<'a, S: Paint> Console<'a, S> {
             awaits_line: _,
             ended: _,
         } = self;
-        devices.catch_up();
+        devices.catch_up_tia_apart();
+        devices.catch_up_riot();
         let Devices {
             riot,
             tia,
             sink,
             lag_left: _,
-            riot_ahead: _,
+            riot_left: _,
             has_event: _,
         } = devices;
         (State::of_parts(cpu, &riot, &tia, mapped.bank), sink)
@@ -216,7 +217,10 @@ impl<'a, S: Paint> Console<'a, S> {
     fn change_tia(&mut self, register: u8, value: u8)
         ensures { self.new ≡ after_tia_write self.old register value }
     {
-        self.devices.catch_up();
+        if self.devices.write_unseen(register, value) {
+            return;
+        }
+        self.devices.catch_up_tia();
         match self.devices.tia.write(register, value) {
             Effect::Nothing => return,
             Effect::Sync => self.awaits_line = true,
@@ -285,7 +289,7 @@ impl<'a, S: Paint> Console<'a, S> {
         ensures cycle { result.1 ≡ self.old.tia.fields.clock / 3 }
         ensures inside { self.old.tia.fields.clock < 228 }
     {
-        self.devices.catch_up();
+        self.devices.catch_up_tia_apart();
         (self.devices.tia.line(), self.devices.tia.beam() / 3)
     }
 

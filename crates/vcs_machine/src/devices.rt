@@ -1,11 +1,13 @@
 //! The devices of a console, which may be behind its processor.
-ghost use Rattle.std.specs.Prelude.{◌≡◌, ◌≤◌, ◌<◌, ◌+◌, ◌-◌, ◌*◌, ◌/◌, ◌||◌, false};
+ghost use Rattle.std.specs.Prelude.{◌≡◌, ◌≤◌, ◌<◌, ◌+◌, ◌-◌, ◌*◌, ◌/◌, ◌||◌, false, IsTrue};
 ghost use Rattle.std.specs.Fn.{iterate};
 ghost use Rattle.tia_core.specs.Read.{tia_read};
 ghost use Rattle.vcs_machine.specs.Private.Lag.{riot_seen, tia_seen, sink_seen, given_back};
 ghost use Rattle.vcs_machine.specs.Private.Lag.{IsBehind, is_late};
 ghost use Rattle.riot_map.specs.Riot.{after_cycles};
 ghost use Rattle.tia_core.specs.Clock.{after_clock, pixels, sink_after_pixels};
+ghost use Rattle.tia_core.specs.Write.{effect_of, tia_after_write};
+ghost use Rattle.tia_core.specs.declared.effect.Effect.TheVariants.{Nothing};
 
 use riot_map::Riot;
 use tia_core::{NoPaint, Paint, Tia};
@@ -13,18 +15,22 @@ use tia_core::{NoPaint, Paint, Tia};
 /// The cycles of a scanline, each of three colour clocks.
 pub const LINE_CYCLES: u8 = 76;
 
-/// Most cycles that devices lag behind: those of a scanline, whose clocks fit a call of the TIA.
+/// Most cycles that the TIA lags behind: those of a scanline, whose clocks fit a call of it.
 pub const MOST_LAG: u8 = LINE_CYCLES;
+
+/// Most that `Devices::riot_left` is, so that with a scanline's cycles it is a byte still.
+const MOST_RIOT_LEFT: u8 = 179;
 
 /// From this line on a frame may be too long before the TIA catches up again: one that began as line
 /// 0 did has then taken 24,244 cycles, and the TIA lags by 76 at most.
 const LATE_LINE: u16 = 319;
 
 /// A RIOT, a TIA and its sink, and how many cycles they lag behind the processor: the TIA by
-/// `MOST_LAG` less the cycles that are left.
+/// `MOST_LAG` less the cycles that are left, and the RIOT by `riot_left` less these.
 ///
-/// Most instructions look at memory alone, so devices catch up when one of them is looked at. What is
-/// left is counted, since whether it is enough is then told by the subtraction itself.
+/// Most instructions look at memory alone, so a device catches up when it is looked at. What is
+/// left is counted, since whether it is enough is then told by the subtraction itself, and one
+/// subtraction serves both devices.
 #[derive(Drop)]
 pub struct Devices<S> {
     pub riot: Riot,
@@ -32,8 +38,8 @@ pub struct Devices<S> {
     pub sink: S,
     /// The cycles that may still pass before the TIA has to catch up.
     pub lag_left: u8,
-    /// The cycles by which the RIOT is ahead of the TIA.
-    pub riot_ahead: u8,
+    /// What `lag_left` was, or would have been, when the RIOT caught up.
+    pub riot_left: u8,
     /// An instruction wrote WSYNC, ended the frame or read the RIOT, perhaps, or the frame may be too
     /// long: most instructions do none of these, and the loop of a frame asks this alone.
     pub has_event: bool,
@@ -52,38 +58,78 @@ impl<S: Paint> Devices<S> {
     /// Lets the RIOT see the cycles that it has not seen.
     #[inline(always)]
     pub fn catch_up_riot(&mut self)
-        requires { IsBehind self.old }
-        ensures { self.new ≡ record self.old {
-          riot = riot_seen self.old;
-          riot_ahead = 76 - self.old.lag_left;
-        } }
+        requires { self.old.lag_left ≤ self.old.riot_left }
+        ensures { self.new ≡ record self.old { riot = riot_seen self.old; riot_left = self.old.lag_left } }
     {
-        let lag = self.lag();
-        self.riot.cycles(lag - self.riot_ahead);
-        self.riot_ahead = lag;
+        self.riot.cycles(self.riot_left - self.lag_left);
+        self.riot_left = self.lag_left;
     }
 
-    /// Lets both see the cycles that they have not seen.
-    #[inline(never)]
-    pub fn catch_up(&mut self)
-        requires { IsBehind self.old }
-        ensures { self.new ≡ record self.old {
-          riot = riot_seen self.old;
-          tia = tia_seen self.old;
-          sink = sink_seen S.drawn self.old;
-          lag_left = 76;
-          riot_ahead = 0;
-          has_event = self.old.has_event || is_late (tia_seen self.old);
-        } }
+    /// Lets the RIOT see the cycles that it has not seen, if with a scanline's they would be too many.
+    #[inline(always)]
+    fn catch_up_riot_far_behind(&mut self)
+        requires behind { self.old.lag_left ≤ self.old.riot_left }
+        requires most { self.old.lag_left ≤ 76 }
+        ensures others { self.new ≡ record self.old { riot = self.new.riot; riot_left = self.new.riot_left } }
+        ensures riot { riot_seen self.new ≡ riot_seen self.old }
+        ensures behind { self.old.lag_left ≤ self.new.riot_left }
+        ensures most { self.new.riot_left ≤ 179 }
     {
-        self.catch_up_riot();
+        if self.riot_left > MOST_RIOT_LEFT {
+            self.catch_up_riot();
+        }
+    }
+
+    /// Lets the TIA and its sink see the cycles that they have not seen.
+    #[inline(always)]
+    pub fn catch_up_tia(&mut self)
+        requires { IsBehind self.old }
+        ensures behind { IsBehind self.new }
+        ensures riot { riot_seen self.new ≡ riot_seen self.old }
+        ensures tia { self.new.tia ≡ tia_seen self.old }
+        ensures sink { self.new.sink ≡ sink_seen S.drawn self.old }
+        ensures left { self.new.lag_left ≡ 76 }
+        ensures event { self.new.has_event ≡ (self.old.has_event || is_late (tia_seen self.old)) }
+    {
         let lag = self.lag();
-        self.tia.clocks(3 * lag, &mut self.sink);
+        self.riot_left += lag;
         self.lag_left = MOST_LAG;
-        self.riot_ahead = 0;
+        self.tia.clocks(3 * lag, &mut self.sink);
+        self.catch_up_riot_far_behind();
         if self.is_late() {
             self.has_event = true;
         }
+    }
+
+    /// The same in a function of its own, for a loop that seldom calls it.
+    #[inline(never)]
+    pub fn catch_up_tia_apart(&mut self)
+        requires { IsBehind self.old }
+        ensures behind { IsBehind self.new }
+        ensures riot { riot_seen self.new ≡ riot_seen self.old }
+        ensures tia { self.new.tia ≡ tia_seen self.old }
+        ensures sink { self.new.sink ≡ sink_seen S.drawn self.old }
+        ensures left { self.new.lag_left ≡ 76 }
+        ensures event { self.new.has_event ≡ (self.old.has_event || is_late (tia_seen self.old)) }
+    {
+        self.catch_up_tia();
+    }
+
+    /// Writes a register that holds a colour, if the sink keeps no pixel, and answers
+    /// whether it did. The TIA needn't catch up for it.
+    #[tactic(auto, unfolding(tia_core::specs::Write::tia_after_write))]
+    #[inline(always)]
+    pub fn write_unseen(&mut self, register: u8, value: u8) -> bool
+        requires { IsBehind self.old }
+        ensures behind { IsBehind self.new }
+        ensures riot { riot_seen self.new ≡ riot_seen self.old }
+        ensures tia { IsTrue result → tia_seen self.new ≡ tia_after_write (tia_seen self.old) register value }
+        ensures effect { IsTrue result → effect_of (tia_seen self.old) register value ≡ Nothing }
+        ensures sink { sink_seen S.drawn self.new ≡ sink_seen S.drawn self.old }
+        ensures event { self.new.has_event ≡ self.old.has_event }
+        ensures others { result ≡ false → self.new ≡ self.old }
+    {
+        !self.sink.keeps() && self.tia.write_unseen(register, value)
     }
 
     /// Whether the TIA has seen so many lines that the frame may be too long before it catches up.
@@ -112,24 +158,21 @@ impl<S: Paint> Devices<S> {
         }
     }
 
-    /// Takes back the cycles that were too many, lets both see those that they have not seen, and
-    /// lets them lag by these.
+    /// Takes back the cycles that were too many, lets the devices see those that they have not seen,
+    /// and lets them lag by these.
     #[cold]
     #[inline(never)]
     fn catch_up_and_lag(&mut self, cycles: u8)
         requires behind { IsBehind (given_back self.old cycles) }
         requires most { cycles ≤ 76 }
-        ensures { self.new ≡ record self.old {
-          riot = riot_seen (given_back self.old cycles);
-          tia = tia_seen (given_back self.old cycles);
-          sink = sink_seen S.drawn (given_back self.old cycles);
-          lag_left = 76 - cycles;
-          riot_ahead = 0;
-          has_event = self.old.has_event || is_late (tia_seen (given_back self.old cycles));
-        } }
+        ensures behind { IsBehind self.new }
+        ensures riot { riot_seen self.new ≡ after_cycles cycles (riot_seen (given_back self.old cycles)) }
+        ensures tia { tia_seen self.new ≡ iterate after_clock (3 * cycles) (tia_seen (given_back self.old cycles)) }
+        ensures sink { sink_seen S.drawn self.new ≡ sink_after_pixels S.drawn (sink_seen S.drawn (given_back self.old cycles)) (pixels (3 * cycles) (tia_seen (given_back self.old cycles))) }
+        ensures event { self.new.has_event ≡ false → self.old.has_event ≡ false }
     {
         self.lag_left = self.lag_left.wrapping_add(cycles);
-        self.catch_up();
+        self.catch_up_tia();
         self.lag_left = MOST_LAG - cycles;
     }
 

@@ -9,7 +9,7 @@ use Rattle.vcs_machine.specs.declared.devices.Devices.{Devices}
 -- Devices once they have caught up.
 module _ {S : Type 0} where
   abbrev pub riot_seen : Devices S → RiotState
-  riot_seen d = after_cycles (76 - d.lag_left - d.riot_ahead) d.riot
+  riot_seen d = after_cycles (d.riot_left - d.lag_left) d.riot
 
   abbrev pub tia_seen : Devices S → TiaState
   tia_seen d = iterate after_clock (3 * (76 - d.lag_left)) d.tia
@@ -21,10 +21,12 @@ module _ {S : Type 0} where
 abbrev pub is_late : TiaState → Bool
 is_late tia = nat_le 319 tia.line
 
--- What is true of devices that lag: the RIOT is not ahead of the processor, the lag is at most
--- those of a scanline, and without an event the frame is not too long before they catch up.
+-- What is true of devices that lag: the RIOT is not ahead of the processor, and at most 179 cycles
+-- behind; the TIA's lag is at most those of a scanline; and without an event the frame is not too long
+-- before it catches up.
 pub record IsBehind {S : Type 0} (d : Devices S) : Type 0 where
-  pub riot_ahead : d.riot_ahead ≤ 76 - d.lag_left
+  pub riot_left : d.lag_left ≤ d.riot_left
+  pub most_riot : d.riot_left ≤ 179
   pub most : d.lag_left ≤ 76
   pub early : d.has_event ≡ false → is_late d.tia ≡ false
 

@@ -8,7 +8,7 @@ returns-else-is_short g c =
     let less = left-less d.lag_left c.args.cycles c.if-is_short.false c.requires.behind.most in
     record {
       behind = search rules;
-      riot = rw less (riot-later (76 - d.lag_left) d.riot_ahead c.args.cycles d.riot c.requires.behind.riot_ahead);
+      riot = riot-later d.riot_left d.lag_left c.args.cycles d.riot c.if-is_short.false c.requires.behind.most c.requires.behind.riot_left;
       tia = rw less (tia-later (76 - d.lag_left) c.args.cycles d.tia);
       sink = rw less (sink-later g.S.Paint.drawn (76 - d.lag_left) c.args.cycles d.tia d.sink);
       event = λ same. same;
