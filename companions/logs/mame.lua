@@ -11,7 +11,8 @@
 --   VCS_DRIVEN_ONLY=1   bits of the TIA's registers that nothing drives read 0
 --
 -- A frame ends with the write to VSYNC that clears its bit 1, and its line is what memory holds then. Its inputs are what the program
--- read in it; of what it didn't read, what it read last. Without the last three nothing is changed in MAME.
+-- read in it; of what it didn't read, what it read last. Without the last three nothing is changed in MAME. The first line of both logs
+-- says whether a collision was latched at the start: MAME 0.251 begins with whatever the computer's memory held there.
 
 local machine = manager.machine
 local processor = machine.devices[":maincpu"]
@@ -101,6 +102,14 @@ local function set_power_on(numbers)
   numbers["frame_cycles"]:write(0, -70)
 end
 
+-- Whether a collision is latched. CXBLPF has one bit, the others have two.
+local function has_collision(numbers)
+  for name, item in pairs(numbers) do
+    if name:match("^CX") and item:read(0) & (name == "CXBLPF" and 0x80 or 0xC0) ~= 0 then return true end
+  end
+  return false
+end
+
 -- A file for writing. One that wasn't named isn't written over.
 local function output(variable, default)
   local name = os.getenv(variable)
@@ -120,8 +129,9 @@ local function run()
   local numbers = saved_numbers()
   local memory_log, inputs_log = output("VCS_MEMORY", "memory-log.txt"), output("VCS_INPUTS", "inputs-log.txt")
   local crc = machine.images[":cartslot"].crc
+  local begins = is_power_on and ", power-on set" or has_collision(numbers) and ", a collision latched at the start" or ""
   for _, file in ipairs({memory_log, inputs_log}) do
-    file:write("# MAME ", emu.app_version(), is_power_on and ", power-on set" or "", is_driven_only and ", driven bits only" or "", "\n")
+    file:write("# MAME ", emu.app_version(), begins, is_driven_only and ", driven bits only" or "", "\n")
     if crc and crc ~= 0 then file:write(string.format("# cartridge crc32 %08x\n", crc)) end
   end
   if is_power_on then set_power_on(numbers) end
