@@ -51,7 +51,7 @@ module _ (m : MovieData) (movie : IsMovie m) (next frame : ℕ) (c : Checkpoint)
       nothing_there notation m.checkpoints frame state
       (λ j d there same. grind (arith, in_order m movie next j c d here there, is.after next c here, is.before j d there))
 
-  -- it stands after this one
+  -- the next one stands after this frame
   pub stands_here : (notation : Notation) (state : StateFields) → IsNext m next frame → c.frame ≡ frame
       → checkpoint_text notation m.checkpoints frame state ≡ claim_text notation (next + 1) (Some c) state
   stands_here notation state is this =
