@@ -42,7 +42,7 @@ impl Objects {
             missile0: has_bit(tia.enam0, 1),
             missile1: has_bit(tia.enam1, 1),
             ball: has_bit(value_by_delay(tia.vdelbl, tia.enabl_old, tia.enabl_new), 1),
-            playfield: tia.pf0 | tia.pf1 | tia.pf2 != 0,
+            playfield: has_playfield(tia),
         }
     }
 
@@ -84,6 +84,14 @@ impl Objects {
     {
         PAIRS[self.number() as usize]
     }
+}
+
+/// Whether the playfield has a bit set.
+#[inline(always)]
+pub fn has_playfield(tia: &TiaFields) -> bool
+    ensures { result ≡ (visible_objects tia.now).playfield }
+{
+    tia.pf0 | tia.pf1 | tia.pf2 != 0
 }
 
 /// What is shown of a register that may be delayed: its old value if bit 0 of `delay` is set.
