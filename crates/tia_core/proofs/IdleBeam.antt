@@ -5,20 +5,21 @@ use Rattle.std.specs.Fn.{iterate}
 use Rattle.std.proofs.lemmas.Bool.{cases_lt}
 use Rattle.std.proofs.lemmas.Bool.Decides.{nat_tests}
 use Rattle.tia_core.specs.Clock.{after_clock, after_pixel, with_next_beam}
+use Rattle.tia_core.specs.Collision.{pairs_of}
 use Rattle.tia_core.specs.Objects.{objects_at}
-use Rattle.tia_core.specs.Private.Stretches.{AreApart, IsBound, IsIdle}
+use Rattle.tia_core.specs.Private.Stretches.{visible_objects, AreApart, IsIdle}
 use Rattle.tia_core.specs.TiaState.{TiaState}
 use Rattle.tia_core.specs.declared.fields.TiaFields.{TiaFields}
 use Rattle.tia_core.proofs.ClockLemmas.{iterate-add}
-use Rattle.tia_core.proofs.PairLemmas.{bound-latched}
+use Rattle.tia_core.proofs.PairLemmas.{visible-latched}
 use Rattle.std.specs.Int.Bits.{or_zero_r}
 
 -- ---- what latches nothing
 pub idle-apart : (t : TiaFields) → AreApart t → IsIdle t
 idle-apart t apart = λ x h. ap (bit_or t.collisions) (apart x h) ∙ or_zero_r t.collisions
 
-pub idle-bounded : (t : TiaFields) (bound : ℕ) → IsBound t bound → bit_or t.collisions bound ≡ t.collisions → IsIdle t
-idle-bounded t bound h e = λ x lt. bound-latched t bound t.collisions x h e
+pub idle-latched : (t : TiaFields) → bit_or t.collisions (pairs_of (visible_objects t)) ≡ t.collisions → IsIdle t
+idle-latched t e = λ x lt. visible-latched t t.collisions x e
 
 -- ---- the beam
 -- the TIA with its beam at another clock of the line

@@ -1,25 +1,23 @@
 -- Masks that fit the numbers of a TIA go on to fit them.
 use Rattle.std.proofs.Common.{◌≡◌, ℕ, ◌+◌, ◌-◌, ◌%◌, ◌<◌, ◌≤◌, ◌&&◌, ◌||◌, not, if◌then◌else◌, nat_le, nat_lt}
-use Rattle.std.proofs.Common.{Bool, true, false, List, bit_or, refl, sym, ap}
+use Rattle.std.proofs.Common.{Bool, true, false, List, refl, sym, ap}
 use Rattle.std.proofs.Common.{◌∙◌}
 use Rattle.std.proofs.lemmas.Bool.{or_parts}
 use Rattle.tia_core.specs.Bits.{has_bit}
-use Rattle.tia_core.specs.Collision.{pairs_of}
 use Rattle.tia_core.specs.Coverage.{distance_of, missile_covers}
 use Rattle.tia_core.specs.Mask.{covers}
 use Rattle.tia_core.specs.Objects.{objects_at, size_of}
 use Rattle.tia_core.specs.Private.Stretches.{all_but_playfield, bl, m0, m1}
 use Rattle.tia_core.specs.Private.Stretches.{meet_within, numbered, objects_in, p0, p1, pf, placed}
-use Rattle.tia_core.specs.Private.Stretches.{reshaped_by, shows_others, touched_by, visible_objects}
+use Rattle.tia_core.specs.Private.Stretches.{reshaped_by, set_number, touched_by, visible_objects}
 use Rattle.tia_core.specs.Private.Stretches.{with_change, with_objects, with_shapes}
-use Rattle.tia_core.specs.Private.Stretches.{AreApart, AreShown, IsBound, IsMaskOf, IsPatternOf}
+use Rattle.tia_core.specs.Private.Stretches.{AreApart, AreShown, IsMaskOf, IsPatternOf}
 use Rattle.tia_core.specs.Private.Stretches.{IsWindowOf, MasksFit}
 use Rattle.tia_core.specs.declared.fields.TiaFields.{TiaFields}
 use Rattle.tia_core.specs.declared.masks.Masks.{Masks}
 use Rattle.tia_core.specs.declared.objects.Objects.{Objects}
 use Rattle.tia_core.specs.declared.write.Changed.{Changed}
-use Rattle.tia_core.specs.declared.write.Changed.TheVariants.{Nothing, Places, Shapes, Visibility}
-use Rattle.tia_core.proofs.PairLemmas.{all-bound}
+use Rattle.tia_core.specs.declared.write.Changed.TheVariants.{Nothing, Places, Shapes}
 use Rattle.tia_core.proofs.WordLemmas.{bit-zero, meets-is}
 
 -- the masks stay where only the latches, the beam's place and the comb change
@@ -70,12 +68,6 @@ pattern-same : (t u : TiaFields) (object : Objects → Bool) (pattern : List Boo
     → (reshaped ≡ false → IsPatternOf t object pattern) → reshaped ≡ false → IsPatternOf u object pattern
 pattern-same t u object pattern reshaped same fit e = λ x p h. fit e x p h ∙ sym (ap object (same p p p p p x))
 
-abbrev Visible : TiaFields → TiaFields → Changed → Type 0
-Visible t u c = shows_others c ≡ false → visible_objects u ≡ visible_objects t
-
-bound-same : (t u : TiaFields) (bound : ℕ) → visible_objects u ≡ visible_objects t → IsBound t bound → IsBound u bound
-bound-same t u bound same h = ap (λ (o : Objects). bit_or bound (pairs_of o)) same ∙ h
-
 moved-mask : (u : TiaFields) (object : Objects → Bool) (mask : List Bool) (stale : Bool) → (stale || true) ≡ false → IsMaskOf u object mask
 moved-mask u object mask true e = cc
 moved-mask u object mask false e = cc
@@ -84,9 +76,9 @@ unknown-apart : (u : TiaFields) → false ≡ true → AreApart u
 unknown-apart u e = cc
 
 -- masks and patterns fit once the objects whose shapes may be others are marked
-fit-shaped : (t u : TiaFields) (m : Masks) (n bound : ℕ) → Touched t u (Shapes n) → Reshaped t u (Shapes n)
-    → IsBound u bound → MasksFit t m → MasksFit u (record (with_shapes m (numbered n)) { bound = bound })
-fit-shaped t u m n bound same wherever known f = let o = numbered n in record {
+fit-shaped : (t u : TiaFields) (m : Masks) (n v : ℕ) → Touched t u (Shapes n) → Reshaped t u (Shapes n)
+    → v ≡ set_number (visible_objects u) → MasksFit t m → MasksFit u (record (with_shapes m (numbered n)) { visible = v })
+fit-shaped t u m n v same wherever visible f = let o = numbered n in record {
   player0 = mask-kept t u o p0 m.player0 m.stale.player0 (λ new old e. rw e refl) same f.player0;
   player1 = mask-kept t u o p1 m.player1 m.stale.player1 (λ new old e. rw e refl) same f.player1;
   missile0 = mask-kept t u o m0 m.missile0 m.stale.missile0 (λ new old e. rw e refl) same f.missile0;
@@ -100,13 +92,14 @@ fit-shaped t u m n bound same wherever known f = let o = numbered n in record {
   pattern_bl = pattern-kept t u o bl m.patterns.ball m.reshaped.ball (λ new old e. rw e refl) wherever f.pattern_bl;
   pattern_pf = mask-kept t u o pf m.playfield m.reshaped.playfield (λ new old e. rw e refl) same f.pattern_pf;
   none_reshaped = λ e. cc;
-  bound = known;
+  visible = visible;
   apart = unknown-apart u;
 }
 
--- a write leaves masks and patterns that fit, once what it may change is marked
-pub fit-marked : (t u : TiaFields) (m : Masks) (c : Changed) → Touched t u c → Visible t u c → Reshaped t u c → MasksFit t m → MasksFit u (with_change m c)
-fit-marked t u m Nothing same visible wherever f = record {
+-- a write leaves masks and patterns that fit, once what it may change is marked, and which may be visible
+pub fit-marked : (t u : TiaFields) (m : Masks) (c : Changed) (v : ℕ) → Touched t u c → Reshaped t u c
+    → v ≡ set_number (visible_objects u) → MasksFit t m → MasksFit u (record (with_change m c) { visible = v })
+fit-marked t u m Nothing v same wherever visible f = record {
   player0 = mask-same t u p0 m.player0 m.stale.player0 (λ x. ap p0 (same x)) f.player0;
   player1 = mask-same t u p1 m.player1 m.stale.player1 (λ x. ap p1 (same x)) f.player1;
   missile0 = mask-same t u m0 m.missile0 m.stale.missile0 (λ x. ap m0 (same x)) f.missile0;
@@ -120,10 +113,10 @@ fit-marked t u m Nothing same visible wherever f = record {
   pattern_bl = pattern-same t u bl m.patterns.ball m.reshaped.ball wherever f.pattern_bl;
   pattern_pf = mask-same t u pf m.playfield m.reshaped.playfield (λ x. ap pf (same x)) f.pattern_pf;
   none_reshaped = f.none_reshaped;
-  bound = bound-same t u m.bound (visible refl) f.bound;
+  visible = visible;
   apart = λ e x h. rw (same x) (f.apart e x h);
 }
-fit-marked t u m Places same visible wherever f = record {
+fit-marked t u m Places v same wherever visible f = record {
   player0 = moved-mask u p0 m.player0 m.stale.player0;
   player1 = moved-mask u p1 m.player1 m.stale.player1;
   missile0 = moved-mask u m0 m.missile0 m.stale.missile0;
@@ -137,12 +130,10 @@ fit-marked t u m Places same visible wherever f = record {
   pattern_bl = pattern-same t u bl m.patterns.ball m.reshaped.ball wherever f.pattern_bl;
   pattern_pf = mask-same t u pf m.playfield m.reshaped.playfield (λ x. ap pf (same x)) f.pattern_pf;
   none_reshaped = f.none_reshaped;
-  bound = bound-same t u m.bound (visible refl) f.bound;
+  visible = visible;
   apart = unknown-apart u;
 }
-fit-marked t u m (Shapes n) same visible wherever f =
-    fit-shaped t u m n m.bound same wherever (bound-same t u m.bound (visible refl) f.bound) f
-fit-marked t u m (Visibility n) same visible wherever f = fit-shaped t u m n 65535 same wherever (all-bound u) f
+fit-marked t u m (Shapes n) v same wherever visible f = fit-shaped t u m n v same wherever visible f
 
 -- ---- windows by patterns
 -- a bit of the window of a missile that may be locked

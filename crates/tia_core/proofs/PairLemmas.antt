@@ -11,7 +11,6 @@ use Rattle.std.proofs.lemmas.Nat.Bits.{bit_at_or, same_from_bits}
 use Rattle.tia_core.specs.Collision.{collision_byte, met_byte, number_from, pairs_list, pairs_of}
 use Rattle.tia_core.specs.Objects.{objects_at}
 use Rattle.tia_core.specs.Private.Stretches.{has_two, set_number, stretch_pairs, union_of, visible_objects}
-use Rattle.tia_core.specs.Private.Stretches.{IsBound}
 use Rattle.tia_core.specs.declared.fields.TiaFields.{TiaFields}
 use Rattle.tia_core.specs.declared.objects.Objects.{Objects}
 use Rattle.tia_core.specs.declared.objects.TheConstants.{PAIRS}
@@ -95,19 +94,9 @@ latched-first t c x k =
     ap (bit_or c) (sym (number_or 0 0 (pairs_list (objects_at t x)) (stretch_pairs t (x + 1) k) refl))
     ∙ sym (or_assoc c (pairs_of (objects_at t x)) (number_from 0 (stretch_pairs t (x + 1) k)))
 
--- ---- bounds
--- the bits of all pairs are a bound
-pub all-bound : (t : TiaFields) → IsBound t 65535
-unfolding both pairs_of
-all-bound t = eqb-true _ _ (at_set (λ s. bit_or 65535 (pairs_of s) == 65535) refl (visible_objects t))
-
--- and so are those of the objects that may be visible
-pub visible-bound : (t : TiaFields) → IsBound t (pairs_of (visible_objects t))
-unfolding both pairs_of
-visible-bound t = eqb-true _ _ (at_set (λ s. bit_or (pairs_of s) (pairs_of s) == pairs_of s) refl (visible_objects t))
-
-or-within : (c bound n : ℕ) → bit_or bound n ≡ bound → bit_or c bound ≡ c → bit_or c n ≡ c
-or-within c bound n h e = ap (λ (a : ℕ). bit_or a n) (sym e) ∙ or_assoc c bound n ∙ ap (bit_or c) h ∙ e
+-- ---- what latches nothing
+or-within : (c all n : ℕ) → bit_or all n ≡ all → bit_or c all ≡ c → bit_or c n ≡ c
+or-within c all n h e = ap (λ (a : ℕ). bit_or a n) (sym e) ∙ or_assoc c all n ∙ ap (bit_or c) h ∙ e
 
 -- a stretch of whose pixels each latches nothing latches nothing
 pub stretch-idle : (t : TiaFields) (c x k : ℕ) → ((y : ℕ) → x ≤ y → y < x + k → bit_or c (pairs_of (objects_at t y)) ≡ c) → c ≡ latched t c x k
@@ -117,11 +106,10 @@ stretch-idle t c x (suc k) h =
     ∙ ap (λ (n : ℕ). latched t n (x + 1) k) (sym (h x (omega arith) (omega arith)))
     ∙ sym (latched-first t c x k)
 
--- where a bound is latched already, a pixel latches nothing
-pub bound-latched : (t : TiaFields) (bound c x : ℕ) → IsBound t bound → bit_or c bound ≡ c → bit_or c (pairs_of (objects_at t x)) ≡ c
-bound-latched t bound c x h e =
-    let within = pairs-within (visible_objects t) (objects_at t x) (visible-joined t x) in
-    or-within c bound _ (or-within bound (pairs_of (visible_objects t)) _ within h) e
+-- where all pairs of the objects that may be visible are latched, a pixel latches nothing
+pub visible-latched : (t : TiaFields) (c x : ℕ) → bit_or c (pairs_of (visible_objects t)) ≡ c → bit_or c (pairs_of (objects_at t x)) ≡ c
+visible-latched t c x e =
+    or-within c (pairs_of (visible_objects t)) _ (pairs-within (visible_objects t) (objects_at t x) (visible-joined t x)) e
 
 -- a stretch without pairs latches nothing
 pub stretch-none : (t : TiaFields) (c x k : ℕ) → ((y : ℕ) → x ≤ y → y < x + k → pairs_of (objects_at t y) ≡ 0) → c ≡ latched t c x k

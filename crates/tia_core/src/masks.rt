@@ -5,12 +5,12 @@ ghost use Rattle.tia_core.specs.Clock.{sink_after_pixels};
 ghost use Rattle.tia_core.specs.Collision.{number_from, pairs_of};
 ghost use Rattle.tia_core.specs.Mask.{covers};
 ghost use Rattle.tia_core.specs.Objects.{ball_at, is_in, missile_at, object_of, objects_at};
-ghost use Rattle.tia_core.specs.Private.Stretches.{bl, m0, m1, no_objects, objects_in, with_change};
+ghost use Rattle.tia_core.specs.Private.Stretches.{bl, m0, m1, no_objects, objects_in, one, set_number, visible_objects, with_change, with_one};
 ghost use Rattle.tia_core.specs.Private.Stretches.{p0, p1, pf, stretch_pairs, stretch_pixels};
-ghost use Rattle.tia_core.specs.Private.Stretches.{AreInWindow, AreShown, IsBound, IsIdle, IsMaskOf};
+ghost use Rattle.tia_core.specs.Private.Stretches.{AreInWindow, AreShown, IsIdle, IsMaskOf};
 ghost use Rattle.tia_core.specs.Private.Stretches.{MasksFit};
 ghost use Rattle.tia_core.specs.Private.Lawful.{IsLawfulTia};
-ghost use Rattle.tia_core.specs.declared.write.Changed.TheVariants.{Places, Shapes, Visibility};
+ghost use Rattle.tia_core.specs.declared.write.Changed.TheVariants.{Places, Shapes};
 
 use crate::bits::has_bit;
 use crate::collision::{number_of, with_pairs};
@@ -18,7 +18,7 @@ use crate::colour::{colour_at, is_dark};
 use crate::fields::TiaFields;
 use crate::mask::{Mask, first_change};
 use crate::numbers::least;
-use crate::objects::{Objects, is_shown, size, value_by_delay};
+use crate::objects::{Objects, is_shown, pairs_of_set, size, value_by_delay};
 use crate::paint::Paint;
 use crate::patterns::{
     Patterns, reshape_ball, reshape_missile0, reshape_missile1, reshape_player0, reshape_player1,
@@ -43,8 +43,8 @@ pub struct Masks {
     pub reshaped: Objects,
     /// Whether `reshaped` may have an object.
     pub is_reshaped: bool,
-    /// Collision bits: those of all pairs of objects that may be visible, and perhaps others.
-    pub bound: u16,
+    /// The number of the set of objects that may be visible.
+    pub visible: u8,
     /// Whether it is known that no two objects meet on the line.
     pub are_apart: bool,
 }
@@ -68,9 +68,6 @@ const ALL_BUT_PLAYFIELD: Objects = Objects {
     ball: true,
     playfield: false,
 };
-
-/// A bound that says nothing: no collision bits, so that those of all pairs are told from it.
-const UNKNOWN: u16 = 0xFFFF;
 
 impl Masks {
     /// Masks that are all to be made anew.
@@ -102,7 +99,7 @@ impl Masks {
                 playfield: true,
             },
             is_reshaped: true,
-            bound: UNKNOWN,
+            visible: Objects::visible(tia).number(),
             are_apart: false,
         }
     }
@@ -117,21 +114,24 @@ impl Masks {
         self.are_apart = false;
     }
 
-    /// Marks objects that may be visible now, or not any more.
-    #[inline]
-    pub fn mark_visibility(&mut self, objects: u8)
-        ensures { self.new ≡ with_change self.old (Visibility objects) }
+    /// Keeps whether an object may be visible now, told whether it might before. It comes by the number
+    /// of the set that has it alone.
+    #[inline(always)]
+    pub fn show(&mut self, object: u8, before: bool, after: bool)
+        requires all { self.old.visible < 64 }
+        requires single { object < 64 }
+        requires before { object * one before ≤ self.old.visible }
+        ensures { self.new ≡ record self.old { visible = with_one self.old.visible object before after } }
     {
-        self.mark_shapes(objects);
-        self.forget_bound();
+        self.visible = self.visible + object * after as u8 - object * before as u8;
     }
 
-    /// Forgets the bound of the pairs, since other objects may be visible.
+    /// Finds anew which objects may be visible.
     #[inline]
-    pub fn forget_bound(&mut self)
-        ensures { self.new ≡ record self.old { bound = 65535 } }
+    pub fn find_visible(&mut self, tia: &TiaFields)
+        ensures { self.new ≡ record self.old { visible = set_number (visible_objects tia.now) } }
     {
-        self.bound = UNKNOWN;
+        self.visible = Objects::visible(tia).number();
     }
 
     /// Marks objects whose shapes have changed, one by one: unions of the sets take more than twice
@@ -186,11 +186,11 @@ impl Masks {
         requires { MasksFit tia.now self.now }
         ensures { result ≡ true → IsIdle tia.now }
     {
-        tia.collisions | self.bound == tia.collisions
+        tia.collisions | pairs_of_set(self.visible) == tia.collisions
     }
 
     /// The collision bits with those of the pairs that meet in pixels `from..to`. Whether the beam is
-    /// idle isn't asked again if it was, with the bound that is known.
+    /// idle isn't asked again if it was.
     #[inline(always)]
     pub fn collisions_after(&mut self, tia: &TiaFields, from: u8, to: u8, was_asked: bool) -> u16
         requires lawful { IsLawfulTia tia.now }
@@ -204,12 +204,6 @@ impl Masks {
     {
         if !was_asked && self.is_idle(tia) {
             return tia.collisions;
-        }
-        if !was_asked || self.bound == UNKNOWN {
-            self.find_bound(tia);
-            if self.are_latched(tia) {
-                return tia.collisions;
-            }
         }
         self.latched_anew(tia, from, to)
     }
@@ -330,17 +324,6 @@ impl Masks {
             self.are_apart = true;
         }
         tia.collisions
-    }
-
-    /// Finds the bound if none is known: the pairs of the objects that may be visible.
-    #[inline(always)]
-    fn find_bound(&mut self, tia: &TiaFields)
-        requires { MasksFit tia.now self.old }
-        ensures { MasksFit tia.now self.new }
-    {
-        if self.bound == UNKNOWN {
-            self.bound = most_pairs(tia);
-        }
     }
 
     /// Whether some pixel of `from..to` is covered by two objects.
@@ -519,14 +502,6 @@ pub fn mask_of(tia: &TiaFields, object: u8) -> Mask
         4 => masks.ball,
         _ => masks.playfield,
     }
-}
-
-/// The collision bits of all pairs of the objects that may be visible.
-#[inline(always)]
-fn most_pairs(tia: &TiaFields) -> u16
-    ensures { IsBound tia.now result }
-{
-    Objects::visible(tia).pairs()
 }
 
 /// Makes the mask of player 0 anew if it is to be.

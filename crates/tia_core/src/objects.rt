@@ -1,9 +1,10 @@
 //! The objects that cover a pixel.
-ghost use Rattle.std.specs.Prelude.{◌≡◌, ◌<◌, ◌≤◌, ◌^◌, ◌&&◌, not};
+ghost use Rattle.std.specs.Prelude.{◌≡◌, ◌<◌, ◌≤◌, ◌&&◌, not};
 ghost use Rattle.tia_core.specs.Bits.{has_bit};
 ghost use Rattle.tia_core.specs.Collision.{pairs_of};
 ghost use Rattle.tia_core.specs.Objects.{value_by_delay, size_of};
 ghost use Rattle.tia_core.specs.Private.Stretches.{set_number, union_of, visible_objects};
+ghost use Rattle.tia_core.specs.declared.objects.Objects.{Objects};
 
 use crate::bits::has_bit;
 use crate::fields::TiaFields;
@@ -37,11 +38,11 @@ impl Objects {
         ensures { result ≡ visible_objects tia.now }
     {
         Objects {
-            player0: value_by_delay(tia.vdelp0, tia.grp0_old, tia.grp0_new) != 0,
-            player1: value_by_delay(tia.vdelp1, tia.grp1_old, tia.grp1_new) != 0,
+            player0: has_player0(tia),
+            player1: has_player1(tia),
             missile0: has_bit(tia.enam0, 1),
             missile1: has_bit(tia.enam1, 1),
-            ball: has_bit(value_by_delay(tia.vdelbl, tia.enabl_old, tia.enabl_new), 1),
+            ball: has_ball(tia),
             playfield: has_playfield(tia),
         }
     }
@@ -63,10 +64,9 @@ impl Objects {
 
     /// The number of the set: each object has a bit, from player 0 in the lowest to the playfield
     /// in bit 5.
-    #[inline]
-    fn number(self) -> u8
-        ensures value { result ≡ set_number self }
-        ensures range { result < 64 }
+    #[inline(always)]
+    pub fn number(self) -> u8
+        ensures { result ≡ set_number self }
     {
         self.player0 as u8
             + 2 * self.player1 as u8
@@ -75,15 +75,40 @@ impl Objects {
             + 16 * self.ball as u8
             + 32 * self.playfield as u8
     }
+}
 
-    /// The collision bits of all pairs of these objects, from M0-P1 in bit 14 to M0-M1 in bit 0.
-    #[inline]
-    pub fn pairs(self) -> u16
-        ensures value { result ≡ pairs_of self }
-        ensures range { result < 2 ^ 15 }
-    {
-        PAIRS[self.number() as usize]
-    }
+/// The collision bits of all pairs of the set with this number, from M0-P1 in bit 14 to M0-M1 in
+/// bit 0.
+#[inline(always)]
+pub fn pairs_of_set(number: u8) -> u16
+    requires { number < 64 }
+    ensures { (objects : Objects) → number ≡ set_number objects → result ≡ pairs_of objects }
+{
+    PAIRS[number as usize]
+}
+
+/// Whether the graphic that player 0 shows has a bit set.
+#[inline(always)]
+pub fn has_player0(tia: &TiaFields) -> bool
+    ensures { result ≡ (visible_objects tia.now).player0 }
+{
+    value_by_delay(tia.vdelp0, tia.grp0_old, tia.grp0_new) != 0
+}
+
+/// Whether the graphic that player 1 shows has a bit set.
+#[inline(always)]
+pub fn has_player1(tia: &TiaFields) -> bool
+    ensures { result ≡ (visible_objects tia.now).player1 }
+{
+    value_by_delay(tia.vdelp1, tia.grp1_old, tia.grp1_new) != 0
+}
+
+/// Whether the ball is enabled.
+#[inline(always)]
+pub fn has_ball(tia: &TiaFields) -> bool
+    ensures { result ≡ (visible_objects tia.now).ball }
+{
+    has_bit(value_by_delay(tia.vdelbl, tia.enabl_old, tia.enabl_new), 1)
 }
 
 /// Whether the playfield has a bit set.

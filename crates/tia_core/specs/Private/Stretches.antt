@@ -1,6 +1,6 @@
 -- What the masks of a line are to say, and which pairs of objects meet in a stretch of it. This
 -- project's own.
-use Rattle.std.specs.Prelude.{◌≡◌, ◌==◌, ◌<◌, ℕ, ◌+◌, ◌*◌, ◌&&◌, ◌||◌, not, Bool, true, false}
+use Rattle.std.specs.Prelude.{◌≡◌, ◌==◌, ◌<◌, ℕ, ◌+◌, ◌-◌, ◌*◌, ◌&&◌, ◌||◌, not, Bool, true, false}
 use Rattle.std.specs.Prelude.{if◌then◌else◌, List, [], ◌∷◌, bit_or, map}
 use Rattle.std.specs.List.{range_with_len}
 use Rattle.tia_core.specs.Bits.{has_bit}
@@ -15,7 +15,7 @@ use Rattle.tia_core.specs.declared.masks.Masks.{Masks}
 use Rattle.tia_core.specs.declared.objects.Objects.{Objects}
 use Rattle.tia_core.specs.declared.window.Window.{Window}
 use Rattle.tia_core.specs.declared.write.Changed.{Changed}
-use Rattle.tia_core.specs.declared.write.Changed.TheVariants.{Nothing, Places, Shapes, Visibility}
+use Rattle.tia_core.specs.declared.write.Changed.TheVariants.{Nothing, Places, Shapes}
 
 -- the objects, one by one
 abbrev pub p0 : Objects → Bool
@@ -81,9 +81,19 @@ visible_objects t = record {
   playfield = not (bit_or (bit_or t.pf0 t.pf1) t.pf2 == 0);
 }
 
--- all pairs of objects that may be visible are among these
-abbrev pub IsBound : TiaFields → ℕ → Type 0
-IsBound t bound = bit_or bound (pairs_of (visible_objects t)) ≡ bound
+-- what a truth counts
+abbrev pub one : Bool → ℕ
+one b = if b then 1 else 0
+
+-- the number of a set of objects
+abbrev pub set_number : Objects → ℕ
+set_number o =
+    one o.player0 + 2 * one o.player1 + 4 * one o.missile0 + 8 * one o.missile1 + 16 * one o.ball
+    + 32 * one o.playfield
+
+-- that number once one object is in the set or not, of which the set's number is this
+abbrev pub with_one : ℕ → ℕ → Bool → Bool → ℕ
+with_one number object before after = number + object * one after - object * one before
 
 -- no two objects meet on a line
 abbrev pub AreApart : TiaFields → Type 0
@@ -112,7 +122,7 @@ pub record MasksFit (t : TiaFields) (m : Masks) : Type 0 where
   pub pattern_bl : m.reshaped.ball ≡ false → IsPatternOf t bl m.patterns.ball
   pub pattern_pf : m.reshaped.playfield ≡ false → IsMaskOf t pf m.playfield
   pub none_reshaped : m.is_reshaped ≡ false → m.reshaped ≡ no_objects
-  pub bound : IsBound t m.bound
+  pub visible : m.visible ≡ set_number (visible_objects t)
   pub apart : m.are_apart ≡ true → AreApart t
 
 -- the objects of both sets
@@ -158,19 +168,12 @@ abbrev pub touched_by : Changed → Objects
 touched_by Nothing = no_objects
 touched_by Places = all_but_playfield
 touched_by (Shapes n) = numbered n
-touched_by (Visibility n) = numbered n
 
 -- the objects that may have another shape after a change
 abbrev pub reshaped_by : Changed → Objects
 reshaped_by Nothing = no_objects
 reshaped_by Places = no_objects
 reshaped_by (Shapes n) = numbered n
-reshaped_by (Visibility n) = numbered n
-
--- whether other objects may be visible after a change
-abbrev pub shows_others : Changed → Bool
-shows_others (Visibility n) = true
-shows_others _ = false
 
 -- the masks once the shapes of objects have changed
 abbrev pub with_shapes : Masks → Objects → Masks
@@ -181,12 +184,11 @@ with_shapes m o = record m {
   are_apart = false;
 }
 
--- the masks once objects have changed
+-- the masks once objects have changed, but for which may be visible
 abbrev pub with_change : Masks → Changed → Masks
 with_change m Nothing = m
 with_change m Places = record m { stale = union_of m.stale all_but_playfield; are_apart = false }
 with_change m (Shapes n) = with_shapes m (numbered n)
-with_change m (Visibility n) = record (with_shapes m (numbered n)) { bound = 65535 }
 
 -- whether two objects meet within k pixels from x
 abbrev pub meet_within : TiaFields → (Objects → Bool) → (Objects → Bool) → ℕ → ℕ → Bool
@@ -202,9 +204,6 @@ stretch_pairs t x k =
 
 -- their collision bits by groups: those of missile 0, and of each next object those without an
 -- object that had its group before
-abbrev pub one : Bool → ℕ
-one met = if met then 1 else 0
-
 abbrev pub pairs_of_m0 : TiaFields → ℕ → ℕ → ℕ
 pairs_of_m0 t x k =
     16384 * one (meet_within t m0 p1 x k) + 8192 * one (meet_within t m0 p0 x k) + 64 * one (meet_within t m0 pf x k)
@@ -251,9 +250,3 @@ AreShown t m = (x : ℕ) → x < 160 → objects_in m x ≡ objects_at t x
 -- whether two of six objects are there
 abbrev pub has_two : Bool → Bool → Bool → Bool → Bool → Bool → Bool
 has_two a b c d e f = (a && b) || ((a || b) && c) || ((a || b || c) && d) || ((a || b || c || d) && e) || ((a || b || c || d || e) && f)
-
--- the number of a set of objects
-abbrev pub set_number : Objects → ℕ
-set_number o =
-    (if o.player0 then 1 else 0) + 2 * (if o.player1 then 1 else 0) + 4 * (if o.missile0 then 1 else 0)
-    + 8 * (if o.missile1 then 1 else 0) + 16 * (if o.ball then 1 else 0) + 32 * (if o.playfield then 1 else 0)

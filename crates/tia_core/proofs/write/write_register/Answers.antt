@@ -10,4 +10,4 @@ returns-else-tia-ne0-clause-touched c = λ x.
       c.moved_position-tia-in-Hmove-3.ensures.value,
       c.moved_position-tia-in-Hmove-4.ensures.value,
       c.comb-tia.ensures.value,
-    ) (unmoved-objects c.args.tia.now c.args.fire0 c.args.fire1 c.args.value x c.requires c.if-tia-ne0.false)
+    ) (unmoved-objects c.args.tia.now c.args.fire0 c.args.fire1 c.args.value x c.requires.lawful c.if-tia-ne0.false)

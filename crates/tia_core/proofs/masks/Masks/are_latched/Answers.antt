@@ -1,6 +1,7 @@
 use Rattle.std.proofs.lemmas.Bool.{eqb-true}
-use Rattle.tia_core.proofs.IdleBeam.{idle-bounded}
+use Rattle.tia_core.specs.Private.Stretches.{visible_objects}
+use Rattle.tia_core.proofs.IdleBeam.{idle-latched}
 use Rattle.tia_core.proofs.masks.Masks.are_latched.Goals as goal
 
 pub returns : goal.returns
-returns c = λ same. idle-bounded c.args.tia.now c.args.self.now.bound c.requires.bound (eqb-true _ _ same)
+returns c = λ same. idle-latched c.args.tia.now (rw (c.pairs_of_set.ensures (visible_objects c.args.tia.now) c.requires.visible) at (eqb-true _ _ same))

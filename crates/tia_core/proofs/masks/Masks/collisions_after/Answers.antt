@@ -6,8 +6,3 @@ pub returns-then-is_idle-clause-value : goal.returns-then-is_idle-clause-value
 returns-then-is_idle-clause-value c =
     stretch-idle c.args.tia.now c.args.tia.now.collisions c.args.from (c.args.to - c.args.from)
     (λ y le lt. c.is_idle.ensures c.if-is_idle.true y (omega arith))
-
-pub returns-then-are_latched-clause-value : goal.returns-then-are_latched-clause-value
-returns-then-are_latched-clause-value c =
-    stretch-idle c.args.tia.now c.args.tia.now.collisions c.args.from (c.args.to - c.args.from)
-    (λ y le lt. c.are_latched.ensures c.if-are_latched.true y (omega arith))

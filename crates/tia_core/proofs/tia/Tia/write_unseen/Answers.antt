@@ -1,5 +1,6 @@
-use Rattle.std.proofs.Common.{inl, inr}
+use Rattle.std.proofs.Common.{inl, inr, sym, ap, ◌∙◌}
 use Rattle.std.proofs.lemmas.Bool.{cases_Bool}
+use Rattle.tia_core.specs.Private.Stretches.{set_number}
 use Rattle.tia_core.specs.Write.{tia_after_write}
 use Rattle.tia_core.specs.declared.write.Changed.TheVariants.{Nothing}
 use Rattle.tia_core.proofs.FieldLemmas.{fields_after-lawful}
@@ -18,7 +19,8 @@ invariant_of-self c =
             (fields_after-lawful inside.fields inside.fire0 inside.fire1 (register_of c.args.number) c.args.value c.self.invariant.0)
         | inr other ↦ rw (w.ensures.others other) c.self.invariant.0
       ],
-      fit-marked inside.fields w.new.fields inside.masks Nothing w.ensures.objects (λ e. w.ensures.visible) w.ensures.placed c.self.invariant.1,
+      fit-marked inside.fields w.new.fields inside.masks Nothing inside.masks.visible w.ensures.objects w.ensures.placed
+          (c.self.invariant.1.visible ∙ ap set_number (sym w.ensures.visible)) c.self.invariant.1,
     )
 
 pub returns-clause-state : goal.returns-clause-state
