@@ -5,11 +5,12 @@ ghost use Rattle.tia_core.specs.Clock.{sink_after_pixels};
 ghost use Rattle.tia_core.specs.Collision.{number_from, pairs_of};
 ghost use Rattle.tia_core.specs.Mask.{covers};
 ghost use Rattle.tia_core.specs.Objects.{ball_at, is_in, missile_at, object_of, objects_at};
-ghost use Rattle.tia_core.specs.Private.Stretches.{bl, m0, m1, no_objects, objects_in, one, set_number, visible_objects, with_change, with_one};
+ghost use Rattle.tia_core.specs.Private.Stretches.{bl, m0, m1, no_objects, is_single, objects_in, set_number, visible_objects, with_change, with_single};
 ghost use Rattle.tia_core.specs.Private.Stretches.{p0, p1, pf, stretch_pairs, stretch_pixels};
 ghost use Rattle.tia_core.specs.Private.Stretches.{AreInWindow, AreShown, IsIdle, IsMaskOf};
 ghost use Rattle.tia_core.specs.Private.Stretches.{MasksFit};
 ghost use Rattle.tia_core.specs.Private.Lawful.{IsLawfulTia};
+ghost use Rattle.tia_core.specs.declared.objects.Objects.{Objects as Set};
 ghost use Rattle.tia_core.specs.declared.write.Changed.TheVariants.{Places, Shapes};
 
 use crate::bits::has_bit;
@@ -118,12 +119,15 @@ impl Masks {
     /// of the set that has it alone.
     #[inline(always)]
     pub fn show(&mut self, object: u8, before: bool, after: bool)
-        requires all { self.old.visible < 64 }
-        requires single { object < 64 }
-        requires before { object * one before ≤ self.old.visible }
-        ensures { self.new ≡ record self.old { visible = with_one self.old.visible object before after } }
+        requires { is_single object ≡ true }
+        ensures others { self.new ≡ record self.old { visible = self.new.visible } }
+        ensures visible { (o : Set) → self.old.visible ≡ set_number (with_single object before o)
+            → self.new.visible ≡ set_number (with_single object after o) }
     {
-        self.visible = self.visible + object * after as u8 - object * before as u8;
+        self.visible = self
+            .visible
+            .wrapping_add(object * after as u8)
+            .wrapping_sub(object * before as u8);
     }
 
     /// Finds anew which objects may be visible.

@@ -1,6 +1,6 @@
 -- What the masks of a line are to say, and which pairs of objects meet in a stretch of it. This
 -- project's own.
-use Rattle.std.specs.Prelude.{◌≡◌, ◌==◌, ◌<◌, ℕ, ◌+◌, ◌-◌, ◌*◌, ◌&&◌, ◌||◌, not, Bool, true, false}
+use Rattle.std.specs.Prelude.{◌≡◌, ◌==◌, ◌<◌, ℕ, ◌+◌, ◌*◌, ◌&&◌, ◌||◌, not, Bool, true, false}
 use Rattle.std.specs.Prelude.{if◌then◌else◌, List, [], ◌∷◌, bit_or, map}
 use Rattle.std.specs.List.{range_with_len}
 use Rattle.tia_core.specs.Bits.{has_bit}
@@ -91,10 +91,6 @@ set_number o =
     one o.player0 + 2 * one o.player1 + 4 * one o.missile0 + 8 * one o.missile1 + 16 * one o.ball
     + 32 * one o.playfield
 
--- that number once one object is in the set or not, of which the set's number is this
-abbrev pub with_one : ℕ → ℕ → Bool → Bool → ℕ
-with_one number object before after = number + object * one after - object * one before
-
 -- no two objects meet on a line
 abbrev pub AreApart : TiaFields → Type 0
 AreApart t = (x : ℕ) → x < 160 → pairs_of (objects_at t x) ≡ 0
@@ -163,6 +159,15 @@ numbered n = record {
   playfield = has_bit n 5;
 }
 
+-- the number of a set of one object
+abbrev pub is_single : ℕ → Bool
+is_single n = n == 1 || n == 2 || n == 4 || n == 8 || n == 16 || n == 32
+
+-- a set with or without that object
+abbrev pub with_single : ℕ → Bool → Objects → Objects
+with_single n is o =
+    with_objects (numbered n) (record { player0 = is; player1 = is; missile0 = is; missile1 = is; ball = is; playfield = is }) o
+
 -- the objects that may cover other pixels after a change
 abbrev pub touched_by : Changed → Objects
 touched_by Nothing = no_objects
@@ -189,6 +194,15 @@ abbrev pub with_change : Masks → Changed → Masks
 with_change m Nothing = m
 with_change m Places = record m { stale = union_of m.stale all_but_playfield; are_apart = false }
 with_change m (Shapes n) = with_shapes m (numbered n)
+
+-- the masks are marked by this change of the numbers: objects that it doesn't touch cover the same pixels,
+-- and those that it doesn't reshape do wherever they stand
+pub record IsMarked (t u : TiaFields) (m n : Masks) (c : Changed) : Type 0 where
+  pub masks : n ≡ record (with_change m c) { visible = n.visible }
+  pub visible : n.visible ≡ set_number (visible_objects u)
+  pub touched : (x : ℕ) → objects_at u x ≡ with_objects (touched_by c) (objects_at u x) (objects_at t x)
+  pub reshaped : (p q m n b x : ℕ) → objects_at (placed u p q m n b) x
+      ≡ with_objects (reshaped_by c) (objects_at (placed u p q m n b) x) (objects_at (placed t p q m n b) x)
 
 -- whether two objects meet within k pixels from x
 abbrev pub meet_within : TiaFields → (Objects → Bool) → (Objects → Bool) → ℕ → ℕ → Bool

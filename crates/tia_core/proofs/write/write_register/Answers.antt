@@ -1,13 +1,10 @@
-use Rattle.tia_core.proofs.MotionLemmas.{unmoved-objects}
 use Rattle.tia_core.proofs.write.write_register.Goals as goal
 
-pub returns-else-tia-ne0-clause-touched : goal.returns-else-tia-ne0-clause-touched
-returns-else-tia-ne0-clause-touched c = λ x.
-    rw (
-      c.moved_position-tia.ensures.value,
-      c.moved_position-tia-in-Hmove.ensures.value,
-      c.moved_position-tia-in-Hmove-2.ensures.value,
-      c.moved_position-tia-in-Hmove-3.ensures.value,
-      c.moved_position-tia-in-Hmove-4.ensures.value,
-      c.comb-tia.ensures.value,
-    ) (unmoved-objects c.args.tia.now c.args.fire0 c.args.fire1 c.args.value x c.requires.lawful c.if-tia-ne0.false)
+pub returns-in-Grp0-clause-value : goal.returns-in-Grp0-clause-value
+returns-in-Grp0-clause-value c = rw c.in-Grp0.is (c.write_grp0.ensures.value c.args.fire0 c.args.fire1)
+
+pub returns-in-Grp1-clause-value : goal.returns-in-Grp1-clause-value
+returns-in-Grp1-clause-value c = rw c.in-Grp1.is (c.write_grp1.ensures.value c.args.fire0 c.args.fire1)
+
+pub returns-in-Hmove-clause-value : goal.returns-in-Hmove-clause-value
+returns-in-Hmove-clause-value c = rw c.in-Hmove.is (c.write_hmove.ensures.value c.args.fire0 c.args.fire1 c.args.value)
