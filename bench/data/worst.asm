@@ -1,5 +1,5 @@
-; Frames that cost as much as is known: nearly 8,000 writes, each of which shows or hides player 1, so that each has the pairs that can
-; meet told anew, and those in the nine pixels before it, of which every second nine have some.
+; Frames that cost as much as is known: nearly 8,000 writes of GRP1, FF and AA in turn, so that before each the pairs are told that
+; meet in nine pixels, and player 1's pattern is made anew.
 ; dasm worst.asm -f3 -oworst.rom; vcs_check make worst.rom worst.txt --text --every 300 --out worst.a26m, where worst.txt is '72'.
         processor 6502
 VSYNC   = $00
@@ -7,6 +7,8 @@ WSYNC   = $02
 NUSIZ0  = $04
 NUSIZ1  = $05
 CTRLPF  = $0A
+REFP0   = $0B
+REFP1   = $0C
 PF0     = $0D
 PF1     = $0E
 PF2     = $0F
@@ -20,50 +22,80 @@ GRP1    = $1C
 ENAM0   = $1D
 ENAM1   = $1E
 ENABL   = $1F
+VDELP0  = $25
+VDELP1  = $26
+VDELBL  = $27
+RESMP0  = $28
+RESMP1  = $29
 CXCLR   = $2C
 passes  = $80
+other   = $90
         org $F000
-        lda #$13        ; three copies of player 0, and of missile 0
+        lda #$F3
         sta NUSIZ0
-        lda #$05        ; player 1 is double
+        lda #$E5
         sta NUSIZ1
-        lda #$24        ; a ball of four pixels
+        lda #$DC
         sta CTRLPF
-        lda #$F0
+        lda #$02
+        sta REFP0
+        lda #$D3
+        sta REFP1
+        lda #$43
         sta PF0
         lda #$FF
         sta PF1
-        lda #$80
+        lda #$FF
         sta PF2
+        lda #$DF
+        sta GRP0
+        lda #$02
+        sta GRP1
         lda #$02
         sta ENAM0
+        lda #$02
         sta ENAM1
+        lda #$02
         sta ENABL
-        lda #$AA
-        sta GRP0
+        lda #$01
+        sta VDELP0
+        lda #$00
+        sta VDELP1
+        lda #$01
+        sta VDELBL
+        lda #$00
+        sta RESMP0
+        lda #$00
+        sta RESMP1
         sta WSYNC       ; where each stands
-        repeat 22
+        sta other
+        repeat 24
         nop
         repend
         sta RESP0
         sta WSYNC
+        repeat 20
+        nop
+        repend
         sta RESP1
         sta WSYNC
-        nop
         sta RESM0
         sta WSYNC
+        repeat 18
+        nop
+        repend
         sta RESM1
         sta WSYNC
-        nop
         sta RESBL
-        ldx #0
+        ldx #$AA
+        ldy #$FF
 frame   lda #4
         sta passes
-        lda #$BA
+        lda #$02
 body
-        repeat 981
+        repeat 974
+        sty GRP1
         stx GRP1
-        sta GRP1
         repend
         dec passes
         beq last
