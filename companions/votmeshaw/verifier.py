@@ -91,28 +91,32 @@ class Verifier:
     def running(self, movie: bytes, *words: str, **how: Any) -> Iterator[subprocess.Popen[bytes]]:
         """The process of a question, whose movie is on standard input. However this is left, it has ended then; NoAnswer if that
         was for its time."""
-        process, is_late = self._started(movie, words, how), threading.Event()
-        timer = threading.Timer(self.timeout or 0, lambda: (is_late.set(), self._end(process)))
+        started: list[subprocess.Popen[bytes]] = []
+        is_late = threading.Event()
+        timer = threading.Timer(self.timeout or 0, lambda: (is_late.set(), self._end(started[0])))
         try:
+            self._start(started, movie, words, how)
             if self.timeout:
                 timer.start()
-            yield process
+            yield started[0]
         except Exception:
             if not is_late.is_set():
                 raise
         finally:
             timer.cancel()
-            self._end(process)
-            process.wait()
-            for pipe in filter(None, (process.stdout, process.stderr)):
-                pipe.close()
-            with self.lock:
-                self.processes.discard(process)
+            for process in started:
+                self._end(process)
+                process.wait()
+                for pipe in filter(None, (process.stdout, process.stderr)):
+                    pipe.close()
+                with self.lock:
+                    self.processes.discard(process)
         if is_late.is_set():
             raise NoAnswer(f"no answer within {self.timeout:g} s")
 
-    def _started(self, movie: bytes, words: tuple[str, ...], how: dict[str, Any]) -> subprocess.Popen[bytes]:
-        """A new process, in a group of its own. It reads the movie from a file in memory, so no file is left, and no pipe is full."""
+    def _start(self, started: list[subprocess.Popen[bytes]], movie: bytes, words: tuple[str, ...], how: dict[str, Any]) -> None:
+        """Starts a process, in a group of its own, and puts it in this list, even where a signal came meanwhile. It reads the movie
+        from a file in memory, so no file is left, and no pipe is full."""
         with os.fdopen(os.memfd_create("movie"), "w+b") as file:
             file.write(movie)
             file.seek(0)
@@ -120,9 +124,8 @@ class Verifier:
             with signals_held(), self.lock:
                 if self.is_stopped:
                     raise NoAnswer("the run ends")
-                process = subprocess.Popen([*self.words, *words, *self.explain], process_group=0, **pipes)
-                self.processes.add(process)
-        return process
+                started.append(subprocess.Popen([*self.words, *words, *self.explain], process_group=0, **pipes))
+                self.processes.add(started[0])
 
     def stop(self) -> None:
         """Ends what runs, and starts no more."""
