@@ -1,5 +1,5 @@
 ; Frames that cost as much as is known: nearly 8,000 writes of GRP1, FF and AA in turn, so that before each the pairs are told that
-; meet in nine pixels, and player 1's pattern is made anew.
+; meet in nine pixels, and player 1's pattern is made anew. The values are as a search by chance found them.
 ; dasm worst.asm -f3 -oworst.rom; vcs_check make worst.rom worst.txt --text --every 300 --out worst.a26m, where worst.txt is '72'.
         processor 6502
 VSYNC   = $00
