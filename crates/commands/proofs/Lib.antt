@@ -1,5 +1,4 @@
 pub mod AccessTexts
-pub mod BytesRead
 pub mod ColumnLemmas
 pub mod CommandAnswers
 pub mod CutMovies
