@@ -1,6 +1,6 @@
 -- Words that are one edit apart, from their first letters on.
 use Rattle.std.proofs.Common.{◌≡◌, ◌↔◌, ◌⊎◌, ◌∙◌, ℕ, List, [], ◌∷◌, ◌++◌, inl, inr, sym, ap, refl}
-use Rattle.std.proofs.Common.{arith, length, ◌-◌, ◌≤◌, ◌<◌, take, drop, get_or, slice_index}
+use Rattle.std.proofs.Common.{arith, length, ◌-◌, ◌≤◌, take, drop, get_or, slice_index}
 use Rattle.std.specs.Char.{to_ascii_lowercase}
 use Rattle.input_text.specs.Mistakes.{HasOneMore, IsChanged, IsExchanged, IsNear, small}
 use Rattle.input_text.proofs.LineLemmas.{rest_from}
@@ -111,9 +111,6 @@ small_second (x ∷ []) some = absurd (omega arith)
 small_second (x ∷ y ∷ b) some =
     ap (λ (l : List ℕ). to_ascii_lowercase x ∷ to_ascii_lowercase y ∷ small l) (sym (rest_from (x ∷ y ∷ b) 2))
 
-pub no_more : (a : List ℕ) → HasOneMoreFirst a [] → ⊥
-no_more a (x, has) = cc
-
 pub one_more : (a b : List ℕ) → 1 ≤ length b → (small a ≡ small (take (length b - 1) (drop 1 b))) ↔ HasOneMoreFirst (small a) (small b)
 one_more a b some = (to, from)
   where
@@ -173,21 +170,9 @@ alike_at (x ∷ a) [] some other = absurd (omega arith)
 alike_at (x ∷ a) (y ∷ b) some other =
     (λ same. (small_at (x ∷ a) 0, small a, small b, refl, rw same refl), λ (h, c, d, one, two). head _ h _ c one ∙ sym (head _ h _ d two))
 
-pub nothing_alike : (a b : List ℕ) → length a < 1 → BeginAlike (small a) (small b) → ⊥
-nothing_alike [] b none (h, c, d, one, two) = cc
-nothing_alike (x ∷ a) b none alike = absurd (omega arith)
-
-pub nothing_alike_after : (a b : List ℕ) → length b < 1 → BeginAlike (small a) (small b) → ⊥
-nothing_alike_after a [] none (h, c, d, one, two) = cc
-nothing_alike_after a (x ∷ b) none alike = absurd (omega arith)
-
 pub near_on : (a b : List ℕ) → BeginAlike (small a) (small b) → IsNear (small (drop 1 a)) (small (drop 1 b)) ↔ IsNear (small a) (small b)
 near_on [] b (h, c, d, one, two) = cc
 near_on (x ∷ a) [] (h, c, d, one, two) = cc
 near_on (x ∷ a) (y ∷ b) (h, c, d, one, two) =
     let same : to_ascii_lowercase x ≡ to_ascii_lowercase y = head _ h _ c one ∙ sym (head _ h _ d two) in
     rw same (on_near (to_ascii_lowercase y) (small a) (small b), off_near (to_ascii_lowercase y) (small a) (small b))
-
-pub shorter : (a b : List ℕ) → BeginAlike (small a) (small b) → length (drop 1 a) < length a
-shorter [] b (h, c, d, one, two) = cc
-shorter (x ∷ a) b alike = omega arith
