@@ -1,5 +1,5 @@
 -- Notes.
-use Rattle.std.proofs.Common.{◌≡◌, ◌≢◌, ℕ, ◌-◌, ◌≤◌, List, [], ◌∷◌, ◌++◌, length, codes, refl, arith, Some, slice_get, append-nil, inl, inr}
+use Rattle.std.proofs.Common.{◌≡◌, ◌≢◌, ℕ, ◌-◌, ◌≤◌, List, [], ◌∷◌, ◌++◌, length, codes, arith, Some, slice_get, append-nil}
 use Rattle.std.proofs.lemmas.Bool.Decides.{nat_tests}
 use Rattle.std.specs.Fmt.{decimal}
 use Rattle.std.specs.List.{flat_map}
@@ -7,9 +7,7 @@ use Rattle.movie_file.specs.Movie.{MovieData}
 use Rattle.movie_file.specs.declared.checkpoint.Checkpoint.{Checkpoint}
 use Rattle.movie_report.specs.CheckpointFacts.{last_of}
 use Rattle.movie_report.specs.Notes.{claim_notes, note_text, note_texts}
-use Rattle.movie_report.specs.Private.Elements.{AreElements}
 use Rattle.replay_plan.specs.declared.notation.Notation.{Notation}
-use Rattle.replay_plan.specs.declared.notation.Notation.TheVariants.{Json}
 
 -- The text of one note.
 pub note_texts-one : (notation : Notation) (note : List ℕ) → note_texts notation (note ∷ []) ≡ note_text notation note
@@ -23,8 +21,3 @@ module _ (frames : ℕ) (c : Checkpoint) (le : c.frame ≤ frames) where
   pub claim_notes-some : frames - c.frame ≢ 0
       → claim_notes frames (Some c) ≡ (decimal (frames - c.frame) ++ codes " frames after the last checkpoint") ∷ []
   claim_notes-some some = grind (arith, nat_tests)
-
--- The elements of an array of notes.
-pub AreElements-notes : (notes : List (List ℕ)) → AreElements (note_texts Json notes)
-AreElements-notes [] = inl refl
-AreElements-notes (note ∷ notes) = inr (_, refl)

@@ -1,18 +1,16 @@
 -- The signs of segments.
 use Rattle.std.proofs.Common.{◌≡◌, ℕ, ◌+◌, ◌-◌, List, [], ◌∷◌, ◌++◌, length}
-use Rattle.std.proofs.Common.{slice_get, take, drop, arith, length-append, length-drop, ap, zero, suc, get_or, inl, inr, replicate, subst, ◌<◌, ◌≤◌}
+use Rattle.std.proofs.Common.{slice_get, take, drop, arith, length-append, length-drop, ap, zero, suc, replicate, subst, ◌<◌, ◌≤◌}
 use Rattle.std.proofs.Common.{append-nil, ◌∙◌, sym, min}
 use Rattle.std.specs.Prelude.{IfSome, if◌then◌else◌}
 use Rattle.std.specs.List.{flat_map, range_with_len}
-use Rattle.std.proofs.lemmas.Bool.Decides.{nat_tests}
-use Rattle.std.proofs.lemmas.Option.{slice_get_cases}
 use Rattle.std.proofs.lemmas.List.{length-replicate, take_min}
 use Rattle.std.proofs.lemmas.List.FromFn.{map-range_with_len_more}
 use Rattle.std.proofs.lemmas.List.Folds.{flat_map-map}
 use Rattle.std.proofs.lemmas.List.Concat.{flat_map-append}
 use Rattle.movie_file.specs.Movie.{MovieData}
 use Rattle.replay_plan.specs.declared.keep.Keep.{Keep}
-use Rattle.replay_segments.specs.Pieces.{HasKept, IsOutcome, IsPiece, PieceData, job_of}
+use Rattle.replay_segments.specs.Pieces.{IsOutcome, IsPiece, PieceData, job_of}
 use Rattle.replay_segments.specs.Segments.{IsSegment}
 use Rattle.replay_segments.specs.declared.outcome.Outcome.TheVariants.{Judged}
 use Rattle.replay_segments.specs.declared.verdict.Verdict.{Verdict}
@@ -30,18 +28,6 @@ HasSign-piece m cuts keep p i verdict sign is number job outcome same =
     let said : IsOutcome p.job p.number p.outcome = is.outcome in
     let judged : IsSegment m cuts keep i verdict = rw (outcome, number, job) at said in
     (keep, verdict, judged, same)
-
--- What holds of the element at a place, if there is one.
-pub IfSome-each : {A : Type 0} (xs : List A) (i : ℕ) (P : A → Type 0) → ((d : A) → i < length xs → P (get_or xs i d)) → IfSome (slice_get xs i) P
-IfSome-each xs i P each = elim (slice_get_cases xs i).1 [
-  | inl w ↦ rw w.2 (subst P w.3 (each w.0 w.1))
-  | inr w ↦ rw w.1 tt
-]
-
--- No frame is kept, so a replay takes no memory.
-pub HasKept-none : (m : MovieData) (cuts : List ℕ) (keep : Keep) (number : ℕ) → keep.first ≡ 1 → keep.count ≡ 0
-    → HasKept (job_of m cuts keep) number → ⊥
-HasKept-none m cuts keep number first count (frame, from, to, kept) = grind (arith, nat_tests)
 
 -- What holds of each of these signs and its place, if it holds of so many that pass, of the one after them, and of the others.
 pub each_sign : (P : ℕ → Sign → Type 0) (before : ℕ) (sign : Sign) (later : List Sign) → ((i : ℕ) → i < before → P i Passes) → P before sign
