@@ -41,9 +41,6 @@ keeps_same (Some xs) = refl
 pub prefix_all : (a b : Option (List ℕ)) (p : List ℕ) → Appends a b p → AppendsPrefix a b p
 prefix_all a b p h = record { prefix = p; rest = []; whole = sym (append-nil p); written = h }
 
-pub prefix_kept : (a b c : Option (List ℕ)) (i : ℕ) (p : List ℕ) → Appends a b (take i p) → Keeps b c → AppendsPrefix a c p
-prefix_kept a b c i p h k = record { prefix = take i p; rest = drop i p; whole = sym (take-append-drop i p); written = appends_kept a b c (take i p) h k }
-
 pub prefix_longer : (a b : Option (List ℕ)) (p q : List ℕ) → AppendsPrefix a b p → AppendsPrefix a b (p ++ q)
 prefix_longer a b p q h =
     record { prefix = h.prefix; rest = h.rest ++ q; whole = ap (λ (w : List ℕ). w ++ q) h.whole ∙ append_assoc h.prefix h.rest q; written = h.written }
