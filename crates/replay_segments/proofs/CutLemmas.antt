@@ -47,14 +47,6 @@ AreCutsBelow-whole most numbers i last past below = record {
   rising = λ j k n p less at there. below.rising j k n p less (let within = slice_get_within numbers k p there in omega arith) at there;
 }
 
-module _ (most : ℕ) (numbers : List ℕ) (i last number : ℕ) (at : slice_get numbers i ≡ Some number) (below : AreCutsBelow most numbers i last) where
-  -- A number that is not above the last one, or is no checkpoint.
-  pub AreCutsBelow-not : (number ≤ last) ⊎ (most < number) → AreCuts most numbers → ⊥
-  AreCutsBelow-not h are = grind arith
-
-  pub AreCutsBelow-next : last < number → number ≤ most → AreCutsBelow most numbers (i + 1) number
-  AreCutsBelow-next above le = grind arith
-
 -- The multiples of k, one after another, up to a number.
 module _ (k most found : ℕ) (numbers : List ℕ) (positive : 0 < k) (all : found ≡ most) (count : length numbers ≡ found / k)
     (each : (j n : ℕ) → slice_get numbers j ≡ Some n → n ≡ (j + 1) * k) where
