@@ -23,7 +23,7 @@ use Rattle.segment_desk.proofs.ReachLemmas.{lawful}
 use Rattle.segment_desk.specs.Tables.{TableState, IsRuled}
 use Rattle.segment_desk.specs.declared.part.Part.{Part}
 use Rattle.segment_desk.proofs.ListLemmas.{slice_get-of_some, times-append}
-use Rattle.segment_desk.proofs.PartLemmas.{tested, size_of, with_number-here}
+use Rattle.segment_desk.proofs.PartLemmas.{tested, size_of}
 use Rattle.segment_desk.proofs.EventLemmas.{count_le, knows, drawn_below, reported_above}
 
 -- A draw leaves the share.
@@ -180,22 +180,10 @@ apart_of v u m is known k =
     let le : times k (v.drawn ++ u.drawn) ≤ 1 = subst (λ (p : Part). times k p.drawn ≤ 1) is (known.apart k) in
     omega (arith, times-append k v.drawn u.drawn)
 
--- A fresh ticket's part is known.
-pub known_fresh : (n w share : ℕ) → IsKnown (fresh_part n w share)
-known_fresh n w share = grind arith
-
 -- A number above all that were drawn is not passed over.
 new_number : (v : Part) (k : ℕ) → IsKnown v → ((j : ℕ) → 0 < times j v.drawn → j < k) → times k v.passed_over ≡ 0
 new_number v k known above = dite (dec_le (times k v.passed_over) 0) (λ h. omega arith)
     (λ h. let some_passed = lt_of_not-le h in absurd (omega (arith, above k (omega (arith, known.passes k)))))
-
--- A look at a least number that is not below the last drawn one passes nothing over.
-pub look_keeps : (x k : ℕ) (v : Part) → v.last ≡ Some k → k ≤ x → (look_at x v).passed_over ≡ v.passed_over
-look_keeps x k v last le = grind arith
-
--- A look at one below it passes it over.
-pub look_passes : (x k : ℕ) (v : Part) → v.last ≡ Some k → x < k → 0 < times k (look_at x v).passed_over
-look_passes x k v last lt = grind (arith, tested, with_number-here)
 
 -- A number that is drawn is not passed over in that step.
 pub drawn_fresh : (v u : Part) (k : ℕ) → u ≡ draw_at k v → IsKnown v → ((j : ℕ) → 0 < times j v.drawn → j < k) → times k u.passed_over ≡ 0
