@@ -1,9 +1,7 @@
 -- What a writer gets of an error's object.
-use Rattle.std.proofs.Common.{Option, Some, None, List, ℕ, [], ◌++◌, Ok, Err, Result, OnOk, OnErr, codes, refl}
-use Rattle.std.specs.Io.KnownBytes.{Appends}
+use Rattle.std.proofs.Common.{Option, Some, None, List, ℕ, [], ◌++◌, codes, refl}
 use Rattle.named_files.specs.declared.file_error.FileError.{FileError}
-use Rattle.picture_file.proofs.BytesWritten.{keeps_same, prefix_all}
-use Rattle.picture_file.specs.Prefixes.{AppendsPrefix}
+use Rattle.picture_file.proofs.BytesWritten.{keeps_same}
 use Rattle.vcs_check.proofs.FileParts.{nothing}
 use Rattle.vcs_check.specs.ErrorObjects.{GetsErrorObject, IsObjectOf, error_object, file_error_object}
 use Rattle.vcs_check.specs.Failures.{file_error_of}
@@ -18,9 +16,3 @@ pub no_object : (failure : Failure) (a : Option (List ℕ)) → GetsErrorObject 
 no_object failure a =
     let object = some_object (file_error_of failure) in
     (object.0 ++ codes "\n", (object.0, object.1, refl), nothing a a (object.0 ++ codes "\n") (keeps_same a))
-
--- and of one that was written, whether that failed or not.
-pub written_part : {T E : Type 0} (result : Result T E) (a b : Option (List ℕ)) (bytes : List ℕ) → OnOk result (Appends a b bytes)
-    → OnErr result (AppendsPrefix a b bytes) → AppendsPrefix a b bytes
-written_part (Ok value) a b bytes all part = prefix_all a b bytes all
-written_part (Err error) a b bytes all part = part
