@@ -1,21 +1,17 @@
 -- Where the walk over the words finds no mistake, it stops at no `help`.
-use Rattle.std.proofs.Common.{◌≡◌, ◌∙◌, ◌&&◌, ◌||◌, ℕ, Bool, true, false, not, List, [], ◌∷◌}
+use Rattle.std.proofs.Common.{◌≡◌, ◌∙◌, ◌||◌, Bool, true, false, List, [], ◌∷◌}
 use Rattle.std.proofs.Common.{Option, Some, None, option_map, if◌then◌else◌, is_some, codes, sym}
 use Rattle.std.proofs.Common.{subst, refl, ap, rules, IfSome}
 use Rattle.std.specs.Prelude.{find, fold}
 use Rattle.std.specs.Str.{bytes_eq}
 use Rattle.std.proofs.lemmas.Slice.Eq.{bytes_eq-Decides}
-use Rattle.clap.specs.Words.{App, Row, Rule, Shape, Text, fault_of, subcommand_of}
-use Rattle.clap.specs.Walk.{Held, Names, Outcome, Step, Waiting, Walk, after_flag}
-use Rattle.clap.specs.Walk.{short_or_plain, after_step, answers_to}
-use Rattle.clap.specs.Walk.{long_or_other, nothing_held}
-use Rattle.clap.specs.Walk.{plain_word, stop_after, subcommand, subcommand_met}
-use Rattle.clap.specs.Walk.{subcommand_or_other, to_positional, value, walk_from}
+use Rattle.clap.specs.Words.{App, Row, Shape, Text, fault_of, subcommand_of}
+use Rattle.clap.specs.Walk.{Names, Walk, after_step, answers_to, nothing_held, stop_after}
+use Rattle.clap.specs.Walk.{subcommand_met, subcommand_or_other, value, walk_from}
 use Rattle.clap.specs.Walk.{walked, walked_from, word_met}
 use Rattle.clap.specs.Simple.{argument_words, built, entered, label_of, names_of, rows_at}
 use Rattle.clap.specs.Faults.{other_fault, step_fault, turn_fault, walk_fault, word_fault}
 use Rattle.clap.specs.Kinds.{or_else}
-use Rattle.clap.specs.declared.error.ErrorKind.{ErrorKind}
 use Rattle.std.specs.List.{list_any}
 use Rattle.command_line.proofs.Found.{none_first, none_then}
 use Rattle.command_line.proofs.Lists.{Each, found}
@@ -24,43 +20,12 @@ use Rattle.command_line.specs.Private.Names.{IsUnlisted}
 use Rattle.command_line.specs.Table.{Listed, commands, program_app}
 use Rattle.command_line.specs.declared.command.CommandLine.{CommandLine}
 
--- ---- what a word is
-
-abbrev IsOther : Step → Type 0
-IsOther (subcommand name) = ⊥
-IsOther _ = Unit {0}
+-- ---- one word
 
 -- The walk did not stop, or at another word than `help`.
 abbrev NoHelp : Option (Text × List Text) → Type 0
 NoHelp None = Unit {0}
 NoHelp (Some p) = bytes_eq p.0 (codes "help") ≡ false
-
-plain_other : (c : List Rule) (waiting : Waiting) (word : Text) (h : Held) → IsOther (plain_word c waiting word h).1
-plain_other c waiting word h = search rules
-
-after_other : (c : List Rule) (waiting : Waiting) (word : Text) (h : Held) (o : Outcome) → IsOther (after_flag c waiting word h o).1
-after_other c waiting word h o = search rules
-
-short_other : (c : List Rule) (waiting : Waiting) (word : Text) (o : Option Text) (h : Held) → IsOther (short_or_plain c waiting word o h).1
-short_other c waiting word o h = search rules
-
-long_other : (c : List Rule) (waiting : Waiting) (word : Text) (o : Option (Text × Option Text)) (h : Held) → IsOther (long_or_other c waiting word o h).1
-long_other c waiting word o h = search rules
-
-no_name : (c : List Rule) (waiting : Waiting) (position : ℕ) (word : Text) (h : Held) → IsOther (subcommand_or_other c None waiting position word h).1
-no_name c waiting position word h = search rules
-
--- ---- one word
-
-at_positional : (c : List Rule) (o : Option Rule) (word : Text) (w : Walk) (h : Held) → NoHelp w.stopped → NoHelp (to_positional c o word w h).stopped
-at_positional c o word w h clear = search rules
-
-no_help_after : (c : List Rule) (word : Text) (w : Walk) (h : Held) (step : Step) → NoHelp w.stopped → IsOther step
-    → NoHelp (after_step c word w h step).stopped
-no_help_after c word w h step clear other = search rules
-
-name_is_other : (b d : Bool) (k l : ErrorKind) → d ≡ false → (if b && not d then k ∷ l ∷ [] else []) ≡ [] → b ≡ false
-name_is_other b d k l off none = search rules
 
 by_name : (s : Shape) (w : Walk) (word : Text) (t : Bool) (m : Option Text) → s.disable_help_subcommand ≡ false → NoHelp w.stopped
     → (if t then [] else other_fault s m word w.held) ≡ []
