@@ -48,6 +48,18 @@ fn frame_may_end_with_24320_cycles(rt: HostRuntime) {
 }
 
 #[test]
+fn frame_ends_where_vsync_falls_and_rises(rt: HostRuntime) {
+    // DEC VSYNC, which writes back the 00 that it reads there, and then FF. JMP F002 would go on.
+    let cart = cart_of(&rt, rt.alloc(), &[0xC6, 0, 0x4C, 2, 0xF0], 0x800, &[]);
+    let mut fields = State::power_on(&cart).fields();
+    fields.tia.vsync = 2;
+    let mut state = lawful(&rt, fields);
+    expect_equal(&rt, fault_of(&rt, rt.alloc(), &cart, &mut state), None);
+    expect_equal(&rt, state.fields().tia.vsync, 2);
+    expect_equal(&rt, state.line_cycle(), 5);
+}
+
+#[test]
 fn longest_frame_has_322_rows(rt: HostRuntime) {
     // 5 cycles to the end of line 0, 319 lines, 70 cycles, BRK's 7 and a wait of 75: 24,401. VSYNC
     // falls 75 cycles into line 320, so that three of its pixels are seen.
