@@ -3,7 +3,7 @@
 use crate::expectation::expect_equal;
 use movie_file::{
     ConvertError, MakeError, Movie, MovieError, convert, make_movie, read_inputs, read_movie,
-    read_state, write_movie, write_state,
+    read_state, version_made, write_movie, write_state,
 };
 use riot_map::Cart;
 use std::alloc::Global;
@@ -428,6 +428,14 @@ fn movie_is_made_of_a_run(rt: HostRuntime) -> Result<(), Fail> {
     let wanted = with_bytes_at(rt.alloc(), &later, 2259, &state_after_frame_2())?;
     expect_equal(&rt, wanted.len(), 2446);
     assert!(rt; file_of(rt.alloc(), &movie)? == wanted);
+    Ok(())
+}
+
+#[test]
+fn movie_of_65536_frames_has_version_2(rt: HostRuntime) -> Result<(), Fail> {
+    let cart = cart(rt.alloc(), &PROGRAM)?;
+    expect_equal(&rt, version_made(&cart, 65_535), 1);
+    expect_equal(&rt, version_made(&cart, 65_536), 2);
     Ok(())
 }
 
