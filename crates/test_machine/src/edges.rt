@@ -98,6 +98,37 @@ fn pointer_in_the_tia_is_what_a_read_gives(rt: HostRuntime) {
     }
 }
 
+#[test]
+fn pointer_in_the_tia_is_that_at_the_start(rt: HostRuntime) {
+    // NOP, LDA ($07,X), STA 81. The players meet at clock 68. If LDA begins at clock 69 the pointer is
+    // 0080, and if at clock 66, in whose cycles they meet, it is 0000 still: a register that reads 00.
+    let program = [0xEA, 0xA1, 7, 0x85, 0x81, 0x4C, 0, 0xF1];
+    let cart = cart_of(&rt, rt.alloc(), &program, 0x100, &END);
+    for (line_cycle, loaded) in [(20, 0x00), (21, 0x55)] {
+        let mut fields = State::power_on(&cart).fields();
+        fields.riot.ram[0] = 0x55;
+        fields.riot.ram[1] = 0xFF;
+        fields.tia.grp0_new = 0xFF;
+        fields.tia.grp1_new = 0xFF;
+        fields.tia.clock = 3 * line_cycle;
+        let mut state = lawful(&rt, fields);
+        expect_equal(&rt, fault_of(&rt, rt.alloc(), &cart, &mut state), None);
+        expect_equal(&rt, state.fields().riot.ram[1], loaded);
+    }
+}
+
+#[test]
+fn timer_is_read_after_the_step_of_its_cycle(rt: HostRuntime) {
+    // LDA #05, STA TIM1T, LDA INTIM, STA 80. INTIM shows 4 after one cycle, and is read after four.
+    let program = [
+        0xA9, 5, 0x8D, 0x94, 2, 0xAD, 0x84, 2, 0x85, 0x80, 0x4C, 0, 0xF1,
+    ];
+    let cart = cart_of(&rt, rt.alloc(), &program, 0x100, &END);
+    let mut state = State::power_on(&cart);
+    expect_equal(&rt, fault_of(&rt, rt.alloc(), &cart, &mut state), None);
+    expect_equal(&rt, state.fields().riot.ram[0], 1);
+}
+
 /// The fault of a jump by the pointer at an address.
 fn fault_of_jump(rt: &impl Abort, alloc: Global, low: u8, high: u8) -> Option<FaultKind> {
     let jump = cart_of(rt, alloc, &[0x6C, low, high], 0x800, &[]);
