@@ -5,6 +5,8 @@
 #[cfg(test)]
 mod answer;
 #[cfg(test)]
+mod assembly;
+#[cfg(test)]
 mod desk;
 #[cfg(test)]
 mod devices;
