@@ -31,6 +31,8 @@ mod pixmaps;
 #[cfg(test)]
 mod progress;
 #[cfg(test)]
+mod reasons;
+#[cfg(test)]
 mod reports;
 #[cfg(test)]
 mod roms;
