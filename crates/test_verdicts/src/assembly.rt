@@ -1,4 +1,5 @@
-//! Instructions as an assembler has them: all 151, by the table of the MCS6500 programming manual.
+//! Instructions as an assembler has them: all 151, by the table of the MCS6500 programming manual. And
+//! what a trace says of their accesses.
 
 use crate::expectation::expect_none;
 use crate::movies::{movie, power_on};
@@ -316,6 +317,44 @@ fn instructions_are_those_of_the_manual(rt: HostRuntime) -> Result<(), Fail> {
     let mut others = String::new(rt.alloc());
     for row in ROWS {
         add_others(&rt, row, &mut others)?;
+    }
+    expect_none(&rt, &others);
+    Ok(())
+}
+
+/// Instructions at F000, and the end of their lines: the accesses to data, in their order. The stack
+/// pointer is FF. JSR and BRK push the byte of PC that is F0 first; PHP and BRK push P with its bits 5
+/// and 4. A pointer in memory is no data.
+const ACCESSES: &[([u8; 3], &str)] = &[
+    ([0xAD, 0x00, 0xF1], "  read F100 00"),
+    ([0x8D, 0x34, 0xF2], "  write F234 00"),
+    ([0xA1, 0x80, 0x00], "  read 0000 00"),
+    ([0x91, 0x80, 0x00], "  write 0000 00"),
+    (
+        [0xE6, 0x80, 0x00],
+        "  read 0080 00  write 0080 00  write 0080 01",
+    ),
+    ([0x20, 0x80, 0x01], "  write 01FF F0  write 01FE 02"),
+    ([0x60, 0x00, 0x00], "  read 0100 00  read 0101 00"),
+    ([0x08, 0x00, 0x00], "  write 01FF 34"),
+    (
+        [0x00, 0x00, 0x00],
+        "  write 01FF F0  write 01FE 02  write 01FD 34",
+    ),
+    ([0x6C, 0x80, 0x01], ""),
+];
+
+#[test]
+fn accesses_are_those_to_data(rt: HostRuntime) -> Result<(), Fail> {
+    let mut others = String::new(rt.alloc());
+    for (program, accesses) in ACCESSES {
+        let text = trace_of(&rt, program)?;
+        let line = text.split(|byte| *byte == b'\n').next().unwrap_or(&[]);
+        let end = format!(in rt.alloc(); " P=04{accesses}")?;
+        if !line.ends_with(end.as_bytes()) {
+            others.push_str(accesses)?;
+            others.push_str("\n")?;
+        }
     }
     expect_none(&rt, &others);
     Ok(())
