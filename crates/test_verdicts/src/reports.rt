@@ -165,6 +165,11 @@ const CLAIMS: &[(&[u8], u8, &str)] = &[
         "segments: .X.\nsegment 2 doesn't lead from its claim to the next: an input or the cartridge was changed, or claims from there on are of another run\n",
     ),
     (
+        &[1, 0],
+        0,
+        "segments: XX\nthe claim between segments 1 and 2 was changed, or what leads to it and from it\n",
+    ),
+    (
         &[1, 0, 0],
         0,
         "segments: XX.\nthe claim between segments 1 and 2 was changed, or what leads to it and from it\n",
