@@ -54,6 +54,14 @@ const LOOKS: &[(&[u8], &str)] = &[
         b"PK\x03\x04\x14\x00\x00\x00\x08\x00............\x00\x00\x00\x00\x0C\x00\x00\x00Input Log.tx",
         "looks like a zip file: unpack it first",
     ),
+    (
+        b"Rar!\x1A\x07\x01\x00",
+        "looks like a RAR file: unpack it first",
+    ),
+    (
+        b"LogKey:#Reset|\n",
+        "looks like an input log of BizHawk: see vcs_import",
+    ),
     (b"1 up~\n", "looks like text"),
     (b"1 up\x7F\n", "byte 0: expected 4132364D, found 31207570"),
     (b"2 up\x1B\n", "byte 0: expected 4132364D, found 32207570"),
@@ -67,6 +75,27 @@ fn file_looks_like_what_its_bytes_say(rt: HostRuntime) -> Result<(), Fail> {
     let mut others = String::new(rt.alloc());
     for (bytes, wanted) in LOOKS {
         let found = reason_of(rt.alloc(), bytes)?;
+        add_other(rt.alloc(), &found, wanted, &mut others)?;
+    }
+    expect_none(&rt, &others);
+    Ok(())
+}
+
+/// As many zeros as a cartridge has bytes, or one less.
+#[test]
+fn file_looks_like_a_cartridge_by_its_length(rt: HostRuntime) -> Result<(), Fail> {
+    let mut others = String::new(rt.alloc());
+    for (length, wanted) in [
+        (
+            2048usize,
+            "looks like a cartridge, of which make makes a movie",
+        ),
+        (4096, "looks like a cartridge, of which make makes a movie"),
+        (8191, "byte 0: expected 4132364D, found 00000000"),
+        (8192, "looks like a cartridge, of which make makes a movie"),
+    ] {
+        let bytes = vec![in rt.alloc(); 0u8; length]?;
+        let found = reason_of(rt.alloc(), &bytes)?;
         add_other(rt.alloc(), &found, wanted, &mut others)?;
     }
     expect_none(&rt, &others);
@@ -275,12 +304,19 @@ const TEXTS: &[(&str, &str)] = &[
     ),
 ];
 
+/// The reason of a text of inputs, or nothing where none is known.
+fn reason_of_text(alloc: Global, text: &str) -> Result<String, Fail> {
+    match hint_of_text(alloc, text.as_bytes()) {
+        Some(hint) => Ok(format!(in alloc; "{hint}")?),
+        None => Ok(String::new(alloc)),
+    }
+}
+
 #[test]
 fn word_is_shown_so_that_nothing_is_unseen(rt: HostRuntime) -> Result<(), Fail> {
     let mut others = String::new(rt.alloc());
     for (text, wanted) in TEXTS {
-        let hint = hint_of_text(rt.alloc(), text.as_bytes()).ok_or("a reason")?;
-        let found = format!(in rt.alloc(); "{hint}")?;
+        let found = reason_of_text(rt.alloc(), text)?;
         add_other(rt.alloc(), &found, wanted, &mut others)?;
     }
     expect_none(&rt, &others);
