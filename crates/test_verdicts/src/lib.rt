@@ -39,6 +39,8 @@ mod roms;
 #[cfg(test)]
 mod segments;
 #[cfg(test)]
+mod stages;
+#[cfg(test)]
 mod trace;
 #[cfg(test)]
 mod verdicts;
