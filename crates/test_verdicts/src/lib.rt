@@ -1,5 +1,6 @@
-//! Worked movies with their verdicts and reports. They stand apart, since each of them goes through
-//! several crates: what reads a movie, what replays it, and what answers.
+//! Worked movies with their verdicts and reports, and files that are refused with their reasons. They
+//! stand apart, since most of them go through several crates: what reads a movie, what replays it, and
+//! what answers.
 #![tactic(auto)]
 
 #[cfg(test)]
