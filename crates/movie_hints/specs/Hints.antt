@@ -1,8 +1,7 @@
 -- What a hint says of the bytes that were refused. This project's own.
-use Rattle.std.specs.Prelude.{◌≡◌, ◌≢◌, ◌<◌, ◌≤◌, ◌+◌, ◌-◌, ◌%◌, ◌==◌, ◌&&◌, ◌||◌, ◌⊎◌, ℕ, Bool, true, false}
-use Rattle.std.specs.Prelude.{List, [], ◌∷◌, ◌++◌, find, length, nat_le, nat_lt, not, slice_get, slice_index}
-use Rattle.std.specs.Prelude.{bit_and, Option, Some, None, IfSome, Err, IsOk}
-use Rattle.std.specs.Int.{w16, w32, from_be_bytes}
+use Rattle.std.specs.Prelude.{◌≡◌, ◌≢◌, ◌<◌, ◌≤◌, ◌+◌, ◌-◌, ◌*◌, ◌^◌, ◌%◌, ◌==◌, ◌&&◌, ◌||◌, ◌⊎◌, ℕ, Bool, true, false}
+use Rattle.std.specs.Prelude.{List, [], ◌∷◌, ◌++◌, codes, find, length, nat_le, nat_lt, not, slice_get, slice_index}
+use Rattle.std.specs.Prelude.{bit_and, Option, Some, None, IfSome, Err, IsOk, if◌then◌else◌}
 use Rattle.std.specs.List.{list_all, list_any, starts_with}
 use Rattle.std.specs.Char.{is_ascii_digit}
 use Rattle.std.specs.Str.{is_utf8}
@@ -14,12 +13,14 @@ use Rattle.input_text.specs.declared.mistake.Mistake.TheVariants.{NoCount, NoNam
 use Rattle.vcs_machine.specs.Inputs.{InputData}
 use Rattle.movie_file.specs.InputLists.{SpellsInputs}
 use Rattle.movie_hints.specs.Looks.{has_at, is_like, looks}
+use Rattle.movie_hints.specs.Places.{checkpoint_place, end_place, four_at, frame_before, header_length, input_place, two_at}
 use Rattle.riot_map.specs.Cart.{is_cart_length}
-use Rattle.movie_file.specs.Format.{magic, most_checkpoints}
+use Rattle.movie_file.specs.Format.{magic, most_checkpoints, most_frames}
 use Rattle.movie_file.specs.declared.error.MovieError.{MovieError}
-use Rattle.movie_file.specs.declared.error.MovieError.TheVariants.{NoMemory, BadState}
+use Rattle.movie_file.specs.declared.error.MovieError.TheVariants as errors
 use Rattle.movie_hints.specs.declared.hint.Hint.{Hint}
 use Rattle.movie_hints.specs.declared.hint.Hint.TheVariants as hints
+use Rattle.movie_hints.specs.declared.look.Look.{Look}
 use Rattle.movie_hints.specs.declared.mismatch.Expected.{Expected}
 use Rattle.movie_hints.specs.declared.mismatch.Expected.TheVariants as expected
 use Rattle.movie_hints.specs.declared.mismatch.Field.{Field}
@@ -29,16 +30,6 @@ use Rattle.movie_hints.specs.declared.mismatch.Found.TheVariants as found
 use Rattle.movie_hints.specs.declared.mismatch.Mismatch.{Mismatch}
 use Rattle.movie_hints.specs.declared.texts.TextHint.{TextHint}
 use Rattle.movie_hints.specs.declared.texts.TextHint.TheVariants as texts
-
--- The number of two bytes at a place, and of four. The first weighs most, and each after the last
--- byte is 0.
-abbrev pub two_at : List ℕ → ℕ → ℕ
-two_at bytes at = from_be_bytes w16 (slice_index bytes at ∷ slice_index bytes (at + 1) ∷ [])
-
-abbrev pub four_at : List ℕ → ℕ → ℕ
-four_at bytes at =
-    from_be_bytes w32 (slice_index bytes at ∷ slice_index bytes (at + 1) ∷ slice_index bytes (at + 2)
-    ∷ slice_index bytes (at + 3) ∷ [])
 
 -- The first bytes are these.
 abbrev pub Begins : List ℕ → List ℕ → Type 0
@@ -54,10 +45,6 @@ abbrev pub Unclaims : ℕ → ℕ → Option Hint → Type 0
 Unclaims frames every None = frames % every ≡ 0
 Unclaims frames every (Some (hints.Unclaimed first last)) = (first + frames % every ≡ last + 1) × (last ≡ frames) × (first ≤ last)
 Unclaims frames every (Some other) = ⊥
-
--- The byte at this place is this one.
-abbrev pub Holds : List ℕ → ℕ → ℕ → Type 0
-Holds bytes at found = found ≡ slice_index bytes at
 
 -- A printed character of ASCII, a tab or a line end.
 abbrev pub is_printed : ℕ → Bool
@@ -85,6 +72,131 @@ is_utf16 bytes =
 abbrev pub is_text : List ℕ → Bool
 is_text bytes = is_utf8_text bytes || is_utf16 bytes
 
+-- The hint that a field isn't what was expected, the byte where it begins, and what it is.
+abbrev pub of_field : Field → ℕ → Expected → Found → Hint
+of_field field byte expected found =
+    hints.Mismatch (record { field = field; byte = byte; expected = expected; found = found })
+
+-- A hint is that of a field, of which this is said.
+abbrev pub TellsOf : Hint → (Mismatch → Type 0) → Type 0
+TellsOf (hints.Mismatch m) Says = Says m
+TellsOf (hints.InHeader found) Says = ⊥
+TellsOf (hints.Missing missing said found) Says = ⊥
+TellsOf (hints.Extra extra said found) Says = ⊥
+TellsOf (hints.Looks look) Says = ⊥
+TellsOf hints.Text Says = ⊥
+TellsOf hints.LooksLikeCartridge Says = ⊥
+TellsOf hints.LooksLikeMovie Says = ⊥
+TellsOf (hints.NoCartridge found) Says = ⊥
+TellsOf hints.Exchanged Says = ⊥
+TellsOf hints.LooksLikeText Says = ⊥
+TellsOf hints.LooksLikeBytes Says = ⊥
+TellsOf hints.ByteOrderMark Says = ⊥
+TellsOf hints.Utf16 Says = ⊥
+TellsOf hints.CarriageReturns Says = ⊥
+TellsOf (hints.OddLength extra found) Says = ⊥
+TellsOf hints.NoFrames Says = ⊥
+TellsOf (hints.ManyFrames frames) Says = ⊥
+TellsOf (hints.ManyCheckpoints checkpoints every) Says = ⊥
+TellsOf (hints.HasFrames frames) Says = ⊥
+TellsOf (hints.Holds version frames) Says = ⊥
+TellsOf (hints.Unclaimed first last) Says = ⊥
+
+-- ---- what bytes look like
+
+-- Nothing that is known by its first bytes.
+abbrev pub LooksLikeNothing : List ℕ → Type 0
+LooksLikeNothing bytes = find (is_like bytes) looks ≡ None
+
+-- The first of what they look like.
+abbrev pub TellsLook : List ℕ → Hint → Type 0
+TellsLook bytes hint = (look : Look) × (hint ≡ hints.Looks look) × (find (is_like bytes) looks ≡ Some look)
+
+-- The same of bytes that were to be none of a movie: they may be one's.
+abbrev pub TellsMovie : List ℕ → Hint → Type 0
+TellsMovie bytes hint = (hint ≡ hints.LooksLikeMovie) × Begins bytes magic
+
+abbrev pub TellsText : List ℕ → Hint → Type 0
+TellsText bytes hint = (hint ≡ hints.Text) × LooksLikeNothing bytes × (is_text bytes ≡ true)
+
+abbrev pub TellsUtf16 : List ℕ → Hint → Type 0
+TellsUtf16 bytes hint =
+    (hint ≡ hints.Utf16)
+    × (Begins bytes (0xFF ∷ 0xFE ∷ []) ⊎ Begins bytes (0xFE ∷ 0xFF ∷ []) ⊎ (is_utf16 bytes ≡ true))
+
+-- As many bytes as a cartridge has.
+abbrev pub TellsExchanged : List ℕ → Hint → Type 0
+TellsExchanged bytes hint = (hint ≡ hints.Exchanged) × (is_cart_length (length bytes) ≡ true)
+
+-- ---- why bytes are no movie
+
+-- The file's length: shorter than a header; else by how much it is shorter or longer than its header
+-- says.
+abbrev pub TellsHeader : List ℕ → Hint → Type 0
+TellsHeader bytes hint = (hint ≡ hints.InHeader (length bytes)) × (length bytes < header_length)
+
+abbrev pub TellsMissing : List ℕ → Hint → Type 0
+TellsMissing bytes hint =
+    (hint ≡ hints.Missing (end_place bytes - length bytes) (end_place bytes) (length bytes)) × (header_length ≤ length bytes)
+    × (length bytes < end_place bytes)
+
+abbrev pub TellsExtra : List ℕ → Hint → Type 0
+TellsExtra bytes hint =
+    (hint ≡ hints.Extra (length bytes - end_place bytes) (end_place bytes) (length bytes)) × (header_length ≤ length bytes)
+    × (end_place bytes ≤ length bytes)
+
+abbrev pub TellsLength : List ℕ → Hint → Type 0
+TellsLength bytes hint = TellsHeader bytes hint ⊎ TellsMissing bytes hint ⊎ TellsExtra bytes hint
+
+-- The first bytes: what the file looks like, else that it looks like text or has as many bytes as a
+-- cartridge, else what they are.
+abbrev pub TellsCartridge : List ℕ → Hint → Type 0
+TellsCartridge bytes hint =
+    (hint ≡ hints.LooksLikeCartridge) × LooksLikeNothing bytes × (is_text bytes ≡ false) × (is_cart_length (length bytes) ≡ true)
+
+abbrev pub TellsMark : List ℕ → Hint → Type 0
+TellsMark bytes hint =
+    (hint ≡ of_field fields.Magic 0 expected.Magic (found.Mark (four_at bytes 0))) × LooksLikeNothing bytes × (is_text bytes ≡ false)
+    × (is_cart_length (length bytes) ≡ false)
+
+abbrev pub TellsBeginning : List ℕ → Hint → Type 0
+TellsBeginning bytes hint = TellsLook bytes hint ⊎ TellsText bytes hint ⊎ TellsCartridge bytes hint ⊎ TellsMark bytes hint
+
+-- The counts: too many checkpoints, if the frames are in their range, and else the frames.
+abbrev pub has_many_checkpoints : List ℕ → Bool
+has_many_checkpoints bytes =
+    nat_le 1 (four_at bytes 8) && nat_le (four_at bytes 8) (most_frames (two_at bytes 4)) && nat_lt most_checkpoints (two_at bytes 12)
+
+abbrev pub TellsCounts : List ℕ → Hint → Type 0
+TellsCounts bytes hint =
+    hint
+    ≡ (if has_many_checkpoints bytes then of_field fields.Checkpoints 12 expected.Checkpoints (found.TwoBytes (two_at bytes 12))
+    else of_field fields.Frames 8 (expected.Frames (most_frames (two_at bytes 4))) (found.FourBytes (four_at bytes 8)))
+
+-- A field has this name.
+abbrev pub IsNamed : Field → List ℕ → Type 0
+IsNamed (fields.Named name) text = name.now ≡ text
+IsNamed fields.Magic text = ⊥
+IsNamed fields.Version text = ⊥
+IsNamed fields.CartridgeLength text = ⊥
+IsNamed fields.Frames text = ⊥
+IsNamed fields.Checkpoints text = ⊥
+IsNamed fields.FrameNumber text = ⊥
+
+-- The input at this place: the switches, if one of their set bits is clear, and else the buttons.
+abbrev pub IsOfSwitches : List ℕ → ℕ → Mismatch → Type 0
+IsOfSwitches bytes at m =
+    IsNamed m.field (codes "switches") × (m.byte ≡ at + 1) × (m.expected ≡ expected.SetBits) × (m.found ≡ found.Bits (slice_index bytes (at + 1)))
+    × (bit_and (slice_index bytes (at + 1)) 0x34 ≢ 0x34)
+
+abbrev pub IsOfButtons : List ℕ → ℕ → Mismatch → Type 0
+IsOfButtons bytes at m =
+    IsNamed m.field (codes "buttons") × (m.byte ≡ at + 2) × (m.expected ≡ expected.ButtonBits) × (m.found ≡ found.Bits (slice_index bytes (at + 2)))
+    × (bit_and (slice_index bytes (at + 1)) 0x34 ≡ 0x34)
+
+abbrev pub TellsInput : List ℕ → ℕ → Hint → Type 0
+TellsInput bytes at hint = TellsOf hint (λ m. IsOfSwitches bytes at m ⊎ IsOfButtons bytes at m)
+
 -- The number that a field is said to be, and that its bytes say so from this one on.
 abbrev pub number_of : Found → ℕ
 number_of (found.Byte n) = n
@@ -94,72 +206,111 @@ number_of (found.Bits n) = n
 number_of (found.Mark n) = n
 
 abbrev pub StandsAt : List ℕ → ℕ → Found → Type 0
-StandsAt bytes at (found.Byte n) = Holds bytes at n
+StandsAt bytes at (found.Byte n) = n ≡ slice_index bytes at
 StandsAt bytes at (found.TwoBytes n) = n ≡ two_at bytes at
 StandsAt bytes at (found.FourBytes n) = n ≡ four_at bytes at
-StandsAt bytes at (found.Bits n) = Holds bytes at n
+StandsAt bytes at (found.Bits n) = n ≡ slice_index bytes at
 StandsAt bytes at (found.Mark n) = n ≡ four_at bytes at
 
--- A field of a header begins at its own byte. Where the others do depends on the counts before them.
-abbrev pub IsPlaceOf : Field → ℕ → Type 0
-IsPlaceOf fields.Magic byte = byte ≡ 0
-IsPlaceOf fields.Version byte = byte ≡ 4
-IsPlaceOf fields.CartridgeLength byte = byte ≡ 6
-IsPlaceOf fields.Frames byte = byte ≡ 8
-IsPlaceOf fields.Checkpoints byte = byte ≡ 12
-IsPlaceOf other byte = Unit {0}
-
--- A number isn't what was expected. Of versions, lengths of cartridges, frames, buttons and the frames
--- of checkpoints the refusal says so, which is known before.
+-- A number breaks a condition of state records.
 abbrev pub Breaks : Expected → ℕ → Type 0
-Breaks expected.Checkpoints n = most_checkpoints < n
 Breaks (expected.NoBitOutside mask) n = bit_and n mask ≢ n
 Breaks (expected.AtMost most) n = most < n
 Breaks (expected.OneTo most) n = (n ≡ 0) ⊎ (most < n)
 Breaks expected.NoLatches n = n ≢ 0
 Breaks expected.OneBank n = n ≢ 0
-Breaks expected.SetBits n = bit_and n 0x34 ≢ 0x34
-Breaks other n = Unit {0}
+Breaks expected.Magic n = ⊥
+Breaks expected.Version n = ⊥
+Breaks expected.CartridgeLength n = ⊥
+Breaks (expected.Frames most) n = ⊥
+Breaks expected.Checkpoints n = ⊥
+Breaks expected.SetBits n = ⊥
+Breaks expected.ButtonBits n = ⊥
+Breaks (expected.FrameAfter before last) n = ⊥
 
--- A file isn't told by its first bytes if it looks like something.
-abbrev pub IsTold : List ℕ → Expected → Type 0
-IsTold bytes expected.Magic =
-    (find (is_like bytes) looks ≡ None) × (is_text bytes ≡ false) × (is_cart_length (length bytes) ≡ false)
-IsTold bytes other = Unit {0}
+-- A field of a state record has a name.
+abbrev pub HasName : Field → Type 0
+HasName (fields.Named name) = Unit {0}
+HasName fields.Magic = ⊥
+HasName fields.Version = ⊥
+HasName fields.CartridgeLength = ⊥
+HasName fields.Frames = ⊥
+HasName fields.Checkpoints = ⊥
+HasName fields.FrameNumber = ⊥
 
--- What is said of a field is true: where it begins, what it is, and that this was not expected.
-abbrev pub IsTrueMismatch : List ℕ → Mismatch → Type 0
-IsTrueMismatch bytes m =
-    IsPlaceOf m.field m.byte × StandsAt bytes m.byte m.found × Breaks m.expected (number_of m.found) × IsTold bytes m.expected
+-- A state: the number that is said to be in it is there, and isn't what was expected.
+abbrev pub IsOfState : List ℕ → Mismatch → Type 0
+IsOfState bytes m = HasName m.field × StandsAt bytes m.byte m.found × Breaks m.expected (number_of m.found)
 
--- The numbers in a hint are those of the bytes, what was found is not what was expected, and what
--- bytes look like is how they begin or which are among them. A reading that is named succeeds. Of
--- what a file looks like the first is said that it does.
-abbrev pub IsTrueOf : List ℕ → Hint → Type 0
-IsTrueOf bytes (hints.InHeader found) = (found ≡ length bytes) × (found < 14)
-IsTrueOf bytes (hints.Missing missing said found) = (found ≡ length bytes) × (found < said) × (found + missing ≡ said)
-IsTrueOf bytes (hints.Extra extra said found) = (found ≡ length bytes) × (said + extra ≡ found)
-IsTrueOf bytes (hints.Mismatch mismatch) = IsTrueMismatch bytes mismatch
-IsTrueOf bytes (hints.Looks look) = find (is_like bytes) looks ≡ Some look
-IsTrueOf bytes hints.Text = (find (is_like bytes) looks ≡ None) × (is_text bytes ≡ true)
-IsTrueOf bytes hints.LooksLikeCartridge =
-    (find (is_like bytes) looks ≡ None) × (is_text bytes ≡ false) × (is_cart_length (length bytes) ≡ true)
-IsTrueOf bytes hints.LooksLikeMovie = Begins bytes magic
-IsTrueOf bytes (hints.NoCartridge found) = found ≡ length bytes
-IsTrueOf bytes hints.Exchanged = is_cart_length (length bytes) ≡ true
-IsTrueOf bytes hints.LooksLikeText = IsOk (inputs_in bytes)
-IsTrueOf bytes hints.LooksLikeBytes = (inputs : List InputData) × SpellsInputs bytes inputs
-IsTrueOf bytes hints.ByteOrderMark = Begins bytes (0xEF ∷ 0xBB ∷ 0xBF ∷ [])
-IsTrueOf bytes hints.Utf16 = Begins bytes (0xFF ∷ 0xFE ∷ []) ⊎ Begins bytes (0xFE ∷ 0xFF ∷ []) ⊎ (is_utf16 bytes ≡ true)
-IsTrueOf bytes hints.CarriageReturns = (has_byte bytes 13 ≡ true) × (has_byte bytes 10 ≡ false)
-IsTrueOf bytes (hints.OddLength extra found) = (found ≡ length bytes) × (extra ≡ found % 3)
-IsTrueOf bytes other = Unit {0}
+abbrev pub TellsState : List ℕ → Hint → Type 0
+TellsState bytes hint = TellsOf hint (IsOfState bytes)
 
--- What is said of bytes that are refused so is true. Each refusal is explained, but for a state of
--- which it isn't known which number is wrong.
+-- Which hints there are of each refusal, and of which field at which place. No file has 2 ^ 62 inputs.
+abbrev pub Tells : List ℕ → MovieError → Hint → Type 0
+Tells bytes errors.Short hint = TellsLook bytes hint ⊎ TellsLength bytes hint
+Tells bytes errors.BadMagic hint = TellsBeginning bytes hint
+Tells bytes errors.BadVersion hint = hint ≡ of_field fields.Version 4 expected.Version (found.TwoBytes (two_at bytes 4))
+Tells bytes errors.BadCartSize hint =
+    hint ≡ of_field fields.CartridgeLength 6 expected.CartridgeLength (found.TwoBytes (two_at bytes 6))
+Tells bytes errors.BadCounts hint = TellsCounts bytes hint
+Tells bytes (errors.BadState number) hint = TellsState bytes hint
+Tells bytes (errors.BadInput number) hint = number < 2 ^ 62 → TellsInput bytes (input_place bytes (number - 1)) hint
+Tells bytes (errors.BadOrder number) hint =
+    hint
+    ≡ of_field fields.FrameNumber (checkpoint_place bytes (number - 1)) (expected.FrameAfter (frame_before bytes number) (four_at bytes 8))
+    (found.FourBytes (four_at bytes (checkpoint_place bytes (number - 1))))
+Tells bytes errors.Trailing hint = TellsLength bytes hint
+Tells bytes errors.NoMemory hint = ⊥
+
+-- A hint at bytes that are refused so is one of those of the refusal. Each refusal is explained, but
+-- for a state of which it isn't known which number is wrong.
 abbrev pub Explains : List ℕ → MovieError → Option Hint → Type 0
 Explains bytes error hint =
-    IfSome hint (IsTrueOf bytes) × (hint ≡ None → (error ≡ NoMemory) ⊎ ((k : ℕ) × (error ≡ BadState k)))
+    IfSome hint (Tells bytes error) × (hint ≡ None → (error ≡ errors.NoMemory) ⊎ ((k : ℕ) × (error ≡ errors.BadState k)))
+
+-- ---- why bytes are no ROM and no inputs
+
+-- What else bytes look like that are no ROM or no inputs.
+abbrev pub TellsOther : List ℕ → Hint → Type 0
+TellsOther bytes hint = TellsMovie bytes hint ⊎ TellsLook bytes hint
+
+-- Of a ROM: else how many bytes it has.
+abbrev pub TellsRom : List ℕ → Hint → Type 0
+TellsRom bytes hint = TellsOther bytes hint ⊎ ((hint ≡ hints.NoCartridge (length bytes)) × LooksLikeNothing bytes)
+
+-- Of inputs: else that they are a text that can be read, or another one,
+abbrev pub TellsTexts : List ℕ → Hint → Type 0
+TellsTexts bytes hint =
+    ((hint ≡ hints.LooksLikeText) × IsOk (inputs_in bytes)) ⊎ TellsUtf16 bytes hint ⊎ TellsText bytes hint
+
+-- and else by the refusal: that they are a ROM, how many bytes are too many, or which input is wrong.
+abbrev pub TellsTriples : List ℕ → MovieError → Hint → Type 0
+TellsTriples bytes errors.Short hint = TellsExchanged bytes hint ⊎ (hint ≡ hints.OddLength (length bytes % 3) (length bytes))
+TellsTriples bytes (errors.BadInput number) hint = number < 2 ^ 62 → TellsInput bytes (3 * (number - 1)) hint
+TellsTriples bytes errors.BadMagic hint = ⊥
+TellsTriples bytes errors.BadVersion hint = ⊥
+TellsTriples bytes errors.BadCartSize hint = ⊥
+TellsTriples bytes errors.BadCounts hint = ⊥
+TellsTriples bytes (errors.BadState number) hint = ⊥
+TellsTriples bytes (errors.BadOrder number) hint = ⊥
+TellsTriples bytes errors.Trailing hint = ⊥
+TellsTriples bytes errors.NoMemory hint = ⊥
+
+abbrev pub TellsInputs : List ℕ → MovieError → Hint → Type 0
+TellsInputs bytes error hint = TellsOther bytes hint ⊎ TellsTexts bytes hint ⊎ TellsTriples bytes error hint
+
+-- Of inputs as text, as a whole: that they are inputs as bytes, which can be read, or a ROM; or how the
+-- text is stored.
+abbrev pub TellsStorage : List ℕ → Hint → Type 0
+TellsStorage bytes hint =
+    ((hint ≡ hints.ByteOrderMark) × Begins bytes (0xEF ∷ 0xBB ∷ 0xBF ∷ [])) ⊎ TellsUtf16 bytes hint
+    ⊎ ((hint ≡ hints.CarriageReturns) × (has_byte bytes 13 ≡ true) × (has_byte bytes 10 ≡ false))
+
+abbrev pub TellsBytes : List ℕ → Hint → Type 0
+TellsBytes bytes hint = (hint ≡ hints.LooksLikeBytes) × (inputs : List InputData) × SpellsInputs bytes inputs
+
+abbrev pub TellsWhole : List ℕ → Hint → Type 0
+TellsWhole bytes hint = TellsOther bytes hint ⊎ TellsBytes bytes hint ⊎ TellsExchanged bytes hint ⊎ TellsStorage bytes hint
 
 -- The line of this number, from 1, is the first bad one of a text, and this is what is wrong with it.
 abbrev pub IsBadLine : List ℕ → ℕ → Mistake → Type 0
@@ -173,7 +324,7 @@ IsFrameNumber word =
 
 -- The same of a hint at a text. A name is said to be meant if one is near to the word.
 abbrev pub IsTrueOfText : List ℕ → TextHint → Type 0
-IsTrueOfText text (texts.Whole hint) = IsTrueOf text hint
+IsTrueOfText text (texts.Whole hint) = TellsWhole text hint
 IsTrueOfText text (texts.NoCount line word) = IsBadLine text line (NoCount word.bytes)
 IsTrueOfText text (texts.FrameNumber line word) = IsBadLine text line (NoCount word.bytes) × IsFrameNumber word.bytes.now
 IsTrueOfText text (texts.NoName line word) = IsBadLine text line (NoName word.bytes) × IsMeant word.bytes.now None

@@ -1,4 +1,5 @@
 pub mod Looks
+pub mod Places
 pub mod Hints
 pub mod Counts
 pub mod HintTexts

@@ -1,6 +1,7 @@
 //! Which frames of a movie no checkpoint claims.
 ghost use Rattle.std.specs.NonZero.{non_zero_u32_get};
-ghost use Rattle.movie_hints.specs.Hints.{Unclaims, four_at};
+ghost use Rattle.movie_hints.specs.Hints.{Unclaims};
+ghost use Rattle.movie_hints.specs.Places.{four_at};
 
 use crate::hint::Hint;
 use crate::places::Places;

@@ -1,7 +1,7 @@
 //! What is wrong with a ROM or with inputs that are refused.
 ghost use Rattle.std.specs.Prelude.{◌≡◌, find, None, IfNone, IfSome};
 ghost use Rattle.std.specs.NonZero.{non_zero_u32_get};
-ghost use Rattle.movie_hints.specs.Hints.{IsTrueOf};
+ghost use Rattle.movie_hints.specs.Hints.{LooksLikeNothing, TellsInputs, TellsOther, TellsRom, TellsTexts, TellsTriples};
 ghost use Rattle.movie_hints.specs.Counts.{IsCountsHint};
 ghost use Rattle.movie_hints.specs.Looks.{is_like, looks};
 
@@ -17,7 +17,7 @@ use std::num::NonZeroU32;
 
 /// What the bytes of a ROM or of inputs look like that are none.
 pub(crate) fn look_of(bytes: &[u8]) -> Option<Hint>
-    ensures some { IfSome result (IsTrueOf bytes.now) }
+    ensures some { IfSome result (TellsOther bytes.now) }
     ensures none { IfNone result (find (is_like bytes.now) looks ≡ None) }
 {
     if bytes.starts_with(b"A26M") {
@@ -29,13 +29,10 @@ pub(crate) fn look_of(bytes: &[u8]) -> Option<Hint>
     }
 }
 
-/// What is wrong with the bytes of inputs that are refused so.
-pub fn hint_of_inputs(alloc: Global, bytes: &[u8], error: MovieError) -> Option<Hint>
-    ensures { IfSome result (IsTrueOf bytes.now) }
+/// What inputs as bytes look like that are a text, and nothing else that is known.
+fn text_of(alloc: Global, bytes: &[u8]) -> Option<Hint>
+    ensures { LooksLikeNothing bytes.now → IfSome result (TellsTexts bytes.now) }
 {
-    if let Some(hint) = look_of(bytes) {
-        return Some(hint);
-    }
     if !bytes.is_empty() && read_text(alloc, bytes).is_ok() {
         return Some(Hint::LooksLikeText);
     }
@@ -45,6 +42,13 @@ pub fn hint_of_inputs(alloc: Global, bytes: &[u8], error: MovieError) -> Option<
     if is_text(bytes) {
         return Some(Hint::Text);
     }
+    None
+}
+
+/// What is wrong with inputs as bytes that are refused so.
+fn hint_of_triples(bytes: &[u8], error: MovieError) -> Option<Hint>
+    ensures { IfSome result (TellsTriples bytes.now error) }
+{
     let length = bytes.len();
     match error {
         MovieError::Short if Cart::is_length(length) => Some(Hint::Exchanged),
@@ -60,9 +64,22 @@ pub fn hint_of_inputs(alloc: Global, bytes: &[u8], error: MovieError) -> Option<
     }
 }
 
+/// What is wrong with the bytes of inputs that are refused so.
+pub fn hint_of_inputs(alloc: Global, bytes: &[u8], error: MovieError) -> Option<Hint>
+    ensures { IfSome result (TellsInputs bytes.now error) }
+{
+    if let Some(hint) = look_of(bytes) {
+        return Some(hint);
+    }
+    if let Some(hint) = text_of(alloc, bytes) {
+        return Some(hint);
+    }
+    hint_of_triples(bytes, error)
+}
+
 /// What is wrong with the bytes of a ROM that is no cartridge.
 pub fn hint_of_rom(bytes: &[u8]) -> Hint
-    ensures { IsTrueOf bytes.now result }
+    ensures { TellsRom bytes.now result }
 {
     match look_of(bytes) {
         Some(hint) => hint,

@@ -1,6 +1,6 @@
 //! Places in the bytes of a movie file, whatever they hold.
-ghost use Rattle.std.specs.Prelude.{◌≡◌, ◌<◌, ◌≤◌, ◌+◌, ◌^◌, slice_index};
-ghost use Rattle.movie_hints.specs.Hints.{four_at, two_at};
+ghost use Rattle.std.specs.Prelude.{◌≡◌, ◌<◌, ◌+◌, ◌^◌, slice_index};
+ghost use Rattle.movie_hints.specs.Places.{after_checkpoints, after_inputs, four_at, two_at};
 
 use movie_file::{HEADER_LENGTH, INPUT_LENGTH, record_length};
 
@@ -65,26 +65,32 @@ impl Places {
 
     /// Where the start state is.
     pub(crate) fn start(self) -> usize
-        ensures { result < 2 ^ 17 }
+        ensures { result ≡ HEADER_LENGTH + self.cartridge }
     {
         HEADER_LENGTH + usize::from(self.cartridge)
     }
 
     /// Where the input of a frame is, counted from 0.
-    pub(crate) fn input(self, frame: u64) -> usize {
+    pub(crate) fn input(self, frame: u64) -> usize
+        ensures { frame < 2 ^ 62 → result ≡ after_inputs self.version self.cartridge frame }
+    {
         let inputs = (frame as usize).saturating_mul(INPUT_LENGTH);
         (self.start() + record_length(self.version)).saturating_add(inputs)
     }
 
     /// Where a checkpoint is, counted from 0.
-    pub(crate) fn checkpoint(self, number: u16) -> usize {
+    pub(crate) fn checkpoint(self, number: u16) -> usize
+        ensures { result ≡ after_checkpoints self.version self.cartridge self.frames number }
+    {
         let checkpoints = usize::from(number).saturating_mul(4 + record_length(self.version));
         self.input(u64::from(self.frames))
             .saturating_add(checkpoints)
     }
 
     /// Where the file ends.
-    pub(crate) fn end(self) -> usize {
+    pub(crate) fn end(self) -> usize
+        ensures { result ≡ after_checkpoints self.version self.cartridge self.frames self.checkpoints }
+    {
         self.checkpoint(self.checkpoints)
     }
 }

@@ -1,6 +1,7 @@
 //! What is wrong with refused bytes.
-ghost use Rattle.std.specs.Prelude.{IfSome};
-ghost use Rattle.movie_hints.specs.Hints.{Explains, IsTrueOf};
+ghost use Rattle.std.specs.Prelude.{◌+◌, ◌<◌, ◌^◌, ◌⊎◌, IfSome};
+ghost use Rattle.movie_file.specs.declared.error.MovieError.TheVariants as errors;
+ghost use Rattle.movie_hints.specs.Hints.{Explains, Tells, TellsBeginning, TellsInput, TellsLength, TellsLook, TellsState};
 
 use crate::hint::Hint;
 use crate::look::Look;
@@ -13,7 +14,7 @@ use riot_map::Cart;
 
 /// What a file looks like that doesn't begin as a movie does.
 fn without_magic(bytes: &[u8]) -> Hint
-    ensures { IsTrueOf bytes.now result }
+    ensures { TellsBeginning bytes.now result }
 {
     if let Some(look) = Look::of(bytes) {
         Hint::Looks(look)
@@ -29,7 +30,7 @@ fn without_magic(bytes: &[u8]) -> Hint
 
 /// How many bytes a file lacks, or has after the movie.
 fn wrong_length(bytes: &[u8]) -> Hint
-    ensures { IsTrueOf bytes.now result }
+    ensures { TellsLength bytes.now result }
 {
     let length = bytes.len();
     if length < HEADER_LENGTH {
@@ -53,7 +54,7 @@ fn wrong_length(bytes: &[u8]) -> Hint
 
 /// What is wrong with a file that is too short, be it for a header.
 fn too_short(bytes: &[u8]) -> Hint
-    ensures { IsTrueOf bytes.now result }
+    ensures { TellsLook bytes.now result ⊎ TellsLength bytes.now result }
 {
     match Look::of(bytes) {
         Some(look) => Hint::Looks(look),
@@ -63,7 +64,7 @@ fn too_short(bytes: &[u8]) -> Hint
 
 /// Which version a header has that is none.
 fn wrong_version(bytes: &[u8]) -> Hint
-    ensures { IsTrueOf bytes.now result }
+    ensures { Tells bytes.now errors.BadVersion result }
 {
     let found = Found::TwoBytes(two_at(bytes, 4));
     Hint::of_field(Field::Version, 4, Expected::Version, found)
@@ -71,7 +72,7 @@ fn wrong_version(bytes: &[u8]) -> Hint
 
 /// Which length of a cartridge a header has that is none.
 fn wrong_cartridge(bytes: &[u8]) -> Hint
-    ensures { IsTrueOf bytes.now result }
+    ensures { Tells bytes.now errors.BadCartSize result }
 {
     let found = Found::TwoBytes(two_at(bytes, 6));
     Hint::of_field(Field::CartridgeLength, 6, Expected::CartridgeLength, found)
@@ -79,7 +80,7 @@ fn wrong_cartridge(bytes: &[u8]) -> Hint
 
 /// Which of the counts of a header is wrong.
 fn wrong_count(bytes: &[u8]) -> Hint
-    ensures { IsTrueOf bytes.now result }
+    ensures { Tells bytes.now errors.BadCounts result }
 {
     let places = Places::of(bytes);
     let most = most_frames(places.version);
@@ -95,7 +96,7 @@ fn wrong_count(bytes: &[u8]) -> Hint
 
 /// What is wrong in the start state (0), or in that of a checkpoint, from 1.
 fn wrong_state(bytes: &[u8], number: u16) -> Option<Hint>
-    ensures { IfSome result (IsTrueOf bytes.now) }
+    ensures { IfSome result (TellsState bytes.now) }
 {
     let places = Places::of(bytes);
     let at = match number.checked_sub(1) {
@@ -107,7 +108,7 @@ fn wrong_state(bytes: &[u8], number: u16) -> Option<Hint>
 
 /// Which byte of the input of a frame is wrong, counted from 1.
 pub(crate) fn wrong_input(bytes: &[u8], first: usize) -> Hint
-    ensures { IsTrueOf bytes.now result }
+    ensures { first + 2 < 2 ^ 64 → TellsInput bytes.now first result }
 {
     let switches = first.saturating_add(1);
     let found = byte_at(bytes, switches);
@@ -123,7 +124,7 @@ pub(crate) fn wrong_input(bytes: &[u8], first: usize) -> Hint
 
 /// What is wrong with the frame of a checkpoint, counted from 1.
 fn wrong_order(bytes: &[u8], number: u16) -> Hint
-    ensures { IsTrueOf bytes.now result }
+    ensures { Tells bytes.now (errors.BadOrder number) result }
 {
     let places = Places::of(bytes);
     let before = match number.checked_sub(2) {

@@ -1,6 +1,6 @@
 //! Which number of a state record breaks its condition.
 ghost use Rattle.std.specs.Prelude.{IfSome};
-ghost use Rattle.movie_hints.specs.Hints.{IsTrueOf};
+ghost use Rattle.movie_hints.specs.Hints.{TellsState};
 
 use crate::hint::Hint;
 use crate::mismatch::{Expected, Field, Found};
@@ -13,7 +13,7 @@ use riot_map::Cart;
 
 /// What a number of a table says that breaks its condition. The first begins at this place of a file.
 fn broken_in(numbers: &[RecordNumber], bytes: &[u8], at: usize) -> Option<Hint>
-    ensures { IfSome result (IsTrueOf bytes.now) }
+    ensures { IfSome result (TellsState bytes.now) }
 {
     let mut at = at;
     for number in numbers.iter().copied() {
@@ -35,7 +35,7 @@ fn broken_in(numbers: &[RecordNumber], bytes: &[u8], at: usize) -> Option<Hint>
 
 /// What a number says that breaks a condition of its own, in the record at this place of a file.
 fn broken_alone(bytes: &[u8], at: usize, version: u16) -> Option<Hint>
-    ensures { IfSome result (IsTrueOf bytes.now) }
+    ensures { IfSome result (TellsState bytes.now) }
 {
     if let Some(hint) = broken_in(&PROCESSOR_NUMBERS, bytes, at) {
         return Some(hint);
@@ -64,7 +64,7 @@ fn interval_of(code: u8) -> u16 {
 
 /// What the timer's part says if it is not in its interval.
 fn broken_timer(bytes: &[u8], at: usize) -> Option<Hint>
-    ensures { IfSome result (IsTrueOf bytes.now) }
+    ensures { IfSome result (TellsState bytes.now) }
 {
     let most = if byte_at(bytes, at.saturating_add(RIOT_NUMBERS_AT + 8)) == 1 {
         1
@@ -84,7 +84,7 @@ fn broken_timer(bytes: &[u8], at: usize) -> Option<Hint>
 
 /// What the latches of the buttons say if none may be set.
 fn broken_latches(bytes: &[u8], at: usize) -> Option<Hint>
-    ensures { IfSome result (IsTrueOf bytes.now) }
+    ensures { IfSome result (TellsState bytes.now) }
 {
     let blank = byte_at(bytes, at.saturating_add(TIA_NUMBERS_AT + 1));
     let at = at.saturating_add(TIA_NUMBERS_AT + 39);
@@ -99,7 +99,7 @@ fn broken_latches(bytes: &[u8], at: usize) -> Option<Hint>
 
 /// What the bank of a cartridge without banks says if it isn't 0. Version 1 has none.
 fn broken_bank(bytes: &[u8], at: usize, places: Places) -> Option<Hint>
-    ensures { IfSome result (IsTrueOf bytes.now) }
+    ensures { IfSome result (TellsState bytes.now) }
 {
     let at = at.saturating_add(BANK_NUMBERS_AT);
     let found = byte_at(bytes, at);
@@ -114,7 +114,7 @@ fn broken_bank(bytes: &[u8], at: usize, places: Places) -> Option<Hint>
 /// What a number says that breaks its condition, in the record at this place of a file: the first of
 /// those that have one of their own, else one of the others.
 pub(crate) fn broken_number(bytes: &[u8], at: usize, places: Places) -> Option<Hint>
-    ensures { IfSome result (IsTrueOf bytes.now) }
+    ensures { IfSome result (TellsState bytes.now) }
 {
     if let Some(hint) = broken_alone(bytes, at, places.version) {
         return Some(hint);

@@ -1,7 +1,7 @@
 //! What is wrong with inputs as text that are refused.
 ghost use Rattle.std.specs.Prelude.{◌≡◌, IfSome, Err};
 ghost use Rattle.input_text.specs.Texts.{inputs_in};
-ghost use Rattle.movie_hints.specs.Hints.{IsTrueOf, IsTrueOfText};
+ghost use Rattle.movie_hints.specs.Hints.{IsTrueOfText, TellsStorage, TellsWhole};
 
 use crate::hint::Hint;
 use crate::inputs::look_of;
@@ -48,7 +48,7 @@ pub enum TextHint<'a> {
 
 /// How a text is stored that can't be read so.
 fn storage_of(bytes: &[u8]) -> Option<Hint>
-    ensures { IfSome result (IsTrueOf bytes.now) }
+    ensures { IfSome result (TellsStorage bytes.now) }
 {
     if bytes.starts_with(&[0xEF, 0xBB, 0xBF]) {
         Some(Hint::ByteOrderMark)
@@ -66,7 +66,7 @@ fn storage_of(bytes: &[u8]) -> Option<Hint>
 
 /// What is wrong with a text as a whole.
 fn hint_of_whole(alloc: Global, bytes: &[u8]) -> Option<Hint>
-    ensures { IfSome result (IsTrueOf bytes.now) }
+    ensures { IfSome result (TellsWhole bytes.now) }
 {
     if let Some(hint) = look_of(bytes) {
         return Some(hint);
