@@ -4,22 +4,27 @@ use std::alloc::Global;
 use std::io;
 use std::io::{Read, Write};
 
-/// A reader that gives zeros, one a read, and counts its reads.
+/// A reader that gives zeros, at most 4096 a read, and counts its reads.
 #[derive(Drop)]
 pub(crate) struct Zeros {
     pub left: u64,
     pub reads: u64,
 }
 
+impl Zeros {
+    /// A reader that gives so many zeros.
+    pub(crate) fn new(left: u64) -> Zeros {
+        Zeros { left, reads: 0 }
+    }
+}
+
 impl Read for Zeros {
     fn read(&mut self, buf: &mut [u8]) -> io::Result<usize> {
+        let n = self.left.min(4096).min(buf.len() as u64);
+        self.left -= n;
         self.reads = self.reads.saturating_add(1);
-        if buf.is_empty() || self.left == 0 {
-            return Ok(0);
-        }
-        self.left -= 1;
-        buf[0] = 0;
-        Ok(1)
+        buf[..n as usize].fill(0);
+        Ok(n as usize)
     }
 }
 

@@ -72,15 +72,12 @@ fn making_with_a_failed_read_writes_nothing(rt: HostRuntime) {
 
 #[test]
 fn making_of_endless_inputs_is_too_long(rt: HostRuntime) {
-    let mut inputs = Zeros {
-        left: u64::MAX,
-        reads: 0,
-    };
+    let mut inputs = Zeros::new(u64::MAX);
     let endless = rom(&ENDLESS_FRAMES);
     let mut rom = endless.as_slice();
     let answer = make(rt.alloc(), &mut rom, &mut inputs, usize::MAX, usize::MAX);
     expect_nothing(&rt, &answer, RunError::TooLong);
-    expect_equal(&rt, inputs.reads, 16_777_217);
+    expect_equal(&rt, inputs.reads, 4097);
 }
 
 /// The answer to a making of two frames.

@@ -38,12 +38,9 @@ const GENUINE: &[u8] = b"genuine: 2 frames, 1 checkpoints\n";
 
 #[test]
 fn longest_input_is_read(rt: HostRuntime) {
-    let mut zeros = Zeros {
-        left: 16_777_216,
-        reads: 0,
-    };
+    let mut zeros = Zeros::new(16_777_216);
     let answer = answer_to(&rt, &verify(), &mut zeros);
-    expect_equal(&rt, zeros.reads, 16_777_217);
+    expect_equal(&rt, zeros.reads, 4097);
     expect_equal(&rt, answer.status, Ok(Status::Refused));
     assert!(rt; answer.status != Ok(Status::Done));
     assert!(rt; answer.text.as_slice() == b"refused: BadMagic\n".as_slice());
@@ -51,14 +48,11 @@ fn longest_input_is_read(rt: HostRuntime) {
 
 #[test]
 fn endless_input_is_too_long(rt: HostRuntime) {
-    let mut zeros = Zeros {
-        left: u64::MAX,
-        reads: 0,
-    };
+    let mut zeros = Zeros::new(u64::MAX);
     let answer = answer_to(&rt, &verify(), &mut zeros);
     expect_nothing(&rt, &answer, RunError::TooLong);
     assert!(rt; answer.status != Err(RunError::NoMemory));
-    expect_equal(&rt, zeros.reads, 16_777_217);
+    expect_equal(&rt, zeros.reads, 4097);
 }
 
 #[test]
