@@ -7,8 +7,7 @@ use Rattle.tia_core.specs.Private.Unchanged.{after_beam}
 use Rattle.tia_core.specs.Private.Unseen.{is_unseen, IsUnseen}
 use Rattle.tia_core.specs.Registers.{register_of}
 use Rattle.tia_core.specs.TiaState.{TiaState}
-use Rattle.tia_core.specs.Write.{effect_after, fields_after, tia_after_write}
-use Rattle.tia_core.specs.declared.effect.Effect.TheVariants.{Nothing}
+use Rattle.tia_core.specs.Write.{fields_after, tia_after_write}
 use Rattle.tia_core.specs.declared.fields.TiaFields.{TiaFields}
 use Rattle.tia_core.specs.declared.register.Register.{Register}
 use Rattle.tia_core.specs.declared.register.Register.TheVariants.{Colup0, Colup1, Colupf, Colubk}
@@ -66,9 +65,6 @@ unseen-writes register fire0 fire1 value h = cc
 unseen-buttons : (register : Register) (t : TiaFields) (a b c d : Bool) (value : ℕ) → is_unseen register ≡ true
     → fields_after t a b register value ≡ fields_after t c d register value
 unseen-buttons register t a b c d value h = grind arith
-
-pub unseen-effect : (register : Register) (t : TiaFields) (value : ℕ) → is_unseen register ≡ true → effect_after t register value ≡ Nothing
-unseen-effect register t value h = grind arith
 
 -- clocks after such a write come to the write after the clocks
 pub clocks-after-unseen : (n : ℕ) (s : TiaState) (number value : ℕ) → is_unseen (register_of number) ≡ true
