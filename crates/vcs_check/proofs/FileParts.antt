@@ -1,10 +1,10 @@
--- What a file has got after a failed write.
+-- What a text and a file have got after a failed write.
 use Rattle.std.proofs.Common.{Option, List, ℕ, [], inl, inr, refl}
 use Rattle.std.specs.Io.KnownBytes.{Appends, Keeps}
 use Rattle.command_line.specs.declared.command.Command.{Command}
 use Rattle.command_line.specs.declared.command.Command.TheVariants.{Verify}
 use Rattle.commands.specs.Commands.{WritesSome}
-use Rattle.picture_file.proofs.BytesWritten.{appends_kept, appends_nothing, appends_then, prefix_all}
+use Rattle.picture_file.proofs.BytesWritten.{appends_kept, appends_nothing, prefix_all}
 use Rattle.picture_file.specs.Prefixes.{AppendsPrefix}
 
 pub nothing : (a b : Option (List ℕ)) (bytes : List ℕ) → Keeps a b → AppendsPrefix a b bytes
@@ -15,9 +15,7 @@ pub file_in_part : (command : Command) (a b : Option (List ℕ)) (text : List �
 file_in_part (Verify plan notation) a b text c d file some = elim some [ inl one ↦ nothing c d file one.1 | inr both ↦ both.1 ]
 file_in_part other a b text c d file some = elim some [ inl one ↦ one.0 | inr both ↦ prefix_all c d file both.0 ]
 
-pub after_kept : (a b c : Option (List ℕ)) (bytes : List ℕ) → Keeps a b → AppendsPrefix b c bytes → AppendsPrefix a c bytes
-after_kept a b c bytes kept part =
-    record { prefix = part.prefix; rest = part.rest; whole = part.whole; written = appends_then a b c [] part.prefix (appends_kept a a b [] (appends_nothing a) kept) part.written }
-
-pub whole_kept : (a b c : Option (List ℕ)) (bytes : List ℕ) → Appends a b bytes → Keeps b c → AppendsPrefix a c bytes
-whole_kept a b c bytes all kept = prefix_all a c bytes (appends_kept a b c bytes all kept)
+pub text_in_part : (command : Command) (a b : Option (List ℕ)) (text : List ℕ) (c d : Option (List ℕ)) (file : List ℕ)
+    → WritesSome command a b text c d file → AppendsPrefix a b text
+text_in_part (Verify plan notation) a b text c d file some = elim some [ inl one ↦ one.0 | inr both ↦ prefix_all a b text both.0 ]
+text_in_part other a b text c d file some = elim some [ inl one ↦ nothing a b text one.1 | inr both ↦ both.1 ]

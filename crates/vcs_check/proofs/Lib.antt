@@ -1,4 +1,4 @@
-pub mod FileErrors
+pub mod Conclusions
 pub mod FileParts
 pub mod InputLemmas
 pub mod ObjectLemmas

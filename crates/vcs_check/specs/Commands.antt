@@ -72,16 +72,17 @@ abbrev pub KeepsQuiet : CommandLine → (old new : Option (List ℕ)) → Result
 KeepsQuiet line old new result =
     IfErr result (λ failure. (IsWriteFault failure → ⊥) → (IsNoMemory failure → IsGradual line.command ⊎ TakesFile line → ⊥) → Keeps old new)
 
--- What came before: whole pictures.
+-- What came before: whole lines or pictures.
 abbrev pub Begins : CommandLine → Inputs → (old new : Option (List ℕ)) → Type 0
 Begins line Reads old new =
     (bytes : List ℕ) × (second_old second_new : Option (List ℕ)) × (m : MovieData) × Reads bytes second_old second_new × (movie_at bytes ≡ Ok m)
-    × (text_old text_new : Option (List ℕ)) × HasBegun line.command m text_old text_new old new
+    × (TakesFile line → (text_old text_new : Option (List ℕ)) × HasBegun line.command m text_old text_new old new)
+    × ((TakesFile line → ⊥) → (file_old file_new : Option (List ℕ)) × HasBegun line.command m old new file_old file_new)
 
--- What it gets of a file after an error: of a failed write a part of it, and if memory ran out nothing
--- or what came before.
+-- What it has got of the answer after an error: after a failed write, its own or one of a file, a part,
+-- and if memory ran out nothing or what came before.
 abbrev pub LeavesPart : CommandLine → Inputs → (old new : Option (List ℕ)) → Result Status Failure → Type 0
 LeavesPart line Reads old new result =
-    IfErr result (λ failure. TakesFile line
-    → (IsWriteFault failure → (status : Status) × (written : List ℕ) × Says line Reads status written × AppendsPrefix old new written)
+    IfErr result (λ failure.
+    (IsWriteFault failure → (status : Status) × (written : List ℕ) × Says line Reads status written × AppendsPrefix old new written)
     × (IsNoMemory failure → Keeps old new ⊎ Begins line Reads old new))

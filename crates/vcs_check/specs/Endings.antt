@@ -1,19 +1,17 @@
--- How the program ends if no command came to a status. This project's own.
-use Rattle.std.specs.Prelude.{◌≡◌, ◌⊎◌, ℕ, List, None, Option, Result, Ok, Err, IfErr}
+-- How the program ends, and what standard output gets then. This project's own.
+use Rattle.std.specs.Prelude.{◌≡◌, ◌⊎◌, ℕ, List, None, Option, Result, Ok, Err}
 use Rattle.std.specs.Io.KnownBytes.{Keeps}
 use Rattle.std.specs.declared.io.ErrorKind.{ErrorKind}
 use Rattle.std.specs.declared.io.ErrorKind.TheVariants.{OutOfMemory}
 use Rattle.command_line.specs.declared.command.LineFault.{LineFault}
 use Rattle.command_line.specs.declared.command.LineFault.TheVariants as faults
-use Rattle.vcs_check.specs.Commands.{TakesFile}
 use Rattle.vcs_check.specs.ErrorObjects.{GetsErrorObject, SaysErrors}
-use Rattle.vcs_check.specs.Failures.{IsNoMemory, IsWriteFault}
+use Rattle.vcs_check.specs.Failures.{IsToldAs}
 use Rattle.vcs_check.specs.declared.failure.Failure.{Failure}
 use Rattle.vcs_check.specs.declared.failure.Failure.TheVariants.{Run}
 use Rattle.vcs_check.specs.declared.ending.Ending.{Ending}
 use Rattle.vcs_check.specs.declared.ending.Ending.TheVariants.{Help, Usage, NotUtf8, Twice, Failed}
 use Rattle.command_line.specs.declared.command.CommandLine.{CommandLine}
-use Rattle.commands.specs.Commands.{IsGradual}
 use Rattle.commands.specs.Status.{status_code}
 use Rattle.commands.specs.declared.run_error.RunError.TheVariants.{NoMemory}
 use Rattle.commands.specs.declared.status.Status.{Status}
@@ -30,11 +28,6 @@ exit_code (Failed failure) = 5
 abbrev pub IsReported : Ending → ℕ → Type 0
 IsReported ending code = (code ≡ exit_code ending) ⊎ ((exit_code ending ≡ 0) × (code ≡ 5))
 
--- That of a command, by its status or by its failure.
-abbrev pub code_of : Result Status Failure → ℕ
-code_of (Ok status) = status_code status
-code_of (Err failure) = exit_code (Failed failure)
-
 -- The arguments could not be read: out of memory, and else one of them is not UTF-8.
 abbrev pub of_kind : ErrorKind → Ending
 of_kind OutOfMemory = Failed (Run NoMemory None)
@@ -46,9 +39,13 @@ of_fault (faults.Help text) = Help text
 of_fault (faults.Usage text) = Usage text
 of_fault faults.Memory = Failed (Run NoMemory None)
 
--- What standard output gets of an error other than a failed write, but if memory ran out by a command
--- that writes while a run goes on: nothing, or of a command that answers in JSON there an object.
-abbrev pub EndsQuiet : CommandLine → (old new : Option (List ℕ)) → Result Status Failure → Type 0
-EndsQuiet line old new result =
-    IfErr result (λ failure. (IsWriteFault failure → ⊥) → (IsNoMemory failure → IsGradual line.command ⊎ TakesFile line → ⊥)
-    → (SaysErrors line → GetsErrorObject failure old new) × ((SaysErrors line → ⊥) → Keeps old new))
+-- What standard output gets after a failure: of a command that answers in JSON there an object, and
+-- else nothing.
+abbrev pub GetsReason : CommandLine → Failure → (old new : Option (List ℕ)) → Type 0
+GetsReason line failure old new = (SaysErrors line → GetsErrorObject failure old new) × ((SaysErrors line → ⊥) → Keeps old new)
+
+-- How a command line ends that was answered so: with its status, but with 5 if standard output didn't
+-- take all of the answer, and nothing more is there; or with 5, and what is told of the failure.
+abbrev pub Concludes : CommandLine → (old new : Option (List ℕ)) → Result Status Failure → ℕ → Type 0
+Concludes line old new (Ok status) code = ((code ≡ status_code status) ⊎ (code ≡ 5)) × Keeps old new
+Concludes line old new (Err failure) code = (code ≡ exit_code (Failed failure)) × (told : Failure) × IsToldAs failure told × GetsReason line told old new

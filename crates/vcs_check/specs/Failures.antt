@@ -1,5 +1,5 @@
 -- Which failures a command may end with. This project's own.
-use Rattle.std.specs.Prelude.{Option, Some}
+use Rattle.std.specs.Prelude.{◌≡◌, Option, Some, None}
 use Rattle.named_files.specs.declared.file_error.FileError.{FileError}
 use Rattle.vcs_check.specs.declared.failure.Failure.{Failure}
 use Rattle.vcs_check.specs.declared.failure.Failure.TheVariants.{Open, Run}
@@ -24,3 +24,8 @@ IsNoThread other = ⊥
 abbrev pub file_error_of : Failure → Option FileError
 file_error_of (Open file_error) = Some file_error
 file_error_of (Run error file_error) = file_error
+
+-- What is told is this failure, of which the file may be known by now.
+abbrev pub IsToldAs : Failure → Failure → Type 0
+IsToldAs (Run error None) told = (file_error : Option FileError) × (told ≡ Run error file_error)
+IsToldAs failure told = told ≡ failure

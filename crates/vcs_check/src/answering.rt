@@ -82,6 +82,13 @@ fn run<
 ) -> Result<Status, RunError>
     ensures ok { IfOk result (λ status. (bytes : List ℕ) × (told : List ℕ) × ReadsAll (M.remaining input.old) (M.remaining input.new) bytes
         × IsText command.now bytes (S.remaining inputs.old) (S.remaining inputs.new) status told × Appends (W.contents text.old) (W.contents text.new) told) }
+    ensures write_fault { result ≡ Err RunError.WriteFault → (bytes : List ℕ) × (status : Status) × (told : List ℕ)
+        × ReadsAll (M.remaining input.old) (M.remaining input.new) bytes
+        × IsText command.now bytes (S.remaining inputs.old) (S.remaining inputs.new) status told
+        × AppendsPrefix (W.contents text.old) (W.contents text.new) told }
+    ensures memory { result ≡ Err RunError.NoMemory → Keeps (W.contents text.old) (W.contents text.new)
+        ⊎ ((bytes : List ℕ) × (m : MovieData) × ReadsAll (M.remaining input.old) (M.remaining input.new) bytes × (movie_at bytes ≡ Ok m)
+        × (file_old file_new : Option (List ℕ)) × HasBegun command.now m (W.contents text.old) (W.contents text.new) file_old file_new) }
     ensures quiet { OnErr result (result ≢ Err RunError.WriteFault → (result ≡ Err RunError.NoMemory → IsGradual command.now → ⊥)
         → Keeps (W.contents text.old) (W.contents text.new)) }
     ensures no_thread { result ≡ Err RunError.NoThread → StartsThreads command.now }
@@ -141,6 +148,13 @@ fn write<
 ) -> Result<Status, RunError>
     ensures ok { IfOk result (λ status. (bytes : List ℕ) × (told : List ℕ) × ReadsAll (M.remaining input.old) (M.remaining input.new) bytes
         × IsText command.now bytes (S.remaining inputs.old) (S.remaining inputs.new) status told × Appends (W.contents text.old) (W.contents text.new) told) }
+    ensures write_fault { result ≡ Err RunError.WriteFault → (bytes : List ℕ) × (status : Status) × (told : List ℕ)
+        × ReadsAll (M.remaining input.old) (M.remaining input.new) bytes
+        × IsText command.now bytes (S.remaining inputs.old) (S.remaining inputs.new) status told
+        × AppendsPrefix (W.contents text.old) (W.contents text.new) told }
+    ensures memory { result ≡ Err RunError.NoMemory → Keeps (W.contents text.old) (W.contents text.new)
+        ⊎ ((bytes : List ℕ) × (m : MovieData) × ReadsAll (M.remaining input.old) (M.remaining input.new) bytes × (movie_at bytes ≡ Ok m)
+        × (file_old file_new : Option (List ℕ)) × HasBegun command.now m (W.contents text.old) (W.contents text.new) file_old file_new) }
     ensures quiet { OnErr result (result ≢ Err RunError.WriteFault → (result ≡ Err RunError.NoMemory → IsGradual command.now → ⊥)
         → Keeps (W.contents text.old) (W.contents text.new)) }
     ensures no_thread { result ≡ Err RunError.NoThread → StartsThreads command.now }
@@ -174,9 +188,11 @@ fn tell<
     ensures ok { Writes line.now (ReadsBoth (M.remaining input.old) (M.remaining input.new) (S.remaining inputs.old) (S.remaining inputs.new))
         (W.contents text.old) (W.contents text.new) result }
     ensures quiet { KeepsQuiet line.now (W.contents text.old) (W.contents text.new) result }
+    ensures part { LeavesPart line.now (ReadsBoth (M.remaining input.old) (M.remaining input.new) (S.remaining inputs.old) (S.remaining inputs.new))
+        (W.contents text.old) (W.contents text.new) result }
     ensures no_thread { IfErr result (λ failure. IsNoThread failure → StartsThreads line.now.command) }
 {
-    Ok(run(
+    match run(
         rt,
         &line.command,
         input,
@@ -184,7 +200,10 @@ fn tell<
         &mut io::sink(),
         text,
         gate,
-    )?)
+    ) {
+        Ok(status) => Ok(status),
+        Err(error) => Err(Failure::Run(error, None)),
+    }
 }
 
 /// Does what a command line asks for with these inputs, and a file that takes what it writes. If all
@@ -210,13 +229,15 @@ fn write_to<
     ensures ok { Writes line.now (ReadsBoth (M.remaining input.old) (M.remaining input.new) (S.remaining inputs.old) (S.remaining inputs.new))
         (W.contents text.old) (W.contents text.new) result }
     ensures quiet { KeepsQuiet line.now (W.contents text.old) (W.contents text.new) result }
+    ensures part { LeavesPart line.now (ReadsBoth (M.remaining input.old) (M.remaining input.new) (S.remaining inputs.old) (S.remaining inputs.new))
+        (W.contents text.old) (W.contents text.new) result }
     ensures no_thread { IfErr result (λ failure. IsNoThread failure → StartsThreads line.now.command) }
 {
     let command = &line.command;
     let mut output = create(rt, output, identities, whole(command))?;
     let status = match write(rt, command, input, inputs, &mut output, text, gate) {
         Ok(status) => status,
-        Err(error) => return Err(Failure::from(error).by_output(output.output_error())),
+        Err(error) => return Err(Failure::Run(error, None).by_output(output.output_error())),
     };
     if status == Status::Done && output.finish().is_err() {
         return Err(Failure::Run(RunError::WriteFault, output.output_error()));

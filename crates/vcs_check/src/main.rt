@@ -16,13 +16,13 @@ mod progress;
 mod reasons;
 mod remarks;
 
-ghost use Rattle.vcs_check.specs.Commands.{LeavesPart, ReadsInputs, ReadsTwice, Writes};
-ghost use Rattle.vcs_check.specs.Endings.{EndsQuiet, code_of};
+ghost use Rattle.vcs_check.specs.Commands.{KeepsQuiet, LeavesPart, ReadsInputs, ReadsTwice, Writes};
+ghost use Rattle.vcs_check.specs.Endings.{Concludes};
 ghost use Rattle.vcs_check.specs.ErrorObjects.{GetsErrorObject, SaysErrors};
 ghost use Rattle.vcs_check.specs.declared.failure.Failure.{Failure as WhyNot};
 ghost use Rattle.commands.specs.declared.status.Status.{Status};
 ghost use Rattle.named_files.specs.declared.file_error.FileError.{FileError as FailedFile};
-ghost use Rattle.std.specs.Prelude.{◌≡◌, IfOk, Option, Result};
+ghost use Rattle.std.specs.Prelude.{◌≡◌, ℕ, IfOk, List, Option, Result};
 ghost use Rattle.vcs_check.specs.Private.FileErrors.{by_input, by_output};
 ghost use Rattle.std.specs.Io.KnownBytes.{Keeps};
 ghost use Rattle.std.specs.Process.{exit_status};
@@ -156,6 +156,36 @@ fn explain<R: Files + AllocGlobal + Eprint, I>(
     }
 }
 
+/// Says the reason of what a command has answered so, if reasons are wanted, and answers the exit
+/// status.
+fn conclude<R: Files + AllocGlobal + Print + Eprint, I, W: Write, E>(
+    rt: &R,
+    line: &CommandLine,
+    input: &mut Named<'_, I>,
+    kept: &mut Kept,
+    output: &mut Named<'_, W>,
+    error: &Named<'_, E>,
+    answer: Result<Status, Failure<'_>>,
+) -> ExitCode
+    ensures ends { Concludes line.now (W.contents output.old.stream) (W.contents output.new.stream) answer.entry (exit_status result) }
+    ensures same_input { input.new.stream ≡ input.old.stream }
+{
+    match answer {
+        Ok(status) => match settle(rt, output) {
+            Ok(()) => {
+                explain(rt, line, input, kept, status);
+                ExitCode::from(status.code())
+            }
+            Err(error) => not_written(error).report(rt, line.explain),
+        },
+        Err(failure) => {
+            let failure = of_streams(failure, input, output, error);
+            say_error(rt, line, &failure, output);
+            Ending::Failed(failure).report(rt, line.explain)
+        }
+    }
+}
+
 /// Does what a command asks for, says the reason if reasons are wanted, and answers the exit status.
 fn carry_out<
     R: Files + Threads + Wait + Sync + AllocGlobal + Print + Eprint,
@@ -173,25 +203,15 @@ fn carry_out<
     gate: &G,
 ) -> ExitCode
     requires { ReadsTwice line.now → ⊥ }
-    ensures { (answer : Result Status WhyNot) × (exit_status result ≡ code_of answer)
-        × Writes line.now (ReadsInputs line.now (I.remaining input.old.stream) (I.remaining input.new.stream)) (W.contents output.old.stream) (W.contents output.new.stream) answer
-        × EndsQuiet line.now (W.contents output.old.stream) (W.contents output.new.stream) answer
-        × LeavesPart line.now (ReadsInputs line.now (I.remaining input.old.stream) (I.remaining input.new.stream)) (W.contents output.old.stream) (W.contents output.new.stream) answer }
+    // An answer, and what stands on standard output after it.
+    ensures { (answer : Result Status WhyNot) × (told : Option (List ℕ))
+        × Writes line.now (ReadsInputs line.now (I.remaining input.old.stream) (I.remaining input.new.stream)) (W.contents output.old.stream) told answer
+        × KeepsQuiet line.now (W.contents output.old.stream) told answer
+        × LeavesPart line.now (ReadsInputs line.now (I.remaining input.old.stream) (I.remaining input.new.stream)) (W.contents output.old.stream) told answer
+        × Concludes line.now told (W.contents output.new.stream) answer (exit_status result) }
 {
-    match answer_line(rt, line, input, kept, output, error, gate) {
-        Ok(status) => match settle(rt, output) {
-            Ok(()) => {
-                explain(rt, line, input, kept, status);
-                ExitCode::from(status.code())
-            }
-            Err(error) => not_written(error).report(rt, line.explain),
-        },
-        Err(failure) => {
-            let failure = of_streams(failure, input, output, error);
-            say_error(rt, line, &failure, output);
-            Ending::Failed(failure).report(rt, line.explain)
-        }
-    }
+    let answer = answer_line(rt, line, input, kept, output, error, gate);
+    conclude(rt, line, input, kept, output, error, answer)
 }
 
 /// The program's arguments.

@@ -8,3 +8,4 @@ pub returns-in-Err-clause-part : goal.returns-in-Err-clause-part
 returns-in-Err-clause-part g c =
     let failed : RunError → Result Status RunError = λ error. Err error in
     part_of_run c.args.line.now _ _ _ _ _ _ c.in-Err.error (λ is. c.in-Err.ensures.write_fault (ap failed is)) (λ is. c.in-Err.ensures.memory (ap failed is))
+    c.requires
