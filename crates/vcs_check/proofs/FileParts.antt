@@ -1,6 +1,6 @@
 -- What a text and a file have got after a failed write.
 use Rattle.std.proofs.Common.{Option, List, ℕ, [], inl, inr, refl}
-use Rattle.std.specs.Io.KnownBytes.{Appends, Keeps}
+use Rattle.std.specs.Io.KnownBytes.{Keeps}
 use Rattle.command_line.specs.declared.command.Command.{Command}
 use Rattle.command_line.specs.declared.command.Command.TheVariants.{Verify}
 use Rattle.commands.specs.Commands.{WritesSome}

@@ -1,6 +1,4 @@
-use Rattle.std.proofs.Common.{◌≡◌, arith, inl, inr}
-use Rattle.std.specs.Process.{exit_status}
-use Rattle.commands.specs.Status.{status_code}
+use Rattle.std.proofs.Common.{arith, inl, inr}
 use Rattle.vcs_check.proofs.Conclusions.{failed, settled}
 use Rattle.vcs_check.proofs.conclude.Goals as goal
 
