@@ -7,11 +7,11 @@
 //! by a line: the call is right, or failed with out of memory or another error, or is wrong, which
 //! means any other value, or something written where nothing was to be.
 //!
-//! A line `CALL N` is for a process whose thousandth growth is refused (`rt try --fail-alloc
-//! 1000`). The program makes so many growths before the call that it is the call's N-th one, and
-//! says whether the call came so far. `ci/refused-growths` walks through N. Without N, and where
-//! nothing is refused, each call has to be right; `ci/wrong-bodies` has bodies that keep their
-//! contracts and are not.
+//! Where nothing is refused, each call has to be right. `ci/refused-growths` refuses each growth of
+//! each call. `ci/wrong-bodies` has bodies that keep their contracts and are wrong. They are tried
+//! by a process whose thousandth growth is refused (`rt try --fail-alloc 1000`): at a line `CALL N`
+//! the program makes so many growths before the call that it is the call's N-th one, and says
+//! whether the call came so far.
 #![tactic(auto)]
 
 mod answer;
