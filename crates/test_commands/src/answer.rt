@@ -1,0 +1,115 @@
+//! What the program answers to a command line.
+
+use crate::case::Case;
+use crate::named_bytes::no_bytes;
+use crate::reason::reason_of;
+use command_line::{CommandLine, LineFault, parse_line};
+use commands::{NoGate, RunError, Status, run_command};
+use std::alloc::{AllocError, Global};
+use std::sync::Wait;
+use std::thread::Threads;
+use std::{fmt, io};
+
+/// The status of words that are no command.
+const NO_COMMAND: u8 = 4;
+
+/// The status of a command that came to no end.
+const FAILED: u8 = 5;
+
+/// An exit status, and what was written: a text, in which `\n` stands for a line feed, and a file.
+#[derive(Drop)]
+pub(crate) struct Answer {
+    pub status: u8,
+    pub text: String,
+    pub file: Vec<u8>,
+}
+
+impl fmt::Display for Answer {
+    fn fmt<W: fmt::Write>(&self, f: &mut fmt::Formatter<W>) -> fmt::Result {
+        let length = self.file.len();
+        write!(f, "{} | {} | {length} bytes", self.status, self.text)
+    }
+}
+
+/// The command line of words.
+fn line_of(alloc: Global, words: &str) -> Result<CommandLine, LineFault> {
+    let mut all = Vec::new(alloc);
+    all.push("vcs_check").map_err(AllocError::from)?;
+    for word in words.split_whitespace() {
+        all.push(word).map_err(AllocError::from)?;
+    }
+    parse_line(alloc, &all)
+}
+
+/// What is said of words that are no command, or ask for help.
+fn answer_of_fault(alloc: Global, fault: LineFault) -> Result<Answer, AllocError> {
+    let (status, text) = match fault {
+        LineFault::Usage { text } => (NO_COMMAND, text),
+        LineFault::Help { text } => (Status::Done.code(), text),
+        LineFault::Memory => return Err(AllocError),
+    };
+    Ok(Answer {
+        status,
+        text: text.replace(alloc, "\n", "\\n")?,
+        file: Vec::new(alloc),
+    })
+}
+
+/// What standard error gets after a command: its error, or where that is asked for the reason of a
+/// refusal.
+fn remark_of(
+    alloc: Global,
+    line: &CommandLine,
+    case: &Case<'_>,
+    status: Result<Status, RunError>,
+) -> Result<String, AllocError> {
+    match status {
+        Err(error) => format!(in alloc; "error: {error}\n"),
+        Ok(Status::Refused) if line.explain => {
+            match reason_of(alloc, &line.command, &case.first, &case.second) {
+                Some(reason) => format!(in alloc; "{reason}\n"),
+                None => Ok(String::new(alloc)),
+            }
+        }
+        Ok(_) => Ok(String::new(alloc)),
+    }
+}
+
+/// The answer to a case whose words are this command line.
+fn answer_to_line<R: Threads + Wait + Sync + AllocGlobal>(
+    rt: &R,
+    line: &CommandLine,
+    case: &Case<'_>,
+) -> io::Result<Answer> {
+    let alloc = rt.alloc();
+    let mut text = Vec::new(alloc);
+    let mut file = Vec::new(alloc);
+    let status = run_command(
+        rt,
+        &line.command,
+        &mut case.first.as_slice(),
+        &mut case.second.as_slice(),
+        &mut text,
+        &mut file,
+        &NoGate,
+    );
+    let remark = remark_of(alloc, line, case, status)?;
+    text.extend_from_slice(remark.as_bytes())?;
+    let text = str::from_utf8(&text).map_err(|_| no_bytes())?;
+    Ok(Answer {
+        status: status.map_or(FAILED, |status| status.code()),
+        text: text.replace(alloc, "\n", "\\n")?,
+        file,
+    })
+}
+
+/// The answer to a case.
+pub(crate) fn answer_to<R: Threads + Wait + Sync + AllocGlobal>(
+    rt: &R,
+    case: &Case<'_>,
+) -> io::Result<Answer> {
+    match line_of(rt.alloc(), case.words) {
+        Ok(line) => answer_to_line(rt, &line, case),
+        Err(fault) => Ok(answer_of_fault(rt.alloc(), fault)?),
+    }
+}
