@@ -1,7 +1,7 @@
 //! What the program answers to a command line.
 
 use crate::case::Case;
-use crate::named_bytes::no_bytes;
+use crate::named_bytes::malformed;
 use crate::reason::reason_of;
 use command_line::{CommandLine, LineFault, parse_line};
 use commands::{NoGate, RunError, Status, run_command};
@@ -95,7 +95,7 @@ fn answer_to_line<R: Threads + Wait + Sync + AllocGlobal>(
     );
     let remark = remark_of(alloc, line, case, status)?;
     text.extend_from_slice(remark.as_bytes())?;
-    let text = str::from_utf8(&text).map_err(|_| no_bytes())?;
+    let text = str::from_utf8(&text).map_err(|_| malformed())?;
     Ok(Answer {
         status: status.map_or(FAILED, |status| status.code()),
         text: text.replace(alloc, "\n", "\\n")?,

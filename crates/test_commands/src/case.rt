@@ -1,7 +1,7 @@
 //! Cases.
 
 use crate::answer::Answer;
-use crate::named_bytes::{NamedBytes, no_bytes};
+use crate::named_bytes::{NamedBytes, malformed};
 use std::alloc::Global;
 use std::io;
 
@@ -50,7 +50,7 @@ pub(crate) struct Case<'a> {
 impl<'a> Case<'a> {
     /// The case of a line, or an error where it is none.
     pub(crate) fn parse(names: &NamedBytes<'_>, line: &'a str) -> io::Result<Case<'a>> {
-        let fields = Fields::parse(line).ok_or(no_bytes())?;
+        let fields = Fields::parse(line).ok_or(malformed())?;
         let file = match fields.file {
             Some(file) => Some(names.spelled(file)?),
             None => None,
@@ -69,11 +69,19 @@ impl<'a> Case<'a> {
     pub(crate) fn is_met_by(&self, alloc: Global, answer: &Answer) -> io::Result<bool> {
         let found = format!(in alloc; " {} ", answer.text)?;
         let wanted = format!(in alloc; " {} ", self.text)?;
-        let has_file = match &self.file {
-            Some(file) => *file == answer.file,
-            None => true,
-        };
+        let has_file = self.place_of_difference(&answer.file).is_none();
         Ok(answer.status == self.status && has_file && fits(&found, &wanted))
+    }
+
+    /// The first place where a file differs from the one that is wanted, if one is.
+    pub(crate) fn place_of_difference(&self, found: &[u8]) -> Option<usize> {
+        let wanted = self.file.as_deref()?;
+        if *found == *wanted {
+            return None;
+        }
+        let mut pairs = found.iter().zip(wanted.iter());
+        let place = pairs.position(|(byte, other)| *byte != *other);
+        Some(place.unwrap_or(found.len().min(wanted.len())))
     }
 }
 

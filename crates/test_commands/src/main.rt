@@ -62,6 +62,9 @@ fn try_case<R: Threads + Wait + Sync + AllocGlobal + Print>(
     let is_met = case.is_met_by(rt.alloc(), &answer)?;
     if !is_met {
         println!(rt; "differs: {line}\nfound: {answer}")?;
+        if let Some(place) = case.place_of_difference(&answer.file) {
+            println!(rt; "file: differs from byte {place} on")?;
+        }
     }
     Ok(is_met)
 }

@@ -4,8 +4,8 @@ use crate::quoted::quoted;
 use std::alloc::{AllocError, Global};
 use std::io;
 
-/// The error of a text that spells no bytes.
-pub(crate) fn no_bytes() -> io::Error {
+/// The error of a line that can't be read.
+pub(crate) fn malformed() -> io::Error {
     io::Error::from(io::ErrorKind::InvalidData)
 }
 
@@ -48,10 +48,10 @@ impl<'a> NamedBytes<'a> {
     /// The bytes of a word: `@` and a name, or hexadecimal digits.
     fn of_word(&self, word: &str) -> io::Result<Vec<u8>> {
         let Some(name) = word.strip_prefix('@') else {
-            return hex::decode(self.alloc, word).map_err(|_| no_bytes());
+            return hex::decode(self.alloc, word).map_err(|_| malformed());
         };
         let mut bytes = Vec::new(self.alloc);
-        bytes.extend_from_slice(self.of(name).ok_or(no_bytes())?)?;
+        bytes.extend_from_slice(self.of(name).ok_or(malformed())?)?;
         Ok(bytes)
     }
 
@@ -66,7 +66,7 @@ impl<'a> NamedBytes<'a> {
                 } else {
                     count.strip_prefix('*')
                 };
-                (bytes, count.ok_or(no_bytes())?, rest)
+                (bytes, count.ok_or(malformed())?, rest)
             }
             None => {
                 let (item, rest) = spelling.split_once(' ').unwrap_or((spelling, ""));
@@ -74,7 +74,7 @@ impl<'a> NamedBytes<'a> {
                 (self.of_word(word)?, count, rest)
             }
         };
-        Ok((bytes, count.parse().ok().ok_or(no_bytes())?, rest))
+        Ok((bytes, count.parse().ok().ok_or(malformed())?, rest))
     }
 
     /// The bytes that a text spells.

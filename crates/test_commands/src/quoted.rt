@@ -1,6 +1,6 @@
 //! Texts between apostrophes.
 
-use crate::named_bytes::no_bytes;
+use crate::named_bytes::malformed;
 use std::alloc::Global;
 use std::io;
 
@@ -11,7 +11,7 @@ fn escaped(letter: u8) -> io::Result<u8> {
         b'r' => Ok(b'\r'),
         b't' => Ok(b'\t'),
         b'\'' | b'\\' => Ok(letter),
-        _ => Err(no_bytes()),
+        _ => Err(malformed()),
     }
 }
 
@@ -24,7 +24,7 @@ pub(crate) fn quoted(alloc: Global, text: &str) -> io::Result<(Vec<u8>, &str)> {
             bytes.push(escaped(byte)?)?;
             is_escaped = false;
         } else if byte == b'\'' {
-            let after = text.get(place + 1..).ok_or(no_bytes())?;
+            let after = text.get(place + 1..).ok_or(malformed())?;
             return Ok((bytes, after));
         } else if byte == b'\\' {
             is_escaped = true;
@@ -32,5 +32,5 @@ pub(crate) fn quoted(alloc: Global, text: &str) -> io::Result<(Vec<u8>, &str)> {
             bytes.push(byte)?;
         }
     }
-    Err(no_bytes())
+    Err(malformed())
 }
