@@ -33,21 +33,32 @@ fn reason_of_movie(alloc: Global, bytes: &[u8]) -> Option<Hint> {
     hint_of(bytes, error)
 }
 
-/// Why a command refuses its input or its second one, where that is known from these bytes.
+/// Why `make` refuses a ROM or inputs.
+fn reason_of_make<'a>(
+    alloc: Global,
+    rom: &'a [u8],
+    inputs: &'a [u8],
+    form: InputForm,
+    every: NonZeroU32,
+) -> Option<TextHint<'a>> {
+    if !Cart::is_length(rom.len()) {
+        return Some(TextHint::Whole(hint_of_rom(rom)));
+    }
+    match form {
+        InputForm::Text => reason_of_lines(alloc, inputs, every),
+        InputForm::Bytes => reason_of_triples(alloc, inputs, every).map(TextHint::Whole),
+    }
+}
+
+/// Why a command refuses one of its inputs, where that is known from their bytes.
 pub(crate) fn reason_of<'a>(
     alloc: Global,
     command: &Command,
     first: &'a [u8],
     second: &'a [u8],
 ) -> Option<TextHint<'a>> {
-    let Command::Make { form, every, .. } = command else {
-        return reason_of_movie(alloc, first).map(TextHint::Whole);
-    };
-    if !Cart::is_length(first.len()) {
-        return Some(TextHint::Whole(hint_of_rom(first)));
-    }
-    match form {
-        InputForm::Text => reason_of_lines(alloc, second, *every),
-        InputForm::Bytes => reason_of_triples(alloc, second, *every).map(TextHint::Whole),
+    match command {
+        Command::Make { form, every, .. } => { reason_of_make(alloc, first, second, *form, *every) }
+        _ => reason_of_movie(alloc, first).map(TextHint::Whole),
     }
 }
