@@ -66,10 +66,7 @@ fn remark_of(
     match status {
         Err(error) => format!(in alloc; "error: {error}\n"),
         Ok(Status::Refused) if line.explain => {
-            match reason_of(alloc, &line.command, &case.first, &case.second) {
-                Some(reason) => format!(in alloc; "{reason}\n"),
-                None => Ok(String::new(alloc)),
-            }
+            reason_of(alloc, &line.command, &case.first, &case.second)
         }
         Ok(_) => Ok(String::new(alloc)),
     }
