@@ -68,12 +68,6 @@ pub(crate) fn answer_to<T: Threads + Wait + Sync + AllocGlobal, R: Read>(
     answer_into(rt, command, input, usize::MAX, usize::MAX)
 }
 
-/// Ends the test unless the command is done and wrote this text, and no file.
-pub(crate) fn expect_text(rt: &impl Abort, answer: &Answer, text: &[u8]) {
-    expect_equal(rt, answer.status, Ok(Status::Done));
-    assert!(rt; answer.text.as_slice() == text && answer.file.is_empty());
-}
-
 /// Ends the test unless the command failed with this error before it wrote anything.
 pub(crate) fn expect_nothing(rt: &impl Abort, answer: &Answer, error: RunError) {
     expect_equal(rt, answer.status, Err(error));

@@ -10,8 +10,3 @@ use std::process::Abort;
 pub(crate) fn expect_equal<T: PartialEq + Debug + Drop>(rt: &impl Abort, found: T, wanted: T) {
     assert_eq!(rt; found, wanted);
 }
-
-/// Ends the test where some rows of a table were not as they say, and prints these.
-pub(crate) fn expect_none(rt: &impl Abort, others: &str) {
-    assert!(rt; others.is_empty(), "not as in the table:\n{others}");
-}

@@ -1,12 +1,11 @@
-//! Worked movies with their verdicts and reports, and files that are refused with their reasons. They
-//! stand apart, since most of them go through several crates: what reads a movie, what replays it, and
-//! what answers.
+//! What command lines over bytes can't show of movies and their verdicts: devices that fail, workers and
+//! their gates, progress, and functions that no command shows. What they can show is in `test_commands`.
+//! They stand apart, since most of them go through several crates: what reads a movie, what replays it,
+//! and what answers.
 #![tactic(auto)]
 
 #[cfg(test)]
 mod answer;
-#[cfg(test)]
-mod assembly;
 #[cfg(test)]
 mod desk;
 #[cfg(test)]
@@ -18,23 +17,15 @@ mod frames;
 #[cfg(test)]
 mod gates;
 #[cfg(test)]
-mod lines;
-#[cfg(test)]
 mod looking;
 #[cfg(test)]
 mod make;
 #[cfg(test)]
 mod movies;
 #[cfg(test)]
-mod numbering;
-#[cfg(test)]
 mod pixmaps;
 #[cfg(test)]
 mod progress;
-#[cfg(test)]
-mod reasons;
-#[cfg(test)]
-mod reports;
 #[cfg(test)]
 mod roms;
 #[cfg(test)]

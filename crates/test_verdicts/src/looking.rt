@@ -3,13 +3,10 @@
 use crate::answer::{answer_into, answer_to, expect_beginning, expect_nothing};
 use crate::devices::FailingReader;
 use crate::expectation::expect_equal;
-use crate::movies::{
-    ENDLESS_FRAMES, after_frame, after_frame_with, first_of_two_false, movie, power_on, two_frames,
-    two_frames_with_a_last_checkpoint,
-};
+use crate::movies::{two_frames, two_frames_with_a_last_checkpoint};
 use crate::pixmaps::two_black_pictures;
 use command_line::Command;
-use commands::{RunError, Status};
+use commands::RunError;
 use replay_plan::{Details, Notation, Watches};
 use std::num::NonZeroU32;
 use std::test::Fail;
@@ -30,44 +27,6 @@ fn cut() -> Command {
         count: 2,
         every: NonZeroU32::MIN.saturating_add(1),
     }
-}
-
-#[test]
-fn false_movie_is_cut(rt: HostRuntime) -> Result<(), Fail> {
-    let bytes = first_of_two_false(rt.alloc())?;
-    let answer = answer_to(&rt, &cut(), &mut bytes.as_slice());
-    expect_equal(&rt, answer.status, Ok(Status::Done));
-    assert!(rt; answer.file == two_frames_with_a_last_checkpoint(rt.alloc())?);
-    assert!(rt; answer.text.as_slice() == b"cut: 2 frames, 1 checkpoints\n".as_slice());
-    Ok(())
-}
-
-/// Frames 2 to 4 of the run from power-on: the second of them is frame 3.
-#[test]
-fn cut_counts_its_own_frames(rt: HostRuntime) -> Result<(), Fail> {
-    let bytes = movie(rt.alloc(), &ENDLESS_FRAMES, &power_on(), 4, 1, &[])?;
-    let command = Command::Cut {
-        first: NonZeroU32::MIN.saturating_add(1),
-        count: 3,
-        every: NonZeroU32::MIN.saturating_add(1),
-    };
-    let answer = answer_to(&rt, &command, &mut bytes.as_slice());
-    let start = after_frame(0xF3, 0x0D);
-    let claims = [after_frame(0xD3, 0x2D)];
-    assert!(rt; answer.file == movie(rt.alloc(), &ENDLESS_FRAMES, &start, 3, 2, &claims)?);
-    Ok(())
-}
-
-/// The start has a byte at address 82 that power-on hasn't.
-#[test]
-fn cut_from_frame_1_has_the_start_of_its_movie(rt: HostRuntime) -> Result<(), Fail> {
-    let mut start = power_on();
-    start[9] = 9;
-    let bytes = movie(rt.alloc(), &ENDLESS_FRAMES, &start, 2, 1, &[])?;
-    let answer = answer_to(&rt, &cut(), &mut bytes.as_slice());
-    let claims = [after_frame_with(2, 9)];
-    assert!(rt; answer.file == movie(rt.alloc(), &ENDLESS_FRAMES, &start, 2, 2, &claims)?);
-    Ok(())
 }
 
 #[test]

@@ -157,42 +157,6 @@ pub(crate) fn run_of(alloc: Global, program: &[u8], frames: usize) -> Result<Mov
     Ok(make_movie(alloc, cart, inputs, 1)?)
 }
 
-/// The run of three endless frames from power-on with these bytes as input of the second.
-pub(crate) fn second_input(
-    alloc: Global,
-    [pins, switches, buttons]: [u8; 3],
-) -> Result<Movie, Fail> {
-    let idle = Input::new(0xFF, 0x3F, 0).ok_or("an input")?;
-    let second = Input::new(pins, switches, buttons).ok_or("an input")?;
-    let cart = cartridge(alloc, &ENDLESS_FRAMES)?;
-    let mut inputs = Vec::new(alloc);
-    inputs.extend_from_slice(&[idle, second, idle])?;
-    Ok(make_movie(alloc, cart, inputs, 1)?)
-}
-
-/// The record of the endless frames after frame k, 1 to 4, with a byte at address 82, which they
-/// leave as it is.
-pub(crate) fn after_frame_with(k: u8, byte: u8) -> [u8; 187] {
-    let later = k.saturating_sub(1).saturating_mul(16);
-    let timer = 0xF3u8.saturating_sub(later);
-    let mut record = after_frame(timer, 0x0Du8.saturating_add(later));
-    record[9] = byte;
-    record
-}
-
-/// One frame of 13 cycles that begins 100 cycles before its timer goes on from 5, with a checkpoint
-/// that claims that so many are left.
-pub(crate) fn timer_part_left(alloc: Global, part: u8) -> Result<Vec<u8>, Fail> {
-    let mut start = power_on();
-    start[139] = 5;
-    start[141] = 100;
-    let mut end = after_frame(5, 0x0D);
-    end[141] = part;
-    end[143] = 0;
-    end[144] = 0;
-    movie(alloc, &ENDLESS_FRAMES, &start, 1, 1, &[end])
-}
-
 /// The movie of these bytes.
 pub(crate) fn read(alloc: Global, bytes: &[u8]) -> Result<Movie, Fail> {
     Ok(read_movie(alloc, bytes)?)

@@ -28,21 +28,6 @@ fn compare<T: Threads + Wait + Sync + AllocGlobal, R: Read, S: Read>(
 }
 
 #[test]
-fn rom_whose_last_byte_differs_is_another(rt: HostRuntime) -> Result<(), Fail> {
-    let movie = two_frames(rt.alloc())?;
-    let mut bytes = rom(&ENDLESS_FRAMES);
-    let same = compare(&rt, &mut movie.as_slice(), &mut bytes.as_slice());
-    expect_equal(&rt, same.status, Ok(Status::Done));
-    bytes[2047] ^= 1;
-    let other = compare(&rt, &mut movie.as_slice(), &mut bytes.as_slice());
-    expect_equal(&rt, other.status, Ok(Status::Unexpected));
-    assert!(rt;
-        other.text.starts_with(b"genuine: 2 frames, 1 checkpoints\ncartridge expected: no\nnote: ")
-    );
-    Ok(())
-}
-
-#[test]
 fn rom_that_cannot_be_read_is_a_failed_read(rt: HostRuntime) -> Result<(), Fail> {
     let movie = two_frames(rt.alloc())?;
     let bytes = rom(&ENDLESS_FRAMES);

@@ -1,7 +1,10 @@
 //! Movies cut into segments, whose pieces are gathered.
 
 use crate::expectation::expect_equal;
-use crate::movies::{endless, going_on_at_no_opcode, read, two, two_frames_with_a_last_checkpoint};
+use crate::movies::{
+    endless, fourth_of_five_false, going_on_at_no_opcode, read, two,
+    two_frames_with_a_last_checkpoint,
+};
 use crate::verdicts::{FIRST_FALSE, picture_count};
 use movie_file::Movie;
 use replay_plan::Keep;
@@ -145,6 +148,21 @@ fn cuts_are_at_each_so_many_checkpoints(rt: HostRuntime) -> Result<(), Fail> {
         let every = NonZeroU16::new(every).ok_or("every")?;
         let cuts = Cuts::every(rt.alloc(), &genuine, every)?;
         expect_equal(&rt, cuts.segments(), segments);
+    }
+    Ok(())
+}
+
+/// Checkpoints 2 and 4 are cuts. The fourth is false, and so is the fifth: of the segments the first
+/// alone passes, which has frames 1 and 2.
+#[test]
+fn cut_is_at_each_second_checkpoint(rt: HostRuntime) -> Result<(), Fail> {
+    let claims = fourth_of_five_false(rt.alloc())?;
+    let cuts = Cuts::every(rt.alloc(), &claims, NonZeroU16::MIN.saturating_add(1))?;
+    expect_equal(&rt, cuts.segments(), 3);
+    assert!(rt; cuts.fits(&claims));
+    for number in 0..cuts.segments() {
+        let piece = replay(rt.alloc(), &claims, &cuts, Keep::NONE, number);
+        expect_equal(&rt, piece.passed(), number == 0);
     }
     Ok(())
 }

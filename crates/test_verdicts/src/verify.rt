@@ -85,17 +85,6 @@ fn failed_write_leaves_a_prefix_of_the_line(rt: HostRuntime) -> Result<(), Fail>
 }
 
 #[test]
-fn kept_pictures_follow_the_line(rt: HostRuntime) -> Result<(), Fail> {
-    let bytes = two_frames(rt.alloc())?;
-    let wanted = two_black_pictures(rt.alloc())?;
-    expect_equal(&rt, wanted.len(), 986);
-    let answer = answer_into(&rt, &verify(), &mut bytes.as_slice(), 33, 986);
-    expect_equal(&rt, answer.status, Ok(Status::Done));
-    assert!(rt; answer.text.as_slice() == GENUINE && answer.file == wanted);
-    Ok(())
-}
-
-#[test]
 fn failed_write_leaves_the_line_and_a_prefix_of_the_pictures(rt: HostRuntime) -> Result<(), Fail> {
     let bytes = two_frames(rt.alloc())?;
     let wanted = two_black_pictures(rt.alloc())?;

@@ -4,19 +4,19 @@ use crate::expectation::expect_equal;
 use crate::gates::{Counts, Meeting, SecondFirst};
 use crate::movies::{
     COLOURED_FRAMES, ENDLESS_FRAMES, endless, first_of_two_false, fourth_of_five_false,
-    going_on_at_no_opcode, read, run_of, timer_part_left, two, two_frames_with_a_last_checkpoint,
+    going_on_at_no_opcode, read, run_of, two_frames_with_a_last_checkpoint,
 };
 use crate::verdicts::{FIRST_FALSE, colours, picture_count};
 use movie_file::Movie;
 use replay_plan::{Keep, Workers};
-use replay_segments::{Cuts, Verdict, verify_one};
+use replay_segments::{Cuts, Verdict};
 use std::alloc::Global;
 use std::num::NonZeroU16;
 use std::sync::Wait;
 use std::sync::atomic::Ordering;
 use std::test::Fail;
 use std::thread::Threads;
-use verify_pool::{Gate, NoGate, verify};
+use verify_pool::{Gate, verify};
 
 /// The verdict of workers, with cuts at these checkpoints.
 fn answer<G: Gate + Sync, R: Threads + Wait + Sync>(
@@ -43,21 +43,6 @@ fn one_segment_has_one_worker(rt: HostRuntime) -> Result<(), Fail> {
     expect_equal(&rt, picture_count(&verdict), Some(0));
     expect_equal(&rt, counts.entries(), [1, 0, 0, 0]);
     expect_equal(&rt, counts.leaves(), [1, 0, 0, 0]);
-    Ok(())
-}
-
-#[test]
-fn any_workers_and_cuts_give_the_verdict_of_one_replay(rt: HostRuntime) -> Result<(), Fail> {
-    let genuine = two(rt.alloc())?;
-    let keep = Keep::new(1, 2)?;
-    let whole = verify_one(rt.alloc(), &genuine, keep)?;
-    expect_equal(&rt, picture_count(&whole), Some(2));
-    for numbers in [[].as_slice(), [1u16].as_slice()] {
-        for workers in [1u8, 2, 3, 64] {
-            let verdict = answer(&rt, rt.alloc(), &genuine, numbers, workers, keep, &NoGate)?;
-            assert!(rt; verdict.equals(&whole));
-        }
-    }
     Ok(())
 }
 
@@ -89,20 +74,6 @@ fn two_workers_give_the_pictures_in_order(rt: HostRuntime) -> Result<(), Fail> {
     let verdict = answer_of_all(&rt, rt.alloc(), &coloured, 2, &gate)?;
     assert!(rt; colours(rt.alloc(), &verdict)?.as_slice() == [2, 4, 6, 8].as_slice());
     expect_equal(&rt, gate.missed.load(Ordering::SeqCst), 0);
-    Ok(())
-}
-
-#[test]
-fn two_workers_find_the_first_false_checkpoint(rt: HostRuntime) -> Result<(), Fail> {
-    let keep = Keep::new(1, 600)?;
-    for bytes in [
-        first_of_two_false(rt.alloc())?,
-        timer_part_left(rt.alloc(), 88)?,
-    ] {
-        let false_movie = read(rt.alloc(), &bytes)?;
-        let verdict = answer(&rt, rt.alloc(), &false_movie, &[1], 2, keep, &NoGate)?;
-        assert!(rt; verdict.equals(&FIRST_FALSE));
-    }
     Ok(())
 }
 
