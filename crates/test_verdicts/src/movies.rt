@@ -36,7 +36,7 @@ pub(crate) fn power_on() -> [u8; 187] {
 }
 
 /// The record of the endless frames after 13 or 29 cycles, whose timer shows F3 or E3.
-pub(crate) fn after_frame(timer: u8, line_cycle: u8) -> [u8; 187] {
+fn after_frame(timer: u8, line_cycle: u8) -> [u8; 187] {
     let mut record = power_on();
     record[4] = 0x06;
     record[6] = 0x0A;
