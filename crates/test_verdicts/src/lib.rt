@@ -7,6 +7,8 @@
 #[cfg(test)]
 mod answer;
 #[cfg(test)]
+mod beyond_commands;
+#[cfg(test)]
 mod desk;
 #[cfg(test)]
 mod devices;

@@ -143,7 +143,7 @@ pub(crate) fn fourth_of_five_false(alloc: Global) -> Result<Movie, Fail> {
 }
 
 /// The cartridge of a program.
-fn cartridge(alloc: Global, program: &[u8]) -> Result<Cart, Fail> {
+pub(crate) fn cartridge(alloc: Global, program: &[u8]) -> Result<Cart, Fail> {
     let mut bytes = Vec::new(alloc);
     bytes.extend_from_slice(&rom(program))?;
     Ok(Cart::new(bytes).ok().ok_or("a cartridge")?)
