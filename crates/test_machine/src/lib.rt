@@ -1,15 +1,11 @@
-//! Worked examples of the processor, the TIA, the RIOT, the address map and whole frames, and what
-//! `test_manuals` needs too: a bus that keeps a log, and a row of pixels. They stand apart from
+//! Worked examples of the processor, the TIA, the RIOT and the address map, and what `test_manuals`
+//! needs too: a bus that keeps a log, and a row of pixels. They stand apart from
 //! those crates, since a crate with tests is proved twice, and all else waits for these.
 #![tactic(auto)]
 
-#[cfg(test)]
-mod edges;
 mod event;
 #[cfg(test)]
 mod expectation;
-#[cfg(test)]
-mod frames;
 mod log_bus;
 #[cfg(test)]
 mod masks;
