@@ -1,8 +1,8 @@
 //! A TIA and a RIOT at their addresses.
 
+use crate::row::Row;
 use crate::step::{Object, Step};
 use riot_map::{Place, Riot, place};
-use test_machine::Row;
 use tia_core::{Effect, Tia, TiaFields};
 
 /// No colour that a TIA puts.

@@ -1,12 +1,10 @@
 //! One instruction, and what another processor left of it.
 
+use crate::event::Event;
+use crate::log_bus::LogBus;
 use arrayvec::ArrayVec;
 use mos_cpu::{Cpu, step};
 use std::str::SplitWhitespace;
-use test_machine::{Event, LogBus};
-
-/// No page of the address space, so that each byte can be fetched.
-const NO_PAGE: u16 = 256;
 
 /// What is at addresses that an instruction doesn't use. It isn't 0, which some of the named bytes
 /// are.
@@ -66,7 +64,6 @@ impl Instruction {
             memory,
             clock: 0,
             events: ArrayVec::new(),
-            device_page: NO_PAGE,
         }
     }
 }

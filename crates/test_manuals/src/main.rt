@@ -11,7 +11,9 @@
 
 mod case;
 mod console;
+mod event;
 mod instruction;
+mod log_bus;
 mod registers;
 mod row;
 mod step;

@@ -1,8 +1,33 @@
-//! Rows of pixels as the cases spell them.
+//! Rows of pixels, and how the cases spell them.
+ghost use Rattle.std.specs.Prelude.{nat_lt, slice_set, if◌then◌else◌};
 
 use crate::step::{byte, place};
-use test_machine::Row;
 use tia_core::Paint;
+
+/// A line's pixels, as they were put last.
+#[derive(Clone, Copy, PartialEq, Eq)]
+pub(crate) struct Row {
+    pub pixels: [u8; 160],
+}
+
+impl Row {
+    /// Pixels of one colour.
+    pub(crate) fn of(colour: u8) -> Row {
+        Row {
+            pixels: [colour; 160],
+        }
+    }
+}
+
+impl Paint for Row {
+    ghost drawn = { λ s _ x c. if nat_lt x 160 then record { pixels = slice_set s.pixels x c } else s };
+
+    fn put(&mut self, _line: u16, x: u8, colour: u8) {
+        if x < 160 {
+            self.pixels[x as usize] = colour;
+        }
+    }
+}
 
 /// The row of a text as `00 40-47:1E 50:1E`: the background's colour, then stretches of other
 /// colours, each from its first pixel to its last.

@@ -1,8 +1,7 @@
 //! The steps of a case, as its lines say them.
 
 use crate::registers::address_of;
-use crate::row::parse_row;
-use test_machine::Row;
+use crate::row::{Row, parse_row};
 use tia_core::Effect;
 
 /// One of the objects that have a position.
