@@ -1,12 +1,15 @@
 //! Texts from outside, as a terminal or a log may be given them.
-ghost use Rattle.std.specs.Prelude.{◌≡◌, ◌↔◌, true};
-ghost use Rattle.terminal_text.specs.Names.{IsIgnorable, IsLineEnd, IsPlain};
+ghost use Rattle.std.specs.Prelude.{◌≡◌};
+ghost use Rattle.std.specs.Fmt.{WritesOnOk};
+ghost use Rattle.std.specs.List.{list_all};
+ghost use Rattle.std.specs.Str.{chars};
+ghost use Rattle.terminal_text.specs.Names.{is_ignorable, is_line_end, is_plain, shown_character};
 
 use std::fmt;
 
 /// Whether Unicode lets a character go unseen, as marks of the direction and spaces without a width.
 fn is_ignorable(c: char) -> bool
-    ensures { (result ≡ true) ↔ IsIgnorable c }
+    ensures { result ≡ is_ignorable c }
 {
     matches!(
         c,
@@ -32,7 +35,7 @@ fn is_ignorable(c: char) -> bool
 
 /// Whether a character ends a line or a paragraph, and is no control character.
 fn is_line_end(c: char) -> bool
-    ensures { (result ≡ true) ↔ IsLineEnd c }
+    ensures { result ≡ is_line_end c }
 {
     c == '\u{2028}' || c == '\u{2029}'
 }
@@ -54,25 +57,41 @@ impl<'a> Shown<'a> {
 
     /// Whether a character is shown as it is.
     pub fn is_plain(c: char) -> bool
-        ensures { (result ≡ true) ↔ IsPlain c }
+        ensures { result ≡ is_plain c }
     {
         !c.is_control() && !is_ignorable(c) && !is_line_end(c)
     }
 
     /// Whether the text is shown as it is.
-    pub fn is_all_plain(&self) -> bool {
+    pub fn is_all_plain(&self) -> bool
+        ensures { result ≡ list_all is_plain (chars self.now.text.now) }
+    {
         self.text.chars().all(|c| Shown::is_plain(c))
     }
 }
 
+/// Writes a character as it is, or escaped.
+fn write_shown<W: fmt::Write>(f: &mut fmt::Formatter<W>, c: char) -> fmt::Result
+    ensures { WritesOnOk W.write_str_gives f.old result (shown_character c) f.new }
+{
+    if Shown::is_plain(c) {
+        return f.write_char(c);
+    }
+    for character in c.escape_default() {
+        f.write_char(character)?;
+    }
+    Ok(())
+}
+
 impl fmt::Display for Shown<'_> {
+    ghost use Rattle.std.specs.Prelude.{Some};
+    ghost use Rattle.terminal_text.specs.Names.{shown_text};
+
+    ghost output = { λ shown. Some (shown_text shown.text.now) };
+
     fn fmt<W: fmt::Write>(&self, f: &mut fmt::Formatter<W>) -> fmt::Result {
         for c in self.text.chars() {
-            if Shown::is_plain(c) {
-                f.write_char(c)?;
-            } else {
-                write!(f, "{}", c.escape_default())?;
-            }
+            write_shown(f, c)?;
         }
         Ok(())
     }
