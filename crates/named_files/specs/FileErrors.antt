@@ -1,13 +1,14 @@
--- What is known of a file that failed. This project's own.
+-- What is known of a file, and of one that failed. This project's own.
 use Rattle.std.specs.Prelude.{◌≡◌, ℕ, ◌-◌, ◌≤◌, min, nat_lt, option_map, if◌then◌else◌, Bool, true, false, List, Option, Some, None, IfSome}
 use Rattle.named_files.specs.declared.file_error.CreateError.{CreateError}
 use Rattle.named_files.specs.declared.file_error.CreateError.TheVariants.{Open}
 use Rattle.named_files.specs.declared.file_error.FileError.{FileError}
 use Rattle.named_files.specs.declared.file_error.Reason.{Reason}
+use Rattle.named_files.specs.declared.named.Named.{Named}
 use Rattle.named_files.specs.declared.file_error.Reason.TheVariants.{IsInput, NoFreeName, NotCopied, System, TooLong}
 use Rattle.std.specs.IoError.{error_kind}
 use Rattle.std.specs.declared.io.ErrorKind.{ErrorKind}
-use Rattle.std.specs.declared.io.ErrorKind.TheVariants.{AlreadyExists, BrokenPipe}
+use Rattle.std.specs.declared.io.ErrorKind.TheVariants.{AlreadyExists, BrokenPipe, InvalidInput, ReadOnlyFilesystem, Unsupported}
 use Rattle.commands.specs.Streams.{input_limit}
 
 -- It is the file of this name.
@@ -22,6 +23,10 @@ NamesIfOpen name other = Unit {0}
 -- It is the file of this name, with this reason.
 abbrev pub IsAbout : List ℕ → Reason → FileError → Type 0
 IsAbout name reason error = Names name error × (error.reason ≡ reason)
+
+-- It was opened under this name: nothing was read of it, and it has not failed.
+abbrev pub IsOpened : {S : Type 0} → List ℕ → Named S → Type 0
+IsOpened name named = (named.name.now ≡ name) × (named.length ≡ 0) × (named.reason ≡ None) × (named.copy ≡ None)
 
 -- Why a file is no output of a command, by whether it keeps what is written, is a pipe, and is an
 -- input of the command, and by what keeps it from being one as it is a standard stream. What keeps
@@ -50,6 +55,13 @@ reason_beside kept reason = reason
 abbrev pub HasKind : ErrorKind → Reason → Type 0
 HasKind kind (System error) = error_kind error ≡ kind
 HasKind kind reason = ⊥
+
+-- The system has no sync for files of this kind, as pipes, and so says nothing of their bytes.
+abbrev pub IsNeverSynced : ErrorKind → Type 0
+IsNeverSynced InvalidInput = Unit {0}
+IsNeverSynced Unsupported = Unit {0}
+IsNeverSynced ReadOnlyFilesystem = Unit {0}
+IsNeverSynced kind = ⊥
 
 -- It is a pipe that nobody reads any more.
 abbrev pub IsBrokenPipe : FileError → Type 0

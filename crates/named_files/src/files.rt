@@ -1,6 +1,9 @@
 //! How the files of a command are opened.
-ghost use Rattle.std.specs.Prelude.{◌≡◌, ◌⊎◌, IfErr, codes};
-ghost use Rattle.named_files.specs.FileErrors.{Names, NamesIfOpen, conflict};
+ghost use Rattle.std.specs.Prelude.{◌≡◌, ◌⊎◌, IfErr, IfOk, Some, codes};
+ghost use Rattle.std.specs.Fs.{IsFile, file_type};
+ghost use Rattle.std.specs.List.{Contains};
+ghost use Rattle.named_files.specs.FileErrors.{IsOpened, Names, NamesIfOpen, conflict};
+ghost use Rattle.named_files.specs.declared.file_error.Reason.TheVariants.{IsInput};
 
 use crate::STANDARD_OUTPUT;
 use crate::file_error::{CreateError, FileError, Reason};
@@ -14,7 +17,8 @@ use std::rt::Files;
 
 /// Opens an input. The error is the system's.
 pub fn open<'a, R: Files>(rt: &R, name: &'a str) -> Result<Named<'a, R::File>, FileError<'a>>
-    ensures { IfErr result (Names name.now) }
+    ensures ok { IfOk result (IsOpened name.now) }
+    ensures err { IfErr result (Names name.now) }
 {
     match fs::open(rt, name) {
         Ok(file) => Ok(Named::new(name, file)),
@@ -39,7 +43,8 @@ pub fn open_beside<'a, R: Files>(
     name: &'a str,
     output: &'a str,
 ) -> Result<Named<'a, R::File>, FileError<'a>>
-    ensures { IfErr result (λ error. Names name.now error ⊎ Names output.now error) }
+    ensures ok { IfOk result (IsOpened name.now) }
+    ensures err { IfErr result (λ error. Names name.now error ⊎ Names output.now error) }
 {
     if is_one_pipe(rt, name, output) {
         return Err(FileError::new(output, Reason::IsInput));
@@ -69,15 +74,19 @@ fn conflict(keeps: bool, is_pipe: bool, is_input: bool, stream: Option<Reason>) 
     }
 }
 
-/// The same of the file of this metadata.
+/// The same of the file of this metadata and identity.
 fn conflict_of(
     metadata: &Metadata,
+    identity: Identity,
     inputs: &[Option<Identity>],
     stream: Option<Reason>,
-) -> Option<Reason> {
+) -> Option<Reason>
+    ensures input { IsFile (file_type metadata.now) → Contains inputs.now (Some identity) → result ≡ Some IsInput }
+    ensures other { IsFile (file_type metadata.now) → (Contains inputs.now (Some identity) → ⊥) → result ≡ stream }
+{
     let file_type = metadata.file_type();
     let keeps = metadata.is_file() || file_type.is_block_device();
-    let is_input = inputs.contains(&Some(Identity::new(metadata)));
+    let is_input = inputs.contains(&Some(identity));
     conflict(keeps, file_type.is_fifo(), is_input, stream)
 }
 
@@ -94,7 +103,7 @@ fn open_output<R: Files>(
     let is_written = is_stream(rt, "/dev/stdout", identity)
         || is_stream(rt, "/dev/stderr", identity);
     let stream = is_written.then_some(Reason::IsOutput);
-    match conflict_of(&metadata, inputs, stream) {
+    match conflict_of(&metadata, identity, inputs, stream) {
         Some(reason) => Err(reason),
         None => Ok(Output::new(file, metadata.is_file())),
     }
@@ -113,7 +122,8 @@ pub fn create<'a, 'b, R: Files + AllocGlobal>(
     inputs: &[Option<Identity>],
     whole: Whole,
 ) -> Result<Named<'a, Replacing<'b, R>>, CreateError<'a>>
-    ensures { IfErr result (NamesIfOpen name.now) }
+    ensures ok { IfOk result (IsOpened name.now) }
+    ensures err { IfErr result (NamesIfOpen name.now) }
 {
     let output = match open_output(rt, name, inputs) {
         Ok(output) => output,
@@ -132,9 +142,10 @@ fn conflict_of_standard_output<R: Files>(
     inputs: &[Option<Identity>],
 ) -> Result<(), Reason> {
     let metadata = fs::metadata(rt, "/dev/stdout")?;
-    let is_written = is_stream(rt, "/dev/stderr", Identity::new(&metadata));
+    let identity = Identity::new(&metadata);
+    let is_written = is_stream(rt, "/dev/stderr", identity);
     let stream = is_written.then_some(Reason::IsStandardError);
-    match conflict_of(&metadata, inputs, stream) {
+    match conflict_of(&metadata, identity, inputs, stream) {
         Some(reason) => Err(reason),
         None => Ok(()),
     }

@@ -1,6 +1,6 @@
 //! Files and standard streams with their names.
 ghost use Rattle.std.specs.Prelude.{◌≡◌, ◌≢◌, ◌+◌, ◌-◌, ◌^◌, ◌++◌, [], min, take, None, Some};
-ghost use Rattle.std.specs.Prelude.{IfErr, IfOk, IfSome, IsSomeAnd, OnOk};
+ghost use Rattle.std.specs.Prelude.{IfErr, IfOk, IfSome, IsSomeAnd, OnErr, OnOk};
 ghost use Rattle.std.specs.Io.{ReadsAtMost, WritesAtMost};
 ghost use Rattle.std.specs.Io.KnownBytes.{Keeps, ReadConsumes, WriteAppends};
 ghost use Rattle.named_files.specs.FileErrors.{IsAbout, reason_at_length, reason_beside};
@@ -46,6 +46,7 @@ impl<'a, S> Named<'a, S> {
     pub fn keeping(self, alloc: Global) -> Named<'a, S>
         ensures name { result.name.now ≡ self.entry.name.now }
         ensures stream { result.stream ≡ self.entry.stream }
+        ensures length { result.length ≡ self.entry.length }
         ensures reason { result.reason ≡ self.entry.reason }
         ensures copy { IsSomeAnd result.copy (λ copy. copy.items ≡ []) }
     {
@@ -119,6 +120,7 @@ impl<'a, R: Files> Named<'a, Replacing<'_, R>> {
 
     /// Takes out the bytes of before, if none was written.
     pub fn finish(&mut self) -> io::Result<()>
+        ensures others { self.new ≡ record self.old { stream = self.new.stream; reason = self.new.reason } }
         ensures ok { OnOk result (self.new.reason ≡ self.old.reason) }
         ensures err { IfErr result (λ error. self.new.reason ≡ Some (System error)) }
     {
@@ -136,11 +138,13 @@ impl<S: Read> Read for Named<'_, S> {
     fn read(&mut self, buf: &mut [u8]) -> io::Result<usize>
         ensures bound { ReadsAtMost result buf.new }
         ensures bytes { ReadConsumes (S.remaining self.old.stream) (S.remaining self.new.stream) result buf.new }
+        ensures name { self.new.name ≡ self.old.name }
         ensures length { IfOk result (λ n. self.new.length ≡ min (self.old.length + n) (2 ^ 64 - 1)) }
         ensures ok { IfOk result (λ n. self.new.reason ≡ reason_at_length (self.old.length + n) self.old.reason) }
         ensures err { IfErr result (λ error. self.new.reason ≡ Some (System error)) }
         ensures copy { IfOk result (λ n. IfSome self.new.copy (λ copy.
             IsSomeAnd self.old.copy (λ before. copy.items ≡ before.items ++ take n buf.new))) }
+        ensures kept { OnErr result ((self.new.length ≡ self.old.length) × (self.new.copy ≡ self.old.copy)) }
     {
         let answer = self.stream.read(buf);
         match &answer {
@@ -163,6 +167,7 @@ impl<S: Write> Write for Named<'_, S> {
     fn write(&mut self, buf: &[u8]) -> io::Result<usize>
         ensures bound { WritesAtMost result buf.now }
         ensures bytes { WriteAppends (S.contents self.old.stream) (S.contents self.new.stream) result buf.now }
+        ensures others { self.new ≡ record self.old { stream = self.new.stream; reason = self.new.reason } }
         ensures none { IfOk result (λ n. n ≡ 0 → self.new.reason ≡ Some TookNothing) }
         ensures some { IfOk result (λ n. n ≢ 0 → self.new.reason ≡ self.old.reason) }
         ensures err { IfErr result (λ error. self.new.reason ≡ Some (System error)) }
@@ -178,6 +183,7 @@ impl<S: Write> Write for Named<'_, S> {
 
     fn flush(&mut self) -> io::Result<()>
         ensures bytes { Keeps (S.contents self.old.stream) (S.contents self.new.stream) }
+        ensures others { self.new ≡ record self.old { stream = self.new.stream; reason = self.new.reason } }
         ensures ok { OnOk result (self.new.reason ≡ self.old.reason) }
         ensures err { IfErr result (λ error. self.new.reason ≡ Some (System error)) }
     {

@@ -2,7 +2,7 @@
 //! a program by a signal, which can't be caught here. So no such byte is written.
 ghost use Rattle.std.specs.Prelude.{◌≡◌, ◌↔◌, ◌≤◌, ◌<◌, IfOk, IfSome, OnErr, Some, length, take, true};
 ghost use Rattle.std.specs.Io.{WritesAtMost};
-ghost use Rattle.std.specs.Io.KnownBytes.{WriteAppends};
+ghost use Rattle.std.specs.Io.KnownBytes.{Keeps, WriteAppends};
 ghost use Rattle.named_files.specs.FileErrors.{HasRoom, left_after, within_quota};
 
 use std::io::{self, Read, Write};
@@ -81,7 +81,9 @@ impl Quota {
     }
 
     /// Whether there is room for a whole text.
-    pub fn has_room<D: fmt::Display + Drop>(&self, text: D) -> bool {
+    pub fn has_room<D: fmt::Display + Drop>(&self, text: D) -> bool
+        ensures { result ≡ true → IfSome (D.output text) (λ bytes. HasRoom self.now.left (length bytes)) }
+    {
         use std::fmt::Write as _;
 
         let mut quota = *self;
@@ -149,6 +151,7 @@ impl<W: Write> Write for Limited<W> {
         ensures bytes { WriteAppends (W.contents self.old.stream) (W.contents self.new.stream) result buf.now }
         ensures most { IfOk result (λ n. IfSome self.old.quota.left (λ left. n ≤ left)) }
         ensures quota { IfOk result (λ n. self.new.quota.left ≡ left_after n self.old.quota.left) }
+        ensures err { OnErr result (self.new.quota ≡ self.old.quota) }
     {
         let part = self.quota.part(buf)?;
         let bytes = self.stream.write(part)?;
@@ -156,7 +159,10 @@ impl<W: Write> Write for Limited<W> {
         Ok(bytes)
     }
 
-    fn flush(&mut self) -> io::Result<()> {
+    fn flush(&mut self) -> io::Result<()>
+        ensures bytes { Keeps (W.contents self.old.stream) (W.contents self.new.stream) }
+        ensures quota { self.new.quota ≡ self.old.quota }
+    {
         self.stream.flush()
     }
 }
