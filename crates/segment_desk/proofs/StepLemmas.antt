@@ -11,8 +11,8 @@ use lib.Seq.{set-get_or}
 use Rattle.atomic_table.specs.Table.{step, keeps, opening, Allows, Splits, Joins}
 use Rattle.atomic_table.proofs.Lists.{set_here, set_again, set_else}
 use Rattle.std.proofs.lemmas.Option.{slice_get_within}
-use Rattle.segment_desk.specs.Desk.{times, fresh_part, spent_part, with_drawn, at_end, with_number}
-use Rattle.segment_desk.specs.Desk.{with_passed, draw_at, look_at, report_at, with_handed_in}
+use Rattle.segment_desk.specs.Desk.{times, fresh_part, spent_part, with_drawn, at_end}
+use Rattle.segment_desk.specs.Desk.{draw_at, look_at, report_at, with_handed_in}
 use Rattle.segment_desk.specs.Desk.{Reached, opened, went_on, DeskState, desk_at, StandsIn}
 use Rattle.segment_desk.specs.Private.Plays.{staying_part, split_of, Seat, Drew, Looked, Reported}
 use Rattle.segment_desk.specs.Private.Plays.{Settled}
