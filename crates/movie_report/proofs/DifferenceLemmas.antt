@@ -1,6 +1,6 @@
 -- The numbers of two records from a place on.
-use Rattle.std.proofs.Common.{◌≡◌, ℕ, ◌+◌, ◌<◌, ◌≤◌, List, [], ◌∷◌, ◌++◌, length, refl, arith, ap}
-use Rattle.std.proofs.Common.{◌∙◌, sym, add-one, take, drop, append_assoc, append-nil, drop-drop}
+use Rattle.std.proofs.Common.{◌≡◌, ℕ, ◌+◌, ◌<◌, List, [], ◌∷◌, ◌++◌, length, refl, arith, ap}
+use Rattle.std.proofs.Common.{add-one, take, drop, append_assoc, append-nil, drop-drop}
 use Rattle.std.proofs.Common.{inl, inr}
 use Rattle.std.specs.Prelude.{Bool, true, false, cond, count_by, not, if◌then◌else◌}
 use Rattle.std.specs.Str.{bytes_eq}

@@ -1,10 +1,9 @@
 -- The signs that a verdict tells.
-use Rattle.std.proofs.Common.{◌≡◌, ◌≢◌, ℕ, zero, suc, ◌+◌, ◌-◌, ◌<◌, ◌≤◌, ◌⊎◌, List, length, Some, None}
-use Rattle.std.proofs.Common.{slice_get, refl, arith, subst, sym, add-one, below_more, inl, inr, true, false, Bool}
-use Rattle.std.specs.Prelude.{◌==◌, if◌then◌else◌}
+use Rattle.std.proofs.Common.{◌≡◌, ℕ, zero, suc, ◌+◌, ◌-◌, ◌<◌, ◌≤◌, List, length, Some}
+use Rattle.std.proofs.Common.{slice_get, refl, arith, subst, sym, inl, inr, true, false, Bool}
+use Rattle.std.specs.Prelude.{if◌then◌else◌}
 use Rattle.std.specs.List.{Contains}
 use Rattle.std.proofs.lemmas.Bool.{cases_lt, eqb-true}
-use Rattle.std.proofs.lemmas.Bool.Decides.{nat_tests}
 use Rattle.std.proofs.lemmas.Option.{slice_get_within, slice_get_past, slice_get_read}
 use Rattle.vcs_machine.specs.Outcomes.{Failed}
 use Rattle.vcs_machine.specs.declared.fault.FaultKind.{FaultKind}
@@ -18,7 +17,7 @@ use Rattle.replay_plan.specs.declared.keep.Keep.{Keep}
 use Rattle.replay_segments.specs.Cuts.{Fits, IsEvery}
 use Rattle.replay_segments.specs.KeptPictures.{pictures}
 use Rattle.replay_segments.specs.NextCheckpoint.{IsNext}
-use Rattle.replay_segments.specs.Segments.{end_of, from_of, start_of, IsSegment}
+use Rattle.replay_segments.specs.Segments.{end_of, from_of, start_of}
 use Rattle.replay_segments.specs.Verdicts.{HasVerdict}
 use Rattle.replay_segments.specs.declared.verdict.Verdict.TheVariants.{Genuine, FalseCheckpoint, Fault}
 use Rattle.replay_segments.proofs.CheckpointLemmas.{frames_rise}

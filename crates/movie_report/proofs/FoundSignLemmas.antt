@@ -4,7 +4,7 @@ use Rattle.std.proofs.Common.{slice_get, slice_set, length-set, refl}
 use Rattle.std.proofs.lemmas.List.{length-replicate}
 use Rattle.std.specs.Prelude.{IfSome}
 use Rattle.movie_file.specs.Movie.{MovieData}
-use Rattle.movie_report.specs.Private.FoundSigns.{AreFound, IsRow}
+use Rattle.movie_report.specs.Private.FoundSigns.{IsRow}
 use Rattle.movie_report.specs.Segments.{HasSign}
 use Rattle.movie_report.specs.declared.segments.Sign.{Sign}
 

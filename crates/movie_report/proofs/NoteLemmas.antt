@@ -1,11 +1,8 @@
 -- Notes.
-use Rattle.std.proofs.Common.{◌≡◌, ◌≢◌, ℕ, ◌-◌, ◌≤◌, List, [], ◌∷◌, ◌++◌, length, codes, arith, Some, slice_get, append-nil}
+use Rattle.std.proofs.Common.{◌≡◌, ◌≢◌, ℕ, ◌-◌, ◌≤◌, List, [], ◌∷◌, ◌++◌, codes, arith, Some, append-nil}
 use Rattle.std.proofs.lemmas.Bool.Decides.{nat_tests}
 use Rattle.std.specs.Fmt.{decimal}
-use Rattle.std.specs.List.{flat_map}
-use Rattle.movie_file.specs.Movie.{MovieData}
 use Rattle.movie_file.specs.declared.checkpoint.Checkpoint.{Checkpoint}
-use Rattle.movie_report.specs.CheckpointFacts.{last_of}
 use Rattle.movie_report.specs.Notes.{claim_notes, note_text, note_texts}
 use Rattle.replay_plan.specs.declared.notation.Notation.{Notation}
 

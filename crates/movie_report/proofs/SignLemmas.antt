@@ -1,5 +1,5 @@
 -- The signs of segments.
-use Rattle.std.proofs.Common.{◌≡◌, ℕ, ◌+◌, ◌-◌, List, [], ◌∷◌, ◌++◌, length}
+use Rattle.std.proofs.Common.{◌≡◌, ℕ, ◌+◌, ◌-◌, List, ◌∷◌, ◌++◌, length}
 use Rattle.std.proofs.Common.{slice_get, take, drop, arith, length-append, length-drop, ap, zero, suc, replicate, subst, ◌<◌, ◌≤◌}
 use Rattle.std.proofs.Common.{append-nil, ◌∙◌, sym, min}
 use Rattle.std.specs.Prelude.{IfSome, if◌then◌else◌}

@@ -1,4 +1,4 @@
-use Rattle.std.proofs.Common.{◌≡◌, sym, slice_get, Some}
+use Rattle.std.proofs.Common.{sym}
 use Rattle.run_cursor.specs.RunFaults.{FaultsWithin}
 use Rattle.movie_report.proofs.ReasonLemmas.{later_frame, is_false_after}
 use Rattle.movie_report.proofs.reason.is_true.Goals as goal

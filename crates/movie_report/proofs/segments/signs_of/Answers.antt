@@ -1,4 +1,4 @@
-use Rattle.std.proofs.Common.{◌≡◌, ◌+◌, ◌++◌, ◌∷◌, [], replicate, append_assoc, refl, rules}
+use Rattle.std.proofs.Common.{◌≡◌, replicate, append_assoc, refl, rules}
 use Rattle.movie_report.proofs.SignLemmas.{AreSigns-parts, AreSigns-least}
 use Rattle.movie_report.specs.declared.segments.Sign.TheVariants.{Passes}
 use Rattle.movie_report.proofs.segments.signs_of.Goals as goal
