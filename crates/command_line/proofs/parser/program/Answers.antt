@@ -3,7 +3,7 @@ use Rattle.std.proofs.lemmas.Result.{IfOk-weaker}
 use Rattle.clap.specs.Words.{App, app_of, new_app}
 use Rattle.clap.specs.Simple.{app_of_fields}
 use Rattle.clap.specs.declared.builder.Command.TheViews.{out-Command}
-use Rattle.command_line.specs.Table.{IsApp, commands, explain_row}
+use Rattle.command_line.specs.Table.{commands, explain_row}
 use Rattle.command_line.proofs.Added.{all_commands, one_argument}
 use Rattle.command_line.proofs.parser.program.Goals as goal
 
