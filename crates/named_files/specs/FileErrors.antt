@@ -1,5 +1,5 @@
 -- What is known of a file, and of one that failed. This project's own.
-use Rattle.std.specs.Prelude.{◌≡◌, ℕ, ◌-◌, ◌≤◌, min, nat_lt, option_map, if◌then◌else◌, Bool, true, false, List, Option, Some, None, IfSome}
+use Rattle.std.specs.Prelude.{◌≡◌, ℕ, ◌-◌, ◌≤◌, min, nat_lt, option_map, if◌then◌else◌, Bool, true, false, List, Option, Some, None, IfSome, IsSomeAnd}
 use Rattle.named_files.specs.declared.file_error.CreateError.{CreateError}
 use Rattle.named_files.specs.declared.file_error.CreateError.TheVariants.{Open}
 use Rattle.named_files.specs.declared.file_error.FileError.{FileError}
@@ -27,6 +27,11 @@ IsAbout name reason error = Names name error × (error.reason ≡ reason)
 -- It was opened under this name: nothing was read of it, and it has not failed.
 abbrev pub IsOpened : {S : Type 0} → List ℕ → Named S → Type 0
 IsOpened name named = (named.name.now ≡ name) × (named.length ≡ 0) × (named.reason ≡ None) × (named.copy ≡ None)
+
+-- It is why this file failed, if it has, by its name.
+abbrev pub IsErrorOf : {S : Type 0} → Named S → Option FileError → Type 0
+IsErrorOf named None = named.reason ≡ None
+IsErrorOf named (Some error) = IsSomeAnd named.reason (λ reason. IsAbout named.name.now reason error)
 
 -- Why a file is no output of a command, by whether it keeps what is written, is a pipe, and is an
 -- input of the command, and by what keeps it from being one as it is a standard stream. What keeps

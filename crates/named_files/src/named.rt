@@ -3,7 +3,7 @@ ghost use Rattle.std.specs.Prelude.{◌≡◌, ◌≢◌, ◌+◌, ◌-◌, ◌^
 ghost use Rattle.std.specs.Prelude.{IfErr, IfOk, IfSome, IsSomeAnd, OnErr, OnOk};
 ghost use Rattle.std.specs.Io.{ReadsAtMost, WritesAtMost};
 ghost use Rattle.std.specs.Io.KnownBytes.{Keeps, ReadConsumes, WriteAppends};
-ghost use Rattle.named_files.specs.FileErrors.{IsAbout, reason_at_length, reason_beside};
+ghost use Rattle.named_files.specs.FileErrors.{IsAbout, IsErrorOf, reason_at_length, reason_beside};
 ghost use Rattle.named_files.specs.declared.file_error.Reason.TheVariants.{System, TookNothing};
 
 use crate::file_error::{FileError, Reason};
@@ -92,6 +92,7 @@ impl<'a, S> Named<'a, S> {
 
     /// The name and the reason, if it failed.
     pub fn file_error(&self) -> Option<FileError<'a>>
+        ensures error { IsErrorOf self.now result }
         ensures failed { IfSome self.now.reason (λ reason. IsSomeAnd result (IsAbout self.now.name.now reason)) }
         ensures whole { self.now.reason ≡ None → result ≡ None }
     {
