@@ -1,4 +1,6 @@
 pub mod Conclusions
 pub mod FileParts
+pub mod HintLemmas
 pub mod InputLemmas
+pub mod LineLemmas
 pub mod ObjectLemmas

@@ -3,7 +3,7 @@
 use Rattle.std.specs.Prelude.{◌≡◌, ◌⊎◌, ℕ, List, Option, Some, None, Result, Ok, IfOk, IfErr, codes, option_map, string_bytes}
 use Rattle.std.specs.Io.KnownBytes.{Appends, Keeps}
 use Rattle.command_line.specs.declared.command.Command.{Command}
-use Rattle.command_line.specs.declared.command.Command.TheVariants.{Make, Report}
+use Rattle.command_line.specs.declared.command.Command.TheVariants.{Make, Pictures, Report, Verify}
 use Rattle.command_line.specs.declared.command.CommandLine.{CommandLine}
 use Rattle.commands.specs.Commands.{HasBegun, IsAnswered as Answers, IsGradual}
 use Rattle.commands.specs.Streams.{ReadsAll}
@@ -19,6 +19,12 @@ abbrev pub second_name : Command → Option (List ℕ)
 second_name (Make inputs form every) = Some (string_bytes inputs)
 second_name (Report workers notation rom expectations) = option_map (λ name. string_bytes name) rom
 second_name other = None
+
+-- What a command writes to a file is pictures.
+abbrev pub WritesPictures : Command → Type 0
+WritesPictures (Verify plan notation) = Unit {0}
+WritesPictures (Pictures first count) = Unit {0}
+WritesPictures other = ⊥
 
 -- The first input is standard input,
 abbrev pub ReadsFirst : CommandLine → Type 0

@@ -1,12 +1,14 @@
 -- How the program ends, and what standard output gets then. This project's own.
-use Rattle.std.specs.Prelude.{◌≡◌, ◌⊎◌, ℕ, List, None, Option, Result, Ok, Err}
+use Rattle.std.specs.Prelude.{◌≡◌, ◌⊎◌, ℕ, List, None, Option, Result, Ok, Err, String}
 use Rattle.std.specs.Io.KnownBytes.{Keeps}
 use Rattle.std.specs.declared.io.ErrorKind.{ErrorKind}
 use Rattle.std.specs.declared.io.ErrorKind.TheVariants.{OutOfMemory}
 use Rattle.command_line.specs.declared.command.LineFault.{LineFault}
 use Rattle.command_line.specs.declared.command.LineFault.TheVariants as faults
+use Rattle.vcs_check.specs.Commands.{ReadsTwice}
 use Rattle.vcs_check.specs.ErrorObjects.{GetsErrorObject, SaysErrors}
 use Rattle.vcs_check.specs.Failures.{IsToldAs}
+use Rattle.vcs_check.specs.Lines.{IsFaultOfWords, IsLineOfWords}
 use Rattle.vcs_check.specs.declared.failure.Failure.{Failure}
 use Rattle.vcs_check.specs.declared.failure.Failure.TheVariants.{Run}
 use Rattle.vcs_check.specs.declared.ending.Ending.{Ending}
@@ -38,6 +40,13 @@ abbrev pub of_fault : LineFault → Ending
 of_fault (faults.Help text) = Help text
 of_fault (faults.Usage text) = Usage text
 of_fault faults.Memory = Failed (Run NoMemory None)
+
+-- It is how the program ends of which these are the words: for a fault, or since both inputs of their
+-- command line are standard input.
+abbrev pub IsEndingOfWords : {Z : Type 0} → List (String Z) → Ending → Type 0
+IsEndingOfWords words ending =
+    ((fault : LineFault) × IsFaultOfWords words fault × (ending ≡ of_fault fault))
+    ⊎ ((line : CommandLine) × IsLineOfWords words line × ReadsTwice line × (ending ≡ Twice))
 
 -- What standard output gets after a failure: of a command that answers in JSON there an object, and
 -- else nothing.

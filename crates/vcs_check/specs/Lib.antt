@@ -1,5 +1,6 @@
 pub mod Failures
 pub mod Commands
+pub mod Lines
 pub mod Endings
 pub mod Reasons
 pub mod Private

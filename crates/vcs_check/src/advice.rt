@@ -1,4 +1,6 @@
 //! What `clap` advises about words that are no command.
+ghost use Rattle.std.specs.Prelude.{◌≡◌, ◌↔◌, IfOk, IfSome, IsSome, None, Some, codes, slice_get};
+ghost use Rattle.vcs_check.specs.Lines.{ExplainsHelp, texts_of, without_explain};
 
 use crate::reasons::has_explain;
 use command_line::{CommandLine, LineFault, parse_line};
@@ -221,7 +223,9 @@ fn with_verify(alloc: Global, words: &[String], text: String) -> Result<String, 
 }
 
 /// The words after `help`, if that is the first.
-fn asked_of_help(words: &[String]) -> Option<&[String]> {
+fn asked_of_help(words: &[String]) -> Option<&[String]>
+    ensures { IsSome result ↔ slice_get (texts_of words.now) 1 ≡ Some (codes "help") }
+{
     match words {
         [_, first, others @ ..] if first.as_str() == "help" => Some(others),
         _ => None,
@@ -229,7 +233,9 @@ fn asked_of_help(words: &[String]) -> Option<&[String]> {
 }
 
 /// The words without `--explain`.
-fn without_explain(alloc: Global, words: &[String]) -> Result<Vec<String>, AllocError> {
+fn without_explain(alloc: Global, words: &[String]) -> Result<Vec<String>, AllocError>
+    ensures { IfOk result (λ others. texts_of others.items ≡ without_explain (texts_of words.now)) }
+{
     let mut others = Vec::with_capacity(alloc, words.len())?;
     for word in words {
         if word.as_str() != "--explain" {
@@ -243,7 +249,10 @@ fn without_explain(alloc: Global, words: &[String]) -> Result<Vec<String>, Alloc
 pub(crate) fn help_without_explain(
     alloc: Global,
     words: &[String],
-) -> Result<Option<Vec<String>>, AllocError> {
+) -> Result<Option<Vec<String>>, AllocError>
+    ensures some { IfOk result (λ asked. IfSome asked (λ others. ExplainsHelp words.now × (texts_of others.items ≡ without_explain (texts_of words.now)))) }
+    ensures none { IfOk result (λ asked. asked ≡ None → ExplainsHelp words.now → ⊥) }
+{
     if asked_of_help(words).is_none() || !has_explain(words) {
         return Ok(None);
     }

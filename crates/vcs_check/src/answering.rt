@@ -1,6 +1,6 @@
 //! A command and its files.
 ghost use Rattle.std.specs.Prelude.{◌≡◌, ◌≢◌, ◌⊎◌, ◌↔◌, List, ℕ, Option, Ok, true, Err, IfErr, IfOk, OnErr};
-ghost use Rattle.std.specs.Prelude.{option_copied, option_map, string_bytes};
+ghost use Rattle.std.specs.Prelude.{None, codes, is_some, option_copied, option_map, string_bytes};
 ghost use Rattle.std.specs.Io.KnownBytes.{Appends, Keeps};
 ghost use Rattle.commands.specs.Commands.{HasBegun, IsGradual, StartsThreads};
 ghost use Rattle.commands.specs.Streams.{ReadsAll};
@@ -8,7 +8,9 @@ ghost use Rattle.movie_file.specs.Movie.{MovieData};
 ghost use Rattle.movie_file.specs.Reading.{movie_at};
 ghost use Rattle.picture_file.specs.Prefixes.{AppendsPrefix};
 ghost use Rattle.vcs_check.specs.Commands.{IsFile, IsText, KeepsQuiet, LeavesPart, ReadsFirst, ReadsInputs, ReadsSecond};
-ghost use Rattle.vcs_check.specs.Commands.{ReadsTwice, TakesFile, Writes, second_name};
+ghost use Rattle.vcs_check.specs.Commands.{ReadsTwice, TakesFile, Writes, WritesPictures, second_name};
+ghost use Rattle.named_files.specs.FileErrors.{Names};
+ghost use Rattle.named_files.specs.declared.replacing.Whole.TheVariants.{Flushed, Written};
 ghost use Rattle.vcs_check.specs.Failures.{IsNoThread};
 ghost use Rattle.vcs_check.specs.Private.Inputs.{ReadsBoth, ReadsFirstly, ReadsWith};
 
@@ -50,12 +52,17 @@ fn flush<W: Write>(writer: &mut W) -> Result<(), RunError>
 }
 
 /// Whether pictures are what a command writes to a file.
-pub(crate) fn draws(command: &Command) -> bool {
+pub(crate) fn draws(command: &Command) -> bool
+    ensures { (result ≡ true) ↔ WritesPictures command.now }
+{
     matches!(command, Command::Verify { .. } | Command::Pictures { .. })
 }
 
 /// When the file is whole that a command writes: pictures come one by one, a movie at once.
-fn whole(command: &Command) -> Whole {
+fn whole(command: &Command) -> Whole
+    ensures pictures { WritesPictures command.now → result ≡ Flushed }
+    ensures other { (WritesPictures command.now → ⊥) → result ≡ Written }
+{
     if draws(command) {
         Whole::Flushed
     } else {
@@ -331,7 +338,10 @@ fn open_input<'a, R: Files + AllocGlobal>(
     rt: &R,
     line: &'a CommandLine,
     name: &'a str,
-) -> Result<Named<'a, R::File>, FileError<'a>> {
+) -> Result<Named<'a, R::File>, FileError<'a>>
+    ensures ok { IfOk result (λ input. (input.name.now ≡ name.now) × (input.length ≡ 0) × (input.reason ≡ None)) }
+    ensures copy { IfOk result (λ input. is_some input.copy ≡ line.now.explain) }
+{
     let input = match line.output.as_deref() {
         Some(output) if output != STANDARD => open_beside(rt, name, output)?,
         _ => open(rt, name)?,
@@ -347,7 +357,10 @@ fn open_input<'a, R: Files + AllocGlobal>(
 fn identity_of<'a, F: OpenFile>(
     line: &CommandLine,
     input: &Named<'a, F>,
-) -> Result<Option<Identity>, FileError<'a>> {
+) -> Result<Option<Identity>, FileError<'a>>
+    ensures ok { IfOk result (λ identity. is_some identity ≡ is_some line.now.output) }
+    ensures err { IfErr result (Names input.now.name.now) }
+{
     match line.output {
         Some(_) => Ok(Some(Identity::of(input)?)),
         None => Ok(None),
@@ -358,7 +371,10 @@ fn identity_of<'a, F: OpenFile>(
 fn identity_of_standard_input<R: Files>(
     rt: &R,
     line: &CommandLine,
-) -> Result<Option<Identity>, FileError<'static>> {
+) -> Result<Option<Identity>, FileError<'static>>
+    ensures ok { IfOk result (λ identity. is_some identity ≡ is_some line.now.output) }
+    ensures err { IfErr result (Names (codes "standard input")) }
+{
     match line.output {
         Some(_) => Ok(Some(Identity::of_standard_input(rt)?)),
         None => Ok(None),

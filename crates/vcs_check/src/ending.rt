@@ -1,7 +1,8 @@
 //! How the program ends if no command came to a status.
-ghost use Rattle.std.specs.Prelude.{◌≡◌};
+ghost use Rattle.std.specs.Prelude.{◌≡◌, ◌↔◌, true};
 ghost use Rattle.std.specs.Process.{exit_status};
 ghost use Rattle.vcs_check.specs.Endings.{IsReported, exit_code};
+ghost use Rattle.vcs_check.specs.Private.FileErrors.{IsSilent};
 
 use crate::failure::Failure;
 use crate::reasons::write_reason;
@@ -107,7 +108,9 @@ impl Ending<'_> {
     }
 
     /// Whether it is that a reader has gone away, who wants no text any more.
-    fn is_silent(&self) -> bool {
+    fn is_silent(&self) -> bool
+        ensures { (result ≡ true) ↔ IsSilent self.now }
+    {
         match self {
             Ending::Failed(failure) => failure.is_broken_pipe(),
             _ => false,

@@ -1,5 +1,6 @@
 //! What was read of a command's inputs.
-ghost use Rattle.std.specs.Prelude.{◌≡◌};
+ghost use Rattle.std.specs.Prelude.{◌≡◌, None};
+ghost use Rattle.vcs_check.specs.Commands.{ReadsFirst, ReadsSecond};
 
 use crate::answering::{reads_first, reads_second};
 use command_line::CommandLine;
@@ -15,7 +16,10 @@ pub(crate) struct Kept {
 
 impl Kept {
     /// Before anything is read.
-    pub(crate) fn nothing() -> Kept {
+    pub(crate) fn nothing() -> Kept
+        ensures first { result.first ≡ None }
+        ensures second { result.second ≡ None }
+    {
         Kept {
             first: None,
             second: None,
@@ -24,7 +28,11 @@ impl Kept {
 
     /// Takes what was read of standard input, if one of a command line's inputs is that.
     pub(crate) fn take_standard<S>(&mut self, line: &CommandLine, input: &mut Named<'_, S>)
-        ensures { input.new.stream ≡ input.old.stream }
+        ensures first { ReadsFirst line.now → self.new ≡ record self.old { first = input.old.copy } }
+        ensures second { (ReadsFirst line.now → ⊥) → ReadsSecond line.now → self.new ≡ record self.old { second = input.old.copy } }
+        ensures none { (ReadsFirst line.now → ⊥) → (ReadsSecond line.now → ⊥) → self.new ≡ self.old }
+        ensures input { input.new ≡ record input.old { copy = input.new.copy } }
+        ensures same_stream { input.new.stream ≡ input.old.stream }
     {
         if reads_first(line) {
             self.first = input.take_copy();

@@ -17,12 +17,20 @@ mod reasons;
 mod remarks;
 
 ghost use Rattle.vcs_check.specs.Commands.{KeepsQuiet, LeavesPart, ReadsInputs, ReadsTwice, Writes};
-ghost use Rattle.vcs_check.specs.Endings.{Concludes};
+ghost use Rattle.vcs_check.specs.Endings.{Concludes, IsEndingOfWords};
 ghost use Rattle.vcs_check.specs.ErrorObjects.{GetsErrorObject, SaysErrors};
+ghost use Rattle.vcs_check.specs.Lines.{IsAdvised, IsFaultOf, IsFaultOfWords, IsLineOf, IsLineOfWords, IsMistake, texts_of};
+ghost use Rattle.command_line.specs.Faults.{IsRefusal};
+ghost use Rattle.command_line.specs.declared.command.LineFault.{LineFault as Refused};
+ghost use Rattle.terminal_text.specs.Names.{shown_text};
 ghost use Rattle.vcs_check.specs.declared.failure.Failure.{Failure as WhyNot};
 ghost use Rattle.commands.specs.declared.status.Status.{Status};
+ghost use Rattle.named_files.specs.FileErrors.{IsAbout, IsErrorOf};
 ghost use Rattle.named_files.specs.declared.file_error.FileError.{FileError as FailedFile};
-ghost use Rattle.std.specs.Prelude.{◌≡◌, ℕ, IfOk, List, Option, Result};
+ghost use Rattle.named_files.specs.declared.file_error.Reason.TheVariants.{IsTerminal as IsTerminalOutput};
+ghost use Rattle.vcs_check.specs.declared.ending.Ending.TheVariants.{Failed};
+ghost use Rattle.vcs_check.specs.declared.failure.Failure.TheVariants.{Open};
+ghost use Rattle.std.specs.Prelude.{◌≡◌, ◌⊎◌, ℕ, IfErr, IfOk, List, Option, Result, codes, map};
 ghost use Rattle.vcs_check.specs.Private.FileErrors.{by_input, by_output};
 ghost use Rattle.std.specs.Io.KnownBytes.{Keeps};
 ghost use Rattle.std.specs.Process.{exit_status};
@@ -52,11 +60,9 @@ use std::thread::Threads;
 use terminal_text::Shown;
 
 /// The same reason why words are no command, without advice that leads to none.
-fn advised_fault(
-    alloc: Global,
-    words: &[String],
-    fault: LineFault,
-) -> Result<LineFault, AllocError> {
+fn advised_fault(alloc: Global, words: &[String], fault: LineFault) -> Result<LineFault, AllocError>
+    ensures { IfOk result (IsAdvised fault) }
+{
     match fault {
         LineFault::Usage { text } => Ok(LineFault::Usage {
             text: advised(alloc, words, text)?,
@@ -67,7 +73,9 @@ fn advised_fault(
 
 /// Why some words are no command, where some of them aren't shown as they are: the reason of those
 /// that are shown in their place.
-fn fault_of_shown(alloc: Global, words: &[String]) -> Result<LineFault, AllocError> {
+fn fault_of_shown(alloc: Global, words: &[String]) -> Result<LineFault, AllocError>
+    ensures { IfOk result (λ told. IsMistake told ⊎ ((fault : Refused) × IsAdvised fault told × IsRefusal (map shown_text (texts_of words.now)) fault)) }
+{
     let mut shown = Vec::with_capacity(alloc, words.len())?;
     for word in words {
         shown.push(format!(in alloc; "{}", Shown::name(word))?)?;
@@ -83,7 +91,10 @@ fn fault_of_shown(alloc: Global, words: &[String]) -> Result<LineFault, AllocErr
 
 /// The command line of some words. No text about them has a character of theirs that isn't shown as
 /// it is.
-fn line_of(alloc: Global, words: &[String]) -> Result<CommandLine, LineFault> {
+fn line_of(alloc: Global, words: &[String]) -> Result<CommandLine, LineFault>
+    ensures ok { IfOk result (IsLineOf (texts_of words.now)) }
+    ensures err { IfErr result (IsFaultOf (texts_of words.now)) }
+{
     let answer = parse_line(alloc, words);
     let is_plain = words.iter().all(|word| Shown::name(word).is_all_plain());
     match answer {
@@ -94,7 +105,10 @@ fn line_of(alloc: Global, words: &[String]) -> Result<CommandLine, LineFault> {
 }
 
 /// The same, also where `--explain` stands after `help`.
-fn line_of_all(alloc: Global, words: &[String]) -> Result<CommandLine, LineFault> {
+fn line_of_all(alloc: Global, words: &[String]) -> Result<CommandLine, LineFault>
+    ensures ok { IfOk result (IsLineOfWords words.now) }
+    ensures err { IfErr result (IsFaultOfWords words.now) }
+{
     match help_without_explain(alloc, words)? {
         Some(asked) => line_of(alloc, &asked),
         None => line_of(alloc, words),
@@ -116,7 +130,8 @@ fn of_streams<'a, I, W, E>(
     output: &Named<'a, W>,
     error: &Named<'a, E>,
 ) -> Failure<'a>
-    ensures { (one two three : Option FailedFile) × (result ≡ by_output (by_output (by_input failure.entry one) two) three) }
+    ensures { (one two three : Option FailedFile) × IsErrorOf input.now one × IsErrorOf output.now two × IsErrorOf error.now three
+        × (result ≡ by_output (by_output (by_input failure.entry one) two) three) }
 {
     failure
         .by_input(input.file_error())
@@ -226,7 +241,9 @@ fn words_of_program<R: Env + AllocGlobal>(rt: &R) -> Result<Vec<String>, Ending<
 
 /// The command line of some words. One of its inputs alone may be `-`.
 fn line_of_words(alloc: Global, words: &[String]) -> Result<CommandLine, Ending<'static>>
-    ensures { IfOk result (λ line. ReadsTwice line → ⊥) }
+    ensures ok { IfOk result (λ line. ReadsTwice line → ⊥) }
+    ensures words { IfOk result (IsLineOfWords words.now) }
+    ensures err { IfErr result (IsEndingOfWords words.now) }
 {
     let line = line_of_all(alloc, words)?;
     if reads_first(&line) && reads_second(&line) {
@@ -236,7 +253,9 @@ fn line_of_words(alloc: Global, words: &[String]) -> Result<CommandLine, Ending<
 }
 
 /// Why standard output can't take the file of a command: it is a terminal.
-fn to_terminal() -> Ending<'static> {
+fn to_terminal() -> Ending<'static>
+    ensures { (file_error : FailedFile) × (result ≡ Failed (Open file_error)) × IsAbout (codes "standard output") IsTerminalOutput file_error }
+{
     let file_error = FileError::new(STANDARD_OUTPUT, Reason::IsTerminal);
     Ending::Failed(Failure::Open(file_error))
 }

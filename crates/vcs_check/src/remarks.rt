@@ -1,5 +1,9 @@
 //! What is told after an answer where reasons are wanted: why something was refused, and what no
 //! checkpoint claims.
+ghost use Rattle.std.specs.Prelude.{◌⊎◌, IfErr};
+ghost use Rattle.movie_file.specs.Reading.{movie_at};
+ghost use Rattle.movie_file.specs.declared.error.MovieError.TheVariants as MovieError;
+ghost use Rattle.movie_hints.specs.Hints.{Explains};
 
 use crate::answering::{STANDARD, takes_file};
 use crate::kept::Kept;
@@ -115,7 +119,9 @@ fn hint_of_command(command: &Command, movie: &Movie) -> Option<Hint> {
 }
 
 /// What is wrong with the bytes of a movie, or keeps a command from being done with it.
-fn hint_of_bytes(alloc: Global, command: &Command, bytes: &[u8]) -> Option<Hint> {
+fn hint_of_bytes(alloc: Global, command: &Command, bytes: &[u8]) -> Option<Hint>
+    ensures { IfErr (movie_at bytes.now) (λ error. Explains bytes.now error result ⊎ Explains bytes.now MovieError.NoMemory result) }
+{
     match read_movie(alloc, bytes) {
         Ok(movie) => hint_of_command(command, &movie),
         Err(error) => hint_of(bytes, error),

@@ -5,6 +5,8 @@ use Rattle.named_files.specs.declared.file_error.CreateError.{CreateError}
 use Rattle.named_files.specs.declared.file_error.CreateError.TheVariants as created
 use Rattle.named_files.specs.declared.file_error.FileError.{FileError}
 use Rattle.vcs_check.specs.Failures.{file_error_of}
+use Rattle.vcs_check.specs.declared.ending.Ending.{Ending}
+use Rattle.vcs_check.specs.declared.ending.Ending.TheVariants.{Failed}
 use Rattle.vcs_check.specs.declared.failure.Failure.{Failure}
 use Rattle.vcs_check.specs.declared.failure.Failure.TheVariants.{Open, Run}
 use Rattle.commands.specs.declared.run_error.RunError.TheVariants.{NoMemory, ReadFault, TooLong, WriteFault}
@@ -17,6 +19,11 @@ of_create_error created.NoMemory = Run NoMemory None
 -- The file that failed is a pipe that nobody reads any more.
 abbrev pub IsBrokenPipe : Failure → Type 0
 IsBrokenPipe failure = IsSomeAnd (file_error_of failure) IsBroken
+
+-- The program ends without a text: nobody reads it any more.
+abbrev pub IsSilent : Ending → Type 0
+IsSilent (Failed failure) = IsBrokenPipe failure
+IsSilent ending = ⊥
 
 -- The same failure by the error of an input, if a read failed and no error of a file is known,
 abbrev pub by_input : Failure → Option FileError → Failure
