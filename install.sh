@@ -243,6 +243,11 @@ if [ -n "$uninstall" ]; then
 fi
 
 [ -f "$program" ] || stop "no program at $program; 'bash .ci/run' builds it"
+if [ -z "$stage" ]; then
+    # (which says nothing where no file says what the processor has)
+    flags=$(sed -n '/^flags/{p;q;}' /proc/cpuinfo 2>/dev/null) || :
+    case "$flags " in ' ' | *' sse4_2 '*) ;; *) stop 'this processor lacks SSE4.2, and the program is compiled for x86-64-v2' ;; esac
+fi
 [ -n "$python" ] || echo 'install.sh: no Python 3.11 here, so the companions are left out' >&2
 mkdir -p "$root"
 each is_free
