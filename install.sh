@@ -5,7 +5,8 @@
 #   ./install.sh --uninstall [--magic FILE] PREFIX
 #
 # PREFIX is ~/.local, say, or /usr/local. Copied are vcs_check, which 'bash .ci/run' or 'rt run' leaves, or FILE; the programs
-# companions/vcs_*; the manual pages, completions, and the type of movies. Files that are there are replaced.
+# companions/vcs_*; the manual pages, completions, and the type of movies. Files that are there are replaced. What another version
+# installed that this one hasn't is taken away: PREFIX/share/votmeshaw/files names the files of the version that is there.
 # With DESTDIR in the environment all goes below $DESTDIR$PREFIX, and nothing else is written or run: that is for packages.
 #
 #   --program FILE   the program to copy
@@ -17,7 +18,7 @@ set -eu
 umask 022
 
 usage() {
-    sed -n 's/^# \{0,1\}//; 2,15p' "$script"
+    sed -n 's/^# \{0,1\}//; 2,16p' "$script"
 }
 
 # stop WORD..: ends the run with an error.
@@ -59,6 +60,8 @@ for name in share/votmeshaw share/votmeshaw/archive share/votmeshaw/companions s
 done
 # Where this script notes the folders that it made, relative to PREFIX.
 made=$root/share/votmeshaw/folders
+# Where it names the files that it copied, this one too.
+list=share/votmeshaw/files
 
 # What the companions need; without it they are left out.
 python=$uninstall
@@ -119,6 +122,42 @@ copy() {
 
 # take_away MODE FROM TO: removes a file.
 take_away() { rm -f "$root/$3"; }
+
+# name_file MODE FROM TO: adds a file to $files.
+name_file() {
+    files="$files$3
+"
+}
+
+# take_others: removes the files that the list names, but for $files.
+take_others() {
+    [ -f "$root/$list" ] && [ ! -L "$root/$list" ] || return 0
+    while IFS= read -r name; do
+        case /$name/ in // | //* | */../*) continue ;; esac
+        case "
+$files" in *"
+$name
+"*) continue ;; esac
+        if [ ! -d "$root/$name" ] || [ -L "$root/$name" ]; then rm -f "$root/$name"; fi
+    done <"$root/$list"
+}
+
+# write_list: names $files in the list.
+write_list() {
+    beside=$(mktemp "$root/share/votmeshaw/.votmeshaw.XXXXXX")
+    printf %s "$files" >"$beside"
+    chmod 644 "$beside"
+    mv -fT "$beside" "$root/$list"
+    beside=
+}
+
+# remove_empty FOLDERS: removes those that hold nothing, the deepest first.
+remove_empty() {
+    echo "$1" | sort -r | while read -r name; do
+        case /$name/ in // | */../*) continue ;; esac
+        rmdir "$root/$name" 2>/dev/null || :
+    done
+}
 
 # old_files [WORD]: removes the companions that this version doesn't have, or with a word all; and what 1.2.0 had elsewhere.
 old_files() {
@@ -191,29 +230,38 @@ trap 'exit 143' TERM
 if [ -n "$uninstall" ]; then
     each take_away
     old_files all
+    files=
+    take_others
     write_magic
     renew_types
     forget_types
     folders=
     if [ -f "$made" ] && [ ! -L "$made" ]; then folders=$(cat "$made"); rm -f "$made"; fi
-    # (the deepest first; one that holds something else stays)
-    echo "$folders" | sort -r | while read -r name; do
-        case /$name/ in // | */../*) continue ;; esac
-        rmdir "$root/$name" 2>/dev/null || :
-    done
+    remove_empty "$folders"
     echo "uninstalled: $root/bin/vcs_check"
     exit 0
 fi
 
 [ -f "$program" ] || stop "no program at $program; 'bash .ci/run' builds it"
+if [ -z "$stage" ]; then
+    # (which says nothing where no file says what the processor has)
+    flags=$(sed -n '/^flags/{p;q;}' /proc/cpuinfo 2>/dev/null) || :
+    case "$flags " in ' ' | *' sse4_2 '*) ;; *) stop 'this processor lacks SSE4.2, and the program is compiled for x86-64-v2' ;; esac
+fi
 [ -n "$python" ] || echo 'install.sh: no Python 3.11 here, so the companions are left out' >&2
 mkdir -p "$root"
 each is_free
 is_free - - share/votmeshaw/folders
+is_free - - "$list"
 new=
 each copy
-old_files
 folder share/votmeshaw
+old_files
+files="$list
+"
+each name_file
+take_others
+write_list
 if [ -n "$new" ] && [ -z "$stage" ]; then
     beside=$(mktemp "$root/share/votmeshaw/.votmeshaw.XXXXXX")
     { [ ! -f "$made" ] || cat "$made"; printf %s "$new"; } >"$beside"
@@ -221,6 +269,7 @@ if [ -n "$new" ] && [ -z "$stage" ]; then
     mv -fT "$beside" "$made"
     beside=
 fi
+if [ -f "$made" ] && [ ! -L "$made" ]; then remove_empty "$(cat "$made")"; fi
 write_magic "$here/share/misc/votmeshaw.magic"
 renew_types
 echo "installed: $root/bin/vcs_check"
