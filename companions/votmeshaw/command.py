@@ -119,14 +119,6 @@ def _open_streams() -> None:
         raise Stop("standard output is closed")
 
 
-def _status(work: Callable[[], int]) -> int:
-    """Does a program's work, and returns its status, which argparse raises."""
-    try:
-        return work()
-    except SystemExit as ended:
-        return ended.code if isinstance(ended.code, int) else NOTHING_DONE
-
-
 def _drop_output() -> None:
     """Takes back what standard output doesn't take, so that no second error is told of it."""
     try:
@@ -137,15 +129,16 @@ def _drop_output() -> None:
         os.close(nowhere)
 
 
-def carried_out(work: Callable[[], int]) -> int:
-    """Does a program's work, and returns its status. An error is told, and has status 2. After SIGINT, SIGTERM or SIGHUP the work
-    is left by Ended, and then the process ends by the same signal, so that whoever started it sees which."""
-    if sys.stdout is None:
-        say("standard output is closed")
-        return NOTHING_DONE
-    for it in ENDING:
-        if signal.getsignal(it) != signal.SIG_IGN:
-            signal.signal(it, _end)
+def _status(work: Callable[[], int]) -> int:
+    """Does a program's work, and returns its status, which argparse raises."""
+    try:
+        return work()
+    except SystemExit as ended:
+        return ended.code if isinstance(ended.code, int) else NOTHING_DONE
+
+
+def _told(work: Callable[[], int]) -> int:
+    """Does a program's work, and returns its status; an error is told, and has status 2."""
     try:
         _open_streams()
         status = _status(work)
@@ -155,6 +148,22 @@ def carried_out(work: Callable[[], int]) -> int:
         say(reason(error) if isinstance(error, OSError) else str(error))
         _drop_output()
         return NOTHING_DONE
+
+
+def carried_out(work: Callable[[], int]) -> int:
+    """Does a program's work, and returns its status, which is 2 after an error. After SIGINT, SIGTERM or SIGHUP the work is left by
+    Ended, and then the process ends by the same signal, so that whoever started it sees which."""
+    if sys.stdout is None:
+        say("standard output is closed")
+        return NOTHING_DONE
+    ending = [it for it in ENDING if signal.getsignal(it) != signal.SIG_IGN]
+    for it in ending:
+        signal.signal(it, _end)
+    try:
+        status = _told(work)
+        for it in ending:
+            signal.signal(it, signal.SIG_DFL)
+        return status
     except Ended as ended:
         _drop_output()
         signal.signal(ended.args[0], signal.SIG_DFL)
