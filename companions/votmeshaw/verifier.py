@@ -1,16 +1,20 @@
 """The program vcs_check: one process a question, within limits, and ended when the run is."""
 
+import argparse
+import concurrent.futures
 import contextlib
 import os
 import signal
 import subprocess
 import threading
-from collections.abc import Iterator
-from typing import Any, NamedTuple
+from collections.abc import Callable, Iterator, Sequence
+from typing import Any, NamedTuple, Self, TypeVar
 
+from votmeshaw import command
 from votmeshaw.command import Stop, signals_held
 from votmeshaw.names import readable
 
+It, Found = TypeVar("It"), TypeVar("Found")
 # Starts a program with a limit on its memory, in kilobytes.
 LIMITED = 'ulimit -v "$0" && exec "$@"'
 # Has the program say why it refuses or fails. The file's name is at the beginning, and each movie comes on standard input.
@@ -19,7 +23,7 @@ EXPLAIN, NAME_OF_MOVIES = "--explain", "standard input: "
 ERRORS = 4
 
 
-class NoAnswer(Exception):
+class NoAnswer(Stop):
     """The program didn't answer; the text says why."""
 
 
@@ -57,6 +61,13 @@ def with_reason(line: str, reason: str) -> str:
     return f"{line}: {reason}" if reason else line
 
 
+def program_options(parser: argparse.ArgumentParser) -> None:
+    """Adds the options that say which program is asked, and within which limits."""
+    parser.add_argument("--program", default="vcs_check", metavar="PATH", help="the verifier (vcs_check on the path)")
+    parser.add_argument("--timeout", type=command.seconds, metavar="SECONDS", help="how long one question to it may take (no limit)")
+    parser.add_argument("--memory", type=command.number(1_000_000), metavar="MB", help="how much memory it may take (no limit)")
+
+
 class Verifier:
     """The verifier, with limits of a question: seconds and megabytes, or none."""
 
@@ -75,11 +86,29 @@ class Verifier:
             raise Stop(f"cannot run {path}: {error.strerror}") from None
         except subprocess.CalledProcessError as error:
             raise Stop(f"cannot run {path}: {error}") from None
+        except subprocess.TimeoutExpired:
+            raise Stop(f"cannot run {path}: no answer to --version within {timeout:g} s") from None
         self.version = said.stdout.decode(errors="replace").strip()
 
     def _version(self, *words: str) -> subprocess.CompletedProcess[bytes]:
         """What the program says of its version."""
-        return subprocess.run([self.path, "--version", *words], stdin=subprocess.DEVNULL, capture_output=True)
+        line = [self.path, "--version", *words]
+        return subprocess.run(line, stdin=subprocess.DEVNULL, capture_output=True, timeout=self.timeout)
+
+    @classmethod
+    def asked_for(cls, asked: argparse.Namespace) -> Self:
+        """The one that the command line names, within its limits."""
+        return cls(asked.program, asked.timeout, asked.memory)
+
+    def side_by_side(self, work: Callable[[It], Found], items: Sequence[It]) -> Iterator[tuple[It, Found]]:
+        """Does work that asks the program, for as many items at once as there are processors: each in its order, with what was found.
+        If not all of them are wanted, the run ends."""
+        with concurrent.futures.ThreadPoolExecutor(len(os.sched_getaffinity(0))) as pool:
+            try:
+                yield from zip(items, pool.map(work, items))
+            except BaseException:
+                self.stop()
+                raise
 
     def answer(self, movie: bytes, *words: str) -> Answer:
         """The answer to a question, whose movie is '-': these bytes come on standard input."""
