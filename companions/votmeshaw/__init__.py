@@ -4,6 +4,9 @@ imports the rest, SIGINT ends it without a traceback."""
 import signal
 import sys
 
+# The version that a companion prints, which is that of the program beside which it stands.
+VERSION = "1.2.0"
+
 if signal.getsignal(signal.SIGINT) == signal.default_int_handler:
     signal.signal(signal.SIGINT, signal.SIG_DFL)
 

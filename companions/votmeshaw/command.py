@@ -11,6 +11,7 @@ import threading
 from collections.abc import Callable, Iterator
 from typing import Any, NoReturn
 
+from votmeshaw import VERSION
 from votmeshaw.names import printable, readable
 
 # The name by which the program was called.
@@ -44,9 +45,19 @@ class Parser(argparse.ArgumentParser):
         super().error(printable(message))
 
 
+class _Version(argparse.Action):
+    """Prints the version, and ends; a version that can't be written is an error."""
+
+    def __call__(self, parser: argparse.ArgumentParser, *_: object) -> NoReturn:
+        print(f"{NAME} {VERSION}")
+        parser.exit()
+
+
 def parser(description: str | None) -> Parser:
     """What reads the arguments. The description, a module's docstring, is printed as it stands."""
-    return Parser(NAME, description=description, formatter_class=argparse.RawDescriptionHelpFormatter)
+    made = Parser(NAME, description=description, formatter_class=argparse.RawDescriptionHelpFormatter)
+    made.add_argument("-V", "--version", action=_Version, nargs=0, help="print the version and exit")
+    return made
 
 
 def number(most: int) -> Callable[[str], int]:
