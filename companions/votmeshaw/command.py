@@ -2,6 +2,7 @@
 
 import argparse
 import contextlib
+import json
 import os
 import pathlib
 import re
@@ -23,6 +24,10 @@ ENDING = (signal.SIGINT, signal.SIGTERM, signal.SIGHUP)
 
 class Stop(Exception):
     """Nothing can be done; the text says why."""
+
+    def members(self) -> dict[str, str]:
+        """The members of the object that says so, as the program has them of an error."""
+        return {"error": str(self)}
 
 
 class Ended(BaseException):
@@ -51,6 +56,20 @@ class _Version(argparse.Action):
     def __call__(self, parser: argparse.ArgumentParser, *_: object) -> NoReturn:
         print(f"{NAME} {VERSION}")
         parser.exit()
+
+
+class _Json(argparse.Action):
+    """Has objects printed, of what stops the run too."""
+
+    is_on = False
+
+    def __call__(self, _: argparse.ArgumentParser, asked: argparse.Namespace, *__: object) -> None:
+        asked.json = _Json.is_on = True
+
+
+def json_option(parser: argparse.ArgumentParser) -> None:
+    """Adds the option that has objects printed."""
+    parser.add_argument("--json", action=_Json, nargs=0, default=False, help="print one object of JSON on one line")
 
 
 def parser(description: str | None) -> Parser:
@@ -156,7 +175,10 @@ def _told(work: Callable[[], int]) -> int:
         sys.stdout.flush()
         return status
     except (Stop, OSError) as error:
-        say(reason(error) if isinstance(error, OSError) else str(error))
+        stop = Stop(reason(error)) if isinstance(error, OSError) else error
+        say(str(stop))
+        if _Json.is_on:
+            print(json.dumps(stop.members()))
         _drop_output()
         return NOTHING_DONE
 

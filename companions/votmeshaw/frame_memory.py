@@ -13,7 +13,11 @@ FAULT = re.compile(rb"fault at frame ([0-9]+): .*")
 
 
 class Refused(Exception):
-    """There is no run: the text is what the program says."""
+    """There is no run: the text is what the program says, or what is wrong with its answer."""
+
+    def __init__(self, text: str, answer: Answer | None = None) -> None:
+        super().__init__(text)
+        self.answer = answer
 
 
 class Run(dict[int, bytes]):
@@ -40,5 +44,5 @@ def frame_memory(verifier: Verifier, movie: bytes, first: int = 1, count: int | 
     if fault := FAULT.fullmatch(rest):
         run.fault, run.fault_frame = fault[0].decode(), int(fault[1])
     elif answer.status:
-        raise Refused(answer.told)
+        raise Refused(answer.told, answer)
     return run

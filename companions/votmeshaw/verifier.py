@@ -19,8 +19,20 @@ It, Found = TypeVar("It"), TypeVar("Found")
 LIMITED = 'ulimit -v "$0" && exec "$@"'
 # Has the program say why it refuses or fails. The file's name is at the beginning, and each movie comes on standard input.
 EXPLAIN, NAME_OF_MOVIES = "--explain", "standard input: "
-# From this status on it has no verdict, and says on standard error what is wrong.
-ERRORS = 4
+# The status of a movie that is refused. From the next one on it has no verdict, and says on standard error what is wrong.
+REFUSED, ERRORS = 3, 4
+
+
+class Refusal(Stop):
+    """The program refuses a movie, and says as what."""
+
+    def __init__(self, movie: str, answer: "Answer") -> None:
+        super().__init__(f"{movie}: {answer.told}")
+        self.movie, self.answer = movie, answer
+
+    def members(self) -> dict[str, str]:
+        refusal, _, reason = self.answer.told.removeprefix("refused: ").partition(": ")
+        return {"verdict": "refused", "refusal": refusal, "file": self.movie} | ({"reason": reason} if reason else {})
 
 
 class NoAnswer(Stop):
