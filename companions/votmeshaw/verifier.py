@@ -107,21 +107,6 @@ class Verifier:
         line = [self.path, "--version", *words]
         return subprocess.run(line, stdin=subprocess.DEVNULL, capture_output=True, timeout=self.timeout)
 
-    @classmethod
-    def asked_for(cls, asked: argparse.Namespace) -> Self:
-        """The one that the command line names, within its limits."""
-        return cls(asked.program, asked.timeout, asked.memory)
-
-    def side_by_side(self, work: Callable[[It], Found], items: Sequence[It]) -> Iterator[tuple[It, Found]]:
-        """Does work that asks the program, for as many items at once as there are processors: each in its order, with what was found.
-        If not all of them are wanted, the run ends."""
-        with concurrent.futures.ThreadPoolExecutor(len(os.sched_getaffinity(0))) as pool:
-            try:
-                yield from zip(items, pool.map(work, items))
-            except BaseException:
-                self.stop()
-                raise
-
     def answer(self, movie: bytes, *words: str) -> Answer:
         """The answer to a question, whose movie is '-': these bytes come on standard input."""
         with self.running(movie, *words) as process:
@@ -167,6 +152,21 @@ class Verifier:
                     raise NoAnswer("the run ends")
                 started.append(subprocess.Popen([*self.words, *words, *self.explain], process_group=0, **pipes))
                 self.processes.add(started[0])
+
+    @classmethod
+    def asked_for(cls, asked: argparse.Namespace) -> Self:
+        """The one that the command line names, within its limits."""
+        return cls(asked.program, asked.timeout, asked.memory)
+
+    def side_by_side(self, work: Callable[[It], Found], items: Sequence[It]) -> Iterator[tuple[It, Found]]:
+        """Does work that asks the program, for as many items at once as there are processors: each in its order, with what was found.
+        If not all of them are wanted, the run ends."""
+        with concurrent.futures.ThreadPoolExecutor(len(os.sched_getaffinity(0))) as pool:
+            try:
+                yield from zip(items, pool.map(work, items))
+            except BaseException:
+                self.stop()
+                raise
 
     def stop(self) -> None:
         """Ends what runs, and starts no more."""
