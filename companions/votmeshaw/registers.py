@@ -34,10 +34,19 @@ def register_of(address: int) -> str | None:
     return None
 
 
+def names_in(line: str) -> list[str]:
+    """The registers that the instruction of a line reads."""
+    return [name for it in READ.findall(line) if (name := register_of(int(it, 16)))]
+
+
+def all_read(trace: Sequence[str]) -> list[str]:
+    """The registers that are read in these lines of a frame, in the order of the first reads."""
+    return list(dict.fromkeys(name for line in trace for name in names_in(line)))
+
+
 def last_read(trace: Sequence[str]) -> Read | None:
     """The last read of a register in these lines of a frame."""
     for line in reversed(trace):
-        names = [register_of(int(it, 16)) for it in READ.findall(line)]
-        if name := next(filter(None, reversed(names)), None):
-            return Read(name, " ".join(line.split()))
+        if names := names_in(line):
+            return Read(names[-1], " ".join(line.split()))
     return None
