@@ -2,6 +2,7 @@
 
 import argparse
 import contextlib
+import json
 import os
 import pathlib
 import re
@@ -11,6 +12,7 @@ import threading
 from collections.abc import Callable, Iterator
 from typing import Any, NoReturn
 
+from votmeshaw import VERSION
 from votmeshaw.names import printable, readable
 
 # The name by which the program was called.
@@ -22,6 +24,10 @@ ENDING = (signal.SIGINT, signal.SIGTERM, signal.SIGHUP)
 
 class Stop(Exception):
     """Nothing can be done; the text says why."""
+
+    def members(self) -> dict[str, str]:
+        """The members of the object that says so, as the program has them of an error."""
+        return {"error": str(self)}
 
 
 class Ended(BaseException):
@@ -44,9 +50,33 @@ class Parser(argparse.ArgumentParser):
         super().error(printable(message))
 
 
+class _Version(argparse.Action):
+    """Prints the version, and ends; a version that can't be written is an error."""
+
+    def __call__(self, parser: argparse.ArgumentParser, *_: object) -> NoReturn:
+        print(f"{NAME} {VERSION}")
+        parser.exit()
+
+
+class _Json(argparse.Action):
+    """Has objects printed, of what stops the run too."""
+
+    is_on = False
+
+    def __call__(self, _: argparse.ArgumentParser, asked: argparse.Namespace, *__: object) -> None:
+        asked.json = _Json.is_on = True
+
+
+def json_option(parser: argparse.ArgumentParser) -> None:
+    """Adds the option that has objects printed."""
+    parser.add_argument("--json", action=_Json, nargs=0, default=False, help="print one object of JSON on one line")
+
+
 def parser(description: str | None) -> Parser:
     """What reads the arguments. The description, a module's docstring, is printed as it stands."""
-    return Parser(NAME, description=description, formatter_class=argparse.RawDescriptionHelpFormatter)
+    made = Parser(NAME, description=description, formatter_class=argparse.RawDescriptionHelpFormatter)
+    made.add_argument("-V", "--version", action=_Version, nargs=0, help="print the version and exit")
+    return made
 
 
 def number(most: int) -> Callable[[str], int]:
@@ -119,14 +149,6 @@ def _open_streams() -> None:
         raise Stop("standard output is closed")
 
 
-def _status(work: Callable[[], int]) -> int:
-    """Does a program's work, and returns its status, which argparse raises."""
-    try:
-        return work()
-    except SystemExit as ended:
-        return ended.code if isinstance(ended.code, int) else NOTHING_DONE
-
-
 def _drop_output() -> None:
     """Takes back what standard output doesn't take, so that no second error is told of it."""
     try:
@@ -137,24 +159,44 @@ def _drop_output() -> None:
         os.close(nowhere)
 
 
-def carried_out(work: Callable[[], int]) -> int:
-    """Does a program's work, and returns its status. An error is told, and has status 2. After SIGINT, SIGTERM or SIGHUP the work
-    is left by Ended, and then the process ends by the same signal, so that whoever started it sees which."""
-    if sys.stdout is None:
-        say("standard output is closed")
-        return NOTHING_DONE
-    for it in ENDING:
-        if signal.getsignal(it) != signal.SIG_IGN:
-            signal.signal(it, _end)
+def _status(work: Callable[[], int]) -> int:
+    """Does a program's work, and returns its status, which argparse raises."""
+    try:
+        return work()
+    except SystemExit as ended:
+        return ended.code if isinstance(ended.code, int) else NOTHING_DONE
+
+
+def _told(work: Callable[[], int]) -> int:
+    """Does a program's work, and returns its status; an error is told, and has status 2."""
     try:
         _open_streams()
         status = _status(work)
         sys.stdout.flush()
         return status
     except (Stop, OSError) as error:
-        say(reason(error) if isinstance(error, OSError) else str(error))
+        stop = Stop(reason(error)) if isinstance(error, OSError) else error
+        say(str(stop))
+        if _Json.is_on:
+            print(json.dumps(stop.members()))
         _drop_output()
         return NOTHING_DONE
+
+
+def carried_out(work: Callable[[], int]) -> int:
+    """Does a program's work, and returns its status, which is 2 after an error. After SIGINT, SIGTERM or SIGHUP the work is left by
+    Ended, and then the process ends by the same signal, so that whoever started it sees which."""
+    if sys.stdout is None:
+        say("standard output is closed")
+        return NOTHING_DONE
+    ending = [it for it in ENDING if signal.getsignal(it) != signal.SIG_IGN]
+    for it in ending:
+        signal.signal(it, _end)
+    try:
+        status = _told(work)
+        for it in ending:
+            signal.signal(it, signal.SIG_DFL)
+        return status
     except Ended as ended:
         _drop_output()
         signal.signal(ended.args[0], signal.SIG_DFL)

@@ -2,6 +2,7 @@
 
 import contextlib
 import fcntl
+import hashlib
 import os
 import pathlib
 import secrets
@@ -99,22 +100,64 @@ def replace(file: pathlib.Path, data: bytes) -> None:
     sync_folder(file.parent)
 
 
+def _begin(place: pathlib.Path) -> str:
+    """How the names of the files begin that are made beside this one, and renamed to it."""
+    return f".{hashlib.sha256(os.fsencode(place.name)).hexdigest()[:16]}-"
+
+
+def _take_away(file: pathlib.Path) -> None:
+    """Removes a file that a killed run left; one that still runs keeps its own locked."""
+    with contextlib.suppress(OSError), open(opened(file, os.O_RDONLY), "rb") as left:
+        fcntl.flock(left.fileno(), fcntl.LOCK_EX | fcntl.LOCK_NB)
+        file.unlink()
+
+
+def _made_beside(place: pathlib.Path) -> tuple[pathlib.Path, IO[bytes]]:
+    """A new file, locked, in the folder of another one. What killed runs left there for that one is taken away."""
+    for left in place.parent.glob(f"{_begin(place)}*.new"):
+        _take_away(left)
+    while True:
+        beside = place.with_name(f"{_begin(place)}{secrets.token_hex(8)}.new")
+        new = open(beside, "x+b")
+        with contextlib.suppress(OSError):  # (the file system may know no locks)
+            fcntl.flock(new.fileno(), fcntl.LOCK_EX)
+        if beside.exists():  # (another run may have taken it away before it was locked)
+            return beside, new
+        new.close()
+
+
 @contextlib.contextmanager
 def anew(file: pathlib.Path) -> Iterator[IO[bytes]]:
     """What will be the file that a user named, once it is written whole. No other file is touched."""
     place = pathlib.Path(os.path.realpath(file))
-    beside = place.with_name(f".{secrets.token_hex(8)}.new")
+    beside = None
     try:
-        with open(beside, "x+b") as new:
+        beside, new = _made_beside(place)
+        with new:
             yield new
             if place.exists():
                 os.fchmod(new.fileno(), stat.S_IMODE(place.stat().st_mode))
-        beside.replace(place)
+            new.flush()
+            os.fsync(new.fileno())
+            beside.replace(place)
     except OSError as error:
+        if error.filename is not None and not os.path.basename(str(error.filename)).startswith(_begin(place)):
+            raise
         raise OSError(error.errno, error.strerror, os.fspath(file)) from None
     finally:
-        with contextlib.suppress(OSError):
-            beside.unlink()
+        if beside:
+            with contextlib.suppress(OSError):
+                beside.unlink()
+
+
+def write_together(contents: dict[pathlib.Path, bytes]) -> None:
+    """Writes files that a user named: all of them whole, and only then each in its place, the last one first."""
+    with contextlib.ExitStack() as stack:
+        for file, data in contents.items():
+            new = stack.enter_context(anew(file))
+            new.write(data)
+            new.flush()
+            os.fsync(new.fileno())
 
 
 def write(file: pathlib.Path, data: bytes) -> None:

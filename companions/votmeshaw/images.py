@@ -7,6 +7,8 @@ from typing import IO
 
 # Two codes of a GIF's data.
 CLEAR, END = 256, 257
+# The key of a string's own code, which is no pixel.
+CODE = -1
 
 
 def png(width: int, pixels: bytes) -> bytes:
@@ -28,33 +30,39 @@ def enlarged(row: bytes, size: int, wide: int) -> bytes:
     return bytes(made)
 
 
+def strings() -> list[dict[int, int | dict]]:
+    """The strings of a pixel each. A string has its code, and by the next pixel the longer strings that are known."""
+    return [{CODE: pixel} for pixel in range(256)]
+
+
 def lzw(pixels: bytes) -> bytes:
     """Pixels of a byte as the data of a GIF's image: codes of 9 to 12 bits, the lowest bit first, in blocks of at most 255 bytes."""
-    known: dict[int, int] = {}
+    known, last = strings(), END
     bits, filled, width, packed = CLEAR, 9, 9, bytearray()
-    prefix = pixels[0]
+    string = known[pixels[0]]
     for pixel in memoryview(pixels)[1:]:
-        try:
-            prefix = known[prefix << 8 | pixel]
+        longer = string.get(pixel)
+        if longer is not None:
+            string = longer
             continue
-        except KeyError:
-            known[prefix << 8 | pixel] = len(known) + END + 1
-        bits |= prefix << filled
+        last += 1
+        string[pixel] = {CODE: last}
+        bits |= string[CODE] << filled
         filled += width
-        prefix = pixel
-        if len(known) + END == 1 << width:
+        if last == 1 << width:
             width += 1
         if width > 12:
             bits |= CLEAR << filled
             filled, width = filled + 12, 9
-            known.clear()
+            known, last = strings(), END
+        string = known[pixel]
         if filled >= 256:
             packed += (bits & (1 << 256) - 1).to_bytes(32, "little")
             bits, filled = bits >> 256, filled - 256
-    bits |= prefix << filled
+    bits |= string[CODE] << filled
     filled += width
     # (a reader adds a string for the last code too)
-    if len(known) + END + 1 == 1 << width and width < 12:
+    if last + 1 == 1 << width and width < 12:
         width += 1
     bits |= END << filled
     packed += bits.to_bytes((filled + width + 7) // 8, "little")

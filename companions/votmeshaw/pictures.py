@@ -9,7 +9,7 @@ from collections.abc import Iterator
 from typing import IO, NamedTuple
 
 from votmeshaw.command import Stop
-from votmeshaw.verifier import Answer, Verifier
+from votmeshaw.verifier import REFUSED, Answer, Refusal, Verifier
 
 # A picture's width in pixels, of three bytes each.
 WIDTH = 160
@@ -22,10 +22,10 @@ ENDED, FAULTED = 0, 2
 
 
 class Run:
-    """A run of the program: its pictures, and once they have ended the line of its fault, if it has one."""
+    """A run of a movie in the program: its pictures, and once they have ended the line of its fault, if it has one."""
 
-    def __init__(self, process: subprocess.Popen[bytes], pipe: IO[bytes]) -> None:
-        self.process, self.pipe, self.fault = process, pipe, ""
+    def __init__(self, process: subprocess.Popen[bytes], pipe: IO[bytes], movie: str) -> None:
+        self.process, self.pipe, self.movie, self.fault = process, pipe, movie, ""
 
     def pictures(self) -> Iterator[bytes]:
         """The pixels of each picture, row after row. Stop if the program has no run."""
@@ -38,6 +38,8 @@ class Run:
         self.pipe.close()
         out, err = self.process.communicate()
         answer = Answer(self.process.returncode, out, err)
+        if answer.status == REFUSED and not head:
+            raise Refusal(self.movie, answer)
         if head or answer.status not in (ENDED, FAULTED):
             is_said = answer.line and answer.status > 0 and not head
             raise Stop(answer.told if is_said else f"the program ended with status {answer.status}, and no whole picture")
@@ -45,8 +47,8 @@ class Run:
 
 
 @contextlib.contextmanager
-def run_of(verifier: Verifier, movie: bytes, first: int, count: int | None) -> Iterator[Run]:
-    """The run of so many frames from this one on, or of all. The program ends when this is left."""
+def run_of(verifier: Verifier, movie: bytes, name: str, first: int, count: int | None) -> Iterator[Run]:
+    """The run of so many frames of a movie from this one on, or of all. The program ends when this is left."""
     reader, writer = os.pipe()
     with open(reader, "rb", buffering=PIPE) as pipe, contextlib.ExitStack() as stack:
         try:
@@ -57,7 +59,7 @@ def run_of(verifier: Verifier, movie: bytes, first: int, count: int | None) -> I
             process = stack.enter_context(verifier.running(movie, *words, pass_fds=(writer,)))
         finally:
             os.close(writer)
-        yield Run(process, pipe)
+        yield Run(process, pipe, name)
 
 
 def held_in(verifier: Verifier, movie: bytes, first: int) -> Iterator[tuple[str, ...]]:

@@ -59,6 +59,9 @@ NUMBERS = ("cartridge", "checkpoints", "first_checkpoint", "last_checkpoint", "l
 TEXTS = ("md5", "sha1", "sha256", "banks", "start", "movie_sha256", "program", "segments", "reason", "fault", "refusal")
 LISTS = {"differs": {"number", "claimed", "found"}, "start_differs": {"number", "start", "power_on"}}
 
+# How many objects and lists may stand in one another; the reports of the program have three.
+DEEPEST = 60
+
 
 class Damaged(Stop):
     """A file of verdicts has a line that is none."""
@@ -89,7 +92,10 @@ def object_in(line: bytes) -> dict[str, Any]:
         found = json.loads(line.decode("utf-8"), parse_constant=lambda word: _no(f"{word} is no number"))
     except RecursionError:
         raise ValueError("too deep") from None
-    return found if isinstance(found, dict) else _no("not an object")
+    within = [found]
+    for _ in range(DEEPEST):
+        within = [it for value in within if isinstance(value, dict | list) for it in (value.values() if isinstance(value, dict) else value)]
+    return found if isinstance(found, dict) and not within else _no("too deep" if within else "not an object")
 
 
 def _no(reason: str) -> Any:

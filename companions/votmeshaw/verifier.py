@@ -1,25 +1,41 @@
 """The program vcs_check: one process a question, within limits, and ended when the run is."""
 
+import argparse
+import concurrent.futures
 import contextlib
 import os
 import signal
 import subprocess
 import threading
-from collections.abc import Iterator
-from typing import Any, NamedTuple
+from collections.abc import Callable, Iterator, Sequence
+from typing import Any, NamedTuple, Self, TypeVar
 
+from votmeshaw import command
 from votmeshaw.command import Stop, signals_held
 from votmeshaw.names import readable
 
+It, Found = TypeVar("It"), TypeVar("Found")
 # Starts a program with a limit on its memory, in kilobytes.
 LIMITED = 'ulimit -v "$0" && exec "$@"'
 # Has the program say why it refuses or fails. The file's name is at the beginning, and each movie comes on standard input.
 EXPLAIN, NAME_OF_MOVIES = "--explain", "standard input: "
-# From this status on it has no verdict, and says on standard error what is wrong.
-ERRORS = 4
+# The status of a movie that is refused. From the next one on it has no verdict, and says on standard error what is wrong.
+REFUSED, ERRORS = 3, 4
 
 
-class NoAnswer(Exception):
+class Refusal(Stop):
+    """The program refuses a movie, and says as what."""
+
+    def __init__(self, movie: str, answer: "Answer") -> None:
+        super().__init__(f"{movie}: {answer.told}")
+        self.movie, self.answer = movie, answer
+
+    def members(self) -> dict[str, str]:
+        refusal, _, reason = self.answer.told.removeprefix("refused: ").partition(": ")
+        return {"verdict": "refused", "refusal": refusal, "file": self.movie} | ({"reason": reason} if reason else {})
+
+
+class NoAnswer(Stop):
     """The program didn't answer; the text says why."""
 
 
@@ -57,6 +73,13 @@ def with_reason(line: str, reason: str) -> str:
     return f"{line}: {reason}" if reason else line
 
 
+def program_options(parser: argparse.ArgumentParser) -> None:
+    """Adds the options that say which program is asked, and within which limits."""
+    parser.add_argument("--program", default="vcs_check", metavar="PATH", help="the verifier (vcs_check on the path)")
+    parser.add_argument("--timeout", type=command.seconds, metavar="SECONDS", help="how long one question to it may take (no limit)")
+    parser.add_argument("--memory", type=command.number(1_000_000), metavar="MB", help="how much memory it may take (no limit)")
+
+
 class Verifier:
     """The verifier, with limits of a question: seconds and megabytes, or none."""
 
@@ -75,11 +98,14 @@ class Verifier:
             raise Stop(f"cannot run {path}: {error.strerror}") from None
         except subprocess.CalledProcessError as error:
             raise Stop(f"cannot run {path}: {error}") from None
+        except subprocess.TimeoutExpired:
+            raise Stop(f"cannot run {path}: no answer to --version within {timeout:g} s") from None
         self.version = said.stdout.decode(errors="replace").strip()
 
     def _version(self, *words: str) -> subprocess.CompletedProcess[bytes]:
         """What the program says of its version."""
-        return subprocess.run([self.path, "--version", *words], stdin=subprocess.DEVNULL, capture_output=True)
+        line = [self.path, "--version", *words]
+        return subprocess.run(line, stdin=subprocess.DEVNULL, capture_output=True, timeout=self.timeout)
 
     def answer(self, movie: bytes, *words: str) -> Answer:
         """The answer to a question, whose movie is '-': these bytes come on standard input."""
@@ -126,6 +152,21 @@ class Verifier:
                     raise NoAnswer("the run ends")
                 started.append(subprocess.Popen([*self.words, *words, *self.explain], process_group=0, **pipes))
                 self.processes.add(started[0])
+
+    @classmethod
+    def asked_for(cls, asked: argparse.Namespace) -> Self:
+        """The one that the command line names, within its limits."""
+        return cls(asked.program, asked.timeout, asked.memory)
+
+    def side_by_side(self, work: Callable[[It], Found], items: Sequence[It]) -> Iterator[tuple[It, Found]]:
+        """Does work that asks the program, for as many items at once as there are processors: each in its order, with what was found.
+        If not all of them are wanted, the run ends."""
+        with concurrent.futures.ThreadPoolExecutor(len(os.sched_getaffinity(0))) as pool:
+            try:
+                yield from zip(items, pool.map(work, items))
+            except BaseException:
+                self.stop()
+                raise
 
     def stop(self) -> None:
         """Ends what runs, and starts no more."""

@@ -20,3 +20,11 @@ def frames_of(data: bytes, held: tuple[str, ...]) -> Frames:
             raise Refused(f"action {frames.count + 1} of the list: {quoted(found[0])} is none of ALE's actions 0 to 17")
         frames.add(actions[found[0]])
     return frames
+
+
+def is_list(data: bytes) -> bool:
+    """Whether this reads as a list of actions."""
+    try:
+        return frames_of(data, ()).count > 0
+    except Refused:
+        return False

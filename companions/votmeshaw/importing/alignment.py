@@ -12,6 +12,7 @@ from votmeshaw.importing import cartridges, making, runs
 from votmeshaw.importing.runs import Refused, Run
 from votmeshaw.memory_logs import Frames
 from votmeshaw.names import readable
+from votmeshaw.progress import Progress
 from votmeshaw.verifier import Verifier
 
 # How far a run is shifted, and how far the log's numbers of frames may be from those here.
@@ -71,9 +72,9 @@ def _first(frames: runs.Frames, most: int) -> runs.Frames:
     return found
 
 
-def memories(verifier: Verifier, game: bytes, frames: runs.Frames) -> list[bytes]:
-    """The memory after each of the first frames, up to a fault."""
-    frames = _first(frames, LOOKED_AT)
+def memories(verifier: Verifier, game: bytes, frames: runs.Frames, most: int) -> list[bytes]:
+    """The memory after each of the first frames, at most so many, up to a fault."""
+    frames = _first(frames, min(most, LOOKED_AT))
     while frames.count:
         made = making.made(verifier, game, frames, 1)
         if made.movie is not None:
@@ -106,10 +107,14 @@ def agreement(log: Frames, ours: list[bytes], shift: int, offset: int) -> Agreem
 
 def aligned(verifier: Verifier, game: bytes, run: Run, log: Frames) -> list[Agreement]:
     """The best agreement of each shift, the best first; Refused if there is none at all."""
-    found = []
-    for shift in range(max(-REACH, 1 - run.frames.count), REACH + 1):
-        ours = memories(verifier, game, shifted(run, shift))
-        found.append(max((agreement(log, ours, shift, it) for it in range(-REACH, REACH + 1)), key=Agreement.rank))
+    def best(shift: int) -> Agreement:
+        ours = memories(verifier, game, shifted(run, shift), max(log) + REACH)
+        return max((agreement(log, ours, shift, it) for it in range(-REACH, REACH + 1)), key=Agreement.rank)
+    found, shifts = [], range(max(-REACH, 1 - run.frames.count), REACH + 1)
+    with Progress() as progress:
+        for _, it in verifier.side_by_side(best, shifts):
+            found.append(it)
+            progress.say(f"{len(found)} of {len(shifts)} shifts tried")
     found.sort(key=Agreement.rank, reverse=True)
     if not found[0].frames:
         raise Refused(f"with no shift from {-REACH} to {REACH} a frame of the log has the memory that it has here")

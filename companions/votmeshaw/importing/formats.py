@@ -2,7 +2,7 @@
 
 from votmeshaw.command import Stop
 from votmeshaw.importing import ale, archives, bizhawk, input_log, inputs_text
-from votmeshaw.importing.runs import LONGEST, SWITCHES, Notes, Refused, Run, switches_of
+from votmeshaw.importing.runs import KEYS, LONGEST, SWITCHES, Notes, Refused, Run, switches_of
 from votmeshaw.importing.settings import BYTE_ORDER_MARK
 
 MAME = "a recording of MAME (.inp); play it there with companions/logs/mame.lua, which writes inputs as text"
@@ -31,6 +31,8 @@ def run_of(data: bytes, is_ale: bool, asked: dict[str, bool], notes: Notes) -> R
     run = _read(data, is_ale, asked, notes)
     if not run.frames.count:
         raise Refused("RUN has no frame")
+    if not any(word in KEYS for _, held in run.frames.stretches for word in held):
+        notes.say("carried", "nothing: no direction, button, reset or select is held in any frame")
     return run
 
 
@@ -52,7 +54,10 @@ def _read(data: bytes, is_ale: bool, asked: dict[str, bool], notes: Notes) -> Ru
     try:
         frames = inputs_text.frames_of(data)
     except Refused as error:
-        raise Refused(f"RUN is no BizHawk movie, no input log with LogKey, and no inputs as text: {error}") from None
+        hint = "; as a list of ALE's actions it needs --ale" if ale.is_list(data) else ""
+        raise Refused(f"RUN is no BizHawk movie, no input log with LogKey, and no inputs as text: {error}{hint}") from None
     notes.say("run", "inputs as text")
+    if ale.is_list(data):
+        notes.say("unknown", "RUN reads as a list of ALE's actions too, for which --ale would take it")
     first = frames.stretches[0].held if frames.stretches else ()
     return Run(frames, tuple(it.word for it in SWITCHES if it.word in first))

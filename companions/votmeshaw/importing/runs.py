@@ -6,6 +6,7 @@ from collections.abc import Iterator
 from typing import NamedTuple
 
 from votmeshaw.names import printable
+from votmeshaw.verdicts import KINDS, NONE
 
 # What docs/MOVIE_FORMAT.md calls the keys that can be held, in the order in which 'vcs_check inputs' prints them.
 KEYS = (*(f"{it}{port}" for port in (0, 1) for it in ("up", "down", "left", "right", "fire")), "reset", "select")
@@ -67,15 +68,35 @@ class Frames:
 
 
 class Notes:
-    """What is said of a run and its game, a line each: printed at once, and kept for the text beside the movie."""
+    """What is said of a run and its game, a line each: printed at once, if it is, and kept for the text beside the movie; and at the
+    end the lines that say what was made."""
 
-    def __init__(self) -> None:
+    def __init__(self, is_printed: bool = True) -> None:
+        self.is_printed = is_printed
         self.lines: list[str] = []
+        self.ends: list[str] = []
+        self.reason = ""
 
     def say(self, what: str, text: str) -> None:
         """Says a thing. Few words stand before the colon, so that a script finds its lines: 'carried', 'assumed' and the like."""
         self.lines.append(f"{what}: {text}")
-        print(self.lines[-1], flush=True)
+        self._print(self.lines[-1])
+
+    def end(self, line: str) -> None:
+        """Says what was made of them, or why nothing was."""
+        self.ends.append(line)
+        self._print(line)
+
+    def _print(self, line: str) -> None:
+        if self.is_printed:
+            print(line, flush=True)
+
+    def members(self) -> dict[str, object]:
+        """The same as members of an object."""
+        parts = (line.partition(": ") for line in self.lines)
+        verdict = next((it for it in KINDS if self.ends[-1].startswith(it)), NONE)
+        said = {"verdict": verdict, "line": self.ends[-1], "notes": [{"kind": kind, "text": text} for kind, _, text in parts]}
+        return said | ({"reason": self.reason} if self.reason else {})
 
 
 @dataclasses.dataclass

@@ -15,6 +15,7 @@ complete -c vcs_check -n __fish_use_subcommand -f -a pictures -d 'write the pict
 complete -c vcs_check -n __fish_use_subcommand -f -a cut -d 'write frames as a movie of its own'
 complete -c vcs_check -n __fish_use_subcommand -f -a trace -d 'print the instructions of a frame'
 complete -c vcs_check -n __fish_use_subcommand -f -a help -d 'print help'
+complete -c vcs_check -n '__fish_seen_subcommand_from help' -f -a 'verify report make info inputs cartridge convert frames pictures cut trace'
 complete -c vcs_check -n __fish_use_subcommand -s V -l version -d 'print version'
 complete -c vcs_check -s h -l help -d 'print help'
 complete -c vcs_check -l explain -d 'say why, also where standard error is no terminal'
