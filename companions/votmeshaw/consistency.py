@@ -57,12 +57,13 @@ def contradictions(verdict: Verdict) -> Iterator[str]:
 def refuse_torn(file: pathlib.Path) -> None:
     """Refuses a file that doesn't end with a line feed. It is only ever written whole, so what stood behind is lost."""
     with open(opened(file, os.O_RDONLY), "rb") as source:
-        data = source.read()
-    if not data:
-        raise Damaged(f"{file} is empty. vcs_judge judges the movies again")
-    if not data.endswith(b"\n"):
-        number = data.count(b"\n") + 1
-        raise Damaged(f"{file}: line {number} is cut off, and what stood behind it is lost. vcs_judge judges again what is missing")
+        if not source.seek(0, os.SEEK_END):
+            raise Damaged(f"{file} is empty. vcs_judge judges the movies again")
+        source.seek(-1, os.SEEK_END)
+        if source.read() != b"\n":
+            source.seek(0)
+            number = sum(1 for _ in source)
+            raise Damaged(f"{file}: line {number} is cut off, and what stood behind it is lost. vcs_judge judges again what is missing")
 
 
 def consistent_in(file: pathlib.Path) -> Iterator[Verdict]:
