@@ -1,5 +1,6 @@
 """A page and a feed (Atom, RFC 4287) of what changes.jsonl keeps, the newest change first."""
 
+import collections
 import dataclasses
 import datetime
 import hashlib
@@ -9,7 +10,7 @@ from typing import Any, Self
 
 from votmeshaw import changes, files, verdicts
 from votmeshaw.names import name_in, readable
-from votmeshaw.pages import PAGE, SIGNS_OF_VERDICTS, groups, text
+from votmeshaw.pages import PAGE, SIGNS_OF_VERDICTS, groups, stretches, text
 from votmeshaw.verifier import with_reason
 
 PAGE_NAME, FEED_NAME = "changes.html", "changes.atom"
@@ -79,10 +80,11 @@ class Change:
 
 @dataclasses.dataclass(frozen=True)
 class Told:
-    """All changes, the newest first, and the numbers of lines that are cut off or damaged."""
+    """The newest changes, the last one first, the number of all, and the numbers of lines that are cut off or damaged."""
 
     identity: uuid.UUID
     changes: list[Change]
+    count: int
     damaged: list[int]
 
 
@@ -94,14 +96,15 @@ def identity_of(data: bytes) -> uuid.UUID:
 def read(file: pathlib.Path) -> Told:
     """What the file tells; nothing if it isn't there. Lines are only ever added to it, so that a line's number is part of its name."""
     lines = files.content(file).split(b"\n")
-    found, damaged = list[Change](), list[int]()
+    found, count, damaged = collections.deque[Change](maxlen=MOST), 0, list[int]()
     for number, line in enumerate(lines, 1):
         try:
             if line:
                 found.append(Change.read(number, line, identity_of(b"%s\n%d\n%s" % (lines[0], number, line))))
+                count += 1
         except (ValueError, LookupError, TypeError, AttributeError):
             damaged.append(number)
-    return Told(identity_of(lines[0]), found[::-1], damaged)
+    return Told(identity_of(lines[0]), list(reversed(found)), count, damaged)
 
 
 def _cell(style: str, answer: Answer | None) -> str:
@@ -126,12 +129,12 @@ def _row(change: Change, pages: set[str]) -> str:
 
 def page(told: Told, pages: set[str]) -> str:
     """The page of the changes. Those that are in 'pages' have a page of their own."""
-    found, kinds = told.changes[:MOST], {it.kind for it in told.changes}
-    said = f"{len(told.changes)} changes" + (f", of which these are the newest {len(found)}" if len(found) < len(told.changes) else "")
+    found, kinds = told.changes, {it.kind for it in told.changes}
+    said = f"{told.count} changes" + (f", of which these are the newest {len(found)}" if len(found) < told.count else "")
     meanings = "; ".join(f"{kind}: {meaning}" for kind, meaning in MEANINGS.items() if kind in kinds)
     body = ['<p><a href="index.html">All movies</a></p>', f"<main>\n<h1>{TITLE}</h1>"]
     body += [f'<p>{said}. The times are in UTC. <a href="{FEED_NAME}">The newest as a feed</a></p>']
-    body += [f"<p>{text(f'Line {number} of {changes.NAME} is cut off or damaged.')}</p>" for number in told.damaged]
+    body += [f"<p>Cut off or damaged in {changes.NAME}: line {stretches(told.damaged)}.</p>" if told.damaged else ""]
     body += [f'<p class="quiet">{text(meanings)}.</p>' if meanings else ""]
     heads = {"when": "When", "kind": "Change", "name": "Movie", "old": "Before", "new": "Now"}
     head = "".join(f'<th scope="col" class="{style}">{name}</th>' for style, name in heads.items())

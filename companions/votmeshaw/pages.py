@@ -33,6 +33,17 @@ def text(value: Any) -> str:
     return html.escape("\n".join(map(printable, str(value).split("\n"))))
 
 
+def stretches(found: list[int]) -> str:
+    """Rising numbers, those that follow one another as a stretch."""
+    parts: list[list[int]] = []
+    for number in found:
+        if parts and parts[-1][-1] == number - 1:
+            parts[-1][1:] = [number]
+        else:
+            parts.append([number])
+    return ", ".join(" to ".join(map(str, part)) for part in parts)
+
+
 def groups(rows: Iterable[str]) -> str:
     """Rows in the groups by which a browser lays them out."""
     made = list(rows)
