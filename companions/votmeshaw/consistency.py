@@ -54,16 +54,27 @@ def contradictions(verdict: Verdict) -> Iterator[str]:
         yield from contradictions(before)  # type: ignore[arg-type]
 
 
+def _command(words: str, file: pathlib.Path) -> str:
+    """A command for a file."""
+    return f"{words} {shlex.quote(os.fspath(file))}"
+
+
+def _advice(file: pathlib.Path, *numbers: int) -> str:
+    """What to do about lines that are wrong."""
+    removal = _command(f"sed -i {shlex.quote(';'.join(f'{it}d' for it in numbers))}", file)
+    return f"Put back a copy that is whole, or have vcs_judge judge again what is missing, after: {removal}"
+
+
 def refuse_torn(file: pathlib.Path) -> None:
     """Refuses a file that doesn't end with a line feed. It is only ever written whole, so what stood behind is lost."""
     with open(opened(file, os.O_RDONLY), "rb") as source:
         if not source.seek(0, os.SEEK_END):
-            raise Damaged(f"{file} is empty. vcs_judge judges the movies again")
+            raise Damaged(f"{file} is empty. Put back a copy that is whole, or have vcs_judge judge the movies again, after: {_command('rm', file)}")
         source.seek(-1, os.SEEK_END)
         if source.read() != b"\n":
             source.seek(0)
             number = sum(1 for _ in source)
-            raise Damaged(f"{file}: line {number} is cut off, and what stood behind it is lost. vcs_judge judges again what is missing")
+            raise Damaged(f"{file}: line {number} is cut off, and what stood behind it is lost. {_advice(file, number)}")
 
 
 def consistent_in(file: pathlib.Path) -> Iterator[Verdict]:
@@ -72,12 +83,11 @@ def consistent_in(file: pathlib.Path) -> Iterator[Verdict]:
     refuse_torn(file)
     said: dict[tuple[str | None, ...], tuple[int, str]] = {}
     for number, verdict in enumerate(verdicts.verdicts_in(file), 1):
-        advice = f"Take it out, so that its movie is judged again: sed -i {number}d {shlex.quote(os.fspath(file))}"
         if wrong := next(contradictions(verdict), ""):
-            raise Damaged(f"{file}: line {number} contradicts itself ({readable(wrong)}). {advice}")
+            raise Damaged(f"{file}: line {number} contradicts itself ({readable(wrong)}). {_advice(file, number)}")
         key = (verdict["digest"], verdict["program"], verdict.get("program_sha256"))
         other, line = said.setdefault(key, (number, verdict["line"])) if verdict["verdict"] != NONE else (number, verdict["line"])
         if line != verdict["line"]:
-            raise Damaged(f"{file}: line {number} contradicts line {other}, of the same bytes and program ({readable(verdict['line'])[:80]}). "
-                          f"Take out both, so that the movies are judged again: sed -i '{other}d;{number}d' {shlex.quote(os.fspath(file))}")
+            said_of_both = f"of the same bytes and program ({readable(verdict['line'])[:80]})"
+            raise Damaged(f"{file}: line {number} contradicts line {other}, {said_of_both}. {_advice(file, other, number)}")
         yield verdict
