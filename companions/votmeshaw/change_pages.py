@@ -78,33 +78,9 @@ class Change:
         return cls(number, identity, item["change"], when.astimezone(datetime.timezone.utc), name, old, new)
 
 
-@dataclasses.dataclass(frozen=True)
-class Told:
-    """The newest changes, the last one first, the number of all, and the numbers of lines that are cut off or damaged."""
-
-    identity: uuid.UUID
-    changes: list[Change]
-    count: int
-    damaged: list[int]
-
-
 def identity_of(data: bytes) -> uuid.UUID:
     """A name for these bytes, which no others have."""
     return uuid.UUID(bytes=hashlib.sha256(data).digest()[:16], version=5)
-
-
-def read(file: pathlib.Path) -> Told:
-    """What the file tells; nothing if it isn't there. Lines are only ever added to it, so that a line's number is part of its name."""
-    lines = files.content(file).split(b"\n")
-    found, count, damaged = collections.deque[Change](maxlen=MOST), 0, list[int]()
-    for number, line in enumerate(lines, 1):
-        try:
-            if line:
-                found.append(Change.read(number, line, identity_of(b"%s\n%d\n%s" % (lines[0], number, line))))
-                count += 1
-        except (ValueError, LookupError, TypeError, AttributeError):
-            damaged.append(number)
-    return Told(identity_of(lines[0]), list(reversed(found)), count, damaged)
 
 
 def _cell(style: str, answer: Answer | None) -> str:
@@ -127,22 +103,6 @@ def _row(change: Change, pages: set[str]) -> str:
     return f'<tr id="change-{change.number}">{cells}</tr>'
 
 
-def page(told: Told, pages: set[str]) -> str:
-    """The page of the changes. Those that are in 'pages' have a page of their own."""
-    found, kinds = told.changes, {it.kind for it in told.changes}
-    said = f"{told.count} changes" + (f", of which these are the newest {len(found)}" if len(found) < told.count else "")
-    meanings = "; ".join(f"{kind}: {meaning}" for kind, meaning in MEANINGS.items() if kind in kinds)
-    body = ['<p><a href="index.html">All movies</a></p>', f"<main>\n<h1>{TITLE}</h1>"]
-    body += [f'<p>{said}. The times are in UTC. <a href="{FEED_NAME}">The newest as a feed</a></p>']
-    body += [f"<p>Cut off or damaged in {changes.NAME}: line {stretches(told.damaged)}.</p>" if told.damaged else ""]
-    body += [f'<p class="quiet">{text(meanings)}.</p>' if meanings else ""]
-    heads = {"when": "When", "kind": "Change", "name": "Movie", "old": "Before", "new": "Now"}
-    head = "".join(f'<th scope="col" class="{style}">{name}</th>' for style, name in heads.items())
-    rows = groups(_row(it, pages) for it in found)
-    body += [f'<table class="movies changes all">\n<thead><tr>{head}</tr></thead>\n{rows}\n</table>' if found else "", "</main>"]
-    return PAGE.substitute(title=TITLE, top="", scripts="'none'", body="\n".join(filter(None, body)))
-
-
 def _entry(change: Change) -> str:
     """A change's entry in the feed."""
     answers = {"before": change.old, "now": change.new}
@@ -157,13 +117,52 @@ def _entry(change: Change) -> str:
 </entry>"""
 
 
-def feed(told: Told) -> str:
-    """The feed of the newest changes. Its links are relative, since nobody says where it will stand."""
-    updated = max((it.when for it in told.changes), default=NEVER)
-    entries = "\n".join(map(_entry, told.changes[:MOST_OF_FEED]))
-    return f"""<?xml version="1.0" encoding="utf-8"?>
+@dataclasses.dataclass(frozen=True)
+class Told:
+    """The newest changes, the last one first, the number of all, and the numbers of lines that are cut off or damaged."""
+
+    identity: uuid.UUID
+    changes: list[Change]
+    count: int
+    damaged: list[int]
+
+    @classmethod
+    def read(cls, folder: pathlib.Path) -> Self:
+        """What the file of a folder tells; nothing if it isn't there. Lines are only ever added to it, so that a line's number is part
+        of its name."""
+        lines = files.content(folder / changes.NAME).split(b"\n")
+        found, count, damaged = collections.deque[Change](maxlen=MOST), 0, list[int]()
+        for number, line in enumerate(lines, 1):
+            try:
+                if line:
+                    found.append(Change.read(number, line, identity_of(b"%s\n%d\n%s" % (lines[0], number, line))))
+                    count += 1
+            except (ValueError, LookupError, TypeError, AttributeError):
+                damaged.append(number)
+        return cls(identity_of(lines[0]), list(reversed(found)), count, damaged)
+
+    def page(self, pages: set[str]) -> str:
+        """The page of the changes. Those that are in 'pages' have a page of their own."""
+        found, kinds = self.changes, {it.kind for it in self.changes}
+        said = f"{self.count} changes" + (f", of which these are the newest {len(found)}" if len(found) < self.count else "")
+        meanings = "; ".join(f"{kind}: {meaning}" for kind, meaning in MEANINGS.items() if kind in kinds)
+        body = ['<p><a href="index.html">All movies</a></p>', f"<main>\n<h1>{TITLE}</h1>"]
+        body += [f'<p>{said}. The times are in UTC. <a href="{FEED_NAME}">The newest as a feed</a></p>']
+        body += [f"<p>Cut off or damaged in {changes.NAME}: line {stretches(self.damaged)}.</p>" if self.damaged else ""]
+        body += [f'<p class="quiet">{text(meanings)}.</p>' if meanings else ""]
+        heads = {"when": "When", "kind": "Change", "name": "Movie", "old": "Before", "new": "Now"}
+        head = "".join(f'<th scope="col" class="{style}">{name}</th>' for style, name in heads.items())
+        rows = groups(_row(it, pages) for it in found)
+        body += [f'<table class="movies changes all">\n<thead><tr>{head}</tr></thead>\n{rows}\n</table>' if found else "", "</main>"]
+        return PAGE.substitute(title=TITLE, top="", scripts="'none'", body="\n".join(filter(None, body)))
+
+    def feed(self) -> str:
+        """The feed of the newest changes. Its links are relative, since nobody says where it will stand."""
+        updated = max((it.when for it in self.changes), default=NEVER)
+        entries = "\n".join(map(_entry, self.changes[:MOST_OF_FEED]))
+        return f"""<?xml version="1.0" encoding="utf-8"?>
 <feed xmlns="http://www.w3.org/2005/Atom" xml:lang="en">
-<id>{told.identity.urn}</id>
+<id>{self.identity.urn}</id>
 <title>{TITLE} in an archive of movies of the Atari 2600</title>
 <updated>{updated.isoformat()}</updated>
 <author><name>vcs_judge</name></author>
