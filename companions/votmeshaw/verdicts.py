@@ -89,13 +89,19 @@ def is_judged(verdict: Verdict) -> bool:
 def object_in(line: bytes) -> dict[str, Any]:
     """The object of a line; ValueError if there is none."""
     try:
-        found = json.loads(line.decode("utf-8"), parse_constant=lambda word: _no(f"{word} is no number"))
+        found = json.loads(line.decode("utf-8"), parse_constant=lambda word: _no(f"{word} is no number"), object_pairs_hook=_members)
     except RecursionError:
         raise ValueError("too deep") from None
     within = [found]
     for _ in range(DEEPEST):
         within = [it for value in within if isinstance(value, dict | list) for it in (value.values() if isinstance(value, dict) else value)]
     return found if isinstance(found, dict) and not within else _no("too deep" if within else "not an object")
+
+
+def _members(pairs: list[tuple[str, Any]]) -> dict[str, Any]:
+    """An object of these members, none of which is there twice."""
+    found = dict(pairs)
+    return found if len(found) == len(pairs) else _no("a member stands there twice")
 
 
 def _no(reason: str) -> Any:
