@@ -1,5 +1,5 @@
-"""The file changes.jsonl: which movies came, were moved, replaced or taken away, an object each. Lines are added to it, and
-nothing ever rewrites it.
+"""The file changes.jsonl: which movies came, were moved, replaced, taken away, or judged at last, an object each. Lines are added
+to it, and nothing ever rewrites it.
 
 An object has 'change', 'when', 'path' (and of a name that isn't UTF-8 path_base64), of a movie that was moved 'from', and
 what was kept of it before and after, 'old' and 'new': digest, verdict, line, program, the time of the verdict, and the reason if
@@ -19,8 +19,11 @@ from votmeshaw.verdicts import NONE, Verdict
 from votmeshaw.verifier import with_reason
 
 NAME = "changes.jsonl"
-NEW, MOVED, REPLACED, GONE, OTHERWISE = "new", "moved", "replaced", "gone", "judged otherwise"
-ALL = (NEW, MOVED, REPLACED, GONE, OTHERWISE)
+NEW, MOVED, REPLACED, GONE = "new", "moved", "replaced", "gone"
+# A movie that wasn't judged is; one that was judged can't be read; another program says something else.
+NOW_JUDGED, UNREAD, OTHERWISE = "now judged", "cannot be read", "judged otherwise"
+# In the order in which they are told. The first are always counted.
+COUNTED, ALL = (NEW, MOVED, REPLACED, GONE), (NEW, MOVED, REPLACED, GONE, NOW_JUDGED, UNREAD, OTHERWISE)
 KEPT = ("digest", "verdict", "line", "program", "judged")
 
 
@@ -68,32 +71,34 @@ def why(item: dict[str, Any]) -> str:
     return f"{readable(name_in(item, 'path'))}: {with_reason(new['line'], new.get('reason', ''))}"
 
 
-def steps(path: str, history: list[Verdict], final: Verdict) -> Iterator[Change]:
-    """How a movie that is there was replaced or judged otherwise, of all that was kept of it in order."""
-    lines = [of_before(it) for it in (*history, final)]
-    lines = [it for it in lines if it["digest"]]
-    for old, new in zip(lines, lines[1:]):
-        if old["digest"] != new["digest"]:
-            yield Change(REPLACED, path, old, new)
-        elif old["verdict"] != new["verdict"] and NONE not in (old["verdict"], new["verdict"]):
-            yield Change(OTHERWISE, path, old, new)
+def step(path: str, old: Verdict, final: Verdict) -> Iterator[Change]:
+    """How a movie that was there and is there was replaced, judged at last, judged otherwise, or can't be read any more."""
+    before, after = of_before(old), of_before(final)
+    if before["digest"] and after["digest"] and before["digest"] != after["digest"]:
+        yield Change(REPLACED, path, before, after)
+    elif NONE not in (before["verdict"], after["verdict"]) and before["verdict"] != after["verdict"]:
+        yield Change(OTHERWISE, path, before, after)
+    elif old["verdict"] == NONE != final["verdict"]:
+        yield Change(NOW_JUDGED, path, old, final)
+    elif old["verdict"] != NONE == final["verdict"]:
+        yield Change(UNREAD, path, old, final)
 
 
-def between(histories: dict[str, list[Verdict]], old: set[str], answers: list[Verdict]) -> list[Change]:
-    """What changed between what was kept, of which these paths were in the file, and what is there. What stands for a folder
-    that can't be read is no movie."""
+def between(old: dict[str, Verdict], answers: list[Verdict]) -> list[Change]:
+    """What changed between the lines of the file and what is there. What stands for a folder that can't be read is no movie, and
+    is told once."""
     there = {it["path"]: it for it in answers if not it["path"].endswith("/")}
-    gone = {path: of_before(lines[-1]) for path, lines in histories.items() if path not in there and not path.endswith("/")}
+    gone = {path: of_before(line) for path, line in old.items() if path not in there and not path.endswith("/")}
     left: dict[str, list[str]] = {}
     for path, verdict in reversed(gone.items()):
         left.setdefault(verdict["digest"] or "", []).append(path)
-    found: list[Change] = []
+    found = [Change(UNREAD, it["path"], None, it) for it in answers if it["path"].endswith("/") and it["path"] not in old]
     for path, verdict in there.items():
         if path in old:
-            found += steps(path, histories[path], verdict)
+            found += step(path, old[path], verdict)
         elif verdict["digest"] and (places := left.get(verdict["digest"])):
             source = places.pop()
-            found += steps(path, [gone[source]], verdict)
+            found += step(path, gone[source], verdict)
             found.append(Change(MOVED, path, gone.pop(source), verdict, source))
         else:
             found.append(Change(NEW, path, None, verdict))
