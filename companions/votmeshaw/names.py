@@ -35,7 +35,7 @@ def name_in(item: dict[str, Any], member: str) -> str:
 
 def shell_word(name: str) -> str:
     """A name as a shell reads it, and as no option."""
-    name = name if name[0].isalnum() or name[0] in "._" else f"./{name}"
+    name = name if name[0].isalnum() or name[0] in "._/" else f"./{name}"
     if name == readable(name):
         return shlex.quote(name)
     return "$'" + "".join(f"\\x{it:02x}" if not 32 <= it < 127 or it in b"'\\" else chr(it) for it in os.fsencode(name)) + "'"
