@@ -2,8 +2,8 @@
 to it, and nothing ever rewrites it.
 
 An object has 'change', 'when', 'path' (and of a name that isn't UTF-8 path_base64), of a movie that was moved 'from', and
-what was kept of it before and after, 'old' and 'new': digest, verdict, line, program, the time of the verdict, and the reason if
-there is one; or null.
+what was kept of it before and after, 'old' and 'new': digest, verdict, line, program with its SHA-256, the time of the verdict, and the
+reason if there is one; or null.
 """
 
 import dataclasses
@@ -20,11 +20,16 @@ from votmeshaw.verifier import with_reason
 
 NAME = "changes.jsonl"
 NEW, MOVED, REPLACED, GONE = "new", "moved", "replaced", "gone"
-# A movie that wasn't judged is; one that was judged can't be read; another program says something else.
-NOW_JUDGED, UNREAD, OTHERWISE = "now judged", "cannot be read", "judged otherwise"
+# A movie that wasn't judged is; one that was judged can't be read; another program says something else; the same program does.
+NOW_JUDGED, UNREAD, OTHERWISE, CONTRADICTED = "now judged", "cannot be read", "judged otherwise", "contradicted"
 # In the order in which they are told. The first are always counted.
-COUNTED, ALL = (NEW, MOVED, REPLACED, GONE), (NEW, MOVED, REPLACED, GONE, NOW_JUDGED, UNREAD, OTHERWISE)
+COUNTED = (NEW, MOVED, REPLACED, GONE)
+ALL = (*COUNTED, NOW_JUDGED, UNREAD, OTHERWISE, CONTRADICTED)
 KEPT = ("digest", "verdict", "line", "program", "judged")
+# What may be missing: the first of these of before 1.3.0, the other where there is none.
+PERHAPS = ("program_sha256", "reason")
+# What the same program says of the same bytes each time.
+SAME = ("verdict", "status", "line", "facts")
 
 
 def of_before(verdict: Verdict) -> Verdict:
@@ -48,7 +53,7 @@ class Change:
 
     def item(self, when: str) -> dict[str, Any]:
         """The object of the file."""
-        old, new = ({key: it[key] for key in (*KEPT, "reason") if key in it} if it else None for it in (self.old, self.new))
+        old, new = ({key: it[key] for key in (*KEPT, *PERHAPS) if key in it} if it else None for it in (self.old, self.new))
         found = {"change": self.kind, "when": when, **named("path", self.path), "old": old, "new": new}
         return found | (named("from", self.moved_from) if self.moved_from else {})
 
@@ -64,8 +69,10 @@ def told(item: dict[str, Any]) -> str:
 
 
 def why(item: dict[str, Any]) -> str:
-    """Why the movie of an object of the file is refused or isn't judged now, or nothing."""
+    """Why the movie of an object of the file is refused or isn't judged now, what is wrong if a program contradicts itself, or nothing."""
     new = item["new"] or {}
+    if item["change"] == CONTRADICTED:
+        return f"{readable(name_in(item, 'path'))}: the same program said something else of the same bytes. Don't rely on this machine, or on this program"
     if not new.get("reason") and new.get("verdict") != NONE:
         return ""
     return f"{readable(name_in(item, 'path'))}: {with_reason(new['line'], new.get('reason', ''))}"
@@ -73,9 +80,13 @@ def why(item: dict[str, Any]) -> str:
 
 def step(path: str, old: Verdict, final: Verdict) -> Iterator[Change]:
     """How a movie that was there and is there was replaced, judged at last, judged otherwise, or can't be read any more."""
+    program = old.get("program_sha256")
     before, after = of_before(old), of_before(final)
     if before["digest"] and after["digest"] and before["digest"] != after["digest"]:
         yield Change(REPLACED, path, before, after)
+    elif program and program == final.get("program_sha256") and verdicts.is_judged(old) and verdicts.is_judged(final):
+        if any(old.get(it) != final.get(it) for it in SAME):
+            yield Change(CONTRADICTED, path, old, final)
     elif NONE not in (before["verdict"], after["verdict"]) and before["verdict"] != after["verdict"]:
         yield Change(OTHERWISE, path, before, after)
     elif old["verdict"] == NONE != final["verdict"]:

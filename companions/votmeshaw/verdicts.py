@@ -26,7 +26,8 @@ NONE = "not judged"
 class Verdict(TypedDict):
     """What was answered of one movie. Its facts are the object that 'vcs_check report --json' printed, and its line is that of
     the verdict; of a movie that isn't judged there are no facts, and the line says why. 'reason' is what the program gave as its
-    reason to refuse the movie, or to fail; 1.2.0 and older kept none. If a movie that isn't judged was judged before, and can't be
+    reason to refuse the movie, or to fail; 1.2.0 and older kept none. 'program' is what the program says of its version in this answer,
+    and 'program_sha256' of the file that was executed; 1.2.0 and older kept none. If a movie that isn't judged was judged before, and can't be
     read now, 'before' is what was kept of it."""
 
     path: str
@@ -39,6 +40,7 @@ class Verdict(TypedDict):
     seconds: float
     judged: str
     program: str
+    program_sha256: NotRequired[str]
     reason: NotRequired[str]
     before: NotRequired[dict[str, Any]]
 
@@ -155,6 +157,8 @@ def checked(item: dict[str, Any]) -> Verdict:
         raise ValueError("verdict")
     if not isinstance(item.get("reason", ""), str):
         raise ValueError("reason")
+    if "program_sha256" in item and not is_digest(item["program_sha256"]):
+        raise ValueError("program_sha256")
     verdict: Verdict = item  # type: ignore[assignment]
     if is_judged(verdict) and (name := wrong_fact(item["facts"])):
         raise ValueError(f"facts: {name}")

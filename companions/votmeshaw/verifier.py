@@ -10,6 +10,7 @@ from typing import Any, NamedTuple
 
 from votmeshaw.command import Stop, signals_held
 from votmeshaw.names import readable
+from votmeshaw.program import Program
 
 # Starts a program with a limit on its memory, in kilobytes.
 LIMITED = 'ulimit -v "$0" && exec "$@"'
@@ -61,8 +62,8 @@ class Verifier:
     """The verifier, with limits of a question: seconds and megabytes, or none."""
 
     def __init__(self, path: str, timeout: float | None = None, memory: int | None = None) -> None:
-        self.path, self.timeout = path, timeout
-        self.words = ["/bin/sh", "-c", LIMITED, str(memory * 1024), path] if memory else [path]
+        self.program, self.timeout = Program(path), timeout
+        self.words = ["/bin/sh", "-c", LIMITED, str(memory * 1024), self.program.path] if memory else [self.program.path]
         self.lock, self.processes, self.is_stopped = threading.Lock(), set[subprocess.Popen[bytes]](), False
         try:
             said = self._version(EXPLAIN)
@@ -79,12 +80,15 @@ class Verifier:
 
     def _version(self, *words: str) -> subprocess.CompletedProcess[bytes]:
         """What the program says of its version."""
-        return subprocess.run([self.path, "--version", *words], stdin=subprocess.DEVNULL, capture_output=True)
+        line = [self.program.path, "--version", *words]
+        return subprocess.run(line, stdin=subprocess.DEVNULL, capture_output=True, pass_fds=self.program.needs)
 
     def answer(self, movie: bytes, *words: str) -> Answer:
         """The answer to a question, whose movie is '-': these bytes come on standard input."""
         with self.running(movie, *words) as process:
             out, err = process.communicate()
+        if not self.program.is_same():
+            raise NoAnswer("the program was replaced during the run")
         return Answer(process.returncode, out, err)
 
     @contextlib.contextmanager
@@ -121,6 +125,7 @@ class Verifier:
             file.write(movie)
             file.seek(0)
             pipes = {"stdin": file, "stdout": subprocess.PIPE, "stderr": subprocess.PIPE, **how}
+            pipes["pass_fds"] = (*how.get("pass_fds", ()), *self.program.needs)
             with signals_held(), self.lock:
                 if self.is_stopped:
                     raise NoAnswer("the run ends")
