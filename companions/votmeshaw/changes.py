@@ -6,8 +6,10 @@ what was kept of it before and after, 'old' and 'new': digest, verdict, line, pr
 reason if there is one; or null.
 """
 
+import contextlib
 import dataclasses
 import datetime
+import json
 import os
 import pathlib
 from collections.abc import Iterator
@@ -115,6 +117,23 @@ def between(old: dict[str, Verdict], answers: list[Verdict]) -> list[Change]:
             found.append(Change(NEW, path, None, verdict))
     found += [Change(GONE, path, verdict, None) for path, verdict in gone.items()]
     return sorted(found, key=lambda it: ALL.index(it.kind))
+
+
+def untold(file: pathlib.Path, changes: list[Change], length: int | None) -> list[Change]:
+    """The changes that don't stand behind this length of the file: a run that was killed may have kept some, and told none."""
+    if length is None:
+        return changes
+    kept = set()
+    for line in files.content(file)[length:].split(b"\n"):
+        with contextlib.suppress(ValueError, LookupError, TypeError, AttributeError):
+            kept.add(_without_times(verdicts.object_in(line)))
+    return [it for it in changes if _without_times(it.item("")) not in kept]
+
+
+def _without_times(item: dict[str, Any]) -> str:
+    """An object as text, without the times at which it was written and its movie judged."""
+    sides = {side: {key: it for key, it in (item[side] or {}).items() if key != "judged"} for side in ("old", "new")}
+    return json.dumps({**item, "when": "", **sides}, sort_keys=True)
 
 
 def keep(file: pathlib.Path, changes: list[Change], when: str) -> None:

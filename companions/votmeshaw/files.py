@@ -31,6 +31,14 @@ def content(file: pathlib.Path) -> bytes:
         return b""
 
 
+def length(file: pathlib.Path) -> int:
+    """How many bytes a file has; none if it isn't there."""
+    try:
+        return file.lstat().st_size
+    except FileNotFoundError:
+        return 0
+
+
 def lock(descriptor: int, place: pathlib.Path, is_patient: bool = True) -> bool:
     """Keeps other runs from an open file or folder, and says whether it could: it waits if it is patient, and tells so after a second.
     The system ends this when the process ends, however it does."""
