@@ -147,6 +147,20 @@ def keep(file: pathlib.Path, changes: list[Change], when: str) -> None:
         os.fsync(opened.fileno())
 
 
+def left(file: pathlib.Path) -> dict[str, str | None]:
+    """The paths at which there is no movie any more, by the last change of each, with the digest of what was there."""
+    found: dict[str, str | None] = {}
+    for line in files.content(file).split(b"\n"):
+        with contextlib.suppress(ValueError, LookupError, TypeError, AttributeError):
+            item = verdicts.object_in(line)
+            found.pop(name_in(item, "path"), None)
+            if item["change"] == GONE:
+                found[name_in(item, "path")] = item["old"]["digest"]
+            elif item["change"] == MOVED:
+                found[name_in(item, "from")] = item["new"]["digest"]
+    return found
+
+
 def since(file: pathlib.Path, moment: datetime.datetime) -> Iterator[tuple[str, str]]:
     """The lines of the changes since a moment, each after its time, with the reason; of a line that is damaged that it is so."""
     for number, line in enumerate(files.content(file).split(b"\n"), 1):
