@@ -199,6 +199,11 @@ class Folder:
                 elif zlib.crc32(path) % parts == number - 1:
                     yield self._looked_at(way, path)
 
+    def has_movies(self) -> bool:
+        """Whether there is a movie, or a folder that can't be read."""
+        with Way() as way:
+            return next(self._paths(way, (*MOVIES, *PACKED)), None) is not None
+
     def files(self) -> Iterator[tuple[bytes, str]]:
         """The paths of all files, but for those in hidden folders; and of folders that can't be read, with the reason."""
         with Way() as way:
