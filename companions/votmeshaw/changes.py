@@ -144,7 +144,7 @@ def keep(file: pathlib.Path, changes: list[Change], when: str) -> None:
     with files.for_appending(file) as opened:
         lines = b"".join(verdicts.object_line(it.item(when)) for it in changes)
         files.append(opened, b"\n" * torn + lines)
-        os.fsync(opened.fileno())
+        files.sync(opened)
 
 
 def left(file: pathlib.Path) -> dict[str, str | None]:

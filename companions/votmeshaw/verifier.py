@@ -9,6 +9,7 @@ from collections.abc import Iterator
 from typing import Any, NamedTuple
 
 from votmeshaw.command import Stop, signals_held
+from votmeshaw.guard import Guard
 from votmeshaw.names import readable
 from votmeshaw.program import Program
 
@@ -62,7 +63,7 @@ class Verifier:
     """The verifier, with limits of a question: seconds and megabytes, or none."""
 
     def __init__(self, path: str, timeout: float | None = None, memory: int | None = None) -> None:
-        self.program, self.timeout = Program(path), timeout
+        self.program, self.guard, self.timeout = Program(path), Guard(), timeout
         self.words = ["/bin/sh", "-c", LIMITED, str(memory * 1024), self.program.path] if memory else [self.program.path]
         self.lock, self.processes, self.is_stopped = threading.Lock(), set[subprocess.Popen[bytes]](), False
         try:
@@ -111,6 +112,7 @@ class Verifier:
             for process in started:
                 self._end(process)
                 process.wait()
+                self.guard.ended(process.pid)
                 for pipe in filter(None, (process.stdout, process.stderr)):
                     pipe.close()
                 with self.lock:
@@ -131,6 +133,7 @@ class Verifier:
                     raise NoAnswer("the run ends")
                 started.append(subprocess.Popen([*self.words, *words, *self.explain], process_group=0, **pipes))
                 self.processes.add(started[0])
+                self.guard.started(started[0].pid)
 
     def stop(self) -> None:
         """Ends what runs, and starts no more."""
