@@ -33,14 +33,22 @@ class Cartridges:
 
     def find(self, length: int, digest: str) -> tuple[str, bytes] | None:
         """The path of a cartridge, and its bytes."""
-        with self.lock:
-            if length not in self.digested:
-                self.digested[length] = self._digested(length)
-            name = self.digested[length].get(digest)
+        name = self._name(length, digest)
         data = self._read(name, length) if name else b""
         if name and hashlib.sha256(data).hexdigest() == digest:
             return os.fsdecode(os.path.join(self.folder.root, name)), data
         return None
+
+    def has(self, length: int, digest: str) -> bool:
+        """Whether there is a cartridge of this length and digest."""
+        return self._name(length, digest) is not None
+
+    def _name(self, length: int, digest: str) -> bytes | None:
+        """The name of a cartridge, of which each length is looked through once."""
+        with self.lock:
+            if length not in self.digested:
+                self.digested[length] = self._digested(length)
+            return self.digested[length].get(digest)
 
     def _read(self, name: bytes, length: int) -> bytes:
         """The bytes of a file; none if it can't be read."""

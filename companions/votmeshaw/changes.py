@@ -1,13 +1,15 @@
-"""The file changes.jsonl: which movies came, were moved, replaced or taken away, an object each. Lines are added to it, and
-nothing ever rewrites it.
+"""The file changes.jsonl: which movies came, were moved, replaced, taken away, or judged at last, an object each. Lines are added
+to it, and nothing ever rewrites it.
 
 An object has 'change', 'when', 'path' (and of a name that isn't UTF-8 path_base64), of a movie that was moved 'from', and
-what was kept of it before and after, 'old' and 'new': digest, verdict, line, program, the time of the verdict, and the reason if
-there is one; or null.
+what was kept of it before and after, 'old' and 'new': digest, verdict, line, program with its SHA-256, the time of the verdict, and the
+reason if there is one; or null.
 """
 
+import contextlib
 import dataclasses
 import datetime
+import json
 import os
 import pathlib
 from collections.abc import Iterator
@@ -19,9 +21,17 @@ from votmeshaw.verdicts import NONE, Verdict
 from votmeshaw.verifier import with_reason
 
 NAME = "changes.jsonl"
-NEW, MOVED, REPLACED, GONE, OTHERWISE = "new", "moved", "replaced", "gone", "judged otherwise"
-ALL = (NEW, MOVED, REPLACED, GONE, OTHERWISE)
+NEW, MOVED, REPLACED, GONE = "new", "moved", "replaced", "gone"
+# A movie that wasn't judged is; one that was judged can't be read; another program says something else; the same program does.
+NOW_JUDGED, UNREAD, OTHERWISE, CONTRADICTED = "now judged", "cannot be read", "judged otherwise", "contradicted"
+# In the order in which they are told. The first are always counted.
+COUNTED = (NEW, MOVED, REPLACED, GONE)
+ALL = (*COUNTED, NOW_JUDGED, UNREAD, OTHERWISE, CONTRADICTED)
 KEPT = ("digest", "verdict", "line", "program", "judged")
+# What may be missing: the first of these of before 1.3.0, the other where there is none.
+PERHAPS = ("program_sha256", "reason")
+# What the same program says of the same bytes each time.
+SAME = ("verdict", "status", "line", "facts")
 
 
 def of_before(verdict: Verdict) -> Verdict:
@@ -45,7 +55,7 @@ class Change:
 
     def item(self, when: str) -> dict[str, Any]:
         """The object of the file."""
-        old, new = ({key: it[key] for key in (*KEPT, "reason") if key in it} if it else None for it in (self.old, self.new))
+        old, new = ({key: it[key] for key in (*KEPT, *PERHAPS) if key in it} if it else None for it in (self.old, self.new))
         found = {"change": self.kind, "when": when, **named("path", self.path), "old": old, "new": new}
         return found | (named("from", self.moved_from) if self.moved_from else {})
 
@@ -61,44 +71,69 @@ def told(item: dict[str, Any]) -> str:
 
 
 def why(item: dict[str, Any]) -> str:
-    """Why the movie of an object of the file is refused or isn't judged now, or nothing."""
+    """Why the movie of an object of the file is refused or isn't judged now, what is wrong if a program contradicts itself, or nothing."""
     new = item["new"] or {}
+    if item["change"] == CONTRADICTED:
+        return f"{readable(name_in(item, 'path'))}: the same program said something else of the same bytes. Don't rely on this machine, or on this program"
     if not new.get("reason") and new.get("verdict") != NONE:
         return ""
     return f"{readable(name_in(item, 'path'))}: {with_reason(new['line'], new.get('reason', ''))}"
 
 
-def steps(path: str, history: list[Verdict], final: Verdict) -> Iterator[Change]:
-    """How a movie that is there was replaced or judged otherwise, of all that was kept of it in order."""
-    lines = [of_before(it) for it in (*history, final)]
-    lines = [it for it in lines if it["digest"]]
-    for old, new in zip(lines, lines[1:]):
-        if old["digest"] != new["digest"]:
-            yield Change(REPLACED, path, old, new)
-        elif old["verdict"] != new["verdict"] and NONE not in (old["verdict"], new["verdict"]):
-            yield Change(OTHERWISE, path, old, new)
+def step(path: str, old: Verdict, final: Verdict) -> Iterator[Change]:
+    """How a movie that was there and is there was replaced, judged at last, judged otherwise, or can't be read any more."""
+    program = old.get("program_sha256")
+    before, after = of_before(old), of_before(final)
+    if before["digest"] and after["digest"] and before["digest"] != after["digest"]:
+        yield Change(REPLACED, path, before, after)
+    elif program and program == final.get("program_sha256") and verdicts.is_judged(old) and verdicts.is_judged(final):
+        if any(old.get(it) != final.get(it) for it in SAME):
+            yield Change(CONTRADICTED, path, old, final)
+    elif NONE not in (before["verdict"], after["verdict"]) and before["verdict"] != after["verdict"]:
+        yield Change(OTHERWISE, path, before, after)
+    elif old["verdict"] == NONE != final["verdict"]:
+        yield Change(NOW_JUDGED, path, old, final)
+    elif old["verdict"] != NONE == final["verdict"]:
+        yield Change(UNREAD, path, old, final)
 
 
-def between(histories: dict[str, list[Verdict]], old: set[str], answers: list[Verdict]) -> list[Change]:
-    """What changed between what was kept, of which these paths were in the file, and what is there. What stands for a folder
-    that can't be read is no movie."""
+def between(old: dict[str, Verdict], answers: list[Verdict]) -> list[Change]:
+    """What changed between the lines of the file and what is there. What stands for a folder that can't be read is no movie, and
+    is told once."""
     there = {it["path"]: it for it in answers if not it["path"].endswith("/")}
-    gone = {path: of_before(lines[-1]) for path, lines in histories.items() if path not in there and not path.endswith("/")}
+    gone = {path: of_before(line) for path, line in old.items() if path not in there and not path.endswith("/")}
     left: dict[str, list[str]] = {}
     for path, verdict in reversed(gone.items()):
         left.setdefault(verdict["digest"] or "", []).append(path)
-    found: list[Change] = []
+    found = [Change(UNREAD, it["path"], None, it) for it in answers if it["path"].endswith("/") and it["path"] not in old]
     for path, verdict in there.items():
         if path in old:
-            found += steps(path, histories[path], verdict)
+            found += step(path, old[path], verdict)
         elif verdict["digest"] and (places := left.get(verdict["digest"])):
             source = places.pop()
-            found += steps(path, [gone[source]], verdict)
+            found += step(path, gone[source], verdict)
             found.append(Change(MOVED, path, gone.pop(source), verdict, source))
         else:
             found.append(Change(NEW, path, None, verdict))
     found += [Change(GONE, path, verdict, None) for path, verdict in gone.items()]
     return sorted(found, key=lambda it: ALL.index(it.kind))
+
+
+def untold(file: pathlib.Path, changes: list[Change], length: int | None) -> list[Change]:
+    """The changes that don't stand behind this length of the file: a run that was killed may have kept some, and told none."""
+    if length is None:
+        return changes
+    kept = set()
+    for line in files.content(file)[length:].split(b"\n"):
+        with contextlib.suppress(ValueError, LookupError, TypeError, AttributeError):
+            kept.add(_without_times(verdicts.object_in(line)))
+    return [it for it in changes if _without_times(it.item("")) not in kept]
+
+
+def _without_times(item: dict[str, Any]) -> str:
+    """An object as text, without the times at which it was written and its movie judged."""
+    sides = {side: {key: it for key, it in (item[side] or {}).items() if key != "judged"} for side in ("old", "new")}
+    return json.dumps({**item, "when": "", **sides}, sort_keys=True)
 
 
 def keep(file: pathlib.Path, changes: list[Change], when: str) -> None:
@@ -109,7 +144,21 @@ def keep(file: pathlib.Path, changes: list[Change], when: str) -> None:
     with files.for_appending(file) as opened:
         lines = b"".join(verdicts.object_line(it.item(when)) for it in changes)
         files.append(opened, b"\n" * torn + lines)
-        os.fsync(opened.fileno())
+        files.sync(opened)
+
+
+def left(file: pathlib.Path) -> dict[str, str | None]:
+    """The paths at which there is no movie any more, by the last change of each, with the digest of what was there."""
+    found: dict[str, str | None] = {}
+    for line in files.content(file).split(b"\n"):
+        with contextlib.suppress(ValueError, LookupError, TypeError, AttributeError):
+            item = verdicts.object_in(line)
+            found.pop(name_in(item, "path"), None)
+            if item["change"] == GONE:
+                found[name_in(item, "path")] = item["old"]["digest"]
+            elif item["change"] == MOVED:
+                found[name_in(item, "from")] = item["new"]["digest"]
+    return found
 
 
 def since(file: pathlib.Path, moment: datetime.datetime) -> Iterator[tuple[str, str]]:

@@ -183,9 +183,16 @@ def _told(work: Callable[[], int]) -> int:
         return NOTHING_DONE
 
 
+def _speak_utf8() -> None:
+    """Starts the program again in UTF-8 where the locale has another encoding, so that names and lines are the same everywhere."""
+    if sys.getfilesystemencoding() != "utf-8" and not sys.flags.utf8_mode:
+        os.execv(sys.executable, [sys.executable, "-X", "utf8", *sys.orig_argv[1:]])
+
+
 def carried_out(work: Callable[[], int]) -> int:
     """Does a program's work, and returns its status, which is 2 after an error. After SIGINT, SIGTERM or SIGHUP the work is left by
     Ended, and then the process ends by the same signal, so that whoever started it sees which."""
+    _speak_utf8()
     if sys.stdout is None:
         say("standard output is closed")
         return NOTHING_DONE

@@ -32,6 +32,14 @@ def content(file: pathlib.Path) -> bytes:
         return b""
 
 
+def length(file: pathlib.Path) -> int:
+    """How many bytes a file has; none if it isn't there."""
+    try:
+        return file.lstat().st_size
+    except FileNotFoundError:
+        return 0
+
+
 def lock(descriptor: int, place: pathlib.Path, is_patient: bool = True) -> bool:
     """Keeps other runs from an open file or folder, and says whether it could: it waits if it is patient, and tells so after a second.
     The system ends this when the process ends, however it does."""
@@ -51,20 +59,49 @@ def lock(descriptor: int, place: pathlib.Path, is_patient: bool = True) -> bool:
     return True
 
 
+@contextlib.contextmanager
+def naming(file: pathlib.Path | str) -> Iterator[None]:
+    """Puts the name of a file into the errors of a block that have none."""
+    try:
+        yield
+    except OSError as error:
+        if error.errno is None or isinstance(error.filename, (str, bytes)):
+            raise
+        raise OSError(error.errno, error.strerror, os.fspath(file)) from None
+
+
 def append(file: IO[bytes], data: bytes) -> None:
     """Writes lines to an unbuffered file that is open for appending: all of them, or after an error nothing."""
     end = os.fstat(file.fileno()).st_size
     try:
-        if file.write(data) != len(data):
-            raise OSError(f"{file.name}: the disk is full")
+        with naming(file.name):
+            while data:  # (a full disk takes a part, and says so when it is asked again)
+                data = data[file.write(data) :]
     except BaseException:
         os.ftruncate(file.fileno(), end)
         raise
 
 
+def sync(file: IO[bytes]) -> None:
+    """Asks the disk to have the bytes of a file."""
+    with naming(file.name):
+        os.fsync(file.fileno())
+
+
 def for_appending(file: pathlib.Path) -> IO[bytes]:
     """A file to which lines are appended."""
-    return open(opened(file, os.O_RDWR | os.O_APPEND | os.O_CREAT), "ab", buffering=0)
+    return open(file, "ab", buffering=0, opener=lambda *_: opened(file, os.O_RDWR | os.O_APPEND | os.O_CREAT))
+
+
+def _take_after(file: pathlib.Path, descriptor: int) -> None:
+    """Gives a new file the owner and the mode of the one in whose place it comes, as far as this user may."""
+    with contextlib.suppress(FileNotFoundError):
+        old = file.lstat()
+        for owner in (old.st_uid, -1):
+            with contextlib.suppress(PermissionError):
+                os.fchown(descriptor, owner, old.st_gid)
+                break
+        os.fchmod(descriptor, stat.S_IMODE(old.st_mode) & 0o777)
 
 
 def cut_torn_line(file: pathlib.Path) -> None:
@@ -89,7 +126,8 @@ def replace(file: pathlib.Path, data: bytes) -> None:
     beside = file.with_name(f"{file.name}.new")
     beside.unlink(missing_ok=True)
     try:
-        with open(opened(beside, os.O_WRONLY | os.O_CREAT | os.O_EXCL), "wb") as new:
+        with naming(file), open(opened(beside, os.O_WRONLY | os.O_CREAT | os.O_EXCL), "wb") as new:
+            _take_after(file, new.fileno())
             new.write(data)
             new.flush()
             os.fsync(new.fileno())

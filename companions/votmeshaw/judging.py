@@ -18,10 +18,13 @@ def now() -> str:
     return datetime.datetime.now(datetime.timezone.utc).isoformat(timespec="seconds")
 
 
-def unjudged(movie: Movie, line: str, program: str = "") -> Verdict:
+def unjudged(movie: Movie, line: str, verifier: Verifier | None) -> Verdict:
     """What is kept of a movie without a verdict."""
-    return Verdict(path=movie.path, digest=movie.digest, size=movie.size, verdict=NONE, status=None, line=line, facts={}, seconds=0.0,
-                   judged=now(), program=program)
+    found = Verdict(path=movie.path, digest=movie.digest, size=movie.size, verdict=NONE, status=None, line=line, facts={}, seconds=0.0,
+                    judged=now(), program=verifier.version if verifier else "")
+    if verifier:
+        found["program_sha256"] = verifier.program.digest
+    return found
 
 
 def judged(verifier: Verifier, folder: Folder, movie: Movie, cartridges: Cartridges | None = None) -> Verdict:
@@ -29,16 +32,16 @@ def judged(verifier: Verifier, folder: Folder, movie: Movie, cartridges: Cartrid
     try:
         data = folder.read(os.fsencode(movie.path))
     except OSError as error:
-        return unjudged(movie, f"cannot read: {error.strerror or error}", verifier.version)
+        return unjudged(movie, f"cannot read: {error.strerror or error}", verifier)
     if hashlib.sha256(data).hexdigest() != movie.digest:
-        return unjudged(movie, "changed while it was judged", verifier.version)
+        return unjudged(movie, "changed while it was judged", verifier)
     began = time.monotonic()
     try:
         data = whole(data, cartridges)
         answer = verifier.answer(data, "report", "-", "--json")
     except (NoAnswer, Damaged) as error:
-        return unjudged(movie, str(error), verifier.version)
-    verdict = _verdict(movie, hashlib.sha256(data).hexdigest(), answer, verifier.version)
+        return unjudged(movie, str(error), verifier)
+    verdict = _verdict(movie, hashlib.sha256(data).hexdigest(), answer, verifier)
     verdict["seconds"] = round(time.monotonic() - began, 3)
     return verdict
 
@@ -53,9 +56,10 @@ def whole(data: bytes, cartridges: Cartridges | None) -> bytes:
     return stripped.joined(found[1])
 
 
-def _verdict(movie: Movie, digest: str, answer: Answer, version: str) -> Verdict:
-    """The verdict in an answer about bytes of this digest. An object that isn't that of the status, or of other bytes, is none."""
-    verdict = unjudged(movie, "", version)
+def _verdict(movie: Movie, digest: str, answer: Answer, verifier: Verifier) -> Verdict:
+    """The verdict in an answer about bytes of this digest, with the program as it names itself there. An object that isn't that of
+    the status, or of other bytes, is none."""
+    verdict = unjudged(movie, "", verifier)
     verdict["status"] = answer.status
     try:
         facts = verdicts.object_in(answer.out)
@@ -65,6 +69,7 @@ def _verdict(movie: Movie, digest: str, answer: Answer, version: str) -> Verdict
         if verdicts.wrong_fact(facts):
             raise ValueError
         verdict["verdict"], verdict["facts"] = facts["verdict"], facts
+        verdict["program"] = facts.get("program", verifier.version)
     except (ValueError, LookupError, TypeError):
         said = answer.line if answer.is_error else ""
         verdict["line"] = said or f"the program ended with status {answer.status}, and no verdict"

@@ -172,14 +172,22 @@ class Folder:
         digest, size = (found[2].decode(), int(found[1] or 0)) if found else (None, 0)
         return Movie(name, digest, size, "not here: git annex get brings it", is_away=True)
 
-    def _entries(self, way: Way, at: bytes) -> list[tuple[bytes, bool]]:
-        """The names in a folder, in their order, each with whether it is a folder."""
+    def _entries(self, way: Way, at: bytes) -> list[tuple[bytes, bool, bool]]:
+        """The names in a folder, in their order, each with whether it is a folder, or a link to one whose movies are elsewhere."""
         descriptor = way.opened(self._path(at), os.O_RDONLY | os.O_DIRECTORY | os.O_NOFOLLOW | os.O_CLOEXEC)
         try:
             with os.scandir(descriptor) as entries:
-                return sorted((os.fsencode(entry.name), entry.is_dir(follow_symlinks=False)) for entry in entries)
+                return sorted((name := os.fsencode(entry.name), entry.is_dir(follow_symlinks=False),
+                               entry.is_symlink() and self._leads_out(os.path.join(at, name))) for entry in entries)
         finally:
             os.close(descriptor)
+
+    def _leads_out(self, name: bytes) -> bool:
+        """Whether a link leads to a folder that isn't looked into for itself: one out of the archive, or below a hidden folder."""
+        if not os.path.isdir(path := self._path(name)):
+            return False
+        inside = os.path.relpath(os.path.realpath(path), self.root).split(b"/")
+        return any(it.startswith(b".") for it in inside if it != b".")
 
     def movies(self, part: tuple[int, int]) -> Iterator[Movie]:
         """A part's movies, in the order of their names; folders that can't be read are among them, with a '/' at their end."""
@@ -190,6 +198,11 @@ class Folder:
                     yield Movie(os.fsdecode(path), None, 0, error)
                 elif zlib.crc32(path) % parts == number - 1:
                     yield self._looked_at(way, path)
+
+    def has_movies(self) -> bool:
+        """Whether there is a movie, or a folder that can't be read."""
+        with Way() as way:
+            return next(self._paths(way, (*MOVIES, *PACKED)), None) is not None
 
     def files(self) -> Iterator[tuple[bytes, str]]:
         """The paths of all files, but for those in hidden folders; and of folders that can't be read, with the reason."""
@@ -208,7 +221,11 @@ class Folder:
                     raise
                 yield at + b"/", f"cannot read: {error.strerror}"
                 continue
-            below = [(os.path.join(at, name), is_folder, name) for name, is_folder in found]
+            below = [(os.path.join(at, name), *kind, name) for name, *kind in found]
             below = [it for it in below if not self.is_excluded(it[0])]
-            waiting += [path for path, is_folder, name in reversed(below) if is_folder and not name.startswith(b".")]
-            yield from ((path, "") for path, is_folder, _ in below if not is_folder and path.lower().endswith(endings))
+            waiting += [path for path, is_folder, _, name in reversed(below) if is_folder and not name.startswith(b".")]
+            for path, is_folder, leads_out, name in below:
+                if leads_out and not name.startswith(b"."):
+                    yield path + b"/", "a link to a folder out of the archive isn't followed"
+                elif not is_folder and path.lower().endswith(endings):
+                    yield path, ""

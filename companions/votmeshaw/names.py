@@ -35,10 +35,19 @@ def name_in(item: dict[str, Any], member: str) -> str:
 
 def shell_word(name: str) -> str:
     """A name as a shell reads it, and as no option."""
-    name = name if name[0].isalnum() or name[0] in "._" else f"./{name}"
+    return quoted(name if name[0].isalnum() or name[0] in "._/" else f"./{name}")
+
+
+def quoted(name: str) -> str:
+    """A name as a shell reads it. One with signs that don't print needs bash or zsh."""
     if name == readable(name):
         return shlex.quote(name)
     return "$'" + "".join(f"\\x{it:02x}" if not 32 <= it < 127 or it in b"'\\" else chr(it) for it in os.fsencode(name)) + "'"
+
+
+def pattern(name: str) -> str:
+    """A pattern of file names that this name alone is of."""
+    return re.sub(r"[*?\[]", r"[\g<0>]", name)
 
 
 def operand(name: str) -> str:

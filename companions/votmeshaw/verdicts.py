@@ -5,6 +5,8 @@ escapes, and has the member path_base64, which counts. Who reads it by this modu
 several objects with one path the last counts.
 """
 
+import collections
+import contextlib
 import json
 import math
 import os
@@ -13,9 +15,10 @@ import re
 from collections.abc import Iterator
 from typing import Any, NotRequired, TypedDict
 
+from votmeshaw import sums
 from votmeshaw.command import Stop
 from votmeshaw.files import opened
-from votmeshaw.names import name_in, named, readable
+from votmeshaw.names import name_in, named, readable, shell_word
 
 NAME = "verdicts.jsonl"
 # The verdicts in the order of their statuses: status 0 is genuine.
@@ -26,7 +29,8 @@ NONE = "not judged"
 class Verdict(TypedDict):
     """What was answered of one movie. Its facts are the object that 'vcs_check report --json' printed, and its line is that of
     the verdict; of a movie that isn't judged there are no facts, and the line says why. 'reason' is what the program gave as its
-    reason to refuse the movie, or to fail; 1.2.0 and older kept none. If a movie that isn't judged was judged before, and can't be
+    reason to refuse the movie, or to fail; 1.2.0 and older kept none. 'program' is what the program says of its version in this answer,
+    and 'program_sha256' of the file that was executed; 1.2.0 and older kept none. If a movie that isn't judged was judged before, and can't be
     read now, 'before' is what was kept of it."""
 
     path: str
@@ -39,6 +43,7 @@ class Verdict(TypedDict):
     seconds: float
     judged: str
     program: str
+    program_sha256: NotRequired[str]
     reason: NotRequired[str]
     before: NotRequired[dict[str, Any]]
 
@@ -150,6 +155,20 @@ def wrong_fact(facts: dict[str, Any]) -> str:
     return wrong[0] if wrong else ""
 
 
+def contradiction(item: dict[str, Any]) -> str:
+    """What in a line says something else than its verdict, or nothing."""
+    kind, facts = item["verdict"], item["facts"]
+    if kind == NONE:
+        return f"{kind}, and it has facts" if facts else ""
+    if item["status"] != KINDS.index(kind):
+        return f"{kind}, and its status is that of something else"
+    if not re.match(f"{kind}( |:|$)", item["line"]):
+        return f"{kind}, and its line says something else"
+    if facts.get("verdict") in KINDS and (facts["verdict"] != kind or line_of(facts) != item["line"]):
+        return f"{kind}, and its facts say something else"
+    return ""
+
+
 def checked(item: dict[str, Any]) -> Verdict:
     """The verdict in an object, or ValueError with what is wrong."""
     for name, types in TYPES.items():
@@ -167,9 +186,13 @@ def checked(item: dict[str, Any]) -> Verdict:
         raise ValueError("verdict")
     if not isinstance(item.get("reason", ""), str):
         raise ValueError("reason")
+    if "program_sha256" in item and not is_digest(item["program_sha256"]):
+        raise ValueError("program_sha256")
     verdict: Verdict = item  # type: ignore[assignment]
     if is_judged(verdict) and (name := wrong_fact(item["facts"])):
         raise ValueError(f"facts: {name}")
+    if wrong := contradiction(item):
+        raise ValueError(wrong)
     if "before" in item:
         checked(item["before"] if isinstance(item["before"], dict) else _no("before"))
     return verdict
@@ -189,12 +212,32 @@ def spelled(verdict: Verdict) -> bytes:
 
 
 def verdicts_in(file: pathlib.Path) -> Iterator[Verdict]:
-    """The verdicts of a file. What follows the last line feed was cut off as it was written, and is none."""
+    """The verdicts of a file. What follows the last line feed was cut off as it was written, and is none. A file of a whole archive
+    has to be as it was written."""
+    if file.name == NAME:
+        _look_through(file)
+    yield from _lines_in(file)
+
+
+def _look_through(file: pathlib.Path) -> None:
+    """Damaged, with the number of the first line that is wrong, if a file isn't as it was written."""
+    try:
+        sums.settled(file)
+    except sums.Damaged as error:
+        with contextlib.suppress(FileNotFoundError):
+            collections.deque(_lines_in(file), 0)
+        raise Damaged(str(error)) from None
+
+
+def _lines_in(file: pathlib.Path) -> Iterator[Verdict]:
+    """The verdicts of a file, line by line."""
     with open(opened(file, os.O_RDONLY), "rb") as source:
         whole, _, _ = source.read().rpartition(b"\n")
     for number, line in enumerate(whole.split(b"\n") if whole else [], 1):
         try:
             yield checked(object_in(line))
         except (ValueError, KeyError, TypeError) as error:
-            what = f"{file}: line {number} is not a verdict ({readable(str(error))[:80]})"
-            raise Damaged(f"{what}. Put it right, or take it out, so that its movie is judged again: sed -i {number}d {file}") from None
+            what = f"{readable(str(file))}: line {number} is not a verdict ({readable(str(error))[:80]})"
+            removal = f" && {sums.removal(file)}" if file.name == NAME else ""
+            repair = f"sed -i {number}d {shell_word(os.fspath(file))}{removal}"
+            raise Damaged(f"{what}. Put back a copy that is whole, or take the line out, so that its movie is judged again: {repair}") from None

@@ -12,7 +12,9 @@ from typing import Any, NamedTuple, Self, TypeVar
 
 from votmeshaw import command
 from votmeshaw.command import Stop, signals_held
+from votmeshaw.guard import Guard
 from votmeshaw.names import readable
+from votmeshaw.program import Program
 
 It, Found = TypeVar("It"), TypeVar("Found")
 # Starts a program with a limit on its memory, in kilobytes.
@@ -84,8 +86,8 @@ class Verifier:
     """The verifier, with limits of a question: seconds and megabytes, or none."""
 
     def __init__(self, path: str, timeout: float | None = None, memory: int | None = None) -> None:
-        self.path, self.timeout = path, timeout
-        self.words = ["/bin/sh", "-c", LIMITED, str(memory * 1024), path] if memory else [path]
+        self.program, self.guard, self.timeout = Program(path), Guard(), timeout
+        self.words = ["/bin/sh", "-c", LIMITED, str(memory * 1024), self.program.path] if memory else [self.program.path]
         self.lock, self.processes, self.is_stopped = threading.Lock(), set[subprocess.Popen[bytes]](), False
         try:
             said = self._version(EXPLAIN)
@@ -104,13 +106,15 @@ class Verifier:
 
     def _version(self, *words: str) -> subprocess.CompletedProcess[bytes]:
         """What the program says of its version."""
-        line = [self.path, "--version", *words]
-        return subprocess.run(line, stdin=subprocess.DEVNULL, capture_output=True, timeout=self.timeout)
+        line = [self.program.path, "--version", *words]
+        return subprocess.run(line, stdin=subprocess.DEVNULL, capture_output=True, pass_fds=self.program.needs, timeout=self.timeout)
 
     def answer(self, movie: bytes, *words: str) -> Answer:
         """The answer to a question, whose movie is '-': these bytes come on standard input."""
         with self.running(movie, *words) as process:
             out, err = process.communicate()
+        if not self.program.is_same():
+            raise NoAnswer("the program was replaced during the run")
         return Answer(process.returncode, out, err)
 
     @contextlib.contextmanager
@@ -133,6 +137,7 @@ class Verifier:
             for process in started:
                 self._end(process)
                 process.wait()
+                self.guard.ended(process.pid)
                 for pipe in filter(None, (process.stdout, process.stderr)):
                     pipe.close()
                 with self.lock:
@@ -147,11 +152,13 @@ class Verifier:
             file.write(movie)
             file.seek(0)
             pipes = {"stdin": file, "stdout": subprocess.PIPE, "stderr": subprocess.PIPE, **how}
+            pipes["pass_fds"] = (*how.get("pass_fds", ()), *self.program.needs)
             with signals_held(), self.lock:
                 if self.is_stopped:
                     raise NoAnswer("the run ends")
                 started.append(subprocess.Popen([*self.words, *words, *self.explain], process_group=0, **pipes))
                 self.processes.add(started[0])
+                self.guard.started(started[0].pid)
 
     @classmethod
     def asked_for(cls, asked: argparse.Namespace) -> Self:

@@ -1,0 +1,52 @@
+"""The file of a program, as it is executed: the same bytes from the first question to the last, with their SHA-256.
+
+A copy in memory is executed, so what is put in the file's place meanwhile has no part in the run. A script may look for others
+beside itself, so it is executed where it is; what it is then is compared after each answer, and its SHA-256 says nothing of what it
+starts.
+"""
+
+import errno
+import fcntl
+import hashlib
+import os
+import pathlib
+import shutil
+
+from votmeshaw.command import Stop
+
+SCRIPT = b"#!"
+# Nobody writes to the copy any more.
+SEALS = fcntl.F_SEAL_WRITE | fcntl.F_SEAL_GROW | fcntl.F_SEAL_SHRINK | fcntl.F_SEAL_SEAL
+
+
+class Program:
+    """A program of this name, on the path or elsewhere; Stop if there is none."""
+
+    def __init__(self, name: str) -> None:
+        if not (found := shutil.which(name)):
+            reason = errno.EACCES if os.path.exists(name) else errno.ENOENT
+            raise Stop(f"cannot run {name}: {os.strerror(reason)}")
+        self.file = pathlib.Path(found)
+        try:
+            data = self.file.read_bytes()
+        except OSError as error:
+            raise Stop(f"cannot run {name}: {error.strerror}") from None
+        self.digest = hashlib.sha256(data).hexdigest()
+        # The path that is executed, and the open file that a process needs for it.
+        self.path, self.needs = (found, ()) if data.startswith(SCRIPT) else self._copied(data)
+
+    @staticmethod
+    def _copied(data: bytes) -> tuple[str, tuple[int, ...]]:
+        """The path of a copy, and its open file."""
+        descriptor = os.memfd_create("program", os.MFD_CLOEXEC | os.MFD_ALLOW_SEALING)
+        with open(descriptor, "wb", closefd=False) as copy:
+            copy.write(data)
+        fcntl.fcntl(descriptor, fcntl.F_ADD_SEALS, SEALS)
+        return f"/proc/self/fd/{descriptor}", (descriptor,)
+
+    def is_same(self) -> bool:
+        """Whether what is executed is what was digested."""
+        try:
+            return bool(self.needs) or hashlib.sha256(self.file.read_bytes()).hexdigest() == self.digest
+        except OSError:
+            return False
