@@ -28,7 +28,7 @@ NOW_JUDGED, UNREAD, OTHERWISE, CONTRADICTED = "now judged", "cannot be read", "j
 COUNTED = (NEW, MOVED, REPLACED, GONE)
 ALL = (*COUNTED, NOW_JUDGED, UNREAD, OTHERWISE, CONTRADICTED)
 KEPT = ("digest", "verdict", "line", "program", "judged")
-# What may be missing: the first of these of before 1.3.0, the other where there is none.
+# What may be missing: the first of these that 1.2.0 and older left out, the other where there is none.
 PERHAPS = ("program_sha256", "reason")
 # What the same program says of the same bytes each time.
 SAME = ("verdict", "status", "line", "facts")
