@@ -16,8 +16,9 @@ from collections.abc import Iterator
 from typing import Any
 
 from votmeshaw import files, verdicts
+from votmeshaw.facts import NONE
 from votmeshaw.names import name_in, named, readable
-from votmeshaw.verdicts import NONE, Verdict
+from votmeshaw.verdicts import Verdict
 from votmeshaw.verifier import with_reason
 
 NAME = "changes.jsonl"

@@ -17,13 +17,11 @@ from typing import Any, NotRequired, TypedDict
 
 from votmeshaw import sums
 from votmeshaw.command import Stop
+from votmeshaw.facts import KINDS, NONE, contradiction, is_of, wrong_fact
 from votmeshaw.files import opened
 from votmeshaw.names import name_in, named, readable, shell_word
 
 NAME = "verdicts.jsonl"
-# The verdicts in the order of their statuses: status 0 is genuine.
-KINDS = ("genuine", "false checkpoint", "fault", "refused")
-NONE = "not judged"
 
 
 class Verdict(TypedDict):
@@ -53,37 +51,12 @@ TYPES: dict[str, tuple[type, ...]] = {
     "path": (str,), "digest": (str, type(None)), "size": (int,), "verdict": (str,), "status": (int, type(None)), "line": (str,),
     "facts": (dict,), "seconds": (int, float), "judged": (str,), "program": (str,),
 }
-# The facts that a verdict can't be without.
-FACTS: dict[str, tuple[str, ...]] = {
-    KINDS[0]: ("frames", "checkpoints", "start", "after_last_checkpoint"), KINDS[1]: ("checkpoint", "frame", "differs"),
-    KINDS[2]: ("frame", "fault"), KINDS[3]: ("refusal",),
-}
-# The types of facts; one without a type here may be anything.
-NUMBERS = ("cartridge", "checkpoints", "first_checkpoint", "last_checkpoint", "largest_gap", "after_last_checkpoint", "version",
-           "frames", "scanline", "cycle", "checkpoint", "frame")
-TEXTS = ("md5", "sha1", "sha256", "banks", "start", "movie_sha256", "program", "segments", "reason", "fault", "refusal")
-LISTS = {"differs": {"number", "claimed", "found"}, "start_differs": {"number", "start", "power_on"}}
-
 # How many objects and lists may stand in one another; the reports of the program have three.
 DEEPEST = 60
 
 
 class Damaged(Stop):
     """A file of verdicts has a line that is none."""
-
-
-def line_of(facts: dict[str, Any]) -> str:
-    """The line of the verdict in these facts, as 'vcs_check verify' prints it."""
-    kind = facts["verdict"]
-    if kind == KINDS[0]:
-        return f"genuine: {facts['frames']} frames, {facts['checkpoints']} checkpoints"
-    if kind == KINDS[1]:
-        return f"false checkpoint {facts['checkpoint']} at frame {facts['frame']}"
-    if kind == KINDS[2]:
-        return f"fault at frame {facts['frame']}: {facts['fault']}"
-    if kind == KINDS[3]:
-        return f"refused: {facts['refusal']}"
-    raise ValueError("no such verdict")
 
 
 def is_judged(verdict: Verdict) -> bool:
@@ -113,11 +86,6 @@ def _no(reason: str) -> Any:
     raise ValueError(reason)
 
 
-def is_of(value: Any, types: tuple[type, ...]) -> bool:
-    """Whether a value has one of these types; true and false are no numbers."""
-    return isinstance(value, types) and not isinstance(value, bool)
-
-
 def is_digest(value: Any) -> bool:
     """Whether this is a SHA-256 as it is written here."""
     return isinstance(value, str) and re.fullmatch("[0-9a-f]{64}", value) is not None
@@ -132,41 +100,6 @@ def is_path(path: Any) -> bool:
     except UnicodeEncodeError:
         return False
     return ".." not in path.split("/")
-
-
-def wrong_fact(facts: dict[str, Any]) -> str:
-    """The first fact of a report that isn't as reports have it, or nothing."""
-    kind = facts["verdict"]
-    wrong = [it for it in FACTS[kind] if it not in facts]
-    wrong += [it for it in NUMBERS if not is_of(facts.get(it, 0), (int,))]
-    wrong += [it for it in TEXTS if not is_of(facts.get(it, ""), (str,))]
-    notes = facts.get("notes", [])
-    wrong += ["notes"] if not isinstance(notes, list) or not all(isinstance(it, str) for it in notes) else []
-    wrong += ["last_input"] if not is_of(facts.get("last_input"), (int, type(None))) else []
-    wrong += ["start_differs"] if kind == KINDS[0] and facts.get("start") != "power-on" and "start_differs" not in facts else []
-    registers = facts.get("registers", {})
-    wrong += ["registers"] if not is_of(registers, (dict,)) or not all(is_of(it, (str,)) for it in registers.values()) else []
-    wrong += ["scanline"] if registers and not facts.keys() >= {"scanline", "cycle"} else []
-    for name, keys in LISTS.items():
-        rows = facts.get(name, [])
-        is_right = isinstance(rows, list) and all(
-            isinstance(row, dict) and row.keys() == keys and all(isinstance(it, str) for it in row.values()) for row in rows)
-        wrong += [] if is_right else [name]
-    return wrong[0] if wrong else ""
-
-
-def contradiction(item: dict[str, Any]) -> str:
-    """What in a line says something else than its verdict, or nothing."""
-    kind, facts = item["verdict"], item["facts"]
-    if kind == NONE:
-        return f"{kind}, and it has facts" if facts else ""
-    if item["status"] != KINDS.index(kind):
-        return f"{kind}, and its status is that of something else"
-    if not re.match(f"{kind}( |:|$)", item["line"]):
-        return f"{kind}, and its line says something else"
-    if facts.get("verdict") in KINDS and (facts["verdict"] != kind or line_of(facts) != item["line"]):
-        return f"{kind}, and its facts say something else"
-    return ""
 
 
 def checked(item: dict[str, Any]) -> Verdict:
@@ -191,7 +124,7 @@ def checked(item: dict[str, Any]) -> Verdict:
     verdict: Verdict = item  # type: ignore[assignment]
     if is_judged(verdict) and (name := wrong_fact(item["facts"])):
         raise ValueError(f"facts: {name}")
-    if wrong := contradiction(item):
+    if wrong := contradiction(item["verdict"], item["status"], item["line"], item["facts"]):
         raise ValueError(wrong)
     if "before" in item:
         checked(item["before"] if isinstance(item["before"], dict) else _no("before"))
