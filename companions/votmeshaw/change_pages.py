@@ -20,7 +20,10 @@ MOST, MOST_OF_FEED = 10_000, 250
 # What the kinds of changes say. One that isn't known here is shown by its name.
 MEANINGS = {
     changes.NEW: "a movie that was not there", changes.MOVED: "a movie that is elsewhere now", changes.REPLACED: "a movie that has other bytes now",
-    changes.GONE: "a movie that is not there any more", changes.OTHERWISE: "the same bytes, and another verdict of another version of the program",
+    changes.GONE: "a movie that is not there any more", changes.NOW_JUDGED: "a movie that was not judged before",
+    changes.UNREAD: "a movie or a folder that can't be read any more",
+    changes.OTHERWISE: "the same bytes, and another verdict of another version of the program",
+    changes.CONTRADICTED: "the same bytes, and another answer of the same program: don't rely on that machine, or on that program",
 }
 # Before the first change.
 NEVER = datetime.datetime(1970, 1, 1, tzinfo=datetime.timezone.utc)

@@ -115,14 +115,12 @@ class Verifier:
         """The answer to a question, whose movie is '-': these bytes come on standard input."""
         with self.running(movie, *words) as process:
             out, err = process.communicate()
-        if not self.program.is_same():
-            raise NoAnswer("the program was replaced during the run")
         return Answer(process.returncode, out, err)
 
     @contextlib.contextmanager
     def running(self, movie: bytes, *words: str, **how: Any) -> Iterator[subprocess.Popen[bytes]]:
         """The process of a question, whose movie is on standard input. However this is left, it has ended then; NoAnswer if that
-        was for its time."""
+        was for its time, or if another program answered."""
         started: list[subprocess.Popen[bytes]] = []
         is_late = threading.Event()
         timer = threading.Timer(self.timeout or 0, lambda: (is_late.set(), self._end(started[0])))
@@ -145,6 +143,8 @@ class Verifier:
                     self.processes.discard(process)
         if is_late.is_set():
             raise NoAnswer(f"no answer within {self.timeout:g} s")
+        if not self.program.is_same():
+            raise NoAnswer("the program was replaced during the run")
 
     def _start(self, started: list[subprocess.Popen[bytes]], movie: bytes, words: tuple[str, ...], how: dict[str, Any]) -> None:
         """Starts a process, in a group of its own, and puts it in this list, even where a signal came meanwhile. It reads the movie
