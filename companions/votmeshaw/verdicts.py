@@ -12,10 +12,12 @@ import math
 import os
 import pathlib
 import re
+import sys
+import zlib
 from collections.abc import Iterator
-from typing import Any, NotRequired, TypedDict
+from typing import Any, BinaryIO, NamedTuple, NotRequired, TypedDict
 
-from votmeshaw import sums
+from votmeshaw import files, sums
 from votmeshaw.command import Stop
 from votmeshaw.facts import KINDS, NONE, contradiction, is_of, wrong_fact
 from votmeshaw.files import opened
@@ -29,7 +31,8 @@ class Verdict(TypedDict):
     the verdict; of a movie that isn't judged there are no facts, and the line says why. 'reason' is what the program gave as its
     reason to refuse the movie, or to fail; 1.2.0 and older kept none. 'program' is what the program says of its version in this answer,
     and 'program_sha256' of the file that was executed; 1.2.0 and older kept none. If a movie that isn't judged was judged before, and can't be
-    read now, 'before' is what was kept of it."""
+    read now, 'before' is what was kept of it. One that was read from a file is in brief: it has a few of its facts, and the place of its
+    line, where the others are; the file has no such member."""
 
     path: str
     digest: str | None
@@ -44,6 +47,7 @@ class Verdict(TypedDict):
     program_sha256: NotRequired[str]
     reason: NotRequired[str]
     before: NotRequired[dict[str, Any]]
+    place: NotRequired["Place"]
 
 
 # The types of what an object must have.
@@ -51,6 +55,9 @@ TYPES: dict[str, tuple[type, ...]] = {
     "path": (str,), "digest": (str, type(None)), "size": (int,), "verdict": (str,), "status": (int, type(None)), "line": (str,),
     "facts": (dict,), "seconds": (int, float), "judged": (str,), "program": (str,),
 }
+# The facts of a verdict in brief.
+IN_BRIEF = ("verdict", "program", "start", "checkpoints", "after_last_checkpoint", "frames", "frame", "cartridge", "md5", "sha1", "sha256",
+            "reason", "fault", "refusal")
 # How many objects and lists may stand in one another; the reports of the program have three.
 DEEPEST = 60
 
@@ -136,41 +143,117 @@ def object_line(item: dict[str, Any]) -> bytes:
     return json.dumps(item).encode("ascii") + b"\n"
 
 
-def spelled(verdict: Verdict) -> bytes:
-    """The line of a verdict."""
-    item: dict[str, Any] = {**named("path", verdict["path"]), **{key: it for key, it in verdict.items() if key != "path"}}
+class Source:
+    """A file of lines. That of a whole archive stays open, so that its lines are those that were read, whatever comes into its place."""
+
+    def __init__(self, file: pathlib.Path) -> None:
+        self.file = file
+        self.kept = self.opened() if file.name == NAME else None
+
+    def opened(self) -> BinaryIO:
+        """The file, opened anew."""
+        return open(opened(self.file, os.O_RDONLY), "rb")
+
+    def bytes_at(self, place: "Place") -> bytes:
+        """The bytes of a line, as they were when it was read."""
+        with contextlib.nullcontext(self.kept) if self.kept else self.opened() as file:
+            data = os.pread(file.fileno(), place.length, place.start)
+        if zlib.crc32(data) != place.crc:
+            raise Stop(f"{readable(str(self.file))} was changed during the run")
+        return data
+
+
+class Place(NamedTuple):
+    """Where the line of a verdict stands, and under which path; or of what was kept before, in the line of a movie that can't be read
+    now."""
+
+    source: Source
+    path: str
+    start: int
+    length: int
+    crc: int
+    is_before: bool = False
+
+
+def in_brief(verdict: Verdict, place: Place) -> Verdict:
+    """A verdict in brief, since many are in memory at once, and a line may have 19 kilobytes."""
+    facts = {name: _shared(it) for name in IN_BRIEF if (it := verdict["facts"].get(name)) is not None}
+    found: Any = {name: it if name in ("path", "digest") else _shared(it) for name, it in verdict.items()} | {"facts": facts, "place": place}
     if before := verdict.get("before"):
+        found["before"] = in_brief(before, place._replace(path=before["path"], is_before=True))  # type: ignore[arg-type]
+    return found
+
+
+def _shared(value: Any) -> Any:
+    """A value, of which texts that are equal are one in memory."""
+    return sys.intern(value) if type(value) is str else value
+
+
+def whole(verdict: Verdict) -> Verdict:
+    """A verdict with all of its facts: of one in brief they are read where its line stands."""
+    if not (place := verdict.get("place")):
+        return verdict
+    found = checked(object_in(place.source.bytes_at(place)))
+    return {**(found["before"] if place.is_before else found), "path": verdict["path"]}  # type: ignore[return-value, typeddict-item]
+
+
+def spelled(verdict: Verdict) -> bytes:
+    """The line of a verdict, which of one in brief stands in its file, unless the movie has another path now."""
+    place = verdict.get("place")
+    if place and place.path == verdict["path"] and not place.is_before:
+        return place.source.bytes_at(place)
+    found = whole(verdict)
+    item: dict[str, Any] = {**named("path", found["path"]), **{key: it for key, it in found.items() if key != "path"}}
+    if "before" in found:
+        before = whole(found["before"])  # type: ignore[arg-type]
         item["before"] = {**before, **named("path", before["path"])}
     return object_line(item)
 
 
+def append(file: BinaryIO, source: Source, verdict: Verdict) -> Verdict:
+    """Adds the line of a verdict to an unbuffered file, which is this source; returns the verdict in brief."""
+    data, start = spelled(verdict), os.fstat(file.fileno()).st_size
+    files.append(file, data)
+    return in_brief(verdict, Place(source, verdict["path"], start, len(data), zlib.crc32(data)))
+
+
 def verdicts_in(file: pathlib.Path) -> Iterator[Verdict]:
-    """The verdicts of a file. What follows the last line feed was cut off as it was written, and is none. A file of a whole archive
-    has to be as it was written."""
+    """The verdicts of a file, in brief. What follows the last line feed was cut off as it was written, and is none. A file of a whole
+    archive has to be as it was written."""
     if file.name == NAME:
-        _look_through(file)
-    yield from _lines_in(file)
+        settled(file)
+    yield from lines_in(file)
 
 
-def _look_through(file: pathlib.Path) -> None:
-    """Damaged, with the number of the first line that is wrong, if a file isn't as it was written."""
+def settled(file: pathlib.Path) -> sums.Sum | None:
+    """The sum by which a file is as it was written, or nothing if there is none beside it. Damaged, with the number of the first line
+    that is wrong, if it isn't so."""
     try:
-        sums.settled(file)
+        return sums.settled(file)
     except sums.Damaged as error:
         with contextlib.suppress(FileNotFoundError):
-            collections.deque(_lines_in(file), 0)
+            collections.deque(lines_in(file), 0)
         raise Damaged(str(error)) from None
 
 
-def _lines_in(file: pathlib.Path) -> Iterator[Verdict]:
+def lines_in(file: pathlib.Path) -> Iterator[Verdict]:
     """The verdicts of a file, line by line."""
-    with open(opened(file, os.O_RDONLY), "rb") as source:
-        whole, _, _ = source.read().rpartition(b"\n")
-    for number, line in enumerate(whole.split(b"\n") if whole else [], 1):
-        try:
-            yield checked(object_in(line))
-        except (ValueError, KeyError, TypeError) as error:
-            what = f"{readable(str(file))}: line {number} is not a verdict ({readable(str(error))[:80]})"
-            removal = f" && {sums.removal(file)}" if file.name == NAME else ""
-            repair = f"sed -i {number}d {shell_word(os.fspath(file))}{removal}"
-            raise Damaged(f"{what}. Put back a copy that is whole, or take the line out, so that its movie is judged again: {repair}") from None
+    source, start = Source(file), 0
+    with source.opened() as lines:
+        for number, line in enumerate(lines, 1):
+            if not line.endswith(b"\n"):
+                return
+            try:
+                verdict = checked(object_in(line))
+            except (ValueError, KeyError, TypeError) as error:
+                raise Damaged(_repair(file, number, str(error))) from None
+            yield in_brief(verdict, Place(source, verdict["path"], start, len(line), zlib.crc32(line)))
+            start += len(line)
+
+
+def _repair(file: pathlib.Path, number: int, reason: str) -> str:
+    """What is wrong with a line, and what to do."""
+    removal = f" && {sums.removal(file)}" if file.name == NAME else ""
+    repair = f"sed -i {number}d {shell_word(os.fspath(file))}{removal}"
+    said = f"{readable(str(file))}: line {number} is not a verdict ({readable(reason)[:80]})"
+    return f"{said}. Put back a copy that is whole, or take the line out, so that its movie is judged again: {repair}"
