@@ -133,16 +133,16 @@ class Told:
     def read(cls, folder: pathlib.Path) -> Self:
         """What the file of a folder tells; nothing if it isn't there. Lines are only ever added to it, so that a line's number is part
         of its name."""
-        lines = files.content(folder / changes.NAME).split(b"\n")
-        found, count, damaged = collections.deque[Change](maxlen=MOST), 0, list[int]()
-        for number, line in enumerate(lines, 1):
+        found, first, count, damaged = collections.deque[Change](maxlen=MOST), b"", 0, list[int]()
+        for number, line in enumerate((it.removesuffix(b"\n") for it in files.lines(folder / changes.NAME)), 1):
+            first = line if number == 1 else first
             try:
                 if line:
-                    found.append(Change.read(number, line, identity_of(b"%s\n%d\n%s" % (lines[0], number, line))))
+                    found.append(Change.read(number, line, identity_of(b"%s\n%d\n%s" % (first, number, line))))
                     count += 1
             except (ValueError, LookupError, TypeError, AttributeError):
                 damaged.append(number)
-        return cls(identity_of(lines[0]), list(reversed(found)), count, damaged)
+        return cls(identity_of(first), list(reversed(found)), count, damaged)
 
     def page(self, pages: set[str]) -> str:
         """The page of the changes. Those that are in 'pages' have a page of their own."""
