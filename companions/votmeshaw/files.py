@@ -13,6 +13,8 @@ from typing import IO
 
 from votmeshaw.command import Stop, say
 
+# How many bytes of a long file are looked at together.
+BLOCK = 1 << 16
 
 def opened(file: pathlib.Path, flags: int) -> int:
     """Opens a file for its bytes: never through a link that somebody put there, and nothing but a regular file."""
@@ -122,10 +124,17 @@ def _take_after(file: pathlib.Path, descriptor: int) -> None:
 
 def cut_torn_line(file: pathlib.Path) -> None:
     """Takes away what follows the last line feed, so that the next line begins at a line's start."""
-    whole, feed, _ = (data := content(file)).rpartition(b"\n")
-    if len(whole + feed) != len(data):
-        with open(opened(file, os.O_RDWR), "rb+", buffering=0) as torn:
-            os.ftruncate(torn.fileno(), len(whole + feed))
+    if not (end := length(file)):
+        return
+    with open(opened(file, os.O_RDWR), "rb+", buffering=0) as torn:
+        while end:
+            start = max(end - BLOCK, 0)
+            if found := os.pread(torn.fileno(), end - start, start).rfind(b"\n") + 1:
+                end = start + found
+                break
+            end = start
+        if end != length(file):
+            os.ftruncate(torn.fileno(), end)
 
 
 def sync_folder(folder: pathlib.Path) -> None:
