@@ -16,6 +16,7 @@ from votmeshaw.command import Stop, say
 # How many bytes of a long file are looked at together.
 BLOCK = 1 << 16
 
+
 def opened(file: pathlib.Path, flags: int) -> int:
     """Opens a file for its bytes: never through a link that somebody put there, and nothing but a regular file."""
     descriptor = os.open(file, flags | os.O_NOFOLLOW | os.O_NONBLOCK | os.O_CLOEXEC, 0o666)

@@ -3,7 +3,7 @@ long changes.jsonl was then, and by which schema its lines are. So a file that w
 of fewer movies.
 
 It is written before verdicts.jsonl, with what is there and what will be, so that after a kill between the two either is right; and
-after it, with that alone.
+with that alone once all is told that changed.
 """
 
 import hashlib
