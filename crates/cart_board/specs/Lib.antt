@@ -1,0 +1,4 @@
+pub mod Access
+pub mod Board
+pub mod Boards
+pub mod CartState

@@ -1,0 +1,133 @@
+//! A board: how the bytes of a cartridge are wired.
+ghost use Rattle.std.specs.Prelude.{◌≡◌, ◌<◌, ◌^◌, find, slice_get};
+ghost use Rattle.cart_board.specs.Board.{row_of, index_of, has_length, last_bank};
+ghost use Rattle.cart_board.specs.Access.{banks_selected, banks_of_byte, target_of, is_at, is_in};
+ghost use Rattle.cart_board.specs.CartState.{bank_at_power_on, banks_at_power_on};
+
+use crate::bank::{BankByte, BankNumbers};
+use crate::hot_spot::HotSpot;
+use crate::window::{Kind, Slice, Target, Window};
+
+/// A board, as a row of the table `BOARDS`.
+#[derive(Clone, Copy)]
+pub struct Board {
+    /// The number that stands for it in a movie.
+    pub code: u8,
+    pub name: &'static str,
+    /// How many bytes its cartridges can have.
+    pub lengths: &'static [usize],
+    /// Its bank bytes, up to three.
+    pub banks: &'static [BankNumbers],
+    /// The addresses that select a bank.
+    pub hot_spots: &'static [HotSpot],
+    /// The address after which the byte of the next access selects.
+    pub trigger: Option<u16>,
+    /// How many bytes of RAM it has.
+    pub ram: usize,
+    /// What some of its addresses lead to. The first window that an address is in counts.
+    pub windows: &'static [Window],
+    /// The ROM that its other addresses lead to.
+    pub rest: Slice,
+}
+
+impl Board {
+    /// Whether its cartridges can have so many bytes.
+    pub fn has_length(&self, bytes: usize) -> bool
+        ensures { result ≡ has_length (row_of self.now) bytes }
+    {
+        self.lengths.contains(&bytes)
+    }
+
+    /// The last bank that a bank byte can select, of a cartridge of so many bytes; 0 of a bank byte
+    /// that the board hasn't.
+    pub fn last_bank(&self, bytes: usize, byte: BankByte) -> u8
+        ensures { result ≡ last_bank (row_of self.now) bytes byte }
+    {
+        match self.banks.get(byte.index()) {
+            Some(numbers) => numbers.last.number(bytes),
+            None => 0,
+        }
+    }
+
+    /// The bank of a bank byte as a console is switched on; 0 of one that the board hasn't.
+    fn bank_at_power_on(&self, byte: BankByte) -> u8
+        ensures { result ≡ bank_at_power_on (slice_get self.now.banks.now (index_of byte)) }
+    {
+        match self.banks.get(byte.index()) {
+            Some(numbers) => numbers.power_on,
+            None => 0,
+        }
+    }
+
+    /// The bank bytes as a console is switched on.
+    pub fn banks_at_power_on(&self) -> [u8; 3]
+        ensures { result ≡ banks_at_power_on (row_of self.now) }
+    {
+        [
+            self.bank_at_power_on(BankByte::First),
+            self.bank_at_power_on(BankByte::Second),
+            self.bank_at_power_on(BankByte::Third),
+        ]
+    }
+
+    /// The hot spot at an address.
+    fn hot_spot_at(&self, address: u16) -> Option<HotSpot>
+        ensures { result ≡ find (is_at address) self.now.hot_spots.now }
+    {
+        self.hot_spots
+            .iter()
+            .find(|spot| spot.is_at(address))
+            .copied()
+    }
+
+    /// Selects what an access to an address selects before its byte is taken. A write has the byte.
+    pub fn select(&self, bytes: usize, banks: &mut [u8; 3], address: u16, written: Option<u8>)
+        ensures { banks.new ≡ banks_selected (row_of self.now) bytes banks.old address written }
+    {
+        if let Some(spot) = self.hot_spot_at(address) {
+            let index = spot.byte.index();
+            let last = self.last_bank(bytes, spot.byte);
+            banks[index] = spot.selects.bank(last, banks[index], written);
+        }
+    }
+
+    /// Selects what the byte of an access selects, once it is on the bus.
+    pub fn select_by_byte(&self, banks: &mut [u8; 3], address: u16, byte: u8)
+        ensures { banks.new ≡ banks_of_byte self.now.trigger banks.old address byte }
+    {
+        let Some(trigger) = self.trigger else {
+            return;
+        };
+        if banks[1] == 1 {
+            banks[0] = u8::from(byte & 0x20 == 0);
+        }
+        banks[1] = u8::from(address % 8192 == trigger);
+    }
+
+    /// The window that an address is in.
+    pub fn window_at(&self, banks: &[u8; 3], address: u16) -> Option<Window>
+        ensures { result ≡ find (is_in address banks.now) self.now.windows.now }
+    {
+        self.windows
+            .iter()
+            .find(|window| window.has(address, banks))
+            .copied()
+    }
+
+    /// Where an address of the cartridge leads while these banks are selected.
+    pub fn target(&self, bytes: usize, banks: &[u8; 3], address: u16) -> Target
+        requires { bytes < 2 ^ 63 }
+        ensures { result ≡ target_of (row_of self.now) bytes banks.now address }
+    {
+        match self.window_at(banks, address) {
+            Some(window) => Target {
+                kind: window.kind,
+                offset: window.slice.offset(bytes, banks, address),
+            },
+            None => Target {
+                kind: Kind::Rom,
+                offset: self.rest.offset(bytes, banks, address),
+            },
+        }
+    }
+}
