@@ -1,11 +1,10 @@
 -- What an access to an address does on a board, step by step: it may select a bank, then leads
--- somewhere in the cartridge, and its byte may select a bank too. An access to any address counts,
--- also one that leads elsewhere in the console. This project's own, but for the boards that it is
--- made of.
-use Rattle.std.specs.Prelude.{ℕ, List, [], ◌∷◌, Option, Some, None, ◌+◌, ◌-◌, ◌*◌, ◌%◌, Bool, true, ◌&&◌}
-use Rattle.std.specs.Prelude.{◌==◌, nat_le, if◌then◌else◌, slice_index, slice_set, bit_and, find, length}
+-- somewhere in the cartridge, and its byte may select a bank too. Every access counts, read or
+-- write, also one that leads elsewhere in the console, and one whose byte the processor throws away
+-- (measured in Stella 6.7).
+use Rattle.std.specs.Prelude.{ℕ, List, Option, Some, None, ◌+◌, ◌-◌, ◌*◌, ◌%◌, Bool, true, ◌&&◌}
+use Rattle.std.specs.Prelude.{◌==◌, nat_le, if◌then◌else◌, slice_index, slice_set, bit_and, find}
 use Rattle.cart_board.specs.Board.{Row, index_of, last_bank}
-use Rattle.cart_board.specs.declared.bank.BankByte.{BankByte}
 use Rattle.cart_board.specs.declared.hot_spot.HotSpot.{HotSpot}
 use Rattle.cart_board.specs.declared.hot_spot.Selects.{Selects}
 use Rattle.cart_board.specs.declared.hot_spot.Selects.TheVariants.{Bank, Next, Written}
@@ -81,6 +80,12 @@ holds (when.Bank byte number) banks = slice_index banks (index_of byte) == numbe
 
 abbrev pub is_in : ℕ → List ℕ → Window → Bool
 is_in address banks window = nat_le window.first (address % 4096) && nat_le (address % 4096) window.last && holds window.when banks
+
+-- How many bytes there are of a kind, with a cartridge of so many.
+abbrev pub size_of : Row → ℕ → Kind → ℕ
+size_of row bytes Rom = bytes
+size_of row bytes ReadPort = row.ram
+size_of row bytes WritePort = row.ram
 
 -- Where an address leads by the window that it is in, or by none.
 abbrev pub target_by : Row → ℕ → List ℕ → ℕ → Option Window → Target

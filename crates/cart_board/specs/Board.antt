@@ -1,7 +1,7 @@
 -- A board as a row of a table: how the bytes of a cartridge, and the RAM that some boards have, are
 -- wired to the 13 address lines of the console's cartridge slot. The form of the row is this
 -- project's own.
-use Rattle.std.specs.Prelude.{ℕ, List, Option, Some, None, ◌+◌, ◌-◌, ◌/◌, Bool, ◌==◌, slice_get}
+use Rattle.std.specs.Prelude.{ℕ, List, Option, Some, None, ◌-◌, ◌/◌, Bool, slice_get}
 use Rattle.std.specs.Prelude.{nat_eq, min}
 use Rattle.std.specs.List.{list_any}
 use Rattle.cart_board.specs.declared.bank.BankByte.{BankByte}

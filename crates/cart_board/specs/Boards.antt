@@ -1,8 +1,7 @@
--- The boards, a row each, in the order of their codes. Where nothing else is said, the addresses of
--- their hot spots and ports, and how long their banks are, are those of Kevin Horton, "Mostly
--- Inclusive Atari 2600 Mapper / Selected Hardware Document"; the banks at power-on were measured in
--- Stella 6.7. The codes are this project's own.
-use Rattle.std.specs.Prelude.{ℕ, List, [], ◌∷◌, ◌++◌, Some, None, ◌+◌, codes, map}
+-- The boards, a row each, in the order of their codes. The addresses of hot spots and ports, the
+-- lengths of banks, and the banks at power-on are those that Stella 6.7 was measured to have, but
+-- where another source is named. The codes are this project's own.
+use Rattle.std.specs.Prelude.{ℕ, List, [], ◌∷◌, ◌++◌, Some, None, ◌+◌, ◌≡◌, codes, map, slice_get}
 use Rattle.std.specs.List.{range_with_len}
 use Rattle.cart_board.specs.Board.{Row}
 use Rattle.cart_board.specs.declared.bank.BankByte.{BankByte}
@@ -17,7 +16,6 @@ use Rattle.cart_board.specs.declared.window.Kind.TheVariants.{Rom, ReadPort, Wri
 use Rattle.cart_board.specs.declared.window.Slice.{Slice}
 use Rattle.cart_board.specs.declared.window.Start.{Start}
 use Rattle.cart_board.specs.declared.window.Start.TheVariants as start
-use Rattle.cart_board.specs.declared.window.When.{When}
 use Rattle.cart_board.specs.declared.window.When.TheVariants as when
 use Rattle.cart_board.specs.declared.window.Window.{Window}
 
@@ -224,3 +222,7 @@ abbrev pub boards : List Row
 boards =
     board_2k ∷ board_4k ∷ board_f8 ∷ board_f8sc ∷ board_f6 ∷ board_f6sc ∷ board_f4 ∷ board_f4sc ∷ board_fa
     ∷ board_e0 ∷ board_3f ∷ board_fe ∷ board_e7 ∷ board_ua ∷ board_cv ∷ board_0840 ∷ board_f0 ∷ board_0fa0 ∷ []
+
+-- A row of the table.
+abbrev pub IsBoard : Row → Type 0
+IsBoard row = (place : ℕ) × (slice_get boards place ≡ Some row)

@@ -1,5 +1,6 @@
 -- A cartridge in a console: its bytes on a board, what is selected, and what its RAM holds; and what
--- accesses do to it. This project's own, but for the boards that it is made of.
+-- accesses do to it. That what an access selects before its byte is taken gives that byte was
+-- measured in Stella 6.7. The rest is this project's own.
 use Rattle.std.specs.Prelude.{ℕ, List, [], ◌∷◌, Option, Some, None, Bool, ◌&&◌, ◌==◌, nat_le, slice_get}
 use Rattle.std.specs.Prelude.{slice_index, slice_set, length, replicate}
 use Rattle.cart_board.specs.Board.{Row, index_of, last_bank}
@@ -24,16 +25,17 @@ pub record CartState : Type 0 where
 
 -- ---- what it can be
 
-abbrev pub is_bank : Cartridge → List ℕ → BankByte → Bool
-is_bank c banks byte = nat_le (slice_index banks (index_of byte)) (last_bank c.row (length c.bytes) byte)
+abbrev pub is_bank : Row → ℕ → List ℕ → BankByte → Bool
+is_bank row bytes banks byte = nat_le (slice_index banks (index_of byte)) (last_bank row bytes byte)
 
--- Each bank byte is the number of a bank. One that the board hasn't is 0.
-abbrev pub are_banks : Cartridge → List ℕ → Bool
-are_banks c banks = is_bank c banks First && is_bank c banks Second && is_bank c banks Third
+-- Each bank byte is the number of a bank, in a cartridge of so many bytes. One that the board hasn't
+-- is 0.
+abbrev pub are_banks : Row → ℕ → List ℕ → Bool
+are_banks row bytes banks = is_bank row bytes banks First && is_bank row bytes banks Second && is_bank row bytes banks Third
 
 -- And the RAM is as long as the board's.
 abbrev pub fits : Cartridge → List ℕ → List ℕ → Bool
-fits c banks ram = are_banks c banks && (length ram == c.row.ram)
+fits c banks ram = are_banks c.row (length c.bytes) banks && (length ram == c.row.ram)
 
 -- ---- power-on
 
@@ -63,7 +65,8 @@ after_select c address written =
 abbrev pub cart_target : CartState → ℕ → Target
 cart_target c address = target_of c.cartridge.row (length c.cartridge.bytes) c.banks address
 
--- A read gives the byte there, and where RAM is for writing the last byte on the bus.
+-- A read gives the byte there, and where RAM is for writing the last byte on the bus (this project's
+-- own).
 abbrev pub byte_at : CartState → Kind → ℕ → ℕ → ℕ
 byte_at c Rom offset bus = slice_index c.cartridge.bytes offset
 byte_at c ReadPort offset bus = slice_index c.ram offset
@@ -78,8 +81,8 @@ ram_with Rom ram offset byte = ram
 ram_with ReadPort ram offset byte = ram
 ram_with WritePort ram offset byte = slice_set ram offset byte
 
--- A write. A read does the same with the last byte on the bus, since a board has no line that tells
--- reads from writes.
+-- A write. A read does the same with the last byte on the bus, since a board isn't told which of the
+-- two an access is.
 abbrev pub after_write : CartState → ℕ → ℕ → CartState
 after_write c address byte =
     let target = cart_target c address in

@@ -2,3 +2,4 @@ pub mod Access
 pub mod Board
 pub mod Boards
 pub mod CartState
+pub mod Private

@@ -15,7 +15,7 @@ pub enum BankByte {
 
 impl BankByte {
     /// Its place among the three.
-    pub fn index(self) -> usize
+    pub(crate) fn index(self) -> usize
         ensures value { result ≡ index_of self }
         ensures range { result < 3 }
     {
@@ -37,7 +37,7 @@ pub enum LastBank {
 
 impl LastBank {
     /// Its number, of a cartridge of so many bytes.
-    pub fn number(self, bytes: usize) -> u8
+    pub(crate) fn number(self, bytes: usize) -> u8
         ensures { result ≡ last_number self bytes }
     {
         match self {

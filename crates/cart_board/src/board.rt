@@ -1,12 +1,14 @@
 //! A board: how the bytes of a cartridge are wired.
-ghost use Rattle.std.specs.Prelude.{◌≡◌, ◌<◌, ◌^◌, find, slice_get};
+ghost use Rattle.std.specs.Prelude.{◌≡◌, ◌==◌, IfSome, bytes_eq, find, map, option_map, slice_get};
 ghost use Rattle.cart_board.specs.Board.{row_of, index_of, has_length, last_bank};
-ghost use Rattle.cart_board.specs.Access.{banks_selected, banks_of_byte, target_of, is_at, is_in};
+ghost use Rattle.cart_board.specs.Access.{banks_selected, banks_of_byte, is_at, is_in};
+ghost use Rattle.cart_board.specs.Boards.{boards, IsBoard};
 ghost use Rattle.cart_board.specs.CartState.{bank_at_power_on, banks_at_power_on};
 
 use crate::bank::{BankByte, BankNumbers};
+use crate::boards::BOARDS;
 use crate::hot_spot::HotSpot;
-use crate::window::{Kind, Slice, Target, Window};
+use crate::window::{Slice, Window};
 
 /// A board, as a row of the table `BOARDS`.
 #[derive(Clone, Copy)]
@@ -31,6 +33,29 @@ pub struct Board {
 }
 
 impl Board {
+    /// All boards, in the order of their codes, which begin with 0.
+    pub fn all() -> &'static [Board]
+        ensures { map row_of result.now ≡ boards }
+    {
+        &BOARDS
+    }
+
+    /// The board of a code.
+    pub fn of_code(code: u8) -> Option<&'static Board>
+        ensures row { option_map (λ board. row_of board.now) result ≡ find (λ row. row.code == code) boards }
+        ensures known { IfSome result (λ board. IsBoard (row_of board.now)) }
+    {
+        Board::all().iter().find(|board| board.code == code)
+    }
+
+    /// The board of a name.
+    pub fn of_name(name: &str) -> Option<&'static Board>
+        ensures row { option_map (λ board. row_of board.now) result ≡ find (λ row. bytes_eq row.name name.now) boards }
+        ensures known { IfSome result (λ board. IsBoard (row_of board.now)) }
+    {
+        Board::all().iter().find(|board| board.name == name)
+    }
+
     /// Whether its cartridges can have so many bytes.
     pub fn has_length(&self, bytes: usize) -> bool
         ensures { result ≡ has_length (row_of self.now) bytes }
@@ -40,7 +65,7 @@ impl Board {
 
     /// The last bank that a bank byte can select, of a cartridge of so many bytes; 0 of a bank byte
     /// that the board hasn't.
-    pub fn last_bank(&self, bytes: usize, byte: BankByte) -> u8
+    pub(crate) fn last_bank(&self, bytes: usize, byte: BankByte) -> u8
         ensures { result ≡ last_bank (row_of self.now) bytes byte }
     {
         match self.banks.get(byte.index()) {
@@ -60,7 +85,7 @@ impl Board {
     }
 
     /// The bank bytes as a console is switched on.
-    pub fn banks_at_power_on(&self) -> [u8; 3]
+    pub(crate) fn banks_at_power_on(&self) -> [u8; 3]
         ensures { result ≡ banks_at_power_on (row_of self.now) }
     {
         [
@@ -81,7 +106,13 @@ impl Board {
     }
 
     /// Selects what an access to an address selects before its byte is taken. A write has the byte.
-    pub fn select(&self, bytes: usize, banks: &mut [u8; 3], address: u16, written: Option<u8>)
+    pub(crate) fn select(
+        &self,
+        bytes: usize,
+        banks: &mut [u8; 3],
+        address: u16,
+        written: Option<u8>,
+    )
         ensures { banks.new ≡ banks_selected (row_of self.now) bytes banks.old address written }
     {
         if let Some(spot) = self.hot_spot_at(address) {
@@ -92,7 +123,7 @@ impl Board {
     }
 
     /// Selects what the byte of an access selects, once it is on the bus.
-    pub fn select_by_byte(&self, banks: &mut [u8; 3], address: u16, byte: u8)
+    pub(crate) fn select_by_byte(&self, banks: &mut [u8; 3], address: u16, byte: u8)
         ensures { banks.new ≡ banks_of_byte self.now.trigger banks.old address byte }
     {
         let Some(trigger) = self.trigger else {
@@ -105,29 +136,12 @@ impl Board {
     }
 
     /// The window that an address is in.
-    pub fn window_at(&self, banks: &[u8; 3], address: u16) -> Option<Window>
+    pub(crate) fn window_at(&self, banks: &[u8; 3], address: u16) -> Option<Window>
         ensures { result ≡ find (is_in address banks.now) self.now.windows.now }
     {
         self.windows
             .iter()
             .find(|window| window.has(address, banks))
             .copied()
-    }
-
-    /// Where an address of the cartridge leads while these banks are selected.
-    pub fn target(&self, bytes: usize, banks: &[u8; 3], address: u16) -> Target
-        requires { bytes < 2 ^ 63 }
-        ensures { result ≡ target_of (row_of self.now) bytes banks.now address }
-    {
-        match self.window_at(banks, address) {
-            Some(window) => Target {
-                kind: window.kind,
-                offset: window.slice.offset(bytes, banks, address),
-            },
-            None => Target {
-                kind: Kind::Rom,
-                offset: self.rest.offset(bytes, banks, address),
-            },
-        }
     }
 }

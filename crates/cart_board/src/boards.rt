@@ -1,7 +1,4 @@
 //! The boards, a row each, in the order of their codes.
-ghost use Rattle.std.specs.Prelude.{◌≡◌, ◌==◌, bytes_eq, find, map, option_map};
-ghost use Rattle.cart_board.specs.Board.{row_of};
-ghost use Rattle.cart_board.specs.Boards.{boards};
 
 use crate::bank::{BankByte, BankNumbers, LastBank};
 use crate::board::Board;
@@ -134,7 +131,8 @@ macro_rules! unbanked {
     };
 }
 
-static BOARDS: [Board; 18] = [
+/// The boards, equal to the definition's list.
+pub(crate) static BOARDS: [Board; 18] = [
     unbanked!(0, "2K", 2048, OF_2048, 0, &[]),
     unbanked!(1, "4K", 4096, OF_4096, 0, &[]),
     in_banks!(
@@ -338,26 +336,3 @@ static BOARDS: [Board; 18] = [
         line_hot_spots!(0x16E0: 0x06A0, 0x06C0)
     ),
 ];
-
-impl Board {
-    /// All boards, in the order of their codes, which begin with 0.
-    pub fn all() -> &'static [Board]
-        ensures { map row_of result.now ≡ boards }
-    {
-        &BOARDS
-    }
-
-    /// The board of a code.
-    pub fn of_code(code: u8) -> Option<&'static Board>
-        ensures { option_map (λ board. row_of board.now) result ≡ find (λ row. row.code == code) boards }
-    {
-        Board::all().iter().find(|board| board.code == code)
-    }
-
-    /// The board of a name.
-    pub fn of_name(name: &str) -> Option<&'static Board>
-        ensures { option_map (λ board. row_of board.now) result ≡ find (λ row. bytes_eq row.name name.now) boards }
-    {
-        Board::all().iter().find(|board| board.name == name)
-    }
-}

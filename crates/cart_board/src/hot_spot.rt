@@ -17,7 +17,7 @@ pub enum Selects {
 
 impl Selects {
     /// The bank after an access, which writes a byte or else reads.
-    pub fn bank(self, last: u8, bank: u8, written: Option<u8>) -> u8
+    pub(crate) fn bank(self, last: u8, bank: u8, written: Option<u8>) -> u8
         ensures { result ≡ bank_selected self last bank written }
     {
         match self {
@@ -43,7 +43,7 @@ pub struct HotSpot {
 
 impl HotSpot {
     /// Whether an address is one of them.
-    pub fn is_at(&self, address: u16) -> bool
+    pub(crate) fn is_at(&self, address: u16) -> bool
         ensures { result ≡ is_at address self.now }
     {
         address & self.mask == self.value

@@ -6,6 +6,7 @@ mod board;
 mod boards;
 mod cart;
 mod hot_spot;
+mod laws;
 mod mapped_cart;
 mod window;
 
@@ -13,5 +14,6 @@ pub use bank::{BankByte, BankNumbers, LastBank};
 pub use board::Board;
 pub use cart::{BadCartSize, Cart};
 pub use hot_spot::{HotSpot, Selects};
+pub use laws::law_of_boards;
 pub use mapped_cart::{BadCartState, MappedCart};
 pub use window::{Kind, Slice, Start, Target, When, Window};

@@ -1,7 +1,8 @@
 //! A cartridge in a console.
-ghost use Rattle.std.specs.Prelude.{◌≡◌, ◌↔◌, length, IsTrue, IsOk, IfOk, slice_index, slice_set};
-ghost use Rattle.cart_board.specs.Access.{start_of};
-ghost use Rattle.cart_board.specs.CartState.{CartState, fits, is_bank, cart_at_power_on, cart_target};
+ghost use Rattle.std.specs.Prelude.{◌≡◌, ◌↔◌, ◌<◌, length, IsTrue, IsOk, IfOk, slice_set};
+ghost use Rattle.cart_board.specs.Board.{has_length};
+ghost use Rattle.cart_board.specs.Boards.{IsBoard};
+ghost use Rattle.cart_board.specs.CartState.{CartState, are_banks, fits, is_bank, cart_at_power_on, cart_target};
 ghost use Rattle.cart_board.specs.CartState.{cart_read, after_select, after_write, after_byte};
 
 use crate::bank::BankByte;
@@ -25,37 +26,27 @@ pub struct MappedCart<'a> {
 }
 
 impl<'a> Model for MappedCart<'a> {
-    ghost use Rattle.std.specs.Prelude.{◌≡◌, ◌<◌, ◌^◌, length};
-    ghost use Rattle.cart_board.specs.Access.{start_of};
     ghost use Rattle.cart_board.specs.CartState.{CartState};
+    ghost use Rattle.cart_board.specs.Private.Kept.{IsKept};
 
     ghost Value = { CartState };
 
     ghost view = { λ c. record { cartridge = c.cart.now; banks = c.banks; ram = c.ram.items } };
 
-    ghost invariant = { λ c. (c.rest ≡ start_of c.cart.now.row.rest (length c.cart.now.bytes) c.banks) × (c.rest < 2 ^ 63) };
-}
-
-/// A byte of a list by its place.
-fn byte_of(bytes: &[u8], offset: usize) -> u8
-    ensures { result ≡ slice_index bytes.now offset }
-{
-    match bytes.get(offset) {
-        Some(byte) => *byte,
-        None => 0,
-    }
+    ghost invariant = { λ c. IsKept c.cart.now c.banks c.ram.items c.rest };
 }
 
 impl<'a> MappedCart<'a> {
     /// Whether a bank byte is the number of a bank of this cartridge.
     fn is_bank(cart: &Cart, banks: &[u8; 3], byte: BankByte) -> bool
-        ensures { result ≡ is_bank cart.now banks.now byte }
+        ensures { result ≡ is_bank cart.now.row (length cart.now.bytes) banks.now byte }
     {
         banks[byte.index()] <= cart.board().last_bank(cart.bytes().len(), byte)
     }
 
     /// A cartridge in which these are selected. Takes no memory.
     fn with(cart: &'a Cart, banks: [u8; 3], ram: Vec<u8>) -> MappedCart<'a>
+        requires { IsTrue (fits cart.now banks ram.items) }
         ensures { result ≡ record { cartridge = cart.now; banks = banks; ram = ram.items } }
     {
         let rest = cart.board().rest.start(cart.bytes().len(), &banks);
@@ -92,16 +83,10 @@ impl<'a> MappedCart<'a> {
         Ok(MappedCart::with(cart, board.banks_at_power_on(), ram))
     }
 
-    /// The cartridge.
-    pub fn cart(&self) -> &'a Cart
-        ensures { result.now ≡ self.now.cartridge }
-    {
-        self.cart
-    }
-
     /// The three bank bytes. Those that the board hasn't are 0.
     pub fn banks(&self) -> [u8; 3]
-        ensures { result ≡ self.now.banks }
+        ensures value { result ≡ self.now.banks }
+        ensures lawful { IsTrue (fits self.now.cartridge self.now.banks self.now.ram) }
     {
         self.banks
     }
@@ -134,8 +119,12 @@ impl<'a> MappedCart<'a> {
     }
 
     /// Where an address of the cartridge leads.
-    pub fn target(&self, address: u16) -> Target
-        ensures { result ≡ cart_target self.now address }
+    fn found(&self, address: u16) -> Target
+        ensures value { result ≡ cart_target self.now address }
+        ensures board { IsBoard self.now.cartridge.row }
+        ensures size { IsTrue (has_length self.now.cartridge.row (length self.now.cartridge.bytes)) }
+        ensures banks { IsTrue (are_banks self.now.cartridge.row (length self.now.cartridge.bytes) self.now.banks) }
+        ensures ram { length self.now.ram ≡ self.now.cartridge.row.ram }
     {
         let board = self.cart.board();
         match board.window_at(&self.banks, address) {
@@ -152,6 +141,16 @@ impl<'a> MappedCart<'a> {
         }
     }
 
+    /// Where an address of the cartridge leads.
+    pub fn target(&self, address: u16) -> Target
+        ensures value { result ≡ cart_target self.now address }
+        ensures rom { result.kind ≡ Kind.Rom → result.offset < length self.now.cartridge.bytes }
+        ensures read_port { result.kind ≡ Kind.ReadPort → result.offset < length self.now.ram }
+        ensures write_port { result.kind ≡ Kind.WritePort → result.offset < length self.now.ram }
+    {
+        self.found(address)
+    }
+
     /// Reads from an address of the cartridge, while this is the last byte on the bus. A read where
     /// RAM is for writing puts that byte there, and gives it.
     pub fn read(&mut self, address: u16, bus: u8) -> u8
@@ -160,8 +159,8 @@ impl<'a> MappedCart<'a> {
     {
         let target = self.target(address);
         match target.kind {
-            Kind::Rom => byte_of(self.cart.bytes(), target.offset),
-            Kind::ReadPort => byte_of(&self.ram, target.offset),
+            Kind::Rom => self.cart.bytes()[target.offset],
+            Kind::ReadPort => self.ram[target.offset],
             Kind::WritePort => {
                 self.store(target.offset, bus);
                 bus
@@ -182,10 +181,9 @@ impl<'a> MappedCart<'a> {
 
     /// Sets a byte of the RAM.
     fn store(&mut self, offset: usize, byte: u8)
+        requires { offset < length self.old.ram }
         ensures { self.new ≡ record self.old { ram = slice_set self.old.ram offset byte } }
     {
-        if let Some(place) = self.ram.get_mut(offset) {
-            *place = byte;
-        }
+        self.ram[offset] = byte;
     }
 }

@@ -42,7 +42,7 @@ pub struct Slice {
 
 impl Slice {
     /// Where it begins, in a cartridge of so many bytes.
-    pub fn start(&self, bytes: usize, banks: &[u8; 3]) -> usize
+    pub(crate) fn start(&self, bytes: usize, banks: &[u8; 3]) -> usize
         ensures value { result ≡ start_of self.now bytes banks.now }
         ensures range { bytes < 2 ^ 63 → result < 2 ^ 63 }
     {
@@ -55,7 +55,7 @@ impl Slice {
     }
 
     /// The place of an address's byte in it, in a cartridge of so many bytes.
-    pub fn offset(&self, bytes: usize, banks: &[u8; 3], address: u16) -> usize
+    pub(crate) fn offset(&self, bytes: usize, banks: &[u8; 3], address: u16) -> usize
         requires { bytes < 2 ^ 63 }
         ensures { result ≡ offset_of self.now bytes banks.now address }
     {
@@ -73,7 +73,7 @@ pub enum When {
 
 impl When {
     /// Whether it is open while these banks are selected.
-    pub fn holds(&self, banks: &[u8; 3]) -> bool
+    pub(crate) fn holds(&self, banks: &[u8; 3]) -> bool
         ensures { result ≡ holds self.now banks.now }
     {
         match self {
@@ -96,7 +96,7 @@ pub struct Window {
 
 impl Window {
     /// Whether an address is in it while these banks are selected.
-    pub fn has(&self, address: u16, banks: &[u8; 3]) -> bool
+    pub(crate) fn has(&self, address: u16, banks: &[u8; 3]) -> bool
         ensures { result ≡ is_in address banks.now self.now }
     {
         let place = address % 4096;
