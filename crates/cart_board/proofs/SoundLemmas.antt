@@ -65,6 +65,7 @@ record Sound (row : Row) (bytes : ℕ) : Type 0 where
   windows : list_all (is_window_sound row bytes) row.windows ≡ true
   rest : is_slice_sound row bytes Rom row.rest ≡ true
   power_on : are_banks row bytes (banks_at_power_on row) ≡ true
+  few : nat_le (length row.banks) 3 ≡ true
 
 sound_parts : (row : Row) (bytes : ℕ) → is_sound row bytes ≡ true → Sound row bytes
 sound_parts row bytes sound =
@@ -73,17 +74,22 @@ sound_parts row bytes sound =
     let windows = list_all (is_window_sound row bytes) row.windows in
     let rest = is_slice_sound row bytes Rom row.rest in
     let power_on = are_banks row bytes (banks_at_power_on row) in
-    let a = and_parts spots (trigger && (windows && (rest && power_on))) sound in
-    let b = and_parts trigger (windows && (rest && power_on)) a.1 in
-    let c = and_parts windows (rest && power_on) b.1 in
-    let d = and_parts rest power_on c.1 in
-    record { spots = a.0; trigger = b.0; windows = c.0; rest = d.0; power_on = d.1 }
+    let few = nat_le (length row.banks) 3 in
+    let a = and_parts spots (trigger && (windows && (rest && (power_on && few)))) sound in
+    let b = and_parts trigger (windows && (rest && (power_on && few))) a.1 in
+    let c = and_parts windows (rest && (power_on && few)) b.1 in
+    let d = and_parts rest (power_on && few) c.1 in
+    let e = and_parts power_on few d.1 in
+    record { spots = a.0; trigger = b.0; windows = c.0; rest = d.0; power_on = e.0; few = e.1 }
+
+pub few_banks : (row : Row) (bytes : ℕ) → is_sound row bytes ≡ true → length row.banks ≤ 3
+few_banks row bytes sound = leb-true (length row.banks) 3 (sound_parts row bytes sound).few
 
 pub power_on_banks : (row : Row) (bytes : ℕ) → is_sound row bytes ≡ true → are_banks row bytes (banks_at_power_on row) ≡ true
 power_on_banks row bytes sound = (sound_parts row bytes sound).power_on
 
 -- each bank byte is at most its last bank
-bank_at_most : (row : Row) (bytes : ℕ) (banks : List ℕ) (byte : BankByte) → are_banks row bytes banks ≡ true
+pub bank_at_most : (row : Row) (bytes : ℕ) (banks : List ℕ) (byte : BankByte) → are_banks row bytes banks ≡ true
     → slice_index banks (index_of byte) ≤ last_bank row bytes byte
 bank_at_most row bytes banks First are =
     leb-true (slice_index banks 0) (last_bank row bytes First)

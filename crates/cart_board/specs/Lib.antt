@@ -3,3 +3,4 @@ pub mod Board
 pub mod Boards
 pub mod CartState
 pub mod Private
+pub mod Record

@@ -3,6 +3,7 @@ ghost use Rattle.std.specs.Prelude.{◌≡◌, ◌==◌, IfSome, bytes_eq, find,
 ghost use Rattle.cart_board.specs.Board.{row_of, index_of, has_length, last_bank};
 ghost use Rattle.cart_board.specs.Access.{banks_selected, banks_of_byte, is_at, is_in};
 ghost use Rattle.cart_board.specs.Boards.{boards, IsBoard};
+ghost use Rattle.cart_board.specs.Record.{record_length, bank_in, banks_in};
 ghost use Rattle.cart_board.specs.CartState.{bank_at_power_on, banks_at_power_on};
 
 use crate::bank::{BankByte, BankNumbers};
@@ -25,7 +26,7 @@ pub struct Board {
     /// The address after which the byte of the next access selects.
     pub trigger: Option<u16>,
     /// How many bytes of RAM it has.
-    pub ram: usize,
+    pub ram: u16,
     /// What some of its addresses lead to. The first window that an address is in counts.
     pub windows: &'static [Window],
     /// The ROM that its other addresses lead to.
@@ -61,6 +62,35 @@ impl Board {
         ensures { result ≡ has_length (row_of self.now) bytes }
     {
         self.lengths.contains(&bytes)
+    }
+
+    /// How many bytes spell its bank bytes and its RAM.
+    pub fn record_length(&self) -> usize
+        ensures { result ≡ record_length (row_of self.now) }
+    {
+        self.banks.len() + self.ram as usize
+    }
+
+    /// A bank byte that such bytes spell, by its place among the three.
+    fn bank_in(&self, spelled: &[u8], place: usize) -> u8
+        ensures { result ≡ bank_in (row_of self.now) spelled.now place }
+    {
+        if place < self.banks.len() && place < spelled.len() {
+            spelled[place]
+        } else {
+            0
+        }
+    }
+
+    /// The bank bytes that such bytes spell. Those that the board hasn't are 0.
+    pub fn banks_in(&self, spelled: &[u8]) -> [u8; 3]
+        ensures { result ≡ banks_in (row_of self.now) spelled.now }
+    {
+        [
+            self.bank_in(spelled, 0),
+            self.bank_in(spelled, 1),
+            self.bank_in(spelled, 2),
+        ]
     }
 
     /// The last bank that a bank byte can select, of a cartridge of so many bytes; 0 of a bank byte

@@ -14,6 +14,6 @@ pub use bank::{BankByte, BankNumbers, LastBank};
 pub use board::Board;
 pub use cart::{BadCartSize, Cart};
 pub use hot_spot::{HotSpot, Selects};
-pub use laws::law_of_boards;
+pub use laws::{law_of_boards, law_of_records};
 pub use mapped_cart::{BadCartState, MappedCart};
 pub use window::{Kind, Slice, Start, Target, When, Window};

@@ -66,7 +66,7 @@ impl<'a> MappedCart<'a> {
         if MappedCart::is_bank(cart, &banks, BankByte::First)
             && MappedCart::is_bank(cart, &banks, BankByte::Second)
             && MappedCart::is_bank(cart, &banks, BankByte::Third)
-            && ram.len() == cart.board().ram
+            && ram.len() == cart.board().ram as usize
         {
             Ok(MappedCart::with(cart, banks, ram))
         } else {
@@ -79,7 +79,7 @@ impl<'a> MappedCart<'a> {
         ensures { IfOk result (λ c. c ≡ cart_at_power_on cart.now) }
     {
         let board = cart.board();
-        let ram = vec![in alloc; 0; board.ram]?;
+        let ram = vec![in alloc; 0; board.ram as usize]?;
         Ok(MappedCart::with(cart, board.banks_at_power_on(), ram))
     }
 

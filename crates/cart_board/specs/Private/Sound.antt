@@ -1,7 +1,7 @@
 -- What is so of each row of the table with each of its lengths, and can be computed from it: hot
 -- spots select banks that there are, and addresses lead to bytes that there are. This project's
 -- own.
-use Rattle.std.specs.Prelude.{ℕ, Option, Some, None, ◌+◌, ◌-◌, ◌*◌, Bool, true, ◌&&◌, nat_le, nat_lt}
+use Rattle.std.specs.Prelude.{ℕ, Option, Some, None, ◌+◌, ◌-◌, ◌*◌, Bool, true, ◌&&◌, length, nat_le, nat_lt}
 use Rattle.std.specs.List.{list_all}
 use Rattle.cart_board.specs.Board.{Row, last_bank}
 use Rattle.cart_board.specs.Access.{size_of}
@@ -47,4 +47,5 @@ is_sound row bytes =
     && (is_trigger_sound row bytes row.trigger
     && (list_all (is_window_sound row bytes) row.windows
     && (is_slice_sound row bytes Rom row.rest
-    && are_banks row bytes (banks_at_power_on row))))
+    && (are_banks row bytes (banks_at_power_on row)
+    && nat_le (length row.banks) 3))))
