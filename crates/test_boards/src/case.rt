@@ -2,7 +2,7 @@
 
 use crate::step::{Step, byte};
 use crate::trial::Trial;
-use cart_board::{Board, Cart, MappedCart};
+use cart_board::{Board, Cart};
 use std::alloc::{AllocError, Global};
 
 /// Whether each line of a text is a comment.
@@ -49,13 +49,13 @@ fn difference_on<'a>(
     cart: &Cart,
     lines: &'a str,
 ) -> Result<Option<&'a str>, AllocError> {
-    let mut trial = Trial {
-        cart: MappedCart::power_on(alloc, cart)?,
-        bus: 0,
-    };
+    let mut trial = Trial::power_on(alloc, cart)?;
     for step in lines.split(&[';', '\n']) {
         let step = step.trim();
-        let is_met = step.is_empty() || Step::parse(step).is_some_and(|step| trial.take(step));
+        let is_met = match Step::parse(step) {
+            Some(step) => trial.take(step)?,
+            None => step.is_empty(),
+        };
         if !is_met {
             return Ok(Some(step));
         }

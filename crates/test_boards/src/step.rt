@@ -11,14 +11,22 @@ pub(crate) enum Step {
     Banks([u8; 3]),
     /// A byte of the RAM is this one.
     Ram(usize, u8),
+    /// A state with these bank bytes is lawful, or isn't.
+    Lawful([u8; 3], bool),
+    /// So many bytes spell the bank bytes and the RAM.
+    Record(usize),
 }
 
 impl Step {
     /// The step of a text; none where it is no step.
     pub(crate) fn parse(text: &str) -> Option<Step> {
         let (verb, rest) = text.split_once(' ')?;
-        if verb == "banks" {
-            return Some(Step::Banks(banks(rest)?));
+        match verb {
+            "banks" => return Some(Step::Banks(banks(rest)?)),
+            "lawful" => return Some(Step::Lawful(banks(rest)?, true)),
+            "unlawful" => return Some(Step::Lawful(banks(rest)?, false)),
+            "record" => return Some(Step::Record(rest.parse().ok()?)),
+            _ => {}
         }
         let (place, value) = rest.split_once(' ')?;
         let value = byte(value)?;
