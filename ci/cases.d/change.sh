@@ -5,4 +5,4 @@ change() {
 }
 
 # masks PAGE: prints the place, the mask and the name of each number of a state record that has a mask.
-masks() { sed -nE 's/^\| ([0-9]+) \| ([^|]+) \|[^|]*\| mask `(..)`.*/\1 \3 \2/p' "$1"; }
+masks() { sed -nE 's/^\| ([0-9]+) \| ([^|]+) \| mask `(..)`.*/\1 \3 \2/p' "$1"; }

@@ -20,7 +20,10 @@ MOST, MOST_OF_FEED = 10_000, 250
 # What the kinds of changes say. One that isn't known here is shown by its name.
 MEANINGS = {
     changes.NEW: "a movie that was not there", changes.MOVED: "a movie that is elsewhere now", changes.REPLACED: "a movie that has other bytes now",
-    changes.GONE: "a movie that is not there any more", changes.OTHERWISE: "the same bytes, and another verdict of another version of the program",
+    changes.GONE: "a movie that is not there any more", changes.NOW_JUDGED: "a movie that was not judged before",
+    changes.UNREAD: "a movie or a folder that can't be read any more",
+    changes.OTHERWISE: "the same bytes, and another verdict of another version of the program",
+    changes.CONTRADICTED: "the same bytes, and another answer of the same program: don't rely on that machine, or on that program",
 }
 # Before the first change.
 NEVER = datetime.datetime(1970, 1, 1, tzinfo=datetime.timezone.utc)
@@ -130,16 +133,16 @@ class Told:
     def read(cls, folder: pathlib.Path) -> Self:
         """What the file of a folder tells; nothing if it isn't there. Lines are only ever added to it, so that a line's number is part
         of its name."""
-        lines = files.content(folder / changes.NAME).split(b"\n")
-        found, count, damaged = collections.deque[Change](maxlen=MOST), 0, list[int]()
-        for number, line in enumerate(lines, 1):
+        found, first, count, damaged = collections.deque[Change](maxlen=MOST), b"", 0, list[int]()
+        for number, line in enumerate((it.removesuffix(b"\n") for it in files.lines(folder / changes.NAME)), 1):
+            first = line if number == 1 else first
             try:
                 if line:
-                    found.append(Change.read(number, line, identity_of(b"%s\n%d\n%s" % (lines[0], number, line))))
+                    found.append(Change.read(number, line, identity_of(b"%s\n%d\n%s" % (first, number, line))))
                     count += 1
             except (ValueError, LookupError, TypeError, AttributeError):
                 damaged.append(number)
-        return cls(identity_of(lines[0]), list(reversed(found)), count, damaged)
+        return cls(identity_of(first), list(reversed(found)), count, damaged)
 
     def page(self, pages: set[str]) -> str:
         """The page of the changes. Those that are in 'pages' have a page of their own."""

@@ -12,12 +12,13 @@ import datetime
 import json
 import os
 import pathlib
-from collections.abc import Iterator
-from typing import Any
+from collections.abc import Iterable, Iterator
+from typing import Any, Self
 
 from votmeshaw import files, verdicts
+from votmeshaw.facts import NONE
 from votmeshaw.names import name_in, named, readable
-from votmeshaw.verdicts import NONE, Verdict
+from votmeshaw.verdicts import Verdict
 from votmeshaw.verifier import with_reason
 
 NAME = "changes.jsonl"
@@ -39,15 +40,20 @@ def of_before(verdict: Verdict) -> Verdict:
     return verdict.get("before", verdict)  # type: ignore[return-value]
 
 
-@dataclasses.dataclass
+@dataclasses.dataclass(slots=True)
 class Change:
-    """What happened to one movie."""
+    """What happened to one movie. One that was read from the file has of both sides what is kept there."""
 
     kind: str
     path: str
     old: Verdict | None
     new: Verdict | None
     moved_from: str = ""
+
+    @classmethod
+    def read(cls, item: dict[str, Any]) -> Self:
+        """The change in an object of the file."""
+        return cls(item["change"], name_in(item, "path"), item["old"], item["new"], name_in(item, "from") if "from" in item else "")
 
     def is_loss(self) -> bool:
         """Whether a movie that was judged isn't there any more."""
@@ -80,6 +86,14 @@ def why(item: dict[str, Any]) -> str:
     return f"{readable(name_in(item, 'path'))}: {with_reason(new['line'], new.get('reason', ''))}"
 
 
+def is_same(old: Verdict, final: Verdict) -> bool:
+    """Whether two answers are the same, number by number. Those of one line are."""
+    if old.get("place", old) == final.get("place", final):
+        return True
+    sides = [verdicts.whole(it) for it in (old, final)]
+    return all(sides[0].get(it) == sides[1].get(it) for it in SAME)
+
+
 def step(path: str, old: Verdict, final: Verdict) -> Iterator[Change]:
     """How a movie that was there and is there was replaced, judged at last, judged otherwise, or can't be read any more."""
     program = old.get("program_sha256")
@@ -87,7 +101,7 @@ def step(path: str, old: Verdict, final: Verdict) -> Iterator[Change]:
     if before["digest"] and after["digest"] and before["digest"] != after["digest"]:
         yield Change(REPLACED, path, before, after)
     elif program and program == final.get("program_sha256") and verdicts.is_judged(old) and verdicts.is_judged(final):
-        if any(old.get(it) != final.get(it) for it in SAME):
+        if not is_same(old, final):
             yield Change(CONTRADICTED, path, old, final)
     elif NONE not in (before["verdict"], after["verdict"]) and before["verdict"] != after["verdict"]:
         yield Change(OTHERWISE, path, before, after)
@@ -124,7 +138,7 @@ def untold(file: pathlib.Path, changes: list[Change], length: int | None) -> lis
     if length is None:
         return changes
     kept = set()
-    for line in files.content(file)[length:].split(b"\n"):
+    for line in files.lines(file, length):
         with contextlib.suppress(ValueError, LookupError, TypeError, AttributeError):
             kept.add(_without_times(verdicts.object_in(line)))
     return [it for it in changes if _without_times(it.item("")) not in kept]
@@ -136,36 +150,37 @@ def _without_times(item: dict[str, Any]) -> str:
     return json.dumps({**item, "when": "", **sides}, sort_keys=True)
 
 
-def keep(file: pathlib.Path, changes: list[Change], when: str) -> None:
-    """Adds changes to the file, and asks the disk to have them. A line that was cut off stays, on a line of its own."""
-    if not changes:
-        return
-    torn = files.content(file)[-1:] not in (b"", b"\n")
-    with files.for_appending(file) as opened:
-        lines = b"".join(verdicts.object_line(it.item(when)) for it in changes)
-        files.append(opened, b"\n" * torn + lines)
-        files.sync(opened)
+def lines(file: pathlib.Path, changes: list[Change], when: str) -> Iterator[bytes]:
+    """What is to be added to the file for these changes. A line that was cut off stays, on a line of its own."""
+    if changes and b"".join(files.lines(file, max(files.length(file) - 1, 0))) not in (b"", b"\n"):
+        yield b"\n"
+    yield from (verdicts.object_line(it.item(when)) for it in changes)
+
+
+def read(data: Iterable[bytes]) -> Iterator[Change]:
+    """The changes in lines of the file; those that are cut off or damaged are none."""
+    for line in data:
+        with contextlib.suppress(ValueError, LookupError, TypeError, AttributeError):
+            yield Change.read(verdicts.object_in(line))
 
 
 def left(file: pathlib.Path) -> dict[str, str | None]:
     """The paths at which there is no movie any more, by the last change of each, with the digest of what was there."""
     found: dict[str, str | None] = {}
-    for line in files.content(file).split(b"\n"):
-        with contextlib.suppress(ValueError, LookupError, TypeError, AttributeError):
-            item = verdicts.object_in(line)
-            found.pop(name_in(item, "path"), None)
-            if item["change"] == GONE:
-                found[name_in(item, "path")] = item["old"]["digest"]
-            elif item["change"] == MOVED:
-                found[name_in(item, "from")] = item["new"]["digest"]
+    for it in read(files.lines(file)):
+        found.pop(it.path, None)
+        if it.kind == GONE and it.old:
+            found[it.path] = it.old["digest"]
+        elif it.kind == MOVED and it.new:
+            found[it.moved_from] = it.new["digest"]
     return found
 
 
 def since(file: pathlib.Path, moment: datetime.datetime) -> Iterator[tuple[str, str]]:
     """The lines of the changes since a moment, each after its time, with the reason; of a line that is damaged that it is so."""
-    for number, line in enumerate(files.content(file).split(b"\n"), 1):
+    for number, line in enumerate(files.lines(file), 1):
         try:
-            item = verdicts.object_in(line) if line else {}
+            item = verdicts.object_in(line) if line.strip() else {}
             if item and datetime.datetime.fromisoformat(item["when"]) >= moment:
                 yield f"{item['when']} {told(item)}", why(item)
         except (ValueError, LookupError, TypeError, AttributeError):

@@ -5,8 +5,9 @@ import os
 from collections.abc import Iterator
 
 from votmeshaw.cartridges import Cartridges
+from votmeshaw.facts import KINDS
 from votmeshaw.names import readable, shell_word
-from votmeshaw.verdicts import KINDS, Verdict
+from votmeshaw.verdicts import Verdict
 from votmeshaw.verifier import with_reason
 
 # How many movies fit a screen, with what else a run prints.

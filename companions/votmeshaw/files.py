@@ -8,10 +8,13 @@ import pathlib
 import secrets
 import stat
 import time
-from collections.abc import Iterator
+from collections.abc import Iterable, Iterator
 from typing import IO
 
 from votmeshaw.command import Stop, say
+
+# How many bytes of a long file are looked at together.
+BLOCK = 1 << 16
 
 
 def opened(file: pathlib.Path, flags: int) -> int:
@@ -30,6 +33,13 @@ def content(file: pathlib.Path) -> bytes:
             return source.read()
     except FileNotFoundError:
         return b""
+
+
+def lines(file: pathlib.Path, start: int = 0) -> Iterator[bytes]:
+    """The lines of a file from this byte on, each with its line feed; none if it isn't there."""
+    with contextlib.suppress(FileNotFoundError), open(opened(file, os.O_RDONLY), "rb") as source:
+        source.seek(start)
+        yield from source
 
 
 def length(file: pathlib.Path) -> int:
@@ -93,6 +103,15 @@ def for_appending(file: pathlib.Path) -> IO[bytes]:
     return open(file, "ab", buffering=0, opener=lambda *_: opened(file, os.O_RDWR | os.O_APPEND | os.O_CREAT))
 
 
+def add(file: pathlib.Path, start: int, data: bytes) -> None:
+    """Adds data to a file, which belongs behind this many of its bytes, and asks the disk to have it. What a run that was ended added
+    of it isn't added again, and nothing is taken away."""
+    with for_appending(file) as opened:
+        there = os.pread(opened.fileno(), len(data), start)
+        append(opened, data.removeprefix(there) if data.startswith(there) else b"\n" + data)
+        sync(opened)
+
+
 def _take_after(file: pathlib.Path, descriptor: int) -> None:
     """Gives a new file the owner and the mode of the one in whose place it comes, as far as this user may."""
     with contextlib.suppress(FileNotFoundError):
@@ -106,10 +125,17 @@ def _take_after(file: pathlib.Path, descriptor: int) -> None:
 
 def cut_torn_line(file: pathlib.Path) -> None:
     """Takes away what follows the last line feed, so that the next line begins at a line's start."""
-    whole, feed, _ = (data := content(file)).rpartition(b"\n")
-    if len(whole + feed) != len(data):
-        with open(opened(file, os.O_RDWR), "rb+", buffering=0) as torn:
-            os.ftruncate(torn.fileno(), len(whole + feed))
+    if not (end := length(file)):
+        return
+    with open(opened(file, os.O_RDWR), "rb+", buffering=0) as torn:
+        while end:
+            start = max(end - BLOCK, 0)
+            if found := os.pread(torn.fileno(), end - start, start).rfind(b"\n") + 1:
+                end = start + found
+                break
+            end = start
+        if end != length(file):
+            os.ftruncate(torn.fileno(), end)
 
 
 def sync_folder(folder: pathlib.Path) -> None:
@@ -121,21 +147,36 @@ def sync_folder(folder: pathlib.Path) -> None:
         os.close(descriptor)
 
 
-def replace(file: pathlib.Path, data: bytes) -> None:
-    """Writes a file anew: whoever reads it, or after a kill finds it, has the old one whole or the new one."""
-    beside = file.with_name(f"{file.name}.new")
-    beside.unlink(missing_ok=True)
+def beside(file: pathlib.Path) -> pathlib.Path:
+    """Where a file is written anew, before it comes into its place."""
+    return file.with_name(f"{file.name}.new")
+
+
+def write_beside(file: pathlib.Path, data: Iterable[bytes]) -> None:
+    """Writes a file anew, whole and on the disk, beside its place."""
+    beside(file).unlink(missing_ok=True)
     try:
-        with naming(file), open(opened(beside, os.O_WRONLY | os.O_CREAT | os.O_EXCL), "wb") as new:
+        with naming(file), open(opened(beside(file), os.O_WRONLY | os.O_CREAT | os.O_EXCL), "wb") as new:
             _take_after(file, new.fileno())
-            new.write(data)
+            new.writelines(data)
             new.flush()
             os.fsync(new.fileno())
-        beside.replace(file)
     except BaseException:
-        beside.unlink(missing_ok=True)
+        beside(file).unlink(missing_ok=True)
         raise
+
+
+def into_place(file: pathlib.Path) -> None:
+    """Puts what was written beside a file into its place: whoever reads it, or after a kill finds it, has the old one whole or the new
+    one."""
+    beside(file).replace(file)
     sync_folder(file.parent)
+
+
+def replace(file: pathlib.Path, data: bytes) -> None:
+    """Writes a file anew, and puts it into its place."""
+    write_beside(file, [data])
+    into_place(file)
 
 
 def _begin(place: pathlib.Path) -> str:

@@ -3,54 +3,54 @@
 import contextlib
 import os
 import signal
+import time
+from collections.abc import Iterator
 
-# What the run writes of each process that it starts, and of each that has ended.
-STARTED, ENDED = "+", "-"
+PROCESSES = "/proc"
 
 
 class Guard:
     """The end of a pipe to a process that waits. The system closes it when the run ends, however it does; then the process ends what
-    has been started and has not ended, and itself."""
+    has the pipe's other end, and itself. Each process that the run starts gets that end, before it is one that could be left."""
 
     def __init__(self) -> None:
-        reader, self.writer = os.pipe()
+        self.mark, self.end = os.pipe()
         if os.fork() == 0:
             try:
-                _wait(reader)
+                _wait(self.mark)
             finally:
                 os._exit(0)
-        os.close(reader)
-
-    def started(self, process: int) -> None:
-        """Takes the number of a process that leads a group of its own."""
-        self._tell(STARTED, process)
-
-    def ended(self, process: int) -> None:
-        """Says that this process has ended."""
-        self._tell(ENDED, process)
-
-    def _tell(self, what: str, process: int) -> None:
-        with contextlib.suppress(BrokenPipeError):  # (somebody ended the guard)
-            os.write(self.writer, f"{what}{process}\n".encode())
 
 
-def _wait(reader: int) -> None:
+def _wait(mark: int) -> None:
     """What the process does. It keeps no file of the run open, and what ends the run's group doesn't end it."""
     os.setsid()
     for it in (signal.SIGINT, signal.SIGTERM, signal.SIGHUP):
         signal.signal(it, signal.SIG_IGN)
-    os.dup2(reader, 0)
-    for descriptor in map(int, os.listdir("/proc/self/fd")):
+    os.dup2(mark, 0)
+    for descriptor in map(int, os.listdir(f"{PROCESSES}/self/fd")):
         with contextlib.suppress(OSError):  # (that of the list is closed)
             if descriptor:
                 os.close(descriptor)
-    running = set[int]()
-    with open(0, "rb", buffering=0) as lines:
-        rest = b""
-        while data := lines.read(1 << 16):
-            *whole, rest = (rest + data).split(b"\n")
-            for line in map(bytes.decode, whole):
-                (running.add if line.startswith(STARTED) else running.discard)(int(line[1:]))
-    for process in running:
-        with contextlib.suppress(OSError):
-            os.killpg(process, signal.SIGKILL)
+    os.read(0, 1)
+    # (each may have started another one meanwhile)
+    while found := list(_marked(os.readlink(f"{PROCESSES}/self/fd/0"))):
+        for process in found:
+            _end(process)
+        time.sleep(0.01)
+
+
+def _marked(mark: str) -> Iterator[int]:
+    """The numbers of the other processes that have this pipe."""
+    for process in map(int, filter(str.isdecimal, os.listdir(PROCESSES))):
+        with contextlib.suppress(OSError):  # (it has ended, or is somebody else's)
+            folder = f"{PROCESSES}/{process}/fd"
+            if process != os.getpid() and any(os.readlink(f"{folder}/{it}") == mark for it in os.listdir(folder)):
+                yield process
+
+
+def _end(process: int) -> None:
+    """Ends a process, with its group if it leads one."""
+    with contextlib.suppress(OSError):
+        os.kill(process, signal.SIGKILL)
+        os.killpg(process, signal.SIGKILL)

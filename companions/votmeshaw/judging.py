@@ -7,9 +7,10 @@ import time
 
 from votmeshaw import verdicts
 from votmeshaw.cartridges import Cartridges
+from votmeshaw.facts import KINDS, NONE, contradiction, line_of, wrong_fact
 from votmeshaw.movies import Folder, Movie
 from votmeshaw.stripped import Damaged, Stripped, is_stripped
-from votmeshaw.verdicts import KINDS, NONE, Verdict
+from votmeshaw.verdicts import Verdict
 from votmeshaw.verifier import Answer, NoAnswer, Verifier
 
 
@@ -58,15 +59,13 @@ def whole(data: bytes, cartridges: Cartridges | None) -> bytes:
 
 def _verdict(movie: Movie, digest: str, answer: Answer, verifier: Verifier) -> Verdict:
     """The verdict in an answer about bytes of this digest, with the program as it names itself there. An object that isn't that of
-    the status, or of other bytes, is none."""
+    the status, is of other bytes, or contradicts itself, is none."""
     verdict = unjudged(movie, "", verifier)
     verdict["status"] = answer.status
     try:
         facts = verdicts.object_in(answer.out)
-        verdict["line"] = verdicts.line_of(facts)
-        if KINDS.index(facts["verdict"]) != answer.status or facts.get("movie_sha256", digest) != digest:
-            raise ValueError
-        if verdicts.wrong_fact(facts):
+        verdict["line"] = line_of(facts)
+        if facts.get("movie_sha256", digest) != digest or wrong_fact(facts) or contradiction(facts["verdict"], answer.status, verdict["line"], facts):
             raise ValueError
         verdict["verdict"], verdict["facts"] = facts["verdict"], facts
         verdict["program"] = facts.get("program", verifier.version)

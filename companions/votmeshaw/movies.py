@@ -28,7 +28,7 @@ LONGEST_PATH = 4096
 LINKS = (errno.ENOTDIR, errno.ELOOP)
 
 
-@dataclasses.dataclass
+@dataclasses.dataclass(slots=True)
 class Movie:
     """A file as it was found: without a digest, if it could not be read for this reason. One that git-annex keeps elsewhere
     is away; it may have a digest, from its name in the annex."""

@@ -6,7 +6,7 @@ from collections.abc import Iterable
 from typing import Any
 
 from votmeshaw.names import printable
-from votmeshaw.verdicts import KINDS, NONE
+from votmeshaw.facts import KINDS, NONE
 
 # What stands before a verdict, and its class in style.css: a colour is never alone.
 SIGNS_OF_VERDICTS = {

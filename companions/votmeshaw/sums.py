@@ -3,7 +3,7 @@ long changes.jsonl was then, and by which schema its lines are. So a file that w
 of fewer movies.
 
 It is written before verdicts.jsonl, with what is there and what will be, so that after a kill between the two either is right; and
-after it, with that alone.
+with that alone once all is told that changed.
 """
 
 import hashlib
@@ -69,11 +69,16 @@ def settled(file: pathlib.Path) -> Sum | None:
     """The sum by which a file of verdicts is as it was written; nothing if there is none beside it. Damaged if it isn't so."""
     sums, found = kept(file), of_file(file)
     for it in sums:
-        if (it["lines"], it["sha256"]) == (found["lines"], found["sha256"]):
+        if is_same(it, found):
             return it
     if sums:
         raise Damaged(f"{readable(str(file))} isn't as it was written: it has {found['lines']} lines, and had {sums[0]['lines']}. {_advice(file)}")
     return None
+
+
+def is_same(one: Sum, other: Sum) -> bool:
+    """Whether two sums are of the same lines."""
+    return (one["lines"], one["sha256"]) == (other["lines"], other["sha256"])
 
 
 def _advice(file: pathlib.Path) -> str:

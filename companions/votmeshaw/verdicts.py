@@ -12,18 +12,18 @@ import math
 import os
 import pathlib
 import re
+import sys
+import zlib
 from collections.abc import Iterator
-from typing import Any, NotRequired, TypedDict
+from typing import Any, BinaryIO, NamedTuple, NotRequired, TypedDict
 
-from votmeshaw import sums
+from votmeshaw import files, sums
 from votmeshaw.command import Stop
+from votmeshaw.facts import KINDS, NONE, contradiction, is_of, wrong_fact
 from votmeshaw.files import opened
 from votmeshaw.names import name_in, named, readable, shell_word
 
 NAME = "verdicts.jsonl"
-# The verdicts in the order of their statuses: status 0 is genuine.
-KINDS = ("genuine", "false checkpoint", "fault", "refused")
-NONE = "not judged"
 
 
 class Verdict(TypedDict):
@@ -31,7 +31,8 @@ class Verdict(TypedDict):
     the verdict; of a movie that isn't judged there are no facts, and the line says why. 'reason' is what the program gave as its
     reason to refuse the movie, or to fail; 1.2.0 and older kept none. 'program' is what the program says of its version in this answer,
     and 'program_sha256' of the file that was executed; 1.2.0 and older kept none. If a movie that isn't judged was judged before, and can't be
-    read now, 'before' is what was kept of it."""
+    read now, 'before' is what was kept of it. One that was read from a file is in brief: it has a few of its facts, and the place of its
+    line, where the others are; the file has no such member."""
 
     path: str
     digest: str | None
@@ -46,6 +47,7 @@ class Verdict(TypedDict):
     program_sha256: NotRequired[str]
     reason: NotRequired[str]
     before: NotRequired[dict[str, Any]]
+    place: NotRequired["Place"]
 
 
 # The types of what an object must have.
@@ -53,37 +55,15 @@ TYPES: dict[str, tuple[type, ...]] = {
     "path": (str,), "digest": (str, type(None)), "size": (int,), "verdict": (str,), "status": (int, type(None)), "line": (str,),
     "facts": (dict,), "seconds": (int, float), "judged": (str,), "program": (str,),
 }
-# The facts that a verdict can't be without.
-FACTS: dict[str, tuple[str, ...]] = {
-    KINDS[0]: ("frames", "checkpoints", "start", "after_last_checkpoint"), KINDS[1]: ("checkpoint", "frame", "differs"),
-    KINDS[2]: ("frame", "fault"), KINDS[3]: ("refusal",),
-}
-# The types of facts; one without a type here may be anything.
-NUMBERS = ("cartridge", "checkpoints", "first_checkpoint", "last_checkpoint", "largest_gap", "after_last_checkpoint", "version",
-           "frames", "scanline", "cycle", "checkpoint", "frame")
-TEXTS = ("md5", "sha1", "sha256", "banks", "start", "movie_sha256", "program", "segments", "reason", "fault", "refusal")
-LISTS = {"differs": {"number", "claimed", "found"}, "start_differs": {"number", "start", "power_on"}}
-
+# The facts of a verdict in brief.
+IN_BRIEF = ("verdict", "program", "start", "checkpoints", "after_last_checkpoint", "frames", "frame", "cartridge", "md5", "sha1", "sha256",
+            "reason", "fault", "refusal")
 # How many objects and lists may stand in one another; the reports of the program have three.
 DEEPEST = 60
 
 
 class Damaged(Stop):
     """A file of verdicts has a line that is none."""
-
-
-def line_of(facts: dict[str, Any]) -> str:
-    """The line of the verdict in these facts, as 'vcs_check verify' prints it."""
-    kind = facts["verdict"]
-    if kind == KINDS[0]:
-        return f"genuine: {facts['frames']} frames, {facts['checkpoints']} checkpoints"
-    if kind == KINDS[1]:
-        return f"false checkpoint {facts['checkpoint']} at frame {facts['frame']}"
-    if kind == KINDS[2]:
-        return f"fault at frame {facts['frame']}: {facts['fault']}"
-    if kind == KINDS[3]:
-        return f"refused: {facts['refusal']}"
-    raise ValueError("no such verdict")
 
 
 def is_judged(verdict: Verdict) -> bool:
@@ -113,11 +93,6 @@ def _no(reason: str) -> Any:
     raise ValueError(reason)
 
 
-def is_of(value: Any, types: tuple[type, ...]) -> bool:
-    """Whether a value has one of these types; true and false are no numbers."""
-    return isinstance(value, types) and not isinstance(value, bool)
-
-
 def is_digest(value: Any) -> bool:
     """Whether this is a SHA-256 as it is written here."""
     return isinstance(value, str) and re.fullmatch("[0-9a-f]{64}", value) is not None
@@ -132,41 +107,6 @@ def is_path(path: Any) -> bool:
     except UnicodeEncodeError:
         return False
     return ".." not in path.split("/")
-
-
-def wrong_fact(facts: dict[str, Any]) -> str:
-    """The first fact of a report that isn't as reports have it, or nothing."""
-    kind = facts["verdict"]
-    wrong = [it for it in FACTS[kind] if it not in facts]
-    wrong += [it for it in NUMBERS if not is_of(facts.get(it, 0), (int,))]
-    wrong += [it for it in TEXTS if not is_of(facts.get(it, ""), (str,))]
-    notes = facts.get("notes", [])
-    wrong += ["notes"] if not isinstance(notes, list) or not all(isinstance(it, str) for it in notes) else []
-    wrong += ["last_input"] if not is_of(facts.get("last_input"), (int, type(None))) else []
-    wrong += ["start_differs"] if kind == KINDS[0] and facts.get("start") != "power-on" and "start_differs" not in facts else []
-    registers = facts.get("registers", {})
-    wrong += ["registers"] if not is_of(registers, (dict,)) or not all(is_of(it, (str,)) for it in registers.values()) else []
-    wrong += ["scanline"] if registers and not facts.keys() >= {"scanline", "cycle"} else []
-    for name, keys in LISTS.items():
-        rows = facts.get(name, [])
-        is_right = isinstance(rows, list) and all(
-            isinstance(row, dict) and row.keys() == keys and all(isinstance(it, str) for it in row.values()) for row in rows)
-        wrong += [] if is_right else [name]
-    return wrong[0] if wrong else ""
-
-
-def contradiction(item: dict[str, Any]) -> str:
-    """What in a line says something else than its verdict, or nothing."""
-    kind, facts = item["verdict"], item["facts"]
-    if kind == NONE:
-        return f"{kind}, and it has facts" if facts else ""
-    if item["status"] != KINDS.index(kind):
-        return f"{kind}, and its status is that of something else"
-    if not re.match(f"{kind}( |:|$)", item["line"]):
-        return f"{kind}, and its line says something else"
-    if facts.get("verdict") in KINDS and (facts["verdict"] != kind or line_of(facts) != item["line"]):
-        return f"{kind}, and its facts say something else"
-    return ""
 
 
 def checked(item: dict[str, Any]) -> Verdict:
@@ -191,7 +131,7 @@ def checked(item: dict[str, Any]) -> Verdict:
     verdict: Verdict = item  # type: ignore[assignment]
     if is_judged(verdict) and (name := wrong_fact(item["facts"])):
         raise ValueError(f"facts: {name}")
-    if wrong := contradiction(item):
+    if wrong := contradiction(item["verdict"], item["status"], item["line"], item["facts"]):
         raise ValueError(wrong)
     if "before" in item:
         checked(item["before"] if isinstance(item["before"], dict) else _no("before"))
@@ -203,41 +143,117 @@ def object_line(item: dict[str, Any]) -> bytes:
     return json.dumps(item).encode("ascii") + b"\n"
 
 
-def spelled(verdict: Verdict) -> bytes:
-    """The line of a verdict."""
-    item: dict[str, Any] = {**named("path", verdict["path"]), **{key: it for key, it in verdict.items() if key != "path"}}
+class Source:
+    """A file of lines. That of a whole archive stays open, so that its lines are those that were read, whatever comes into its place."""
+
+    def __init__(self, file: pathlib.Path) -> None:
+        self.file = file
+        self.kept = self.opened() if file.name == NAME else None
+
+    def opened(self) -> BinaryIO:
+        """The file, opened anew."""
+        return open(opened(self.file, os.O_RDONLY), "rb")
+
+    def bytes_at(self, place: "Place") -> bytes:
+        """The bytes of a line, as they were when it was read."""
+        with contextlib.nullcontext(self.kept) if self.kept else self.opened() as file:
+            data = os.pread(file.fileno(), place.length, place.start)
+        if zlib.crc32(data) != place.crc:
+            raise Stop(f"{readable(str(self.file))} was changed during the run")
+        return data
+
+
+class Place(NamedTuple):
+    """Where the line of a verdict stands, and under which path; or of what was kept before, in the line of a movie that can't be read
+    now."""
+
+    source: Source
+    path: str
+    start: int
+    length: int
+    crc: int
+    is_before: bool = False
+
+
+def in_brief(verdict: Verdict, place: Place) -> Verdict:
+    """A verdict in brief, since many are in memory at once, and a line may have 19 kilobytes."""
+    facts = {name: _shared(it) for name in IN_BRIEF if (it := verdict["facts"].get(name)) is not None}
+    found: Any = {name: it if name in ("path", "digest") else _shared(it) for name, it in verdict.items()} | {"facts": facts, "place": place}
     if before := verdict.get("before"):
+        found["before"] = in_brief(before, place._replace(path=before["path"], is_before=True))  # type: ignore[arg-type]
+    return found
+
+
+def _shared(value: Any) -> Any:
+    """A value, of which texts that are equal are one in memory."""
+    return sys.intern(value) if type(value) is str else value
+
+
+def whole(verdict: Verdict) -> Verdict:
+    """A verdict with all of its facts: of one in brief they are read where its line stands."""
+    if not (place := verdict.get("place")):
+        return verdict
+    found = checked(object_in(place.source.bytes_at(place)))
+    return {**(found["before"] if place.is_before else found), "path": verdict["path"]}  # type: ignore[return-value, typeddict-item]
+
+
+def spelled(verdict: Verdict) -> bytes:
+    """The line of a verdict, which of one in brief stands in its file, unless the movie has another path now."""
+    place = verdict.get("place")
+    if place and place.path == verdict["path"] and not place.is_before:
+        return place.source.bytes_at(place)
+    found = whole(verdict)
+    item: dict[str, Any] = {**named("path", found["path"]), **{key: it for key, it in found.items() if key != "path"}}
+    if "before" in found:
+        before = whole(found["before"])  # type: ignore[arg-type]
         item["before"] = {**before, **named("path", before["path"])}
     return object_line(item)
 
 
+def append(file: BinaryIO, source: Source, verdict: Verdict) -> Verdict:
+    """Adds the line of a verdict to an unbuffered file, which is this source; returns the verdict in brief."""
+    data, start = spelled(verdict), os.fstat(file.fileno()).st_size
+    files.append(file, data)
+    return in_brief(verdict, Place(source, verdict["path"], start, len(data), zlib.crc32(data)))
+
+
 def verdicts_in(file: pathlib.Path) -> Iterator[Verdict]:
-    """The verdicts of a file. What follows the last line feed was cut off as it was written, and is none. A file of a whole archive
-    has to be as it was written."""
+    """The verdicts of a file, in brief. What follows the last line feed was cut off as it was written, and is none. A file of a whole
+    archive has to be as it was written."""
     if file.name == NAME:
-        _look_through(file)
-    yield from _lines_in(file)
+        settled(file)
+    yield from lines_in(file)
 
 
-def _look_through(file: pathlib.Path) -> None:
-    """Damaged, with the number of the first line that is wrong, if a file isn't as it was written."""
+def settled(file: pathlib.Path) -> sums.Sum | None:
+    """The sum by which a file is as it was written, or nothing if there is none beside it. Damaged, with the number of the first line
+    that is wrong, if it isn't so."""
     try:
-        sums.settled(file)
+        return sums.settled(file)
     except sums.Damaged as error:
         with contextlib.suppress(FileNotFoundError):
-            collections.deque(_lines_in(file), 0)
+            collections.deque(lines_in(file), 0)
         raise Damaged(str(error)) from None
 
 
-def _lines_in(file: pathlib.Path) -> Iterator[Verdict]:
+def lines_in(file: pathlib.Path) -> Iterator[Verdict]:
     """The verdicts of a file, line by line."""
-    with open(opened(file, os.O_RDONLY), "rb") as source:
-        whole, _, _ = source.read().rpartition(b"\n")
-    for number, line in enumerate(whole.split(b"\n") if whole else [], 1):
-        try:
-            yield checked(object_in(line))
-        except (ValueError, KeyError, TypeError) as error:
-            what = f"{readable(str(file))}: line {number} is not a verdict ({readable(str(error))[:80]})"
-            removal = f" && {sums.removal(file)}" if file.name == NAME else ""
-            repair = f"sed -i {number}d {shell_word(os.fspath(file))}{removal}"
-            raise Damaged(f"{what}. Put back a copy that is whole, or take the line out, so that its movie is judged again: {repair}") from None
+    source, start = Source(file), 0
+    with source.opened() as lines:
+        for number, line in enumerate(lines, 1):
+            if not line.endswith(b"\n"):
+                return
+            try:
+                verdict = checked(object_in(line))
+            except (ValueError, KeyError, TypeError) as error:
+                raise Damaged(_repair(file, number, str(error))) from None
+            yield in_brief(verdict, Place(source, verdict["path"], start, len(line), zlib.crc32(line)))
+            start += len(line)
+
+
+def _repair(file: pathlib.Path, number: int, reason: str) -> str:
+    """What is wrong with a line, and what to do."""
+    removal = f" && {sums.removal(file)}" if file.name == NAME else ""
+    repair = f"sed -i {number}d {shell_word(os.fspath(file))}{removal}"
+    said = f"{readable(str(file))}: line {number} is not a verdict ({readable(reason)[:80]})"
+    return f"{said}. Put back a copy that is whole, or take the line out, so that its movie is judged again: {repair}"

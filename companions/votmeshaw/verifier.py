@@ -87,6 +87,8 @@ class Verifier:
 
     def __init__(self, path: str, timeout: float | None = None, memory: int | None = None) -> None:
         self.program, self.guard, self.timeout = Program(path), Guard(), timeout
+        # The open files that each process gets.
+        self.needs = (*self.program.needs, self.guard.mark)
         self.words = ["/bin/sh", "-c", LIMITED, str(memory * 1024), self.program.path] if memory else [self.program.path]
         self.lock, self.processes, self.is_stopped = threading.Lock(), set[subprocess.Popen[bytes]](), False
         try:
@@ -107,20 +109,18 @@ class Verifier:
     def _version(self, *words: str) -> subprocess.CompletedProcess[bytes]:
         """What the program says of its version."""
         line = [self.program.path, "--version", *words]
-        return subprocess.run(line, stdin=subprocess.DEVNULL, capture_output=True, pass_fds=self.program.needs, timeout=self.timeout)
+        return subprocess.run(line, stdin=subprocess.DEVNULL, capture_output=True, pass_fds=self.needs, timeout=self.timeout)
 
     def answer(self, movie: bytes, *words: str) -> Answer:
         """The answer to a question, whose movie is '-': these bytes come on standard input."""
         with self.running(movie, *words) as process:
             out, err = process.communicate()
-        if not self.program.is_same():
-            raise NoAnswer("the program was replaced during the run")
         return Answer(process.returncode, out, err)
 
     @contextlib.contextmanager
     def running(self, movie: bytes, *words: str, **how: Any) -> Iterator[subprocess.Popen[bytes]]:
         """The process of a question, whose movie is on standard input. However this is left, it has ended then; NoAnswer if that
-        was for its time."""
+        was for its time, or if another program answered."""
         started: list[subprocess.Popen[bytes]] = []
         is_late = threading.Event()
         timer = threading.Timer(self.timeout or 0, lambda: (is_late.set(), self._end(started[0])))
@@ -137,13 +137,14 @@ class Verifier:
             for process in started:
                 self._end(process)
                 process.wait()
-                self.guard.ended(process.pid)
                 for pipe in filter(None, (process.stdout, process.stderr)):
                     pipe.close()
                 with self.lock:
                     self.processes.discard(process)
         if is_late.is_set():
             raise NoAnswer(f"no answer within {self.timeout:g} s")
+        if not self.program.is_same():
+            raise NoAnswer("the program was replaced during the run")
 
     def _start(self, started: list[subprocess.Popen[bytes]], movie: bytes, words: tuple[str, ...], how: dict[str, Any]) -> None:
         """Starts a process, in a group of its own, and puts it in this list, even where a signal came meanwhile. It reads the movie
@@ -152,13 +153,12 @@ class Verifier:
             file.write(movie)
             file.seek(0)
             pipes = {"stdin": file, "stdout": subprocess.PIPE, "stderr": subprocess.PIPE, **how}
-            pipes["pass_fds"] = (*how.get("pass_fds", ()), *self.program.needs)
+            pipes["pass_fds"] = (*how.get("pass_fds", ()), *self.needs)
             with signals_held(), self.lock:
                 if self.is_stopped:
                     raise NoAnswer("the run ends")
                 started.append(subprocess.Popen([*self.words, *words, *self.explain], process_group=0, **pipes))
                 self.processes.add(started[0])
-                self.guard.started(started[0].pid)
 
     @classmethod
     def asked_for(cls, asked: argparse.Namespace) -> Self:

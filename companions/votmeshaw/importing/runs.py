@@ -6,7 +6,7 @@ from collections.abc import Iterator
 from typing import NamedTuple
 
 from votmeshaw.names import printable
-from votmeshaw.verdicts import KINDS, NONE
+from votmeshaw.facts import KINDS, NONE
 
 # What docs/MOVIE_FORMAT.md calls the keys that can be held, in the order in which 'vcs_check inputs' prints them.
 KEYS = (*(f"{it}{port}" for port in (0, 1) for it in ("up", "down", "left", "right", "fire")), "reset", "select")

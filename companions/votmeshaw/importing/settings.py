@@ -5,7 +5,7 @@ The names and values are those that are publicly known of BizHawk. They were not
 import json
 from typing import Any
 
-from votmeshaw import verdicts
+from votmeshaw import facts, verdicts
 from votmeshaw.importing.runs import Notes, Refused, shown
 
 NAME = "SyncSettings.json"
@@ -40,7 +40,7 @@ def check_ports(settings: dict[str, Any], notes: Notes) -> None:
     """Says which controllers the settings have; Refused if one isn't a joystick."""
     for port in ("Port1", "Port2"):
         value = settings.get(port, "Joystick")
-        found = CONTROLLERS[value] if verdicts.is_of(value, (int,)) and 0 <= value < len(CONTROLLERS) else value
+        found = CONTROLLERS[value] if facts.is_of(value, (int,)) and 0 <= value < len(CONTROLLERS) else value
         if found not in PLAYED:
             raise Refused(f"{NAME}: {port} is {shown(json.dumps(found))}, and joysticks alone are played here")
         notes.say(*(("carried", f"{port} {found}") if port in settings else ("assumed", f"{port} Joystick, since the run doesn't say it")))

@@ -1,0 +1,4 @@
+-- Definitions of how things are kept and done. Only private contracts and proofs cite them: what is
+-- promised can be read without them.
+pub mod Kept
+pub mod Sound
