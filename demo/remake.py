@@ -59,7 +59,8 @@ def places():
     """The place and the length of each number of a state record, by the names of the format's page."""
     found = {f"memory {address:02X}": (7 + address - 0x80, 1) for address in range(0x80, 0x100)}
     page = (HERE.parent / "docs" / "MOVIE_FORMAT.md").read_text(encoding="utf-8")
-    for first, last, name in re.findall(r"^\| (\d+)(?: to (\d+))? \| ([^|]*[^| ]) \|", page[page.index("## A state record") :], re.M):
+    table = page.partition("## A state record")[2].partition("\n## ")[0]
+    for first, last, name in re.findall(r"^\| (\d+)(?: to (\d+))? \| ([^|]*[^| ]) \|", table, re.M):
         found.setdefault(name, (int(first), int(last or first) - int(first) + 1))
     return found
 

@@ -20,9 +20,10 @@ def lines():
     if registers := facts.get("registers"):
         yield "registers: " + ", ".join(f"{name} {registers[name]}" for name in ("A", "X", "Y", "S", "P", "PC"))
         yield f"beam: scanline {facts['scanline']}, cycle {facts['cycle']}"
-    signs = facts.get("segments", "")
-    for at in range(0, len(signs), 64):
-        yield f"segments: {signs[at:at + 64]}"
+    for name in "segments", "claims":
+        signs = facts.get(name, "")
+        for at in range(0, len(signs), 64):
+            yield f"{name}: {signs[at:at + 64]}"
     if "reason" in facts:
         yield facts["reason"]
     for name in "cartridge", "start", "last_frame":

@@ -17,7 +17,7 @@ OF_ONE = {"differs": KINDS[1], "fault": KINDS[2], "refusal": KINDS[3]}
 # The types of facts; one without a type here may be anything.
 NUMBERS = ("cartridge", "checkpoints", "first_checkpoint", "last_checkpoint", "largest_gap", "after_last_checkpoint", "version",
            "frames", "scanline", "cycle", "checkpoint", "frame")
-TEXTS = ("md5", "sha1", "sha256", "banks", "start", "movie_sha256", "program", "segments", "reason", "fault", "refusal")
+TEXTS = ("md5", "sha1", "sha256", "banks", "start", "movie_sha256", "program", "segments", "claims", "reason", "fault", "refusal")
 LISTS = {"differs": {"number", "claimed", "found"}, "start_differs": {"number", "start", "power_on"}}
 # What can't be more than something else.
 AT_MOST = (("frame", "frames"), ("checkpoint", "checkpoints"), ("last_checkpoint", "frames"), ("first_checkpoint", "last_checkpoint"))

@@ -37,13 +37,15 @@ def asked_of(verifier: Verifier, movie: bytes, *words: str) -> Answer:
     return answer
 
 
-def made(verifier: Verifier, game: bytes, frames: Frames, every: int) -> Made:
-    """The movie of a game with these inputs, from power-on."""
+def made(verifier: Verifier, game: bytes, frames: Frames, every: int, to_the_end: bool = False) -> Made:
+    """The movie of a game with these inputs, from power-on, with a checkpoint after each so many frames, and to the end after the last
+    one too."""
     with tempfile.TemporaryDirectory(prefix="vcs_import-") as folder:
         rom, inputs, movie = (pathlib.Path(folder, it) for it in ("game", "inputs", "movie"))
         rom.write_bytes(game)
         inputs.write_bytes(frames.text())
-        answer = asked_of(verifier, b"", "make", str(rom), str(inputs), "--text", "--every", str(every), "--out", str(movie))
+        end = ["--to-the-end"] if to_the_end else []
+        answer = asked_of(verifier, b"", "make", str(rom), str(inputs), "--text", "--every", str(every), *end, "--out", str(movie))
         if answer.status == 0 and not movie.exists():
             raise Stop("vcs_check make: no movie was made")
         is_made = answer.status == 0

@@ -24,8 +24,9 @@ use Rattle.command_line.specs.Table.{out_row, pictures_row, rom_row}
 use Rattle.command_line.specs.Table.{expected_rom_row, power_on_row, sha256_row, text_row, to_the_end_row, workers_row}
 use Rattle.command_line.specs.declared.command.Command.{Command}
 use Rattle.command_line.specs.declared.command.CommandLine.{CommandLine}
+use Rattle.command_line.specs.declared.command.Making.{Making}
 use Rattle.command_line.specs.declared.command.Command.TheVariants.{Verify, Report, Make}
-use Rattle.command_line.specs.declared.command.Command.TheVariants.{Info, Inputs, Cartridge, Convert}
+use Rattle.command_line.specs.declared.command.Command.TheVariants.{Info, Claims, Inputs, Cartridge, Convert}
 use Rattle.command_line.specs.declared.command.Command.TheVariants.{Frames, Pictures, Cut, Trace}
 
 -- The number that a text writes in decimal digits, of which the first may follow a plus.
@@ -91,17 +92,22 @@ pub record AreExpectations (rows : List Row) (expectations : Expectations) : Typ
   pub power_on : (expectations.power_on ≡ true) ↔ IsGiven power_on_row rows
   pub to_the_end : (expectations.to_the_end ≡ true) ↔ IsGiven to_the_end_row rows
 
+-- Of which frames a movie that is made claims the state.
+pub record IsMaking (rows : List Row) (making : Making) : Type 0 where
+  pub every : number_of checkpoints_row rows ≡ Some (non_zero_u32_get making.every)
+  pub to_the_end : (making.to_the_end ≡ true) ↔ IsGiven to_the_end_row rows
+
 -- The command of this name, of which `clap` found these values.
 abbrev pub IsCommandAt : Text → List Row → Command → Type 0
 IsCommandAt name rows (Verify plan notation) = (name ≡ codes "verify") × IsPlan rows plan × IsNotation rows notation
 IsCommandAt name rows (Report workers notation rom expectations) =
     (name ≡ codes "report") × (number_of workers_row rows ≡ Some workers.number) × IsNotation rows notation
     × (option_map string_bytes rom ≡ first_of expected_rom_row.name rows) × AreExpectations rows expectations
-IsCommandAt name rows (Make inputs form every) =
+IsCommandAt name rows (Make inputs form making) =
     (name ≡ codes "make") × (string_bytes inputs ≡ word_of inputs_row rows)
-    × ((form ≡ forms.Text) ↔ IsGiven text_row rows)
-    × (number_of checkpoints_row rows ≡ Some (non_zero_u32_get every))
+    × ((form ≡ forms.Text) ↔ IsGiven text_row rows) × IsMaking rows making
 IsCommandAt name rows (Info notation) = (name ≡ codes "info") × IsNotation rows notation
+IsCommandAt name rows (Claims notation) = (name ≡ codes "claims") × IsNotation rows notation
 IsCommandAt name rows (Inputs first count numbers) =
     (name ≡ codes "inputs") × (number_of first_row rows ≡ Some (non_zero_u32_get first))
     × (number_of asked_row rows ≡ Some count)
@@ -123,14 +129,14 @@ IsCommandAt name rows (Trace frame) =
 
 -- The argument that names the file that a command is about,
 abbrev pub input_row : Command → Argument
-input_row (Make inputs form every) = rom_row
+input_row (Make inputs form making) = rom_row
 input_row Convert = old_row
 input_row other = file_row
 
 -- and the word that names the file that it writes, if it writes one.
 abbrev pub output_word : Command → List Row → Option Text
 output_word (Verify plan notation) rows = first_of pictures_row.name rows
-output_word (Make inputs form every) rows = Some (word_of out_row rows)
+output_word (Make inputs form making) rows = Some (word_of out_row rows)
 output_word Convert rows = Some (word_of new_row rows)
 output_word Cartridge rows = Some (word_of out_row rows)
 output_word (Pictures first count) rows = Some (word_of out_row rows)

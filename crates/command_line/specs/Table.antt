@@ -90,7 +90,8 @@ digests_row = record { name = codes "digests"; kind = switch }
 abbrev pub numbers_row : Argument
 numbers_row = record { name = codes "numbers"; kind = switch }
 
--- What a report compares the movie with: a cartridge, its digest, the start and the last frame.
+-- What a report compares the movie with: a cartridge, its digest, the start and the last frame, of which
+-- `make` claims the state.
 abbrev pub expected_rom_row : Argument
 expected_rom_row = record { name = codes "rom"; kind = word }
 
@@ -126,11 +127,14 @@ report_listed = record {
 abbrev pub make_listed : Listed
 make_listed = record {
   name = codes "make";
-  arguments = rom_row ∷ inputs_row ∷ text_row ∷ checkpoints_row ∷ out_row ∷ [];
+  arguments = rom_row ∷ inputs_row ∷ text_row ∷ checkpoints_row ∷ to_the_end_row ∷ out_row ∷ [];
 }
 
 abbrev pub info_listed : Listed
 info_listed = record { name = codes "info"; arguments = file_row ∷ json_row ∷ [] }
+
+abbrev pub claims_listed : Listed
+claims_listed = record { name = codes "claims"; arguments = file_row ∷ json_row ∷ [] }
 
 abbrev pub inputs_listed : Listed
 inputs_listed = record {
@@ -170,7 +174,7 @@ cut_listed = record {
 abbrev pub commands : List Listed
 commands =
     verify_listed ∷ report_listed
-    ∷ make_listed ∷ info_listed ∷ inputs_listed ∷ cartridge_listed ∷ convert_listed
+    ∷ make_listed ∷ info_listed ∷ claims_listed ∷ inputs_listed ∷ cartridge_listed ∷ convert_listed
     ∷ frames_listed ∷ pictures_listed ∷ cut_listed ∷ trace_listed ∷ []
 
 -- ---- the same as `clap` reads it

@@ -6,6 +6,15 @@ use replay_plan::{Details, Expectations, InputForm, Notation, Plan, Workers};
 use std::alloc::AllocError;
 use std::num::NonZeroU32;
 
+/// Of which frames a movie that is made claims the state.
+#[derive(Clone, Copy, Debug, PartialEq, Eq)]
+pub struct Making {
+    /// After every so many frames a checkpoint stands.
+    pub every: NonZeroU32,
+    /// Whether one stands after the last frame too.
+    pub to_the_end: bool,
+}
+
 /// What is asked for. Each command but `Make` asks about a movie.
 #[derive(Debug, Drop)]
 pub enum Command {
@@ -31,11 +40,14 @@ pub enum Command {
         inputs: String,
         /// The form of the inputs.
         form: InputForm,
-        /// A checkpoint after every so many frames.
-        every: NonZeroU32,
+        making: Making,
     },
     /// Say what it holds.
     Info {
+        notation: Notation,
+    },
+    /// Print the states that it claims.
+    Claims {
         notation: Notation,
     },
     /// Print the inputs of some of its frames as text.

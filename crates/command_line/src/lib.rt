@@ -9,6 +9,6 @@ mod parser;
 mod report;
 mod version;
 
-pub use command::{Command, CommandLine, LineFault};
+pub use command::{Command, CommandLine, LineFault, Making};
 pub use line::parse_line;
 pub use version::program_name;

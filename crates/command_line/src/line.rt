@@ -5,7 +5,7 @@ ghost use Rattle.std.specs.NonZero.{non_zero_u16_get, non_zero_u32_get};
 ghost use Rattle.clap.specs.Words.{fault_of as faults_at, found_of, kind_of, matches_of, rows_of, subcommand_of};
 ghost use Rattle.clap.specs.Words.{first_of, one_of};
 ghost use Rattle.command_line.specs.Faults.{HasBadValue, IsAnswerTo, IsRefusal};
-ghost use Rattle.command_line.specs.Meanings.{AsksForReasons, IsCommandAt, IsGiven, IsLine, IsLineAt, input_row};
+ghost use Rattle.command_line.specs.Meanings.{AsksForReasons, IsCommandAt, IsGiven, IsLine, IsLineAt, IsMaking, input_row};
 ghost use Rattle.command_line.specs.Meanings.{number_in, number_of, output_word, word_of};
 ghost use Rattle.command_line.specs.Private.Names.{IsUnlisted};
 ghost use Rattle.command_line.specs.Private.Numbers.{HasNumbers, HasNumbersOf, IsNumberIn};
@@ -19,7 +19,7 @@ ghost use Rattle.command_line.specs.Table.{explain_row, frame_row, json_row, pic
 ghost use Rattle.replay_plan.specs.declared.input_form.InputForm.TheVariants.{Text};
 ghost use Rattle.replay_plan.specs.declared.notation.Notation.TheVariants.{Json};
 
-use crate::command::{Command, CommandLine, LineFault};
+use crate::command::{Command, CommandLine, LineFault, Making};
 use crate::frames::frames_of;
 use crate::parser::program;
 use crate::report::report_of;
@@ -178,6 +178,17 @@ fn form_of(matches: &ArgMatches<'_>) -> InputForm
     }
 }
 
+/// Of which frames a movie that is made claims the state.
+fn making_of(matches: &ArgMatches<'_>) -> Making
+    requires { IsNumberIn 1 4294967295 (one_of checkpoints_row.name (rows_of (found_of matches.now))) }
+    ensures { IsMaking (rows_of (found_of matches.now)) result }
+{
+    Making {
+        every: number_from_one(matches, "every"),
+        to_the_end: is_given(matches, "to-the-end"),
+    }
+}
+
 /// The command `make`.
 fn make_of(alloc: Global, matches: &ArgMatches<'_>) -> Result<Command, AllocError>
     requires { HasNumbers make_listed (rows_of (found_of matches.now)) }
@@ -187,7 +198,7 @@ fn make_of(alloc: Global, matches: &ArgMatches<'_>) -> Result<Command, AllocErro
     Ok(Command::Make {
         inputs,
         form: form_of(matches),
-        every: number_from_one(matches, "every"),
+        making: making_of(matches),
     })
 }
 
@@ -263,6 +274,9 @@ fn command_of(alloc: Global, name: &str, matches: &ArgMatches<'_>) -> Result<Com
         "report" => report_of(alloc, matches),
         "make" => Ok(make_of(alloc, matches)?),
         "info" => Ok(Command::Info {
+            notation: notation_of(matches),
+        }),
+        "claims" => Ok(Command::Claims {
             notation: notation_of(matches),
         }),
         "inputs" => Ok(inputs_of(matches)),

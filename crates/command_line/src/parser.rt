@@ -1,7 +1,7 @@
 //! The commands of the program, as `clap` knows them.
 ghost use Rattle.std.specs.Prelude.{List, IfOk};
 ghost use Rattle.command_line.specs.Table.{AreListed, AreRows, Argument, IsApp, IsListed, IsRow, asked_row};
-ghost use Rattle.command_line.specs.Table.{cartridge_listed, checkpoints_row, convert_listed, cut_listed, commands, explain_row, file_row};
+ghost use Rattle.command_line.specs.Table.{cartridge_listed, checkpoints_row, claims_listed, convert_listed, cut_listed, commands, explain_row, file_row};
 ghost use Rattle.command_line.specs.Table.{first_row, frames_listed, info_listed, inputs_listed, json_row, make_listed};
 ghost use Rattle.command_line.specs.Table.{out_row, pictures_listed, program_app, report_listed, trace_listed, verify_listed};
 ghost use Rattle.command_line.specs.Table.{workers_row};
@@ -218,6 +218,11 @@ fn make<'a>(alloc: Global) -> Result<Command<'a>, AllocError>
             "N",
             "Claim the state after every N frames, 1 to 4294967295",
         ),
+        switch(
+            alloc,
+            "to-the-end",
+            "Claim the state after the last frame too",
+        ),
         out(
             alloc,
             "MOVIE",
@@ -234,6 +239,16 @@ fn info<'a>(alloc: Global) -> Result<Command<'a>, AllocError>
 {
     let arguments = vec![in alloc; movie(alloc), json(alloc, ONE_OBJECT)]?;
     command(alloc, "info", "Say what a movie holds", arguments)
+}
+
+/// `claims FILE`, with its option.
+fn claims<'a>(alloc: Global) -> Result<Command<'a>, AllocError>
+    ensures { IfOk result (IsListed claims_listed) }
+{
+    let help = "Write an object of JSON for each checkpoint in place of lines";
+    let arguments = vec![in alloc; movie(alloc), json(alloc, help)]?;
+    let about = "Print the state that each checkpoint of a movie claims";
+    command(alloc, "claims", about, arguments)
 }
 
 /// `inputs FILE`, with its options.
@@ -401,6 +416,7 @@ fn commands<'a>(alloc: Global) -> Result<Vec<Command<'a>>, AllocError>
         report(alloc)?,
         make(alloc)?,
         info(alloc)?,
+        claims(alloc)?,
         inputs(alloc)?,
         cartridge(alloc)?,
         convert(alloc)?,

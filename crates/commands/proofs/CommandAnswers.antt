@@ -25,7 +25,7 @@ module _ (command : Command) (bytes : List ℕ) (a b : Option (List ℕ)) (statu
     (about : IsAboutMovies command) (same : status ≡ answer.status) where
   about_bytes : (c : Command) (told : AnswerData) (read : Option (List ℕ)) → IsAboutMovies c → ReadsRomFor c (movie_at bytes) a b read
       → AnswersFound c bytes read (movie_at bytes) told → AnswersBytes c bytes a b told
-  about_bytes (Make inputs form every) told read never reads found = absurd never
+  about_bytes (Make inputs form making) told read never reads found = absurd never
   about_bytes other told read never reads found = (read, reads, found)
 
   pub of_movie : (m : MovieData) (read : Option (List ℕ)) → movie_at bytes ≡ Ok m → ReadsRom command a b read → Answers command bytes read m answer

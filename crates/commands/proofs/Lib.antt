@@ -3,6 +3,7 @@ pub mod ColumnLemmas
 pub mod CommandAnswers
 pub mod CutMovies
 pub mod CutParts
+pub mod MadeMovies
 pub mod RunFrames
 pub mod RunSteps
 pub mod StandingCheckpoints

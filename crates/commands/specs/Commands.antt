@@ -4,7 +4,7 @@ use Rattle.std.specs.NonZero.{non_zero_u32_get}
 use Rattle.std.specs.Io.KnownBytes.{Keeps}
 use Rattle.command_line.specs.Program.{program_name}
 use Rattle.command_line.specs.declared.command.Command.{Command}
-use Rattle.command_line.specs.declared.command.Command.TheVariants.{Verify, Report, Make, Info, Inputs, Cartridge, Convert}
+use Rattle.command_line.specs.declared.command.Command.TheVariants.{Verify, Report, Make, Info, Claims, Inputs, Cartridge, Convert}
 use Rattle.command_line.specs.declared.command.Command.TheVariants.{Frames, Pictures, Cut, Trace}
 use Rattle.movie_file.specs.Movie.{MovieData}
 use Rattle.movie_file.specs.Reading.{movie_at}
@@ -13,6 +13,7 @@ use Rattle.replay_plan.specs.declared.notation.Notation.{Notation}
 use Rattle.replay_plan.specs.declared.notation.Notation.TheVariants.{Lines}
 use Rattle.commands.specs.Answers.{AnswerData}
 use Rattle.commands.specs.Cartridge.{cartridge_answer}
+use Rattle.commands.specs.Claims.{claims_in}
 use Rattle.commands.specs.Convert.{conversion_of}
 use Rattle.commands.specs.Cut.{Cuts}
 use Rattle.commands.specs.Frames.{AppendsLines, Describes}
@@ -31,8 +32,9 @@ use Rattle.commands.specs.declared.status.Status.{Status}
 abbrev pub Answers : Command → List ℕ → Option (List ℕ) → MovieData → AnswerData → Type 0
 Answers (Verify plan notation) bytes read m answer = Verifies notation plan.keep m answer
 Answers (Report workers notation rom expectations) bytes read m answer = Reports notation program_name read expectations bytes m answer
-Answers (Make inputs form every) bytes read m answer = ⊥
+Answers (Make inputs form making) bytes read m answer = ⊥
 Answers (Info notation) bytes read m answer = answer ≡ information_in notation m
+Answers (Claims notation) bytes read m answer = answer ≡ claims_in notation m
 Answers (Inputs first count numbers) bytes read m answer = Lists m (non_zero_u32_get first) count numbers answer
 Answers Cartridge bytes read m answer = answer ≡ cartridge_answer m
 Answers Convert bytes read m answer = answer ≡ conversion_of m
@@ -47,6 +49,7 @@ abbrev pub notation_of : Command → Notation
 notation_of (Verify plan notation) = notation
 notation_of (Report workers notation rom expectations) = notation
 notation_of (Info notation) = notation
+notation_of (Claims notation) = notation
 notation_of (Frames first count details notation) = notation
 notation_of other = Lines
 
@@ -69,7 +72,7 @@ ReadsRomFor command (Err error) old new read = Keeps old new × (read ≡ None)
 -- The answer of a command about these bytes. `make` also reads inputs, of which `old` were left before
 -- it and `new` are left after it, and a report may read a ROM.
 abbrev pub AnswersBytes : Command → List ℕ → (old new : Option (List ℕ)) → AnswerData → Type 0
-AnswersBytes (Make inputs form every) bytes old new answer = Makes form bytes old new (non_zero_u32_get every) answer
+AnswersBytes (Make inputs form making) bytes old new answer = Makes form bytes old new (non_zero_u32_get making.every) making.to_the_end answer
 AnswersBytes command bytes old new answer =
     (read : Option (List ℕ)) × ReadsRomFor command (movie_at bytes) old new read × AnswersFound command bytes read (movie_at bytes) answer
 
@@ -108,6 +111,6 @@ StartsThreads other = ⊥
 
 -- It reads a second input.
 abbrev pub ReadsInputs : Command → Type 0
-ReadsInputs (Make inputs form every) = Unit {0}
+ReadsInputs (Make inputs form making) = Unit {0}
 ReadsInputs (Report workers notation (Some rom) expectations) = Unit {0}
 ReadsInputs other = ⊥

@@ -2,6 +2,7 @@ pub mod Answers
 pub mod Asked
 pub mod Assembly
 pub mod Cartridge
+pub mod Claims
 pub mod Columns
 pub mod Commands
 pub mod Convert

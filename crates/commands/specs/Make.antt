@@ -1,17 +1,23 @@
 -- What the making of a movie writes for the bytes of a ROM and of inputs, and its status. This
 -- project's own.
-use Rattle.std.specs.Prelude.{◌≡◌, ◌⊎◌, ℕ, List, length, Option, Result, Ok, Err, IsTrue}
+use Rattle.std.specs.Prelude.{◌≡◌, ◌⊎◌, ℕ, ◌%◌, ◌==◌, ◌&&◌, ◌++◌, Bool, not, nat_le, List, [], ◌∷◌, length}
+use Rattle.std.specs.Prelude.{if◌then◌else◌, Option, Some, Result, Ok, Err, IsTrue}
 use Rattle.std.specs.Result.{result_map_both}
 use Rattle.std.specs.Io.KnownBytes.{Keeps}
 use Rattle.riot_map.specs.Cart.{is_cart_length}
 use Rattle.input_text.specs.Texts.{inputs_in}
 use Rattle.vcs_machine.specs.Inputs.{InputData}
 use Rattle.vcs_machine.specs.declared.fault.FaultKind.{FaultKind}
+use Rattle.vcs_machine.specs.declared.fields.StateFields.{StateFields}
+use Rattle.movie_file.specs.Format.{most_checkpoints}
 use Rattle.movie_file.specs.InputLists.{all_inputs_at}
 use Rattle.movie_file.specs.Judgement.{IsGenuine}
 use Rattle.movie_file.specs.Making.{IsMadeOf, IsFirstFault, counts_fit}
 use Rattle.movie_file.specs.Movie.{MovieData}
+use Rattle.movie_file.specs.Run.{run}
+use Rattle.movie_file.specs.declared.checkpoint.Checkpoint.{Checkpoint}
 use Rattle.movie_file.specs.declared.error.MovieError.TheVariants.{BadCartSize, BadCounts}
+use Rattle.movie_hints.specs.Counts.{checkpoints_of}
 use Rattle.replay_plan.specs.declared.input_form.InputForm.{InputForm}
 use Rattle.replay_plan.specs.declared.input_form.InputForm.TheVariants.{Bytes, Text}
 use Rattle.commands.specs.Answers.{AnswerData, line_answer, movie_answer}
@@ -19,14 +25,38 @@ use Rattle.commands.specs.Streams.{ReadsAll}
 use Rattle.commands.specs.declared.line.Line.{Line}
 use Rattle.commands.specs.declared.line.Line.TheVariants as lines
 
+-- Frames of which a movie can be made, with a checkpoint after every so many, and to the end after the
+-- last one too.
+abbrev pub do_claims_fit : ℕ → ℕ → Bool → Bool
+do_claims_fit frames every to_the_end =
+    counts_fit frames every && nat_le (checkpoints_of frames every to_the_end) most_checkpoints
+
+-- To the end a checkpoint stands after the last of so many frames where none does after every so many.
+abbrev pub is_last_claimed : ℕ → ℕ → Bool → Bool
+is_last_claimed frames every to_the_end = to_the_end && not (frames % every == 0)
+
+-- It claims this state.
+abbrev pub last_claim : ℕ → ℕ → Bool → StateFields → List Checkpoint
+last_claim frames every to_the_end state =
+    if is_last_claimed frames every to_the_end then record { frame = frames; state = state } ∷ [] else []
+
+-- The movie of a run from power-on with a checkpoint after every so many frames, and to the end with
+-- the state after the last one.
+pub record IsMadeMovie (cart : List ℕ) (inputs : List InputData) (every : ℕ) (to_the_end : Bool) (m : MovieData) : Type 0 where
+  pub claims : List Checkpoint
+  pub last : StateFields
+  pub made : IsMadeOf cart inputs every (record m { checkpoints = claims })
+  pub ran : run m m.start 0 (length inputs) ≡ Some last
+  pub checkpoints_are : m.checkpoints ≡ claims ++ last_claim (length inputs) every to_the_end last
+
 -- What is written of a cartridge and inputs: the movie of their run, which is genuine, or the run's
 -- first fault; or that their counts are refused.
-abbrev pub MakesOf : List ℕ → List InputData → ℕ → AnswerData → Type 0
-MakesOf cart inputs every answer =
-    (IsTrue (counts_fit (length inputs) every)
-    × (((m : MovieData) × IsMadeOf cart inputs every m × IsGenuine m × (answer ≡ movie_answer lines.Made m))
+abbrev pub MakesOf : List ℕ → List InputData → ℕ → Bool → AnswerData → Type 0
+MakesOf cart inputs every to_the_end answer =
+    (IsTrue (do_claims_fit (length inputs) every to_the_end)
+    × (((m : MovieData) × IsMadeMovie cart inputs every to_the_end m × IsGenuine m × (answer ≡ movie_answer lines.Made m))
     ⊎ ((frame : ℕ) × (kind : FaultKind) × IsFirstFault cart inputs frame kind × (answer ≡ line_answer (lines.Fault frame kind)))))
-    ⊎ ((¬ IsTrue (counts_fit (length inputs) every)) × (answer ≡ line_answer (lines.Refused BadCounts)))
+    ⊎ ((¬ IsTrue (do_claims_fit (length inputs) every to_the_end)) × (answer ≡ line_answer (lines.Refused BadCounts)))
 
 -- The inputs that some bytes are in this form, or the line of why they are none.
 abbrev pub inputs_by : InputForm → List ℕ → Result (List InputData) Line
@@ -34,13 +64,13 @@ inputs_by Bytes input = result_map_both (λ inputs. inputs) lines.Refused (all_i
 inputs_by Text input = result_map_both (λ inputs. inputs) lines.BadLine (inputs_in input)
 
 -- What is written of a cartridge and what reading the inputs found.
-abbrev pub MakesFrom : List ℕ → Result (List InputData) Line → ℕ → AnswerData → Type 0
-MakesFrom cart (Ok inputs) every answer = MakesOf cart inputs every answer
-MakesFrom cart (Err line) every answer = answer ≡ line_answer line
+abbrev pub MakesFrom : List ℕ → Result (List InputData) Line → ℕ → Bool → AnswerData → Type 0
+MakesFrom cart (Ok inputs) every to_the_end answer = MakesOf cart inputs every to_the_end answer
+MakesFrom cart (Err line) every to_the_end answer = answer ≡ line_answer line
 
 -- What is written of the bytes of a ROM, and what is read of the inputs: if no cartridge has the
 -- ROM's length, nothing.
-abbrev pub Makes : InputForm → List ℕ → Option (List ℕ) → Option (List ℕ) → ℕ → AnswerData → Type 0
-Makes form rom old new every answer =
-    (IsTrue (is_cart_length (length rom)) × ((input : List ℕ) × ReadsAll old new input × MakesFrom rom (inputs_by form input) every answer))
+abbrev pub Makes : InputForm → List ℕ → Option (List ℕ) → Option (List ℕ) → ℕ → Bool → AnswerData → Type 0
+Makes form rom old new every to_the_end answer =
+    (IsTrue (is_cart_length (length rom)) × ((input : List ℕ) × ReadsAll old new input × MakesFrom rom (inputs_by form input) every to_the_end answer))
     ⊎ ((¬ IsTrue (is_cart_length (length rom))) × Keeps old new × (answer ≡ line_answer (lines.Refused BadCartSize)))

@@ -4,6 +4,7 @@ pub mod Contents
 pub mod CutErrors
 pub mod Errors
 pub mod Groups
+pub mod MadeRuns
 pub mod Stops
 pub mod Tracing
 pub mod Views

@@ -1,13 +1,13 @@
--- How bytes that are no movie are refused: as a line, or as an object of JSON (RFC 8259). This
--- project's own.
+-- How bytes that are no movie, or no cartridge, are refused: as a line, or as an object of JSON
+-- (RFC 8259). This project's own.
 use Rattle.std.specs.Prelude.{◌≡◌, ℕ, List, [], ◌∷◌, ◌++◌, codes, Option, Some, None}
 use Rattle.std.specs.Fmt.{decimal}
 use Rattle.hex.specs.Hex.{encode_lower}
 use Rattle.sha2.specs.Sha256.{sha256}
 use Rattle.movie_file.specs.MovieError.{refusal_text}
 use Rattle.movie_file.specs.declared.error.MovieError.{MovieError}
-use Rattle.movie_file.specs.declared.error.MovieError.TheVariants.{BadState, BadInput, BadOrder}
-use Rattle.movie_hints.specs.Hints.{Explains}
+use Rattle.movie_file.specs.declared.error.MovieError.TheVariants.{BadState, BadInput, BadOrder, BadCartSize}
+use Rattle.movie_hints.specs.Hints.{Explains, TellsRom}
 use Rattle.movie_hints.specs.HintTexts.{expected_text, field_text, found_text, hint_text}
 use Rattle.movie_hints.specs.declared.hint.Hint.{Hint}
 use Rattle.movie_hints.specs.declared.hint.Hint.TheVariants as hints
@@ -52,3 +52,14 @@ abbrev pub Refuses : Notation → List ℕ → List ℕ → MovieError → Answe
 Refuses Lines program bytes error answer = answer ≡ line_answer (lines.Refused error)
 Refuses Json program bytes error answer =
     (hint : Option Hint) × Explains bytes error hint × (answer ≡ text_answer statuses.Refused (refusal_object program bytes error hint))
+
+-- The object of a refusal of a ROM, by a program of this name, with this reason.
+abbrev pub rom_refusal_object : List ℕ → Hint → List ℕ
+rom_refusal_object program hint =
+    codes "{\"rom_refusal\":\"BadCartSize\",\"reason\":\"" ++ (hint_text hint ++ (codes "\",\"program\":\"" ++ (program ++ (codes "\"}" ++ 10 ∷ []))))
+
+-- The answer that these bytes are no cartridge.
+abbrev pub RefusesRom : Notation → List ℕ → List ℕ → AnswerData → Type 0
+RefusesRom Lines program rom answer = answer ≡ line_answer (lines.Refused BadCartSize)
+RefusesRom Json program rom answer =
+    (hint : Hint) × TellsRom rom hint × (answer ≡ text_answer statuses.Refused (rom_refusal_object program hint))

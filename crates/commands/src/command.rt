@@ -12,6 +12,7 @@ ghost use Rattle.commands.specs.Streams.{IsTooLong, ReadsAll};
 
 use crate::answer::Answer;
 use crate::cartridge::cartridge;
+use crate::claims::claims;
 use crate::convert::convert;
 use crate::cut::cut;
 use crate::frames::frames;
@@ -43,6 +44,7 @@ pub fn notation_of(command: &Command) -> Notation
         Command::Verify { notation, .. } => *notation,
         Command::Report { notation, .. } => *notation,
         Command::Info { notation } => *notation,
+        Command::Claims { notation } => *notation,
         Command::Frames { notation, .. } => *notation,
         _ => Notation::Lines,
     }
@@ -82,6 +84,7 @@ fn answer<T: Threads + Wait + Sync + AllocGlobal, G: Gate + Progress + Sync>(
             gate,
         ),
         Command::Info { notation } => Ok(info(alloc, *notation, &movie)?),
+        Command::Claims { notation } => Ok(claims(alloc, *notation, &movie)?),
         Command::Inputs {
             first,
             count,
@@ -210,9 +213,18 @@ pub fn run_command<
     ensures no_thread { result ≡ Err RunError.NoThread → StartsThreads command.now }
 {
     let alloc = rt.alloc();
-    if let Command::Make { form, every, .. } = command {
+    if let Command::Make { form, making, .. } = command {
         let rom = read_all(alloc, input)?;
-        let answer = make(alloc, rom, *form, inputs, every.get(), gate)?;
+        let to_the_end = making.to_the_end;
+        let answer = make(
+            alloc,
+            rom,
+            *form,
+            inputs,
+            making.every.get(),
+            to_the_end,
+            gate,
+        )?;
         return Ok(answer.write_file_first(file, text)?);
     }
     let (bytes, found) = read_input(alloc, input)?;

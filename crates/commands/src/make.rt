@@ -5,10 +5,11 @@ ghost use Rattle.commands.specs.Streams.{IsTooLong};
 
 use crate::answer::Answer;
 use crate::line::Line;
+use crate::making::make_run;
 use crate::run_error::ReadError;
 use crate::streams::read_all;
 use input_text::{TextError, read_text};
-use movie_file::{MakeError, MovieError, Progress, make_movie_with_progress, read_inputs};
+use movie_file::{MakeError, MovieError, Progress, read_inputs};
 use replay_plan::InputForm;
 use riot_map::Cart;
 use std::alloc::{AllocError, Global};
@@ -21,11 +22,12 @@ fn of_inputs<P: Progress>(
     cart: Cart,
     inputs: Vec<Input>,
     every: u32,
+    to_the_end: bool,
     progress: &P,
 ) -> Result<Answer, AllocError>
-    ensures { IfOk result (λ answer. MakesOf cart inputs.items every answer) }
+    ensures { IfOk result (λ answer. MakesOf cart inputs.items every to_the_end answer) }
 {
-    match make_movie_with_progress(alloc, cart, inputs, every, progress) {
+    match make_run(alloc, cart, inputs, every, to_the_end, progress) {
         Ok(movie) => {
             let frames = movie.frames();
             let checkpoints = movie.checkpoints();
@@ -53,18 +55,19 @@ fn of_bytes<P: Progress>(
     form: InputForm,
     inputs: &[u8],
     every: u32,
+    to_the_end: bool,
     progress: &P,
 ) -> Result<Answer, AllocError>
-    ensures { IfOk result (λ answer. MakesFrom cart (inputs_by form inputs.now) every answer) }
+    ensures { IfOk result (λ answer. MakesFrom cart (inputs_by form inputs.now) every to_the_end answer) }
 {
     match form {
         InputForm::Bytes => match read_inputs(alloc, inputs) {
-            Ok(inputs) => of_inputs(alloc, cart, inputs, every, progress),
+            Ok(inputs) => of_inputs(alloc, cart, inputs, every, to_the_end, progress),
             Err(MovieError::NoMemory) => Err(AllocError),
             Err(error) => Answer::of_line(alloc, Line::Refused(error)),
         },
         InputForm::Text => match read_text(alloc, inputs) {
-            Ok(inputs) => of_inputs(alloc, cart, inputs, every, progress),
+            Ok(inputs) => of_inputs(alloc, cart, inputs, every, to_the_end, progress),
             Err(TextError::NoMemory) => Err(AllocError),
             Err(TextError::BadLine(number)) => Answer::of_line(alloc, Line::BadLine(number)),
         },
@@ -72,21 +75,23 @@ fn of_bytes<P: Progress>(
 }
 
 /// A movie of the run from power-on with the cartridge of a ROM and these inputs, with a checkpoint
-/// after each `every` frames; or why none is made. The inputs are read if the ROM is a cartridge.
+/// after each `every` frames, and to the end after the last one too; or why none is made. The inputs
+/// are read if the ROM is a cartridge.
 pub(crate) fn make<S: Read, P: Progress>(
     alloc: Global,
     rom: Vec<u8>,
     form: InputForm,
     inputs: &mut S,
     every: u32,
+    to_the_end: bool,
     progress: &P,
 ) -> Result<Answer, ReadError>
-    ensures makes { IfOk result (λ answer. Makes form rom.items (S.remaining inputs.old) (S.remaining inputs.new) every answer) }
+    ensures makes { IfOk result (λ answer. Makes form rom.items (S.remaining inputs.old) (S.remaining inputs.new) every to_the_end answer) }
     ensures too_long { result ≡ Err ReadError.TooLong → IsTooLong (S.remaining inputs.old) }
 {
     let Ok(cart) = Cart::new(rom) else {
         return Ok(Answer::of_line(alloc, Line::Refused(MovieError::BadCartSize))?);
     };
     let bytes = read_all(alloc, inputs)?;
-    Ok(of_bytes(alloc, cart, form, &bytes, every, progress)?)
+    Ok(of_bytes(alloc, cart, form, &bytes, every, to_the_end, progress)?)
 }

@@ -1,7 +1,7 @@
-//! That bytes are no movie.
+//! That bytes are no movie, or no cartridge.
 ghost use Rattle.std.specs.Prelude.{◌≡◌, IfOk, string_bytes};
 ghost use Rattle.command_line.specs.Program.{program_name};
-ghost use Rattle.commands.specs.Refusals.{Refuses, refusal_object};
+ghost use Rattle.commands.specs.Refusals.{Refuses, RefusesRom, refusal_object, rom_refusal_object};
 
 use crate::answer::Answer;
 use crate::line::Line;
@@ -9,7 +9,7 @@ use crate::status::Status;
 use command_line::program_name;
 use hex::encode;
 use movie_file::MovieError;
-use movie_hints::{Hint, hint_of};
+use movie_hints::{Hint, hint_of, hint_of_rom};
 use replay_plan::Notation;
 use sha2::{Digest, Sha256};
 use std::alloc::{AllocError, Global};
@@ -108,6 +108,33 @@ pub(crate) fn refusal(
         Notation::Json => {
             let hint = hint_of(bytes, error);
             let text = refusal_object(alloc, program_name(), bytes, error, hint)?;
+            Ok(Answer::of_text(alloc, Status::Refused, text))
+        }
+    }
+}
+
+/// The object about a ROM that is refused, with this reason. The program's name has no quotation mark,
+/// backslash or control character, as no hint at bytes has.
+fn rom_refusal_object(alloc: Global, program: &str, hint: Hint) -> Result<String, AllocError>
+    ensures { IfOk result (λ text. string_bytes text ≡ rom_refusal_object program.now hint) }
+{
+    format!(in alloc;
+        "{{\"rom_refusal\":\"BadCartSize\",\"reason\":\"{hint}\",\"program\":\"{program}\"}}\n"
+    )
+}
+
+/// That these bytes are no cartridge: a line, or an object of JSON that also says why.
+pub(crate) fn rom_refusal(
+    alloc: Global,
+    notation: Notation,
+    rom: &[u8],
+) -> Result<Answer, AllocError>
+    ensures { IfOk result (RefusesRom notation program_name rom.now) }
+{
+    match notation {
+        Notation::Lines => Answer::of_line(alloc, Line::Refused(MovieError::BadCartSize)),
+        Notation::Json => {
+            let text = rom_refusal_object(alloc, program_name(), hint_of_rom(rom))?;
             Ok(Answer::of_text(alloc, Status::Refused, text))
         }
     }

@@ -1,13 +1,14 @@
 //! The verdict of a movie, and facts about it.
-ghost use Rattle.std.specs.Prelude.{◌≡◌, ◌≤◌, ◌++◌, Err, IfOk, string_bytes};
+ghost use Rattle.std.specs.Prelude.{◌≡◌, ◌≤◌, ◌++◌, List, ℕ, Err, IfOk, IfSome, None, string_bytes};
 ghost use Rattle.std.specs.Option.{option_copied};
 ghost use Rattle.command_line.specs.Program.{program_name};
 ghost use Rattle.commands.specs.Lines.{line_bytes};
-ghost use Rattle.commands.specs.Report.{Reports, line_in, status_with};
+ghost use Rattle.commands.specs.Report.{IsNoCartridge, Reports, ReportsMovie, line_in, status_with};
 ghost use Rattle.commands.specs.Verify.{verdict_line};
 
 use crate::answer::Answer;
 use crate::line::Line;
+use crate::refusal::rom_refusal;
 use crate::run_error::JudgeError;
 use crate::status::Status;
 use crate::verify::verdict_of;
@@ -16,6 +17,7 @@ use movie_file::{Movie, Progress};
 use movie_report::Agreement;
 use replay_plan::{Expectations, Notation, Plan, Workers};
 use replay_segments::Verdict;
+use riot_map::Cart;
 use std::alloc::{AllocError, Global};
 use std::sync::Wait;
 use std::thread::Threads;
@@ -55,8 +57,8 @@ fn status_with(agreement: Agreement, status: Status) -> Status
 
 /// The verdict of the movie that these bytes are, by so many workers, and facts about it: the line of
 /// the verdict and then a line for each fact, or an object of JSON. What is expected of it, beside the
-/// bytes of a ROM if there is one, is among them.
-pub(crate) fn report<T: Threads + Wait + Sync, G: Gate + Progress + Sync>(
+/// bytes of a cartridge if there is one, is among them.
+fn report_of<T: Threads + Wait + Sync, G: Gate + Progress + Sync>(
     rt: &T,
     alloc: Global,
     bytes: &[u8],
@@ -67,7 +69,7 @@ pub(crate) fn report<T: Threads + Wait + Sync, G: Gate + Progress + Sync>(
     expectations: &Expectations,
     gate: &G,
 ) -> Result<Answer, JudgeError>
-    ensures answer { IfOk result (Reports notation program_name (option_copied rom.entry) expectations.now bytes.now movie.now) }
+    ensures answer { IfOk result (ReportsMovie notation program_name (option_copied rom.entry) expectations.now bytes.now movie.now) }
     ensures no_thread { result ≡ Err JudgeError.NoThread → 2 ≤ workers.number }
 {
     let plan = Plan::without_pictures(workers);
@@ -88,4 +90,46 @@ pub(crate) fn report<T: Threads + Wait + Sync, G: Gate + Progress + Sync>(
     let status = status_with(agreement, Line::of_verdict(movie, &verdict).status());
     let text = text_of(alloc, movie, &verdict, notation, facts)?;
     Ok(Answer::of_text(alloc, status, text))
+}
+
+/// The ROM that is expected, if it is one that no cartridge can be.
+fn no_cartridge(rom: Option<&[u8]>) -> Option<&[u8]>
+    ensures some { IfSome result (λ other. IsNoCartridge (option_copied rom.entry) other.now) }
+    ensures none { result ≡ None → (other : List ℕ) → IsNoCartridge (option_copied rom.entry) other → ⊥ }
+{
+    match rom {
+        Some(bytes) if !Cart::is_length(bytes.len()) => Some(bytes),
+        _ => None,
+    }
+}
+
+/// The same, where the ROM may be no cartridge. Then that is said, and the movie isn't judged.
+pub(crate) fn report<T: Threads + Wait + Sync, G: Gate + Progress + Sync>(
+    rt: &T,
+    alloc: Global,
+    bytes: &[u8],
+    movie: &Movie,
+    workers: Workers,
+    notation: Notation,
+    rom: Option<&[u8]>,
+    expectations: &Expectations,
+    gate: &G,
+) -> Result<Answer, JudgeError>
+    ensures answer { IfOk result (Reports notation program_name (option_copied rom.entry) expectations.now bytes.now movie.now) }
+    ensures no_thread { result ≡ Err JudgeError.NoThread → 2 ≤ workers.number }
+{
+    match no_cartridge(rom) {
+        Some(other) => Ok(rom_refusal(alloc, notation, other)?),
+        None => report_of(
+            rt,
+            alloc,
+            bytes,
+            movie,
+            workers,
+            notation,
+            rom,
+            expectations,
+            gate,
+        ),
+    }
 }

@@ -1,13 +1,13 @@
 -- What a hint says, in words: the second line of a refusal, after the name of a file. This project's
 -- own.
-use Rattle.std.specs.Prelude.{ℕ, List, ◌++◌, ◌/◌, ◌%◌, codes}
+use Rattle.std.specs.Prelude.{ℕ, List, [], ◌++◌, ◌/◌, ◌%◌, ◌==◌, codes, if◌then◌else◌}
 use Rattle.std.specs.Fmt.{decimal}
 use Rattle.vcs_machine.specs.Faults.{hex2, hex4}
 use Rattle.movie_hints.specs.declared.hint.Hint.{Hint}
 use Rattle.movie_hints.specs.declared.hint.Hint.TheVariants as hints
 use Rattle.movie_hints.specs.declared.look.Look.{Look}
 use Rattle.movie_hints.specs.declared.look.Look.TheVariants.{Gzip, Xz, Zstd, Bzip2, SevenZip, Rar, BizHawkMovie}
-use Rattle.movie_hints.specs.declared.look.Look.TheVariants.{Zip, Tar, Png, Gif, Jpeg, MameInputs, InputLog, SmallMagic}
+use Rattle.movie_hints.specs.declared.look.Look.TheVariants.{Zip, Tar, Png, Gif, Jpeg, MameInputs, InputLog, SmallMagic, Stripped}
 use Rattle.movie_hints.specs.declared.mismatch.Expected.{Expected}
 use Rattle.movie_hints.specs.declared.mismatch.Expected.TheVariants as expected
 use Rattle.movie_hints.specs.declared.mismatch.Field.{Field}
@@ -56,9 +56,15 @@ found_text (found.FourBytes n) = decimal n
 found_text (found.Bits n) = hex2 n
 found_text (found.Mark n) = hex4 (n / 0x10000) ++ hex4 (n % 0x10000)
 
+-- By how many bytes the file is longer than its header says, if it is.
+abbrev pub extra_text : ℕ → List ℕ
+extra_text extra =
+    if extra == 0 then [] else codes "; the file is " ++ (decimal extra ++ codes " bytes longer than its header says")
+
 abbrev pub mismatch_text : Mismatch → List ℕ
 mismatch_text m =
-    place_text m.field m.byte ++ (codes ": expected " ++ (expected_text m.expected ++ (codes ", found " ++ found_text m.found)))
+    place_text m.field m.byte
+    ++ (codes ": expected " ++ (expected_text m.expected ++ (codes ", found " ++ (found_text m.found ++ extra_text m.extra))))
 
 -- What bytes look like.
 abbrev pub look_text : Look → List ℕ
@@ -77,6 +83,7 @@ look_text Jpeg = codes "a JPEG image"
 look_text MameInputs = codes "a MAME input file"
 look_text InputLog = codes "an input log of BizHawk: see vcs_import"
 look_text SmallMagic = codes "a movie, but for small letters at byte 0: expected A26M"
+look_text Stripped = codes "a movie without its cartridge: vcs_share join puts it back"
 
 -- The whole of a hint.
 abbrev pub hint_text : Hint → List ℕ

@@ -75,7 +75,12 @@ is_text bytes = is_utf8_text bytes || is_utf16 bytes
 -- The hint that a field isn't what was expected, the byte where it begins, and what it is.
 abbrev pub of_field : Field → ℕ → Expected → Found → Hint
 of_field field byte expected found =
-    hints.Mismatch (record { field = field; byte = byte; expected = expected; found = found })
+    hints.Mismatch (record { field = field; byte = byte; expected = expected; found = found; extra = 0 })
+
+-- The same hint, if it is one of a field with by how many bytes the file is longer than its header says.
+abbrev pub with_extra : ℕ → Hint → Hint
+with_extra extra (hints.Mismatch m) = hints.Mismatch (record m { extra = extra })
+with_extra extra other = other
 
 -- A hint is that of a field, of which this is said.
 abbrev pub TellsOf : Hint → (Mismatch → Type 0) → Type 0
@@ -246,21 +251,31 @@ abbrev pub TellsState : List ℕ → Hint → Type 0
 TellsState bytes hint = TellsOf hint (IsOfState bytes)
 
 -- Which hints there are of each refusal, and of which field at which place. No file has 2 ^ 62 inputs.
-abbrev pub Tells : List ℕ → MovieError → Hint → Type 0
-Tells bytes errors.Short hint = TellsLook bytes hint ⊎ TellsLength bytes hint
-Tells bytes errors.BadMagic hint = TellsBeginning bytes hint
-Tells bytes errors.BadVersion hint = hint ≡ of_field fields.Version 4 expected.Version (found.TwoBytes (two_at bytes 4))
-Tells bytes errors.BadCartSize hint =
+abbrev pub TellsMistake : List ℕ → MovieError → Hint → Type 0
+TellsMistake bytes errors.Short hint = TellsLook bytes hint ⊎ TellsLength bytes hint
+TellsMistake bytes errors.BadMagic hint = TellsBeginning bytes hint
+TellsMistake bytes errors.BadVersion hint = hint ≡ of_field fields.Version 4 expected.Version (found.TwoBytes (two_at bytes 4))
+TellsMistake bytes errors.BadCartSize hint =
     hint ≡ of_field fields.CartridgeLength 6 expected.CartridgeLength (found.TwoBytes (two_at bytes 6))
-Tells bytes errors.BadCounts hint = TellsCounts bytes hint
-Tells bytes (errors.BadState number) hint = TellsState bytes hint
-Tells bytes (errors.BadInput number) hint = number < 2 ^ 62 → TellsInput bytes (input_place bytes (number - 1)) hint
-Tells bytes (errors.BadOrder number) hint =
+TellsMistake bytes errors.BadCounts hint = TellsCounts bytes hint
+TellsMistake bytes (errors.BadState number) hint = TellsState bytes hint
+TellsMistake bytes (errors.BadInput number) hint = number < 2 ^ 62 → TellsInput bytes (input_place bytes (number - 1)) hint
+TellsMistake bytes (errors.BadOrder number) hint =
     hint
     ≡ of_field fields.FrameNumber (checkpoint_place bytes (number - 1)) (expected.FrameAfter (frame_before bytes number) (four_at bytes 8))
     (found.FourBytes (four_at bytes (checkpoint_place bytes (number - 1))))
-Tells bytes errors.Trailing hint = TellsLength bytes hint
-Tells bytes errors.NoMemory hint = ⊥
+TellsMistake bytes errors.Trailing hint = TellsLength bytes hint
+TellsMistake bytes errors.NoMemory hint = ⊥
+
+-- By how many bytes the file is longer than its header says, where the refusal lets that be known.
+abbrev pub extra_of : List ℕ → MovieError → ℕ
+extra_of bytes errors.BadMagic = 0
+extra_of bytes errors.BadVersion = 0
+extra_of bytes other = length bytes - end_place bytes
+
+-- A hint at a field says that too.
+abbrev pub Tells : List ℕ → MovieError → Hint → Type 0
+Tells bytes error hint = (mistake : Hint) × TellsMistake bytes error mistake × (hint ≡ with_extra (extra_of bytes error) mistake)
 
 -- A hint at bytes that are refused so is one of those of the refusal. Each refusal is explained, but
 -- for a state of which it isn't known which number is wrong.

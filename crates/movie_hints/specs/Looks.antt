@@ -1,12 +1,12 @@
 -- What a file is by its first bytes. The bytes are those of RFC 1952 (gzip), of the specifications of
 -- xz, Zstandard, PNG, GIF, JPEG (its marker SOI and the first byte of the next marker), 7z and RAR, of
--- APPNOTE.TXT (zip), of POSIX (tar, whose mark is at byte 257), and of what bzip2, MAME and BizHawk
--- write.
+-- APPNOTE.TXT (zip), of POSIX (tar, whose mark is at byte 257), and of what bzip2, MAME, BizHawk and
+-- vcs_share write.
 use Rattle.std.specs.Prelude.{ℕ, Bool, ◌==◌, ◌&&◌, ◌||◌, List, [], ◌∷◌, codes, drop}
 use Rattle.std.specs.List.{starts_with}
 use Rattle.movie_hints.specs.declared.look.Look.{Look}
 use Rattle.movie_hints.specs.declared.look.Look.TheVariants.{Gzip, Xz, Zstd, Bzip2, SevenZip, Rar, BizHawkMovie}
-use Rattle.movie_hints.specs.declared.look.Look.TheVariants.{Zip, Tar, Png, Gif, Jpeg, MameInputs, InputLog, SmallMagic}
+use Rattle.movie_hints.specs.declared.look.Look.TheVariants.{Zip, Tar, Png, Gif, Jpeg, MameInputs, InputLog, SmallMagic, Stripped}
 
 -- whether bytes have these at a place
 abbrev pub has_at : List ℕ → ℕ → List ℕ → Bool
@@ -38,9 +38,10 @@ is_like bytes MameInputs = has_at bytes 0 (codes "MAMEINP")
 is_like bytes InputLog = has_at bytes 0 (codes "[Input]") || has_at bytes 0 (codes "LogKey:")
 is_like bytes SmallMagic =
     has_at bytes 0 (codes "a26m") || has_at bytes 0 (codes "a26M") || has_at bytes 0 (codes "A26m")
+is_like bytes Stripped = has_at bytes 0 (codes "A26S")
 
 -- the order in which they are looked for: a movie of BizHawk is a zip file
 abbrev pub looks : List Look
 looks =
     Gzip ∷ Xz ∷ Zstd ∷ Bzip2 ∷ SevenZip ∷ Rar ∷ BizHawkMovie ∷ Zip ∷ Tar ∷ Png ∷ Gif ∷ Jpeg ∷ MameInputs ∷ InputLog
-    ∷ SmallMagic ∷ []
+    ∷ SmallMagic ∷ Stripped ∷ []

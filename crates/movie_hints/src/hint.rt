@@ -64,16 +64,29 @@ pub enum Hint {
 }
 
 impl Hint {
+    ghost use Rattle.movie_hints.specs.Hints.{with_extra};
+
     /// A field that is not what was expected, and the byte where it begins.
     pub(crate) fn of_field(field: Field, byte: usize, expected: Expected, found: Found) -> Hint
-        ensures { result ≡ Hint.Mismatch (record { field = field; byte = byte; expected = expected; found = found }) }
+        ensures { result ≡ Hint.Mismatch (record { field = field; byte = byte; expected = expected; found = found; extra = 0 }) }
     {
         Hint::Mismatch(Mismatch {
             field,
             byte,
             expected,
             found,
+            extra: 0,
         })
+    }
+
+    /// The same of a field, with by how many bytes the file is longer than its header says.
+    pub(crate) fn with_extra(self, extra: usize) -> Hint
+        ensures { result ≡ with_extra extra self }
+    {
+        match self {
+            Hint::Mismatch(mismatch) => Hint::Mismatch(Mismatch { extra, ..mismatch }),
+            hint => hint,
+        }
     }
 }
 

@@ -1,8 +1,9 @@
 //! What is wrong with a ROM or with inputs that are refused.
-ghost use Rattle.std.specs.Prelude.{◌≡◌, find, None, IfNone, IfSome};
+ghost use Rattle.std.specs.Prelude.{◌≡◌, ◌<◌, ◌≤◌, ℕ, find, true, None, IfNone, IfSome};
 ghost use Rattle.std.specs.NonZero.{non_zero_u32_get};
 ghost use Rattle.movie_hints.specs.Hints.{LooksLikeNothing, TellsInputs, TellsOther, TellsRom, TellsTexts, TellsTriples};
-ghost use Rattle.movie_hints.specs.Counts.{IsCountsHint};
+ghost use Rattle.movie_file.specs.Format.{most_checkpoints};
+ghost use Rattle.movie_hints.specs.Counts.{AreFew, IsCountsHint, checkpoints_of};
 ghost use Rattle.movie_hints.specs.Looks.{is_like, looks};
 
 use crate::hint::Hint;
@@ -87,20 +88,55 @@ pub fn hint_of_rom(bytes: &[u8]) -> Hint
     }
 }
 
-/// What keeps so many frames, with a checkpoint after every so many, from being a movie.
-pub fn hint_of_counts(frames: u64, every: NonZeroU32) -> Option<Hint>
-    ensures { IsCountsHint frames (non_zero_u32_get every) result }
+/// How many checkpoints a movie would have.
+fn checkpoints_of(frames: u64, every: NonZeroU32, to_the_end: bool) -> u64
+    ensures { result ≡ checkpoints_of frames (non_zero_u32_get every) to_the_end }
 {
-    let most = u64::from(MOST_CHECKPOINTS);
-    let checkpoints = frames / u64::from(every.get());
+    let every = u64::from(every.get());
+    if to_the_end {
+        frames.div_ceil(every)
+    } else {
+        frames / every
+    }
+}
+
+/// The least number of frames between checkpoints with which these are a movie's, with one after the
+/// last frame too.
+fn least_to_the_end(frames: u64) -> u64
+    requires { most_checkpoints < frames }
+    ensures least { AreFew frames result true }
+    ensures others { (other : ℕ) → 1 ≤ other → AreFew frames other true → result ≤ other }
+{
+    frames.div_ceil(u64::from(MOST_CHECKPOINTS))
+}
+
+/// The same with one there or without.
+fn least_every(frames: u64, to_the_end: bool) -> u64
+    requires { most_checkpoints < frames }
+    ensures least { AreFew frames result to_the_end }
+    ensures others { (other : ℕ) → 1 ≤ other → AreFew frames other to_the_end → result ≤ other }
+{
+    if to_the_end {
+        least_to_the_end(frames)
+    } else {
+        frames / (u64::from(MOST_CHECKPOINTS) + 1) + 1
+    }
+}
+
+/// What keeps so many frames, with a checkpoint after every so many, and to the end after the last one
+/// too, from being a movie.
+pub fn hint_of_counts(frames: u64, every: NonZeroU32, to_the_end: bool) -> Option<Hint>
+    ensures { IsCountsHint frames (non_zero_u32_get every) to_the_end result }
+{
+    let checkpoints = checkpoints_of(frames, every, to_the_end);
     if frames == 0 {
         Some(Hint::NoFrames)
     } else if frames > MOST_FRAMES as u64 {
         Some(Hint::ManyFrames { frames })
-    } else if checkpoints > most {
+    } else if checkpoints > u64::from(MOST_CHECKPOINTS) {
         Some(Hint::ManyCheckpoints {
             checkpoints,
-            every: frames / (most + 1) + 1,
+            every: least_every(frames, to_the_end),
         })
     } else {
         None

@@ -26,10 +26,12 @@ pub enum Look {
     InputLog,
     /// A movie, but that letters of its magic are small ones.
     SmallMagic,
+    /// A movie without its cartridge.
+    Stripped,
 }
 
 /// What is looked for, in this order.
-const LOOKS: [Look; 15] = [
+const LOOKS: [Look; 16] = [
     Look::Gzip,
     Look::Xz,
     Look::Zstd,
@@ -45,6 +47,7 @@ const LOOKS: [Look; 15] = [
     Look::MameInputs,
     Look::InputLog,
     Look::SmallMagic,
+    Look::Stripped,
 ];
 
 /// Whether bytes have these at a place.
@@ -88,6 +91,7 @@ impl Look {
             Look::SmallMagic => {
                 has_at(bytes, 0, b"a26m") || has_at(bytes, 0, b"a26M") || has_at(bytes, 0, b"A26m")
             }
+            Look::Stripped => has_at(bytes, 0, b"A26S"),
         }
     }
 
@@ -123,6 +127,12 @@ impl fmt::Display for Look {
             Look::InputLog => write!(f, "an input log of BizHawk: see vcs_import"),
             Look::SmallMagic => {
                 write!(f, "a movie, but for small letters at byte 0: expected A26M")
+            }
+            Look::Stripped => {
+                write!(
+                    f,
+                    "a movie without its cartridge: vcs_share join puts it back"
+                )
             }
         }
     }

@@ -55,6 +55,8 @@ pub struct Mismatch {
     pub byte: usize,
     pub expected: Expected,
     pub found: Found,
+    /// By how many bytes the file is longer than its header says; 0 if it isn't, or if that isn't known.
+    pub extra: usize,
 }
 
 impl fmt::Display for Field {
@@ -146,6 +148,25 @@ impl fmt::Display for Place {
     }
 }
 
+/// By how many bytes a file is longer than its header says, if it is.
+#[derive(Clone, Copy)]
+struct Extra(usize);
+
+impl fmt::Display for Extra {
+    ghost use Rattle.std.specs.Prelude.{Some};
+    ghost use Rattle.movie_hints.specs.HintTexts.{extra_text};
+
+    ghost output = { λ extra. Some (extra_text extra.0) };
+
+    fn fmt<W: fmt::Write>(&self, f: &mut fmt::Formatter<W>) -> fmt::Result {
+        let extra = self.0;
+        if extra == 0 {
+            return Ok(());
+        }
+        write!(f, "; the file is {extra} bytes longer than its header says")
+    }
+}
+
 impl fmt::Display for Mismatch {
     ghost use Rattle.std.specs.Prelude.{Some};
     ghost use Rattle.movie_hints.specs.HintTexts.{mismatch_text};
@@ -158,8 +179,10 @@ impl fmt::Display for Mismatch {
             byte,
             expected,
             found,
+            extra,
         } = *self;
         let place = Place(field, byte);
-        write!(f, "{place}: expected {expected}, found {found}")
+        let extra = Extra(extra);
+        write!(f, "{place}: expected {expected}, found {found}{extra}")
     }
 }

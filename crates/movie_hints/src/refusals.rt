@@ -1,7 +1,8 @@
 //! What is wrong with refused bytes.
-ghost use Rattle.std.specs.Prelude.{◌+◌, ◌<◌, ◌^◌, ◌⊎◌, IfSome};
+ghost use Rattle.std.specs.Prelude.{◌≡◌, ◌+◌, ◌<◌, ◌^◌, ◌⊎◌, ℕ, IfSome, None};
 ghost use Rattle.movie_file.specs.declared.error.MovieError.TheVariants as errors;
-ghost use Rattle.movie_hints.specs.Hints.{Explains, Tells, TellsBeginning, TellsInput, TellsLength, TellsLook, TellsState};
+ghost use Rattle.movie_hints.specs.Hints.{Explains, TellsBeginning, TellsInput, TellsLength, TellsLook};
+ghost use Rattle.movie_hints.specs.Hints.{TellsMistake, TellsState, extra_of};
 
 use crate::hint::Hint;
 use crate::look::Look;
@@ -64,7 +65,7 @@ fn too_short(bytes: &[u8]) -> Hint
 
 /// Which version a header has that is none.
 fn wrong_version(bytes: &[u8]) -> Hint
-    ensures { Tells bytes.now errors.BadVersion result }
+    ensures { TellsMistake bytes.now errors.BadVersion result }
 {
     let found = Found::TwoBytes(two_at(bytes, 4));
     Hint::of_field(Field::Version, 4, Expected::Version, found)
@@ -72,7 +73,7 @@ fn wrong_version(bytes: &[u8]) -> Hint
 
 /// Which length of a cartridge a header has that is none.
 fn wrong_cartridge(bytes: &[u8]) -> Hint
-    ensures { Tells bytes.now errors.BadCartSize result }
+    ensures { TellsMistake bytes.now errors.BadCartSize result }
 {
     let found = Found::TwoBytes(two_at(bytes, 6));
     Hint::of_field(Field::CartridgeLength, 6, Expected::CartridgeLength, found)
@@ -80,7 +81,7 @@ fn wrong_cartridge(bytes: &[u8]) -> Hint
 
 /// Which of the counts of a header is wrong.
 fn wrong_count(bytes: &[u8]) -> Hint
-    ensures { Tells bytes.now errors.BadCounts result }
+    ensures { TellsMistake bytes.now errors.BadCounts result }
 {
     let places = Places::of(bytes);
     let most = most_frames(places.version);
@@ -124,7 +125,7 @@ pub(crate) fn wrong_input(bytes: &[u8], first: usize) -> Hint
 
 /// What is wrong with the frame of a checkpoint, counted from 1.
 fn wrong_order(bytes: &[u8], number: u16) -> Hint
-    ensures { Tells bytes.now (errors.BadOrder number) result }
+    ensures { TellsMistake bytes.now (errors.BadOrder number) result }
 {
     let places = Places::of(bytes);
     let before = match number.checked_sub(2) {
@@ -140,9 +141,10 @@ fn wrong_order(bytes: &[u8], number: u16) -> Hint
     Hint::of_field(Field::FrameNumber, at, expected, found)
 }
 
-/// What is wrong with the bytes of a movie that is refused so.
-pub fn hint_of(bytes: &[u8], error: MovieError) -> Option<Hint>
-    ensures { Explains bytes.now error result }
+/// What is wrong with the bytes of a movie that is refused so, but for what follows the movie.
+fn mistake_of(bytes: &[u8], error: MovieError) -> Option<Hint>
+    ensures some { IfSome result (TellsMistake bytes.now error) }
+    ensures none { result ≡ None → (error ≡ errors.NoMemory) ⊎ ((k : ℕ) × (error ≡ errors.BadState k)) }
 {
     let places = Places::of(bytes);
     match error {
@@ -159,5 +161,25 @@ pub fn hint_of(bytes: &[u8], error: MovieError) -> Option<Hint>
         }
         MovieError::BadOrder(number) => Some(wrong_order(bytes, number)),
         MovieError::NoMemory => None,
+    }
+}
+
+/// By how many bytes a file is longer than its header says, where the refusal lets that be known.
+fn extra_of(bytes: &[u8], error: MovieError) -> usize
+    ensures { result ≡ extra_of bytes.now error }
+{
+    match error {
+        MovieError::BadMagic | MovieError::BadVersion => 0,
+        _ => bytes.len().saturating_sub(Places::of(bytes).end()),
+    }
+}
+
+/// What is wrong with the bytes of a movie that is refused so.
+pub fn hint_of(bytes: &[u8], error: MovieError) -> Option<Hint>
+    ensures { Explains bytes.now error result }
+{
+    match mistake_of(bytes, error) {
+        Some(mistake) => Some(mistake.with_extra(extra_of(bytes, error))),
+        None => None,
     }
 }

@@ -46,8 +46,8 @@ pub enum TextHint<'a> {
     },
 }
 
-/// How a text is stored that can't be read so.
-fn storage_of(bytes: &[u8]) -> Option<Hint>
+/// How a text is stored that can't be read so, or is read otherwise than it was meant.
+pub fn hint_of_storage(bytes: &[u8]) -> Option<Hint>
     ensures { IfSome result (TellsStorage bytes.now) }
 {
     if bytes.starts_with(&[0xEF, 0xBB, 0xBF]) {
@@ -77,7 +77,7 @@ fn hint_of_whole(alloc: Global, bytes: &[u8]) -> Option<Hint>
     if Cart::is_length(bytes.len()) && !is_text(bytes) {
         return Some(Hint::Exchanged);
     }
-    storage_of(bytes)
+    hint_of_storage(bytes)
 }
 
 /// What is wrong with the line of this number, the first bad one of a text.

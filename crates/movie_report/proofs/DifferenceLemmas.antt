@@ -27,7 +27,7 @@ rest_text notation comparison a b place at = flat_map (text_if_different notatio
 pub bytes_from : ℕ → ℕ
 bytes_from place = bytes_in (drop place state_names)
 
-next_number : (place : ℕ) → place < COUNT → drop place state_names ≡ state_number_at place ∷ drop (place + 1) state_names
+pub next_number : (place : ℕ) → place < COUNT → drop place state_names ≡ state_number_at place ∷ drop (place + 1) state_names
 unfolding state_number_at
 next_number place low = let within : place < length state_names = omega (arith, length-numbers) in rw add-one (drop-cons state_names place no_place within)
 

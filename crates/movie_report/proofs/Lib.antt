@@ -1,4 +1,6 @@
 pub mod CheckpointLemmas
+pub mod ClaimLemmas
+pub mod ClaimSignLemmas
 pub mod DifferenceLemmas
 pub mod FirstSignLemmas
 pub mod FoundSignLemmas

@@ -1,48 +1,26 @@
--- Later checkpoints of a false movie.
-use Rattle.std.proofs.Common.{◌≡◌, ℕ, ◌+◌, ◌-◌, ◌<◌, ◌≤◌, List, Some, slice_get, refl, arith, length}
-use Rattle.std.specs.Prelude.{Bool, true, false, ◌&&◌, ◌||◌, if◌then◌else◌}
-use Rattle.vcs_machine.specs.declared.fault.FaultKind.{FaultKind}
-use Rattle.movie_file.specs.Movie.{MovieData, IsMovie}
-use Rattle.movie_file.specs.declared.checkpoint.Checkpoint.{Checkpoint}
-use Rattle.run_cursor.specs.RunFaults.{FaultsWithin}
-use Rattle.run_cursor.proofs.CursorLemmas.{none_after}
-use Rattle.replay_segments.specs.Verdicts.{HasVerdict}
-use Rattle.replay_segments.specs.declared.verdict.Verdict.TheVariants.{FalseCheckpoint}
-use Rattle.replay_segments.proofs.CheckpointLemmas.{frame_in_range, frames_rise}
-use Rattle.movie_report.specs.Reasons.{break_next, broken, is_true_in, reason_of, reason_of_one}
-use Rattle.movie_report.specs.declared.reason.Reason.{Reason}
-use Rattle.movie_report.specs.declared.reason.Reason.TheVariants.{Claim, TwoClaims, AllFrom, Several}
+-- The numbers of claims, one after the other.
+use Rattle.std.proofs.Common.{◌≡◌, ℕ, suc, ◌+◌, ◌<◌, List, ◌∷◌, ◌++◌, length, refl, ap, arith, get_or, drop, drop-cons, append-nil, append_assoc}
+use Rattle.std.specs.Prelude.{Bool, true, false, cond, if◌then◌else◌}
+use Rattle.std.proofs.Math.Seq.{drop-length}
+use Rattle.std.proofs.lemmas.List.Sums.{sum_by-cons}
+use Rattle.movie_report.specs.Reasons.{breaks, broken, more_numbers, number_text}
 use Rattle.movie_report.specs.declared.segments.Sign.{Sign}
 
--- A later checkpoint stands after the first false one, and in the movie.
-pub later_frame : (m : MovieData) (number frame later : ℕ) (c : Checkpoint) → IsMovie m → HasVerdict m (FalseCheckpoint number frame) → number < later
-    → slice_get m.checkpoints (later - 1) ≡ Some c → (frame ≤ c.frame) × (c.frame ≤ length m.inputs)
-later_frame m number frame later c movie (keep, (k, less, at, sound, (state, j, first, ran, num, here, after, ne))) more claim =
-    let rises = frames_rise m movie j (later - 1) first c (omega (arith, num, more)) here claim in
-    let within = frame_in_range m movie (later - 1) c claim in
-    (omega (arith, rises, at, after), within.1)
+by_bit : (bit : Bool) → ◌≡◌ {A = ℕ} (cond bit 1 0) (if bit then 1 else 0)
+by_bit true = refl
+by_bit false = refl
 
--- A run that faults before has no state there.
-pub is_false_after : (m : MovieData) (c : Checkpoint) (fault : ℕ) (kind : FaultKind) → FaultsWithin m c.frame fault kind → is_true_in m (Some c) ≡ false
-is_false_after m c fault kind (k, less, is, faults) = rw (none_after m k c.frame kind faults less) refl
+broken-cons : (sign : Sign) (later : List Sign) → broken (sign ∷ later) ≡ (if breaks sign then 1 else 0) + broken later
+broken-cons sign later = rw sum_by-cons (ap (λ (n : ℕ). n + broken later) (by_bit (breaks sign)))
 
--- Whether later claims are true is asked only where it matters.
-module _ (one : Bool → Reason) (z u v w : Reason) where
-  abbrev pick : (b0 b1 b2 b3 next after_next : Bool) → Reason
-  pick b0 b1 b2 b3 next after_next =
-      if b0 then one next else (if b1 && next then z else (if b2 && after_next then u else (if b3 then v else w)))
+pub broken-next : (claims : List Sign) (i : ℕ) (sign : Sign) → i < length claims
+    → broken (drop i claims) ≡ (if breaks (get_or claims i sign) then 1 else 0) + broken (drop (i + 1) claims)
+broken-next claims i sign less =
+    let more : i + 1 ≡ suc i = omega arith in rw (drop-cons claims i sign less, more) (broken-cons (get_or claims i sign) (drop (suc i) claims))
 
-  pick-asked : (b0 b1 b2 b3 next after_next : Bool) → pick b0 b1 b2 b3 ((b0 || b1) && next) (b2 && after_next) ≡ pick b0 b1 b2 b3 next after_next
-  pick-asked true b1 b2 b3 next after_next = refl
-  pick-asked false true true b3 next after_next = refl
-  pick-asked false true false b3 next after_next = refl
-  pick-asked false false true b3 next after_next = refl
-  pick-asked false false false b3 next after_next = refl
+pub more_numbers-next : (number : ℕ) (claims : List Sign) (i : ℕ) (sign : Sign) → i < length claims
+    → more_numbers number (drop i claims)
+    ≡ number_text (get_or claims i sign) (broken (drop (i + 1) claims)) (number + 1) ++ more_numbers (number + 1) (drop (i + 1) claims)
+more_numbers-next number claims i sign less = let more : i + 1 ≡ suc i = omega arith in rw (drop-cons claims i sign less, more) refl
 
-pub reason_of-asked : (number : ℕ) (later : List Sign) (next after_next : Bool)
-    → reason_of number later ((break_next 0 later || break_next 1 later) && next) (break_next 2 later && after_next) ≡ reason_of number later next after_next
-reason_of-asked number later next after_next =
-    pick-asked (reason_of_one number later) (Claim number) (TwoClaims number) (AllFrom number) (Several (1 + broken later) number)
-    (break_next 0 later) (break_next 1 later) (break_next 2 later) (break_next (length later) later) next after_next
-
-pub ruleset asked = reason_of-asked
+pub ruleset number_by_number = (broken-next, more_numbers-next, drop-length, append-nil, append_assoc)

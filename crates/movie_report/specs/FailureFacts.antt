@@ -14,8 +14,9 @@ use Rattle.replay_segments.specs.declared.run_states.LeftState.{LeftState}
 use Rattle.replay_segments.specs.declared.verdict.Verdict.{Verdict}
 use Rattle.replay_segments.specs.declared.verdict.Verdict.TheVariants.{Genuine, FalseCheckpoint}
 use Rattle.replay_segments.specs.declared.verdict.Verdict.TheVariants.{Fault}
+use Rattle.movie_report.specs.ClaimSigns.{claim_signs}
 use Rattle.movie_report.specs.Differences.{differences_text}
-use Rattle.movie_report.specs.Reasons.{reason_in, reason_text}
+use Rattle.movie_report.specs.Reasons.{sentence_in, reason_text}
 use Rattle.movie_report.specs.Segments.{AreSigns, signs_text}
 use Rattle.movie_report.specs.declared.differences.Comparison.TheVariants.{Claim}
 use Rattle.movie_report.specs.declared.segments.Sign.{Sign}
@@ -48,15 +49,16 @@ left_text notation None = []
 left_text notation (Some left) = registers_text notation left.state.cpu ++ beam_text notation left.scanline (line_cycle_of left.state)
 
 -- What is said after a false checkpoint of this number and frame, where the segments have these signs: what differs, the
--- signs, and a sentence about them.
+-- signs of segments and of claims, and a sentence about them.
 abbrev pub false_text : Notation → MovieData → ℕ → ℕ → List Sign → List ℕ
 false_text notation m number frame signs =
     claim_text notation (slice_get m.checkpoints (number - 1)) (run m m.start 0 frame)
-    ++ (signs_text notation signs ++ reason_text notation (reason_in m number signs))
+    ++ (signs_text notation (codes "segments") signs ++ (signs_text notation (codes "claims") (claim_signs m)
+    ++ reason_text notation (sentence_in m number signs)))
 
 -- What is said after a fault in this frame: where it is, and the signs.
 abbrev pub halt_text : Notation → MovieData → ℕ → List Sign → List ℕ
-halt_text notation m frame signs = left_text notation (left_at m frame) ++ signs_text notation signs
+halt_text notation m frame signs = left_text notation (left_at m frame) ++ signs_text notation (codes "segments") signs
 
 -- What is said of a movie with this verdict: of a genuine one nothing, since each of its segments passes.
 abbrev pub HasFailure : Notation → MovieData → Verdict → List ℕ → Type 0

@@ -1,4 +1,6 @@
 pub mod CheckpointFacts
+pub mod ClaimSigns
+pub mod Claims
 pub mod Differences
 pub mod Expectations
 pub mod FailureFacts

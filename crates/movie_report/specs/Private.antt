@@ -4,3 +4,4 @@ pub mod Elements
 pub mod FirstSigns
 pub mod FoundSigns
 pub mod Places
+pub mod Standing

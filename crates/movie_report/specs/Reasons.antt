@@ -1,98 +1,104 @@
--- What the signs of a movie's segments say of its first false checkpoint, in a sentence. Where several causes give the same
--- signs, the sentence is true of each. This project's own.
-use Rattle.std.specs.Prelude.{ℕ, ◌+◌, ◌-◌, ◌==◌, Bool, true, false, ◌&&◌, List, [], ◌∷◌, ◌++◌, length, codes, count_by}
-use Rattle.std.specs.Prelude.{Option, Some, None, slice_get, take, drop, if◌then◌else◌}
+-- What the signs of a movie's segments and of its claims say of a false checkpoint, in a sentence: in which claims the run is, which
+-- is decided, and then what may have been changed. Whatever was changed, the sentence is true of it. This project's own.
+use Rattle.std.specs.Prelude.{ℕ, ◌+◌, ◌-◌, ◌==◌, nat_lt, Bool, true, false, List, [], ◌∷◌, ◌++◌, length, codes, count_by}
+use Rattle.std.specs.Prelude.{take, drop, if◌then◌else◌}
 use Rattle.std.specs.Fmt.{decimal}
-use Rattle.std.specs.Str.{bytes_eq}
-use Rattle.vcs_machine.specs.declared.fields.StateFields.{StateFields}
 use Rattle.movie_file.specs.Movie.{MovieData}
-use Rattle.movie_file.specs.Record.{record_of}
-use Rattle.movie_file.specs.Run.{run}
-use Rattle.movie_file.specs.declared.checkpoint.Checkpoint.{Checkpoint}
 use Rattle.replay_plan.specs.declared.notation.Notation.{Notation}
 use Rattle.replay_plan.specs.declared.notation.Notation.TheVariants.{Lines, Json}
-use Rattle.movie_report.specs.declared.reason.Reason.{Reason}
-use Rattle.movie_report.specs.declared.reason.Reason.TheVariants.{NoLastingEffect, ToNext, ToLast, Claim, TwoClaims, AllFrom, Several}
+use Rattle.movie_report.specs.ClaimSigns.{claim_signs}
 use Rattle.movie_report.specs.declared.segments.Sign.{Sign}
 use Rattle.movie_report.specs.declared.segments.Sign.TheVariants.{Passes, Differs, Faults}
 
--- A segment breaks: it doesn't reach the claim at its end.
+-- A segment doesn't reach the claim at its end, or the run isn't in a claim.
 abbrev pub breaks : Sign → Bool
 breaks Passes = false
 breaks Differs = true
 breaks Faults = true
 
--- How many segments of these signs break.
+-- How many of these signs say so.
 abbrev pub broken : List Sign → ℕ
 broken signs = count_by breaks signs
 
--- Of these segments exactly the next k break.
-abbrev pub break_next : ℕ → List Sign → Bool
-break_next k signs = broken (take k signs) == k && broken signs == k
+-- ---- in which claims the run is: by the number of the first claim that it isn't in, and the signs of the claims after that
 
--- The segments after the one of this number, from 1, that end with a claim.
+-- What stands before a number, by how many come after it.
+abbrev pub separator : ℕ → List ℕ
+separator left = if left == 0 then codes " and " else codes ", "
+
+-- The number of a claim, if the run isn't in that.
+abbrev pub number_text : Sign → ℕ → ℕ → List ℕ
+number_text sign left number = if breaks sign then separator left ++ decimal number else []
+
+-- The numbers of the claims after the one of this number that the run isn't in.
+abbrev pub more_numbers : ℕ → List Sign → List ℕ
+more_numbers number [] = []
+more_numbers number (sign ∷ later) = number_text sign (broken later) (number + 1) ++ more_numbers (number + 1) later
+
+-- Up to eight claims are named, and of more how many they are.
+abbrev pub all_but : ℕ → List Sign → List ℕ
+all_but number later =
+    if nat_lt (broken later) 8
+    then codes "the run is in all claims but " ++ (decimal number ++ more_numbers number later)
+    else codes "the run isn't in " ++ (decimal (1 + broken later) ++ (codes " of " ++ (decimal (number + length later)
+    ++ (codes " claims, claim " ++ (decimal number ++ codes " first")))))
+
+abbrev pub none_from : ℕ → List ℕ
+none_from number = if number == 1 then codes "the run is in no claim" else codes "the run is in no claim from " ++ (decimal number ++ codes " on")
+
+-- ---- what may have been changed
+
+-- If the claim is the movie's last, nothing tells it from what leads to it.
+abbrev pub last_text : ℕ → List ℕ
+last_text number =
+    if number == 1
+    then codes "the run isn't in the only claim: that claim was changed, or what leads to it"
+    else codes "the run is in all claims but " ++ (decimal number ++ codes ": that claim was changed, or what leads to it")
+
+-- If the run comes back into a claim: by whether it leaves out one claim alone, and whether one segment alone breaks.
+abbrev pub changed_text : (one_claim one_segment : Bool) → List ℕ
+changed_text true true = codes ": that claim or what leads to it was changed, without lasting effect"
+changed_text true false = codes ": that claim was changed, or what leads to it and from it"
+changed_text false true = codes ": these claims or what leads to them were changed, without lasting effect"
+changed_text false false = codes ": these claims were changed, or what leads to them and from them"
+
+-- If it doesn't, and one segment alone breaks, that goes from one run to another.
+abbrev pub other_run_text : ℕ → List ℕ
+other_run_text number =
+    if number == 1
+    then codes ", and only segment 1 doesn't lead to its claim: the start state, its inputs or the cartridge were changed, or the claims are of another run"
+    else codes ", and only segment " ++ (decimal number
+    ++ codes " doesn't lead to its claim: its inputs or the cartridge were changed, or the claims before and after it are of two runs")
+
+-- If more do, nothing is told apart. The first segment begins at the start.
+abbrev pub first_text : ℕ → List ℕ
+first_text number = if number == 1 then codes "the start state, " else codes ""
+
+abbrev pub many_text : ℕ → ℕ → List ℕ
+many_text number count =
+    codes ", and " ++ (decimal count ++ (codes " segments don't lead to their claims: " ++ (first_text number
+    ++ codes "inputs, the cartridge or claims were changed")))
+
+-- By how many segments after the first that breaks do so too.
+abbrev pub gone_text : ℕ → ℕ → List ℕ
+gone_text number others = if others == 0 then other_run_text number else many_text number (1 + others)
+
+-- The sentence, by the number of the first claim that the run isn't in and of the segment before that, and by the signs of the
+-- segments and of the claims after it.
+abbrev pub sentence : ℕ → List Sign → List Sign → List ℕ
+sentence number segments claims =
+    if length claims == 0 then last_text number
+    else (if broken claims == length claims then none_from number ++ gone_text number (broken segments)
+    else all_but number claims ++ changed_text (broken claims == 0) (broken segments == 0))
+
+-- The signs after the one of this number, from 1, of the segments that end with a claim, or of claims.
 abbrev pub claimed_after : MovieData → ℕ → List Sign → List Sign
 claimed_after m number signs = take (length m.checkpoints - number) (drop number signs)
 
-abbrev pub is_state : StateFields → Option StateFields → Bool
-is_state claimed None = false
-is_state claimed (Some found) = bytes_eq (record_of claimed) (record_of found)
+-- That of a movie with these signs of its segments.
+abbrev pub sentence_in : MovieData → ℕ → List Sign → List ℕ
+sentence_in m number signs = sentence number (claimed_after m number signs) (claimed_after m number (claim_signs m))
 
--- A checkpoint, if there is one, is true: it claims the state of the movie's one unbroken run.
-abbrev pub is_true_in : MovieData → Option Checkpoint → Bool
-is_true_in m None = false
-is_true_in m (Some c) = is_state c.state (run m m.start 0 c.frame)
-
--- What is said where the segment of this number is the only one that breaks: by the signs of those after it, and by whether the
--- next claim is true. If the run is in that, what made the difference is gone there.
-abbrev pub reason_of_one : ℕ → List Sign → Bool → Reason
-reason_of_one number [] next = ToLast number
-reason_of_one number (sign ∷ signs) next = if next then NoLastingEffect number else ToNext number
-
--- What is said where the segment of this number is the first that breaks: by the signs of those after it, and by whether the
--- next claim and the one after that are true.
-abbrev pub reason_of : ℕ → List Sign → Bool → Bool → Reason
-reason_of number later next after_next =
-    -- One breaks.
-    if break_next 0 later then reason_of_one number later next
-    -- Two that meet break, and the run is in the claims before and after.
-    else (if break_next 1 later && next then Claim number
-    -- Three in a row, as if two claims that follow one another were exchanged.
-    else (if break_next 2 later && after_next then TwoClaims number
-    -- All from one on, as if the inputs were shifted.
-    else (if break_next (length later) later then AllFrom number
-    -- Many, here and there.
-    else Several (1 + broken later) number)))
-
-abbrev pub reason_in : MovieData → ℕ → List Sign → Reason
-reason_in m number signs =
-    reason_of number (claimed_after m number signs) (is_true_in m (slice_get m.checkpoints number)) (is_true_in m (slice_get m.checkpoints (number + 1)))
-
--- The claim between two segments has the number of the first. The first segment begins at the start.
-abbrev pub sentence_of : Reason → List ℕ
-sentence_of (NoLastingEffect segment) =
-    codes "the claim between segments " ++ (decimal segment ++ (codes " and " ++ (decimal (segment + 1)
-    ++ codes " or what leads to it was changed, without lasting effect")))
-sentence_of (ToNext segment) =
-    if segment == 1
-    then codes "segment 1 doesn't lead from the start to the first claim: the start state, an input, the cartridge or claims are of another run"
-    else codes "segment " ++ (decimal segment
-    ++ codes " doesn't lead from its claim to the next: an input or the cartridge was changed, or claims from there on are of another run")
-sentence_of (ToLast segment) =
-    if segment == 1
-    then codes "segment 1 doesn't lead from the start to the only claim: that claim or what leads to it was changed"
-    else codes "segment " ++ (decimal segment ++ codes " doesn't lead to the last claim: that claim or what leads to it was changed")
-sentence_of (Claim segment) =
-    codes "the claim between segments " ++ (decimal segment ++ (codes " and " ++ (decimal (segment + 1)
-    ++ codes " was changed, or what leads to it and from it")))
-sentence_of (TwoClaims segment) =
-    codes "the claims between segments " ++ (decimal segment ++ (codes " and " ++ (decimal (segment + 2)
-    ++ codes " were changed, or what leads to them and from them")))
-sentence_of (AllFrom segment) =
-    codes "no segment from " ++ (decimal segment ++ codes " on leads to the claim at its end")
-sentence_of (Several count segment) =
-    decimal count ++ (codes " segments don't lead to the claims at their ends, segment " ++ (decimal segment ++ codes " first"))
-
-abbrev pub reason_text : Notation → Reason → List ℕ
-reason_text Lines reason = sentence_of reason ++ 10 ∷ []
-reason_text Json reason = codes ",\"reason\":\"" ++ (sentence_of reason ++ codes "\"")
+abbrev pub reason_text : Notation → List ℕ → List ℕ
+reason_text Lines text = text ++ 10 ∷ []
+reason_text Json text = codes ",\"reason\":\"" ++ (text ++ codes "\"")

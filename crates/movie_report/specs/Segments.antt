@@ -45,10 +45,10 @@ pub record AreSigns (m : MovieData) (signs : List Sign) : Type 0 where
   pub count : length signs ≡ length cuts + 1 - (if ends_with_checkpoint m then 1 else 0)
   pub each : (i : ℕ) → IfSome (slice_get signs i) (HasSign m cuts i)
 
--- Line k of them, of which each has 64 but for the last.
-abbrev pub signs_line : List Sign → ℕ → List ℕ
-signs_line signs k = codes "segments: " ++ (map character_of (take 64 (drop (64 * k) signs)) ++ 10 ∷ [])
+-- Line k of signs that have this name, of which each has 64 but for the last.
+abbrev pub signs_line : List ℕ → List Sign → ℕ → List ℕ
+signs_line name signs k = name ++ (codes ": " ++ (map character_of (take 64 (drop (64 * k) signs)) ++ 10 ∷ []))
 
-abbrev pub signs_text : Notation → List Sign → List ℕ
-signs_text Lines signs = flat_map (signs_line signs) (range_with_len 0 ((length signs + 63) / 64))
-signs_text Json signs = codes ",\"segments\":\"" ++ (map character_of signs ++ codes "\"")
+abbrev pub signs_text : Notation → List ℕ → List Sign → List ℕ
+signs_text Lines name signs = flat_map (signs_line name signs) (range_with_len 0 ((length signs + 63) / 64))
+signs_text Json name signs = codes ",\"" ++ (name ++ (codes "\":\"" ++ (map character_of signs ++ codes "\"")))

@@ -1,17 +1,20 @@
 //! What is said of a movie that isn't genuine.
-ghost use Rattle.std.specs.Prelude.{◌≡◌, IfOk, string_bytes};
+ghost use Rattle.std.specs.Prelude.{◌≡◌, ◌≤◌, length, IfOk, string_bytes};
 ghost use Rattle.movie_file.specs.Record.{record_of};
 ghost use Rattle.replay_segments.specs.RunStates.{left_at};
 ghost use Rattle.replay_segments.specs.Verdicts.{HasVerdict};
 ghost use Rattle.replay_segments.specs.declared.verdict.Verdict.TheVariants.{FalseCheckpoint};
 ghost use Rattle.replay_segments.specs.declared.verdict.Verdict.TheVariants.{Fault};
+ghost use Rattle.movie_report.specs.ClaimSigns.{claim_signs};
 ghost use Rattle.movie_report.specs.Differences.{differences_text};
 ghost use Rattle.movie_report.specs.FailureFacts.{beam_text, left_text, registers_text};
 ghost use Rattle.movie_report.specs.FailureFacts.{HasFailure};
+ghost use Rattle.movie_report.specs.Reasons.{reason_text, sentence_in};
 
+use crate::claim_signs::claim_signs;
 use crate::differences::{Comparison, differences};
-use crate::reason::reason_in;
-use crate::segments::{Sign, segment_facts, signs_of};
+use crate::reason::{reason, sentence};
+use crate::segments::{Sign, sign_facts, signs_of};
 use mos_cpu::Cpu;
 use movie_file::{Movie, Progress, write_state};
 use replay_plan::{Notation, Workers};
@@ -79,6 +82,26 @@ fn left_facts<P: Progress>(
     format!(in alloc; "{registers}{beam}")
 }
 
+/// The sentence, by the signs of all segments and of all claims.
+fn reason_facts(
+    alloc: Global,
+    notation: Notation,
+    movie: &Movie,
+    number: u16,
+    segments: &[Sign],
+    claims: &[Sign],
+) -> Result<String, AllocError>
+    requires number { number ≤ length movie.now.checkpoints }
+    requires segments { length movie.now.checkpoints ≤ length segments.now }
+    requires claims { claims.now ≡ claim_signs movie.now }
+    requires len { length claims.now ≡ length movie.now.checkpoints }
+    ensures { IfOk result (λ text. string_bytes text ≡ reason_text notation (sentence_in movie.now number segments.now)) }
+{
+    let (from, to) = (usize::from(number), usize::from(movie.checkpoints()));
+    let sentence = sentence(alloc, number, &segments[from..to], &claims[from..to])?;
+    reason(alloc, notation, &sentence)
+}
+
 /// What is said after a false checkpoint.
 fn false_facts<R: Threads + Sync, P: Progress + Sync>(
     rt: &R,
@@ -98,10 +121,11 @@ fn false_facts<R: Threads + Sync, P: Progress + Sync>(
     let claim = claim_facts(alloc, notation, &movie.checkpoint(number).state, &found)?;
     let before = u32::from(number) - 1;
     let signs = signs_of(rt, alloc, movie, before, Sign::Differs, workers, progress)?;
-    let segments = segment_facts(alloc, notation, &signs)?;
-    let reason = reason_in(movie, number, frame, &found, &signs, progress);
-    let sentence = reason.text(alloc, notation)?;
-    format!(in alloc; "{claim}{segments}{sentence}")
+    let segments = sign_facts(alloc, notation, "segments", &signs)?;
+    let found = claim_signs(alloc, movie, number, frame, &found, progress)?;
+    let claims = sign_facts(alloc, notation, "claims", &found)?;
+    let reason = reason_facts(alloc, notation, movie, number, &signs, &found)?;
+    format!(in alloc; "{claim}{segments}{claims}{reason}")
 }
 
 /// What is said after a fault.
@@ -121,7 +145,7 @@ fn fault_facts<R: Threads + Sync, P: Progress + Sync>(
     let left = left_facts(alloc, notation, movie, frame, kind, progress)?;
     let before = u32::from(checkpoints_before(movie, 0, frame));
     let signs = signs_of(rt, alloc, movie, before, Sign::Faults, workers, progress)?;
-    let segments = segment_facts(alloc, notation, &signs)?;
+    let segments = sign_facts(alloc, notation, "segments", &signs)?;
     format!(in alloc; "{left}{segments}")
 }
 

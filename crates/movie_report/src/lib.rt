@@ -2,6 +2,8 @@
 #![tactic(auto)]
 
 mod checkpoints;
+mod claim_signs;
+mod claimed;
 mod differences;
 mod expectations;
 mod facts;
@@ -14,6 +16,7 @@ mod numbers;
 mod reason;
 mod segments;
 
+pub use claimed::claims;
 pub use expectations::Agreement;
 pub use facts::report;
 pub use head::{FaultMembers, verdict_head};

@@ -1,126 +1,17 @@
-//! What the signs of segments say of a false checkpoint.
-ghost use Rattle.std.specs.Prelude.{◌≡◌, ◌≤◌, ◌<◌, ◌-◌, ◌&&◌, ◌||◌, length, slice_get, IfOk, Some};
-ghost use Rattle.std.specs.Prelude.{string_bytes};
-ghost use Rattle.movie_file.specs.Run.{run};
-ghost use Rattle.replay_segments.specs.Verdicts.{HasVerdict};
-ghost use Rattle.replay_segments.specs.declared.verdict.Verdict.TheVariants.{FalseCheckpoint};
-ghost use Rattle.movie_report.specs.Reasons.{break_next, breaks, broken, is_true_in, reason_in};
-ghost use Rattle.movie_report.specs.Reasons.{reason_of, reason_of_one, reason_text, sentence_of};
+//! What the signs of segments and claims say of a false checkpoint.
+ghost use Rattle.std.specs.Prelude.{◌≡◌, ◌+◌, ◌≤◌, ◌<◌, ◌-◌, length, take, drop, IfOk, string_bytes};
+ghost use Rattle.movie_report.specs.Reasons.{all_but, breaks, broken, changed_text, gone_text, last_text, many_text};
+ghost use Rattle.movie_report.specs.Reasons.{more_numbers, none_from, number_text, other_run_text, reason_text, sentence, separator, first_text};
 
 use crate::segments::Sign;
-use movie_file::{Movie, Progress, write_state};
 use replay_plan::Notation;
-use run_cursor::Cursor;
 use std::alloc::{AllocError, Global};
-use vcs_machine::State;
 
-/// What the signs of segments say of a false checkpoint. Each names the first segment that breaks,
-/// counted from 1.
-#[derive(Clone, Copy)]
-pub(crate) enum Reason {
-    /// Only that segment breaks, and the run is in the next claim.
-    NoLastingEffect { segment: u16 },
-    /// Only that segment breaks, and the run isn't in the next claim.
-    ToNext { segment: u16 },
-    /// That segment breaks, and its claim is the last.
-    ToLast { segment: u16 },
-    /// That segment and the next break, and the run is in the claim after them.
-    Claim { segment: u16 },
-    /// That segment and the next two break, and the run is in the claim after them.
-    TwoClaims { segment: u16 },
-    /// That segment and all after it break.
-    AllFrom { segment: u16 },
-    /// So many segments break.
-    Several { count: usize, segment: u16 },
-}
+/// How many claims are named.
+const MOST_NAMED: usize = 8;
 
-impl Reason {
-    /// What is said where only the segment of this number breaks, by the signs of those after it that
-    /// end with a claim, and by whether the next claim is true.
-    fn of_one(segment: u16, later: &[Sign], next: bool) -> Reason
-        ensures { result ≡ reason_of_one segment later.now next }
-    {
-        if later.is_empty() {
-            Reason::ToLast { segment }
-        } else if next {
-            Reason::NoLastingEffect { segment }
-        } else {
-            Reason::ToNext { segment }
-        }
-    }
-
-    /// What is said where the segment of this number is the first that breaks, by the signs of those
-    /// after it that end with a claim, and by whether the next claim and the one after that are true.
-    fn of(segment: u16, later: &[Sign], next: bool, after_next: bool) -> Reason
-        ensures { result ≡ reason_of segment later.now next after_next }
-    {
-        if break_next(later, 0) {
-            Reason::of_one(segment, later, next)
-        } else if break_next(later, 1) && next {
-            Reason::Claim { segment }
-        } else if break_next(later, 2) && after_next {
-            Reason::TwoClaims { segment }
-        } else if break_next(later, later.len()) {
-            Reason::AllFrom { segment }
-        } else {
-            Reason::Several {
-                count: 1 + broken(later),
-                segment,
-            }
-        }
-    }
-
-    /// The sentence.
-    fn sentence(self, alloc: Global) -> Result<String, AllocError>
-        ensures { IfOk result (λ text. string_bytes text ≡ sentence_of self) }
-    {
-        match self {
-            Reason::NoLastingEffect { segment } => format!(in alloc;
-                "the claim between segments {segment} and {} or what leads to it was changed, without lasting effect",
-                u32::from(segment) + 1
-            ),
-            Reason::ToNext { segment: 1 } => format!(in alloc;
-                "segment 1 doesn't lead from the start to the first claim: the start state, an input, the cartridge or claims are of another run"
-            ),
-            Reason::ToNext { segment } => format!(in alloc;
-                "segment {segment} doesn't lead from its claim to the next: an input or the cartridge was changed, or claims from there on are of another run"
-            ),
-            Reason::ToLast { segment: 1 } => format!(in alloc;
-                "segment 1 doesn't lead from the start to the only claim: that claim or what leads to it was changed"
-            ),
-            Reason::ToLast { segment } => format!(in alloc;
-                "segment {segment} doesn't lead to the last claim: that claim or what leads to it was changed"
-            ),
-            Reason::Claim { segment } => format!(in alloc;
-                "the claim between segments {segment} and {} was changed, or what leads to it and from it",
-                u32::from(segment) + 1
-            ),
-            Reason::TwoClaims { segment } => format!(in alloc;
-                "the claims between segments {segment} and {} were changed, or what leads to them and from them",
-                u32::from(segment) + 2
-            ),
-            Reason::AllFrom { segment } => format!(in alloc;
-                "no segment from {segment} on leads to the claim at its end"
-            ),
-            Reason::Several { count, segment } => format!(in alloc;
-                "{count} segments don't lead to the claims at their ends, segment {segment} first"
-            ),
-        }
-    }
-
-    /// The sentence as a line, or as a member.
-    pub(crate) fn text(self, alloc: Global, notation: Notation) -> Result<String, AllocError>
-        ensures { IfOk result (λ text. string_bytes text ≡ reason_text notation self) }
-    {
-        let sentence = self.sentence(alloc)?;
-        match notation {
-            Notation::Lines => format!(in alloc; "{sentence}\n"),
-            Notation::Json => format!(in alloc; ",\"reason\":\"{sentence}\""),
-        }
-    }
-}
-
-/// How many segments of these signs break.
+/// How many of these signs tell of a segment that doesn't reach its claim, or of a claim that the run
+/// isn't in.
 fn broken(signs: &[Sign]) -> usize
     ensures value { result ≡ broken signs.now }
     ensures most { result ≤ length signs.now }
@@ -134,103 +25,179 @@ fn broken(signs: &[Sign]) -> usize
     count
 }
 
-/// Whether exactly the next so many of these segments break.
-fn break_next(signs: &[Sign], count: usize) -> bool
-    ensures { result ≡ break_next count signs.now }
+/// What stands before a number, by how many come after it.
+fn separator(left: usize) -> &'static str
+    ensures { result.now ≡ separator left }
 {
-    let next = &signs[..count.min(signs.len())];
-    broken(next) == count && broken(signs) == count
+    if left == 0 { " and " } else { ", " }
 }
 
-/// Whether a later checkpoint, if there is one, is true. After the frame of the first false one the
-/// run has this state, and goes on from it.
-fn is_true<P: Progress>(
-    movie: &Movie,
-    number: u16,
-    frame: u32,
-    found: &State,
-    later: u16,
-    progress: &P,
-) -> bool
-    requires verdict { HasVerdict movie.now (FalseCheckpoint number frame) }
-    requires found { run movie.now movie.now.start 0 frame ≡ Some found.now }
-    requires later { number < later }
-    ensures { result ≡ is_true_in movie.now (slice_get movie.now.checkpoints (later - 1)) }
+/// The number of a claim with this sign, if the run isn't in that, before so many others.
+fn number_text(alloc: Global, sign: Sign, left: usize, number: usize) -> Result<String, AllocError>
+    ensures { IfOk result (λ text. string_bytes text ≡ number_text sign left number) }
 {
-    if later > movie.checkpoints() {
-        return false;
+    if !sign.breaks() {
+        return Ok(String::new(alloc));
     }
-    let claim = movie.checkpoint(later);
-    let mut cursor = Cursor::at_claim(movie, frame, found);
-    match cursor.work_to(claim.frame, progress) {
-        Ok(()) => write_state(&claim.state) == write_state(cursor.state()),
-        Err(_) => false,
+    let separator = separator(left);
+    format!(in alloc; "{separator}{number}")
+}
+
+/// The numbers of the claims after the one of this number that the run isn't in.
+#[tactic(auto, using(crate::proofs::ReasonLemmas::number_by_number))]
+fn more_numbers(alloc: Global, number: u16, claims: &[Sign]) -> Result<String, AllocError>
+    requires { number + length claims.now < 65536 }
+    ensures { IfOk result (λ text. string_bytes text ≡ more_numbers number claims.now) }
+{
+    let mut text = String::new(alloc);
+    let mut left = broken(claims);
+    let mut last = usize::from(number);
+    for sign in claims {
+        last += 1;
+        if sign.breaks() {
+            left -= 1;
+        }
+        let piece = number_text(alloc, *sign, left, last)?;
+        text.push_str(&piece)?;
+    }
+    Ok(text)
+}
+
+/// The claims that the run isn't in, of which the first has this number, where it is in others after
+/// that.
+fn all_but(alloc: Global, number: u16, claims: &[Sign]) -> Result<String, AllocError>
+    requires { number + length claims.now < 65536 }
+    ensures { IfOk result (λ text. string_bytes text ≡ all_but number claims.now) }
+{
+    let others = broken(claims);
+    if others < MOST_NAMED {
+        let more = more_numbers(alloc, number, claims)?;
+        return format!(in alloc; "the run is in all claims but {number}{more}");
+    }
+    let all = usize::from(number) + claims.len();
+    format!(in alloc;
+        "the run isn't in {} of {all} claims, claim {number} first",
+        1 + others
+    )
+}
+
+/// That it is in none from this number on.
+fn none_from(alloc: Global, number: u16) -> Result<String, AllocError>
+    ensures { IfOk result (λ text. string_bytes text ≡ none_from number) }
+{
+    if number == 1 {
+        return format!(in alloc; "the run is in no claim");
+    }
+    format!(in alloc; "the run is in no claim from {number} on")
+}
+
+/// What is said where the claim is the movie's last.
+fn last_text(alloc: Global, number: u16) -> Result<String, AllocError>
+    ensures { IfOk result (λ text. string_bytes text ≡ last_text number) }
+{
+    if number == 1 {
+        return format!(in alloc;
+            "the run isn't in the only claim: that claim was changed, or what leads to it"
+        );
+    }
+    format!(in alloc;
+        "the run is in all claims but {number}: that claim was changed, or what leads to it"
+    )
+}
+
+/// What may have been changed where the run comes back into a claim.
+fn changed_text(one_claim: bool, one_segment: bool) -> &'static str
+    ensures { result.now ≡ changed_text one_claim one_segment }
+{
+    match (one_claim, one_segment) {
+        (true, true) => ": that claim or what leads to it was changed, without lasting effect",
+        (true, false) => ": that claim was changed, or what leads to it and from it",
+        (false, true) => {
+            ": these claims or what leads to them were changed, without lasting effect"
+        }
+        (false, false) => ": these claims were changed, or what leads to them and from them",
     }
 }
 
-/// Whether it matters to the sentence if the next claim is true.
-fn asks_next(later: &[Sign]) -> bool
-    ensures { result ≡ (break_next 0 later.now || break_next 1 later.now) }
+/// What may have been changed where it doesn't, and one segment alone breaks.
+fn other_run_text(alloc: Global, number: u16) -> Result<String, AllocError>
+    ensures { IfOk result (λ text. string_bytes text ≡ other_run_text number) }
 {
-    break_next(later, 0) || break_next(later, 1)
-}
-
-/// The same as `is_true` where it is asked, and else false.
-fn is_true_if<P: Progress>(
-    asked: bool,
-    movie: &Movie,
-    number: u16,
-    frame: u32,
-    found: &State,
-    later: u16,
-    progress: &P,
-) -> bool
-    requires verdict { HasVerdict movie.now (FalseCheckpoint number frame) }
-    requires found { run movie.now movie.now.start 0 frame ≡ Some found.now }
-    requires later { number < later }
-    ensures { result ≡ (asked && is_true_in movie.now (slice_get movie.now.checkpoints (later - 1))) }
-{
-    if !asked {
-        return false;
+    if number == 1 {
+        return format!(in alloc;
+            ", and only segment 1 doesn't lead to its claim: the start state, its inputs or the cartridge were changed, or the claims are of another run"
+        );
     }
-    is_true(movie, number, frame, found, later, progress)
+    format!(in alloc;
+        ", and only segment {number} doesn't lead to its claim: its inputs or the cartridge were changed, or the claims before and after it are of two runs"
+    )
 }
 
-/// What the signs of a movie's segments say of its first false checkpoint, after whose frame the run
-/// has this state. Where the signs of the segments after it leave a choice, one or two more are
-/// replayed from that state, on the calling thread, each as a work of its own.
-#[tactic(auto, using(crate::proofs::ReasonLemmas::asked))]
-pub(crate) fn reason_in<P: Progress>(
-    movie: &Movie,
-    number: u16,
-    frame: u32,
-    found: &State,
-    signs: &[Sign],
-    progress: &P,
-) -> Reason
-    requires verdict { HasVerdict movie.now (FalseCheckpoint number frame) }
-    requires found { run movie.now movie.now.start 0 frame ≡ Some found.now }
-    requires signs { length movie.now.checkpoints ≤ length signs.now }
-    ensures { result ≡ reason_in movie.now number signs.now }
+/// The start state, if the claim of this number is the first.
+fn first_text(number: u16) -> &'static str
+    ensures { result.now ≡ first_text number }
 {
-    let later = &signs[usize::from(number)..usize::from(movie.checkpoints())];
-    let next = is_true_if(
-        asks_next(later),
-        movie,
-        number,
-        frame,
-        found,
-        number + 1,
-        progress,
-    );
-    let after_next = is_true_if(
-        break_next(later, 2),
-        movie,
-        number,
-        frame,
-        found,
-        number + 2,
-        progress,
-    );
-    Reason::of(number, later, next, after_next)
+    if number == 1 { "the start state, " } else { "" }
+}
+
+/// What may have been changed where it doesn't, and so many segments break.
+fn many_text(alloc: Global, number: u16, count: usize) -> Result<String, AllocError>
+    ensures { IfOk result (λ text. string_bytes text ≡ many_text number count) }
+{
+    let start = first_text(number);
+    format!(in alloc;
+        ", and {count} segments don't lead to their claims: {start}inputs, the cartridge or claims were changed"
+    )
+}
+
+/// The same, by how many segments after the first that breaks do so too.
+fn gone_text(alloc: Global, number: u16, others: usize) -> Result<String, AllocError>
+    requires { others < 65536 }
+    ensures { IfOk result (λ text. string_bytes text ≡ gone_text number others) }
+{
+    if others == 0 {
+        return other_run_text(alloc, number);
+    }
+    many_text(alloc, number, 1 + others)
+}
+
+/// In which claims the run is, and what may have been changed, where the claim of this number is the
+/// first that it isn't in: by the signs of the segments and of the claims after that.
+pub(crate) fn sentence(
+    alloc: Global,
+    number: u16,
+    segments: &[Sign],
+    claims: &[Sign],
+) -> Result<String, AllocError>
+    requires segments { length segments.now < 65536 }
+    requires claims { number + length claims.now < 65536 }
+    ensures { IfOk result (λ text. string_bytes text ≡ sentence number segments.now claims.now) }
+{
+    let others = broken(claims);
+    let later = broken(segments);
+    if claims.is_empty() {
+        return last_text(alloc, number);
+    }
+    if others == claims.len() {
+        let found = none_from(alloc, number)?;
+        let causes = gone_text(alloc, number, later)?;
+        return format!(in alloc; "{found}{causes}");
+    }
+    let found = all_but(alloc, number, claims)?;
+    let causes = changed_text(others == 0, later == 0);
+    format!(in alloc; "{found}{causes}")
+}
+
+/// A sentence as a line, or as a member.
+pub(crate) fn reason(
+    alloc: Global,
+    notation: Notation,
+    sentence: &str,
+) -> Result<String, AllocError>
+    ensures { IfOk result (λ text. string_bytes text ≡ reason_text notation sentence.now) }
+{
+    match notation {
+        Notation::Lines => format!(in alloc; "{sentence}\n"),
+        Notation::Json => format!(in alloc; ",\"reason\":\"{sentence}\""),
+    }
 }

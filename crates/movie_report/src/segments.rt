@@ -133,35 +133,36 @@ fn characters(alloc: Global, signs: &[Sign]) -> Result<String, AllocError>
     Ok(text)
 }
 
-/// Lines of signs.
+/// Lines of signs that have this name.
 #[tactic(auto, using(crate::proofs::SignLemmas::signs_in_lines))]
-fn lines(alloc: Global, signs: &[Sign]) -> Result<String, AllocError>
-    ensures { IfOk result (λ text. string_bytes text ≡ signs_text Notation.Lines signs.now) }
+fn lines(alloc: Global, name: &str, signs: &[Sign]) -> Result<String, AllocError>
+    ensures { IfOk result (λ text. string_bytes text ≡ signs_text Notation.Lines name.now signs.now) }
 {
     let mut text = String::new(alloc);
     for line in 0..signs.len().div_ceil(LINE_SIGNS) {
         let from = LINE_SIGNS * line;
         let to = signs.len().min(from + LINE_SIGNS);
         let characters = characters(alloc, &signs[from..to])?;
-        let line = format!(in alloc; "segments: {characters}\n")?;
+        let line = format!(in alloc; "{name}: {characters}\n")?;
         text.push_str(&line)?;
     }
     Ok(text)
 }
 
-/// The signs of a movie's segments.
-pub(crate) fn segment_facts(
+/// Signs that have this name, which has no quotation mark, backslash or control character.
+pub(crate) fn sign_facts(
     alloc: Global,
     notation: Notation,
+    name: &str,
     signs: &[Sign],
 ) -> Result<String, AllocError>
-    ensures { IfOk result (λ text. string_bytes text ≡ signs_text notation signs.now) }
+    ensures { IfOk result (λ text. string_bytes text ≡ signs_text notation name.now signs.now) }
 {
     match notation {
-        Notation::Lines => lines(alloc, signs),
+        Notation::Lines => lines(alloc, name, signs),
         Notation::Json => {
             let characters = characters(alloc, signs)?;
-            format!(in alloc; ",\"segments\":\"{characters}\"")
+            format!(in alloc; ",\"{name}\":\"{characters}\"")
         }
     }
 }

@@ -1,11 +1,11 @@
 -- What is known of a file, and of one that failed. This project's own.
-use Rattle.std.specs.Prelude.{◌≡◌, ℕ, ◌-◌, ◌≤◌, min, nat_lt, option_map, if◌then◌else◌, Bool, true, false, List, Option, Some, None, IfSome, IsSomeAnd}
+use Rattle.std.specs.Prelude.{◌≡◌, ◌⊎◌, ℕ, ◌-◌, codes, ◌≤◌, min, nat_lt, option_map, if◌then◌else◌, Bool, true, false, List, Option, Some, None, IfSome, IsSomeAnd}
 use Rattle.named_files.specs.declared.file_error.CreateError.{CreateError}
 use Rattle.named_files.specs.declared.file_error.CreateError.TheVariants.{Open}
 use Rattle.named_files.specs.declared.file_error.FileError.{FileError}
 use Rattle.named_files.specs.declared.file_error.Reason.{Reason}
 use Rattle.named_files.specs.declared.named.Named.{Named}
-use Rattle.named_files.specs.declared.file_error.Reason.TheVariants.{IsInput, NoFreeName, NotCopied, System, TooLong}
+use Rattle.named_files.specs.declared.file_error.Reason.TheVariants.{ErrorIsInput, IsInput, NoFreeName, NotCopied, OutputIsInput, System, TooLong}
 use Rattle.std.specs.IoError.{error_kind}
 use Rattle.std.specs.declared.io.ErrorKind.{ErrorKind}
 use Rattle.std.specs.declared.io.ErrorKind.TheVariants.{AlreadyExists, BrokenPipe, InvalidInput, ReadOnlyFilesystem, Unsupported}
@@ -68,9 +68,20 @@ IsNeverSynced Unsupported = Unit {0}
 IsNeverSynced ReadOnlyFilesystem = Unit {0}
 IsNeverSynced kind = ⊥
 
--- It is a pipe that nobody reads any more.
-abbrev pub IsBrokenPipe : FileError → Type 0
-IsBrokenPipe file_error = HasKind BrokenPipe file_error.reason
+-- It is a standard stream that is also an input.
+abbrev pub IsInputStream : FileError → Type 0
+IsInputStream error = IsAbout (codes "standard error") ErrorIsInput error ⊎ IsAbout (codes "standard output") OutputIsInput error
+
+-- Nobody is told why a file failed: it is a pipe that nobody reads any more, or standard error would
+-- come into an input.
+abbrev pub IsUntold : Reason → Type 0
+IsUntold ErrorIsInput = Unit {0}
+IsUntold reason = HasKind BrokenPipe reason
+
+-- Standard output is told, if it tells of errors: it isn't itself what would come into an input.
+abbrev pub IsForOutput : Reason → Type 0
+IsForOutput OutputIsInput = ⊥
+IsForOutput reason = IsUntold reason → ⊥
 
 -- Why a stream failed of which so many bytes were read, and which had failed before as is said: no
 -- input has so many.

@@ -1,6 +1,6 @@
 //! Which file a failure is about, and why.
 ghost use Rattle.std.specs.Prelude.{◌≡◌, ◌↔◌, true};
-ghost use Rattle.named_files.specs.FileErrors.{IsAbout, IsBrokenPipe};
+ghost use Rattle.named_files.specs.FileErrors.{IsAbout, IsForOutput, IsUntold};
 
 use std::fmt;
 use std::io::{self, ErrorKind};
@@ -20,6 +20,12 @@ pub enum Reason {
     TooLong,
     #[error("is also an input of this command")]
     IsInput,
+    /// Of standard output, which gets no text then.
+    #[error("is also an input of this command")]
+    OutputIsInput,
+    /// Of standard error, which gets no text then. Nor does standard output, which may be that input too.
+    #[error("is also an input of this command")]
+    ErrorIsInput,
     #[error("is also standard output or standard error")]
     IsOutput,
     /// Of standard output.
@@ -73,13 +79,24 @@ impl<'a> FileError<'a> {
         self.reason
     }
 
-    /// Whether it is a pipe whose reader has gone away.
-    pub fn is_broken_pipe(&self) -> bool
-        ensures { (result ≡ true) ↔ IsBrokenPipe self.now }
+    /// Whether nobody is to be told of it.
+    pub fn is_untold(&self) -> bool
+        ensures { (result ≡ true) ↔ IsUntold self.now.reason }
     {
         match self.reason {
             Reason::System(error) => error.kind() == ErrorKind::BrokenPipe,
+            Reason::ErrorIsInput => true,
             _ => false,
+        }
+    }
+
+    /// Whether standard output is to be told of it, if it tells of errors.
+    pub fn is_for_output(&self) -> bool
+        ensures { (result ≡ true) ↔ IsForOutput self.now.reason }
+    {
+        match self.reason {
+            Reason::OutputIsInput => false,
+            _ => !self.is_untold(),
         }
     }
 }

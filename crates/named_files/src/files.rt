@@ -1,17 +1,19 @@
 //! How the files of a command are opened.
-ghost use Rattle.std.specs.Prelude.{◌≡◌, ◌⊎◌, IfErr, IfOk, Some, codes};
+ghost use Rattle.std.specs.Prelude.{◌≡◌, ◌⊎◌, IfErr, IfOk, Some, codes, false, true};
 ghost use Rattle.std.specs.Fs.{IsFile, file_type};
 ghost use Rattle.std.specs.List.{Contains};
-ghost use Rattle.named_files.specs.FileErrors.{IsOpened, Names, NamesIfOpen, conflict};
+ghost use Rattle.named_files.specs.FileErrors.{IsInputStream, IsOpened, Names, NamesIfOpen, conflict};
 ghost use Rattle.named_files.specs.declared.file_error.Reason.TheVariants.{IsInput};
+ghost use Rattle.named_files.specs.declared.output.Before.TheVariants.{Bytes, NoFile, Nothing};
 
-use crate::STANDARD_OUTPUT;
 use crate::file_error::{CreateError, FileError, Reason};
 use crate::identity::Identity;
 use crate::named::Named;
-use crate::output::Output;
+use crate::output::{Before, Output};
 use crate::replacing::{Replacing, Whole};
+use crate::{STANDARD_ERROR, STANDARD_OUTPUT};
 use std::fs::{self, Metadata, OpenFile, OpenOptions};
+use std::io;
 use std::os::unix::fs::FileTypeExt;
 use std::rt::Files;
 
@@ -90,6 +92,36 @@ fn conflict_of(
     conflict(keeps, file_type.is_fifo(), is_input, stream)
 }
 
+/// What there was before an output was opened, by whether the command created it, and whether it is a
+/// regular file.
+fn before(is_new: bool, is_file: bool) -> Before
+    ensures new { is_new ≡ true → result ≡ NoFile }
+    ensures old { is_new ≡ false → is_file ≡ true → result ≡ Bytes }
+    ensures none { is_new ≡ false → is_file ≡ false → result ≡ Nothing }
+{
+    match (is_new, is_file) {
+        (true, _) => Before::NoFile,
+        (false, true) => Before::Bytes,
+        (false, false) => Before::Nothing,
+    }
+}
+
+/// Opens a file to be written, which is created if it isn't there. The answer is also whether it is
+/// known that it was created.
+fn open_or_create<R: Files>(rt: &R, name: &str) -> io::Result<(R::File, bool)> {
+    let created = OpenOptions::new()
+        .write(true)
+        .create_new(true)
+        .open(rt, name);
+    match created {
+        Ok(file) => Ok((file, true)),
+        Err(_) => {
+            let file = OpenOptions::new().write(true).create(true).open(rt, name)?;
+            Ok((file, false))
+        }
+    }
+}
+
 /// Opens an output, which is created if it isn't there. Terminals and other devices that keep nothing
 /// may be inputs, and they and pipes standard streams, as well.
 fn open_output<R: Files>(
@@ -97,7 +129,7 @@ fn open_output<R: Files>(
     name: &str,
     inputs: &[Option<Identity>],
 ) -> Result<Output<R::File>, Reason> {
-    let file = OpenOptions::new().write(true).create(true).open(rt, name)?;
+    let (file, is_new) = open_or_create(rt, name)?;
     let metadata = file.metadata()?;
     let identity = Identity::new(&metadata);
     let is_written = is_stream(rt, "/dev/stdout", identity)
@@ -105,13 +137,13 @@ fn open_output<R: Files>(
     let stream = is_written.then_some(Reason::IsOutput);
     match conflict_of(&metadata, identity, inputs, stream) {
         Some(reason) => Err(reason),
-        None => Ok(Output::new(file, metadata.is_file())),
+        None => Ok(Output::new(file, before(is_new, metadata.is_file()))),
     }
 }
 
-/// Opens an output, which is created if it isn't there. Its bytes stay until the first new ones are
-/// written; from then on it is whole or as it was, if it can be replaced. `whole` says when it is
-/// whole.
+/// Opens an output, which is created if it isn't there, and removed if it is dropped before anything is
+/// written. Its bytes stay until the first new ones are written; from then on it is whole or as it was,
+/// if it can be replaced. `whole` says when it is whole.
 ///
 /// If it is one of the inputs of the command, which are open, or standard output or standard error,
 /// nothing is touched, and the error says so. Terminals and other devices that keep nothing may be
@@ -135,32 +167,52 @@ pub fn create<'a, 'b, R: Files + AllocGlobal>(
     }
 }
 
-/// Why standard output takes no file of a command with these inputs, if it doesn't: it is one of them,
-/// or the text, which standard error gets then, would come into the file.
-fn conflict_of_standard_output<R: Files>(
-    rt: &R,
-    inputs: &[Option<Identity>],
-) -> Result<(), Reason> {
+/// Whether what goes to the standard stream of this name would come into this input, or through a pipe
+/// back to it.
+fn comes_into<R: Files>(rt: &R, stream: &str, input: Identity) -> bool {
+    match fs::metadata(rt, stream) {
+        Ok(metadata) => {
+            let identity = Identity::new(&metadata);
+            conflict_of(&metadata, identity, &[Some(input)], None).is_some()
+        }
+        Err(_) => false,
+    }
+}
+
+/// Whether standard output and standard error can take a text of a command with this input, which is
+/// open. If one of them is that input, the error says so, of standard error first; what keeps nothing
+/// may be as in `create`.
+pub fn check_streams<R: Files>(rt: &R, input: Identity) -> Result<(), FileError<'static>>
+    ensures { IfErr result IsInputStream }
+{
+    if comes_into(rt, "/dev/stderr", input) {
+        return Err(FileError::new(STANDARD_ERROR, Reason::ErrorIsInput));
+    }
+    if comes_into(rt, "/dev/stdout", input) {
+        return Err(FileError::new(STANDARD_OUTPUT, Reason::OutputIsInput));
+    }
+    Ok(())
+}
+
+/// Why standard output takes no file of a command, if it doesn't: the text, which standard error gets
+/// then, would come into the file.
+fn conflict_of_standard_output<R: Files>(rt: &R) -> Result<(), Reason> {
     let metadata = fs::metadata(rt, "/dev/stdout")?;
     let identity = Identity::new(&metadata);
     let is_written = is_stream(rt, "/dev/stderr", identity);
     let stream = is_written.then_some(Reason::IsStandardError);
-    match conflict_of(&metadata, identity, inputs, stream) {
+    match conflict_of(&metadata, identity, &[], stream) {
         Some(reason) => Err(reason),
         None => Ok(()),
     }
 }
 
-/// Whether standard output can take the file of a command with these inputs, which are open. If it is
-/// one of them, or standard error, the error says so; what keeps nothing, and pipes, may be as in
-/// `create`.
-pub fn check_standard_output<R: Files>(
-    rt: &R,
-    inputs: &[Option<Identity>],
-) -> Result<(), FileError<'static>>
+/// Whether standard output can take the file of a command, none of whose inputs it is. If it is standard
+/// error, the error says so; what keeps nothing, and pipes, may be as in `create`.
+pub fn check_standard_output<R: Files>(rt: &R) -> Result<(), FileError<'static>>
     ensures { IfErr result (Names (codes "standard output")) }
 {
-    match conflict_of_standard_output(rt, inputs) {
+    match conflict_of_standard_output(rt) {
         Ok(()) => Ok(()),
         Err(reason) => Err(FileError::new(STANDARD_OUTPUT, reason)),
     }

@@ -1,7 +1,7 @@
 //! The files and standard streams of a command: each with its name, and with why it failed.
 //!
-//! No file is both an input and an output of a command, and an output is whole or as it was. The
-//! rules are this project's own.
+//! No file is both an input of a command and an output or a stream of its text, and an output is whole or
+//! as it was, if it can be replaced. The rules are this project's own.
 #![tactic(auto)]
 
 mod disk;
@@ -15,7 +15,7 @@ mod size_limit;
 
 pub use disk::sync_standard_output;
 pub use file_error::{CreateError, FileError, Reason};
-pub use files::{check_standard_output, create, null_if_closed, open, open_beside};
+pub use files::{check_standard_output, check_streams, create, null_if_closed, open, open_beside};
 pub use identity::Identity;
 pub use named::Named;
 pub use replacing::{Replacing, Whole};

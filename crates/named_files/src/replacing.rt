@@ -3,7 +3,7 @@ ghost use Rattle.std.specs.Prelude.{◌≡◌};
 
 use crate::disk::sync;
 use crate::identity::Identity;
-use crate::output::Output;
+use crate::output::{Before, Output};
 use crate::size_limit::Quota;
 use std::alloc::{AllocError, Global};
 use std::fs::{self, Metadata, OpenFile, OpenOptions};
@@ -168,12 +168,15 @@ pub enum Whole {
 }
 
 /// An output whose bytes are written to a file beside it, which takes its place once it is whole. An
-/// output that is dropped before stays as it was. One that can't be replaced is written over.
+/// output that is dropped before stays as it was, and one that the command created is removed. One that
+/// can't be replaced is written over, and cut after the new bytes.
 pub struct Replacing<'a, R: Files> {
     rt: &'a R,
     output: Output<R::File>,
     whole: Whole,
     paths: Option<Paths>,
+    /// Whether it is settled that there is a file beside, or none.
+    is_begun: bool,
     /// What is open as the file beside.
     part: Option<R::File>,
     /// The digit of the file beside that was kept, since it could not be copied.
@@ -199,28 +202,31 @@ impl<'a, R: Files> Replacing<'a, R> {
             Ok(metadata) => Paths::of(rt, alloc, name, metadata),
             Err(_) => Ok(None),
         };
+        let Ok(paths) = paths else {
+            output.remove_if_new(rt, name);
+            return Err(AllocError);
+        };
         Ok(Replacing {
             rt,
             output,
             whole,
-            paths: paths?,
+            paths,
+            is_begun: false,
             part: None,
             kept: None,
             quota,
         })
     }
 
-    /// Opens the file beside, if there is to be one and it isn't open.
+    /// Opens the file beside, if there is to be one and that isn't settled.
     fn begin(&mut self) -> io::Result<()> {
-        if self.part.is_some() {
+        if self.is_begun {
             return Ok(());
         }
         if let Some(paths) = &mut self.paths {
             self.part = paths.open(self.rt)?;
         }
-        if self.part.is_none() {
-            self.paths = None;
-        }
+        self.is_begun = true;
         Ok(())
     }
 
@@ -255,22 +261,22 @@ impl<'a, R: Files> Replacing<'a, R> {
         if !is_put {
             return self.copy(paths);
         }
-        self.output = Output::new(part, false);
+        self.output = Output::new(part, Before::Nothing);
         paths.sync_folder(self.rt)
     }
 
-    /// Waits until the disk has what was written, in its place.
+    /// Waits until the disk has what was written, in its place, and nothing behind it.
     fn settle(&mut self) -> io::Result<()> {
         if self.part.is_some() {
-            self.replace()
-        } else {
-            self.output.sync()
+            return self.replace();
         }
+        self.output.cut()?;
+        self.output.sync()
     }
 
-    /// Takes out the bytes of before, if none was written.
+    /// Takes out the bytes of before, if none was written. A file that the command created stays.
     pub(crate) fn empty(&mut self) -> io::Result<()> {
-        self.output.empty()?;
+        self.output.end()?;
         self.output.sync()
     }
 
@@ -306,15 +312,22 @@ impl<R: Files> Drop for Replacing<'_, R> {
     fn drop(self) {
         let Replacing {
             rt,
-            output: _output,
+            mut output,
             whole: _,
             paths,
+            is_begun: _,
             part,
             kept: _,
             quota: _,
         } = self;
-        if let (Some(paths), Some(_part)) = (paths, part) {
+        // After a failed write nothing follows what was written.
+        let _cut = output.cut();
+        let Some(paths) = paths else {
+            return;
+        };
+        if part.is_some() {
             paths.remove(rt);
         }
+        output.remove_if_new(rt, paths.file.as_str());
     }
 }

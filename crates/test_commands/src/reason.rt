@@ -1,14 +1,15 @@
 //! Why files are refused, as `vcs_check` says it.
 
-use command_line::Command;
+use command_line::{Command, Making};
 use commands::InputForm;
 use input_text::read_text;
 use movie_file::{read_inputs, read_movie};
-use movie_hints::{hint_of, hint_of_counts, hint_of_inputs, hint_of_rom, hint_of_text};
+use movie_hints::{
+    hint_of, hint_of_counts, hint_of_inputs, hint_of_rom, hint_of_storage, hint_of_text,
+};
 use riot_map::Cart;
 use std::alloc::{AllocError, Global};
 use std::fmt;
-use std::num::NonZeroU32;
 
 /// A line with what is known, or nothing where nothing is.
 fn line_of<D: fmt::Display + Drop>(alloc: Global, hint: Option<D>) -> Result<String, AllocError> {
@@ -18,18 +19,27 @@ fn line_of<D: fmt::Display + Drop>(alloc: Global, hint: Option<D>) -> Result<Str
     }
 }
 
-/// Why inputs as text are refused: they can't be read, or are too many.
-fn reason_of_lines(alloc: Global, bytes: &[u8], every: NonZeroU32) -> Result<String, AllocError> {
+/// Why inputs as text are refused: they can't be read, or are too many or none.
+fn reason_of_lines(alloc: Global, bytes: &[u8], making: Making) -> Result<String, AllocError> {
     match read_text(alloc, bytes) {
-        Ok(inputs) => line_of(alloc, hint_of_counts(inputs.len() as u64, every)),
+        Ok(inputs) => {
+            let hint = hint_of_counts(inputs.len() as u64, making.every, making.to_the_end);
+            match hint {
+                Some(hint) => line_of(alloc, Some(hint_of_storage(bytes).unwrap_or(hint))),
+                None => Ok(String::new(alloc)),
+            }
+        }
         Err(_) => line_of(alloc, hint_of_text(alloc, bytes)),
     }
 }
 
 /// Why inputs as bytes are refused.
-fn reason_of_triples(alloc: Global, bytes: &[u8], every: NonZeroU32) -> Result<String, AllocError> {
+fn reason_of_triples(alloc: Global, bytes: &[u8], making: Making) -> Result<String, AllocError> {
     match read_inputs(alloc, bytes) {
-        Ok(inputs) => line_of(alloc, hint_of_counts(inputs.len() as u64, every)),
+        Ok(inputs) => line_of(
+            alloc,
+            hint_of_counts(inputs.len() as u64, making.every, making.to_the_end),
+        ),
         Err(error) => line_of(alloc, hint_of_inputs(alloc, bytes, error)),
     }
 }
@@ -49,14 +59,14 @@ pub(crate) fn reason_of(
     first: &[u8],
     second: &[u8],
 ) -> Result<String, AllocError> {
-    let Command::Make { form, every, .. } = command else {
+    let Command::Make { form, making, .. } = command else {
         return reason_of_movie(alloc, first);
     };
     if !Cart::is_length(first.len()) {
         return line_of(alloc, Some(hint_of_rom(first)));
     }
     match form {
-        InputForm::Text => reason_of_lines(alloc, second, *every),
-        InputForm::Bytes => reason_of_triples(alloc, second, *every),
+        InputForm::Text => reason_of_lines(alloc, second, *making),
+        InputForm::Bytes => reason_of_triples(alloc, second, *making),
     }
 }

@@ -10,7 +10,7 @@ use std::sync::Wait;
 use std::thread::Threads;
 
 /// The room for a text.
-pub(crate) type Text = ArrayVec<u8, 1024>;
+pub(crate) type Text = ArrayVec<u8, 4096>;
 
 /// The room for a file.
 pub(crate) type File = ArrayVec<u8, 4096>;

@@ -127,6 +127,7 @@ fn outcome_of_commands<R: Threads + Wait + Sync + AllocGlobal>(
         "run_report_with_rom" => run::is_compared(rt),
         "run_info" => run::is_told(alloc),
         "run_information" => run::is_told_as_json(rt),
+        "run_claims" => run::is_claimed(rt),
         "run_cartridge" => run::is_taken(rt),
         "run_convert" => run::is_converted(alloc),
         "run_frames" => frames::are_told(rt, false),

@@ -139,6 +139,20 @@ pub(crate) fn is_taken<R: Threads + Wait + Sync + AllocGlobal>(rt: &R) -> Result
     )
 }
 
+/// What the one checkpoint of two frames claims.
+pub(crate) fn is_claimed<R: Threads + Wait + Sync + AllocGlobal>(rt: &R) -> Result<(), Failure> {
+    let claims = Command::Claims {
+        notation: Notation::Lines,
+    };
+    let answer = answer_to(rt, &claims, &mut two_frames().as_slice());
+    let text = answer.text.as_slice();
+    let begins = text.starts_with(
+        b"checkpoint 1: frame 1\nA: 00\nX: 00\nY: 00\nS: FF\nP: 06\nPC: F00A\nmemory 80: 02\n",
+    );
+    let ends = text.ends_with(b"\nline cycle: 0D\ncomb: 00\nbank: 00\n");
+    answer.judged(Status::Done, begins && ends, text.is_empty())
+}
+
 /// The inputs of two frames in which nothing is held.
 pub(crate) fn is_listed<R: Threads + Wait + Sync + AllocGlobal>(
     rt: &R,
@@ -217,7 +231,7 @@ pub(crate) fn is_reported_false<R: Threads + Wait + Sync + AllocGlobal>(
     let answer = answer_to(rt, &report, &mut two_frames_with_a_false_claim().as_slice());
     let text = answer.text.as_slice();
     let begins = text.starts_with(
-        b"{\"verdict\":\"false checkpoint\",\"checkpoint\":1,\"frame\":1,\"differs\":[{\"number\":\"memory 80\",\"claimed\":\"07\",\"found\":\"02\"}],\"segments\":\"X.\",\"reason\":\"segment 1 doesn't lead from the start to the only claim: that claim or what leads to it was changed\",\"notes\":[\"1 frames after the last checkpoint\"],\"cartridge\":2048,",
+        b"{\"verdict\":\"false checkpoint\",\"checkpoint\":1,\"frame\":1,\"differs\":[{\"number\":\"memory 80\",\"claimed\":\"07\",\"found\":\"02\"}],\"segments\":\"X.\",\"claims\":\"X\",\"reason\":\"the run isn't in the only claim: that claim was changed, or what leads to it\",\"notes\":[\"1 frames after the last checkpoint\"],\"cartridge\":2048,",
     );
     answer.judged(Status::False, begins, text.is_empty())
 }

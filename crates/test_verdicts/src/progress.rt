@@ -7,7 +7,7 @@ use crate::gates::Counting;
 use crate::movies::{
     ENDLESS_FRAMES, SEVEN_FRAMES, first_of_two_false, movie, power_on, rom, run_of, two,
 };
-use command_line::Command;
+use command_line::{Command, Making};
 use commands::{InputForm, Notation, run_command};
 use movie_file::write_movie;
 use replay_plan::{Details, Expectations, Keep, Plan, Watches, Workers};
@@ -183,7 +183,10 @@ fn frames_of_a_movie_that_is_made_are_told(rt: HostRuntime) {
     let make = Command::Make {
         inputs: String::new(rt.alloc()),
         form: InputForm::Bytes,
-        every: NonZeroU32::MIN,
+        making: Making {
+            every: NonZeroU32::MIN,
+            to_the_end: false,
+        },
     };
     let inputs = [0xFF, 0x3F, 0, 0xFF, 0x3F, 0];
     let told = told_over(&rt, &make, &rom(&ENDLESS_FRAMES), &inputs, usize::MAX);

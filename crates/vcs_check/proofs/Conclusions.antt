@@ -9,7 +9,7 @@ use Rattle.commands.specs.declared.status.Status.{Status}
 use Rattle.named_files.specs.declared.file_error.FileError.{FileError}
 use Rattle.vcs_check.specs.Endings.{Concludes}
 use Rattle.vcs_check.specs.ErrorObjects.{GetsErrorObject, SaysErrors}
-use Rattle.vcs_check.specs.Failures.{IsToldAs}
+use Rattle.vcs_check.specs.Failures.{IsForOutput, IsToldAs}
 use Rattle.vcs_check.specs.Private.FileErrors.{by_input, by_output}
 use Rattle.vcs_check.specs.declared.failure.Failure.{Failure}
 use Rattle.vcs_check.specs.declared.failure.Failure.TheVariants.{Open, Run}
@@ -41,8 +41,9 @@ settled line old new answer status code is ends kept =
 -- With a failure to which the standard streams were added.
 pub failed : (line : CommandLine) (old new : Option (List ℕ)) (answer : Result Status Failure) (was now : Failure) (one two three : Option FileError)
     (code : ℕ) → answer ≡ Err was → now ≡ by_output (by_output (by_input was one) two) three → code ≡ 5
-    → (SaysErrors line → GetsErrorObject now old new) → ((SaysErrors line → ⊥) → new ≡ old) → Concludes line old new answer code
-failed line old new answer was now one two three code is told five object none =
+    → (SaysErrors line → GetsErrorObject now old new) → ((SaysErrors line → ⊥) → new ≡ old) → ((IsForOutput now → ⊥) → new ≡ old)
+    → Concludes line old new answer code
+failed line old new answer was now one two three code is told five object none not_for_it =
     let P : Result Status Failure → Type 0 = λ x. Concludes line old new x code in
     let Q : Failure → Type 0 = λ x. IsToldAs was x in
-    subst P (sym is) (five, now, subst Q (sym told) (told_as was one two three), (object, λ silent. keeps_equal old new (none silent)))
+    subst P (sym is) (five, now, subst Q (sym told) (told_as was one two three), (object, (λ silent. keeps_equal old new (none silent)), λ other. keeps_equal old new (not_for_it other)))

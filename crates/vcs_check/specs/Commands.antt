@@ -16,7 +16,7 @@ use Rattle.vcs_check.specs.declared.failure.Failure.{Failure}
 
 -- The name of a command's second input, if it has one.
 abbrev pub second_name : Command → Option (List ℕ)
-second_name (Make inputs form every) = Some (string_bytes inputs)
+second_name (Make inputs form making) = Some (string_bytes inputs)
 second_name (Report workers notation rom expectations) = option_map (λ name. string_bytes name) rom
 second_name other = None
 

@@ -7,7 +7,7 @@ use Rattle.command_line.specs.declared.command.LineFault.{LineFault}
 use Rattle.command_line.specs.declared.command.LineFault.TheVariants as faults
 use Rattle.vcs_check.specs.Commands.{ReadsTwice}
 use Rattle.vcs_check.specs.ErrorObjects.{GetsErrorObject, SaysErrors}
-use Rattle.vcs_check.specs.Failures.{IsToldAs}
+use Rattle.vcs_check.specs.Failures.{IsForOutput, IsToldAs}
 use Rattle.vcs_check.specs.Lines.{IsFaultOfWords, IsLineOfWords}
 use Rattle.vcs_check.specs.declared.failure.Failure.{Failure}
 use Rattle.vcs_check.specs.declared.failure.Failure.TheVariants.{Run}
@@ -49,9 +49,11 @@ IsEndingOfWords words ending =
     ⊎ ((line : CommandLine) × IsLineOfWords words line × ReadsTwice line × (ending ≡ Twice))
 
 -- What standard output gets after a failure: of a command that answers in JSON there an object, and
--- else nothing.
+-- else nothing. It also gets nothing if the failure isn't for it.
 abbrev pub GetsReason : CommandLine → Failure → (old new : Option (List ℕ)) → Type 0
-GetsReason line failure old new = (SaysErrors line → GetsErrorObject failure old new) × ((SaysErrors line → ⊥) → Keeps old new)
+GetsReason line failure old new =
+    (SaysErrors line → GetsErrorObject failure old new) × ((SaysErrors line → ⊥) → Keeps old new)
+    × ((IsForOutput failure → ⊥) → Keeps old new)
 
 -- How a command line ends that was answered so: with its status, but with 5 if standard output didn't
 -- take all of the answer, and nothing more is there; or with 5, and what is told of the failure.

@@ -1,5 +1,6 @@
 -- Which failures a command may end with. This project's own.
-use Rattle.std.specs.Prelude.{◌≡◌, Option, Some, None}
+use Rattle.std.specs.Prelude.{◌≡◌, Option, Some, None, IfSome}
+use Rattle.named_files.specs.FileErrors.{IsForOutput as IsFileForOutput}
 use Rattle.named_files.specs.declared.file_error.FileError.{FileError}
 use Rattle.vcs_check.specs.declared.failure.Failure.{Failure}
 use Rattle.vcs_check.specs.declared.failure.Failure.TheVariants.{Open, Run}
@@ -24,6 +25,10 @@ IsNoThread other = ⊥
 abbrev pub file_error_of : Failure → Option FileError
 file_error_of (Open file_error) = Some file_error
 file_error_of (Run error file_error) = file_error
+
+-- Standard output is told of it, if it tells of errors.
+abbrev pub IsForOutput : Failure → Type 0
+IsForOutput failure = IfSome (file_error_of failure) (λ file_error. IsFileForOutput file_error.reason)
 
 -- What is told is this failure, of which the file may be known by now.
 abbrev pub IsToldAs : Failure → Failure → Type 0

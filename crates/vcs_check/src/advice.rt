@@ -24,6 +24,9 @@ const NO_OPTION: &str = "error: unexpected argument '--";
 /// What follows the name there.
 const FOUND: &str = "' found";
 
+/// How it is said that a word is no argument.
+const NO_ARGUMENT: &str = "error: unexpected argument '";
+
 /// What stands before the usage.
 const USAGE: &str = "\n\nUsage: ";
 
@@ -222,6 +225,31 @@ fn with_verify(alloc: Global, words: &[String], text: String) -> Result<String, 
     format!(in alloc; "{reason}{TIP}to judge a movie, put 'verify' first{USAGE}{usage}")
 }
 
+/// Whether words name a command that judges a movie.
+fn judge_a_movie(words: &[String]) -> bool {
+    match words {
+        [_, command, ..] => matches!(command.as_str(), "verify" | "report"),
+        _ => false,
+    }
+}
+
+/// What is said of a file that is one too many for a command that judges a movie, with the advice how
+/// more are judged.
+fn with_judge(alloc: Global, words: &[String], text: String) -> Result<String, AllocError> {
+    let (Some(rest), Some((reason, usage))) = (
+        text.strip_prefix(NO_ARGUMENT),
+        text.split_once(USAGE),
+    ) else {
+        return Ok(text);
+    };
+    if !judge_a_movie(words) || rest.starts_with('-') || text.contains(TIP) {
+        return Ok(text);
+    }
+    format!(in alloc;
+        "{reason}{TIP}'vcs_judge DIR --out VERDICTS' judges each movie of a folder{USAGE}{usage}"
+    )
+}
+
 /// The words after `help`, if that is the first.
 fn asked_of_help(words: &[String]) -> Option<&[String]>
     ensures { IsSome result ↔ slice_get (texts_of words.now) 1 ≡ Some (codes "help") }
@@ -287,6 +315,7 @@ fn with_good_advice(alloc: Global, words: &[String], text: String) -> Result<Str
     let text = with_version(alloc, text)?;
     let text = with_small_letters(alloc, words, text)?;
     let text = with_verify(alloc, words, text)?;
+    let text = with_judge(alloc, words, text)?;
     without_vain_dashes(alloc, words, text)
 }
 

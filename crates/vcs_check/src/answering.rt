@@ -1,6 +1,6 @@
 //! A command and its files.
 ghost use Rattle.std.specs.Prelude.{◌≡◌, ◌≢◌, ◌⊎◌, ◌↔◌, List, ℕ, Option, Ok, true, Err, IfErr, IfOk, OnErr};
-ghost use Rattle.std.specs.Prelude.{None, codes, is_some, option_copied, option_map, string_bytes};
+ghost use Rattle.std.specs.Prelude.{IsSome, None, codes, is_some, option_copied, option_map, string_bytes};
 ghost use Rattle.std.specs.Io.KnownBytes.{Appends, Keeps};
 ghost use Rattle.commands.specs.Commands.{HasBegun, IsGradual, StartsThreads};
 ghost use Rattle.commands.specs.Streams.{ReadsAll};
@@ -9,7 +9,7 @@ ghost use Rattle.movie_file.specs.Reading.{movie_at};
 ghost use Rattle.picture_file.specs.Prefixes.{AppendsPrefix};
 ghost use Rattle.vcs_check.specs.Commands.{IsFile, IsText, KeepsQuiet, LeavesPart, ReadsFirst, ReadsInputs, ReadsSecond};
 ghost use Rattle.vcs_check.specs.Commands.{ReadsTwice, TakesFile, Writes, WritesPictures, second_name};
-ghost use Rattle.named_files.specs.FileErrors.{Names};
+ghost use Rattle.named_files.specs.FileErrors.{IsInputStream, Names};
 ghost use Rattle.named_files.specs.declared.replacing.Whole.TheVariants.{Flushed, Written};
 ghost use Rattle.vcs_check.specs.Failures.{IsNoThread};
 ghost use Rattle.vcs_check.specs.Private.Inputs.{ReadsBoth, ReadsFirstly, ReadsWith};
@@ -19,10 +19,10 @@ use crate::kept::Kept;
 use command_line::{Command, CommandLine};
 use commands::{Gate, Progress, RunError, Status, run_command};
 use named_files::{
-    FileError, Identity, Named, Whole, check_standard_output, create, open, open_beside,
+    FileError, Identity, Named, Whole, check_standard_output, check_streams, create, open,
+    open_beside,
 };
 use std::alloc::Global;
-use std::fs::OpenFile;
 use std::io::{self, BufWriter, Read, Write};
 use std::rt::Files;
 use std::sync::Wait;
@@ -266,7 +266,6 @@ fn write_to_standard_output<
     line: &'a CommandLine,
     input: &mut M,
     inputs: &mut S,
-    identities: &[Option<Identity>],
     output: &mut W,
     text: &mut E,
     gate: &G,
@@ -279,7 +278,7 @@ fn write_to_standard_output<
         (W.contents output.old) (W.contents output.new) result }
     ensures no_thread { IfErr result (λ failure. IsNoThread failure → StartsThreads line.now.command) }
 {
-    check_standard_output(rt, identities)?;
+    check_standard_output(rt)?;
     match run_into(rt, &line.command, input, inputs, output, text, gate) {
         Ok(status) => Ok(status),
         Err(error) => Err(Failure::Run(error, None)),
@@ -324,7 +323,7 @@ fn answer<
     ensures no_thread { IfErr result (λ failure. IsNoThread failure → StartsThreads line.now.command) }
 {
     if takes_file(line) {
-        return write_to_standard_output(rt, line, input, inputs, identities, output, error, gate);
+        return write_to_standard_output(rt, line, input, inputs, output, error, gate);
     }
     match line.output.as_deref() {
         Some(name) => write_to(rt, line, input, inputs, identities, name, output, gate),
@@ -353,32 +352,30 @@ fn open_input<'a, R: Files + AllocGlobal>(
     })
 }
 
-/// What tells an input from the output of a command line, if it has one.
-fn identity_of<'a, F: OpenFile>(
-    line: &CommandLine,
-    input: &Named<'a, F>,
-) -> Result<Option<Identity>, FileError<'a>>
-    ensures ok { IfOk result (λ identity. is_some identity ≡ is_some line.now.output) }
-    ensures err { IfErr result (Names input.now.name.now) }
+/// What tells an input, which is open, from an output. That it is a standard stream of text is an error.
+fn identity_of<'a, R: Files>(rt: &R, input: &Named<'a, R::File>) -> Result<Identity, FileError<'a>>
+    ensures { IfErr result (λ error. Names input.now.name.now error ⊎ IsInputStream error) }
 {
-    match line.output {
-        Some(_) => Ok(Some(Identity::of(input)?)),
-        None => Ok(None),
-    }
+    let identity = Identity::of(input)?;
+    check_streams(rt, identity)?;
+    Ok(identity)
 }
 
-/// The same of standard input.
+/// The same of standard input, of which a command line without an output needn't know it.
 fn identity_of_standard_input<R: Files>(
     rt: &R,
     line: &CommandLine,
 ) -> Result<Option<Identity>, FileError<'static>>
-    ensures ok { IfOk result (λ identity. is_some identity ≡ is_some line.now.output) }
-    ensures err { IfErr result (Names (codes "standard input")) }
+    ensures ok { IfOk result (λ identity. IsSome line.now.output → IsSome identity) }
+    ensures err { IfErr result (λ error. IsSome line.now.output × Names (codes "standard input") error ⊎ IsInputStream error) }
 {
-    match line.output {
-        Some(_) => Ok(Some(Identity::of_standard_input(rt)?)),
-        None => Ok(None),
-    }
+    let identity = match (Identity::of_standard_input(rt), &line.output) {
+        (Ok(identity), _) => identity,
+        (Err(_), None) => return Ok(None),
+        (Err(error), Some(_)) => return Err(error),
+    };
+    check_streams(rt, identity)?;
+    Ok(Some(identity))
 }
 
 /// The name of a command's second input, if it has one.
@@ -417,7 +414,7 @@ fn answer_with_file<
     ensures no_thread { IfErr result (λ failure. IsNoThread failure → StartsThreads line.now.command) }
 {
     let mut inputs = open_input(rt, line, second)?;
-    let identities = [identity, identity_of(line, &inputs)?];
+    let identities = [identity, Some(identity_of(rt, &inputs)?)];
     match answer(
         rt,
         line,
@@ -511,7 +508,7 @@ fn answer_file<
     ensures no_thread { IfErr result (λ failure. IsNoThread failure → StartsThreads line.now.command) }
 {
     let mut input = open_input(rt, line, &line.input)?;
-    let identity = identity_of(line, &input)?;
+    let identity = Some(identity_of(rt, &input)?);
     match answer_with(
         rt, line, &mut input, identity, standard, kept, output, error, gate,
     ) {

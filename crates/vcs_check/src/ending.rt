@@ -107,12 +107,12 @@ impl Ending<'_> {
         }
     }
 
-    /// Whether it is that a reader has gone away, who wants no text any more.
+    /// Whether nobody is to be told of it: a reader has gone away, or standard error is an input.
     fn is_silent(&self) -> bool
         ensures { (result ≡ true) ↔ IsSilent self.now }
     {
         match self {
-            Ending::Failed(failure) => failure.is_broken_pipe(),
+            Ending::Failed(failure) => failure.is_untold(),
             _ => false,
         }
     }
@@ -129,7 +129,7 @@ impl Ending<'_> {
 
     /// Prints it, help on standard output and all else on standard error, and answers the exit
     /// status. If reasons are wanted it may have a second line. A text for which a file has no room
-    /// isn't begun. That a reader has gone away is no text.
+    /// isn't begun. Nothing is printed of what nobody is to be told.
     pub(crate) fn report<R: Files + Print + Eprint>(self, rt: &R, explain: bool) -> ExitCode
         ensures { IsReported self.entry (exit_status result) }
     {

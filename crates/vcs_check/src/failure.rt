@@ -1,7 +1,7 @@
 //! Why a command did not reach its end.
 ghost use Rattle.std.specs.Prelude.{◌≡◌, ◌↔◌, true};
-ghost use Rattle.vcs_check.specs.Failures.{file_error_of};
-ghost use Rattle.vcs_check.specs.Private.FileErrors.{IsBrokenPipe, by_input, by_output};
+ghost use Rattle.vcs_check.specs.Failures.{IsForOutput, file_error_of};
+ghost use Rattle.vcs_check.specs.Private.FileErrors.{IsUntold, by_input, by_output};
 
 use commands::RunError;
 use named_files::{CreateError, FileError};
@@ -29,13 +29,23 @@ impl<'a> Failure<'a> {
         }
     }
 
-    /// Whether it is that of a pipe whose reader has gone away.
-    pub(crate) fn is_broken_pipe(&self) -> bool
-        ensures { (result ≡ true) ↔ IsBrokenPipe self.now }
+    /// Whether nobody is to be told of it.
+    pub(crate) fn is_untold(&self) -> bool
+        ensures { (result ≡ true) ↔ IsUntold self.now }
     {
         match self.file_error() {
-            Some(file_error) => file_error.is_broken_pipe(),
+            Some(file_error) => file_error.is_untold(),
             None => false,
+        }
+    }
+
+    /// Whether standard output is to be told of it, if it tells of errors.
+    pub(crate) fn is_for_output(&self) -> bool
+        ensures { (result ≡ true) ↔ IsForOutput self.now }
+    {
+        match self.file_error() {
+            Some(file_error) => file_error.is_for_output(),
+            None => true,
         }
     }
 

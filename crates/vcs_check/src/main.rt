@@ -18,6 +18,7 @@ mod remarks;
 
 ghost use Rattle.vcs_check.specs.Commands.{KeepsQuiet, LeavesPart, ReadsInputs, ReadsTwice, Writes};
 ghost use Rattle.vcs_check.specs.Endings.{Concludes, IsEndingOfWords};
+ghost use Rattle.vcs_check.specs.Failures.{IsForOutput};
 ghost use Rattle.vcs_check.specs.ErrorObjects.{GetsErrorObject, SaysErrors};
 ghost use Rattle.vcs_check.specs.Lines.{IsAdvised, IsFaultOf, IsFaultOfWords, IsLineOf, IsLineOfWords, IsMistake, texts_of};
 ghost use Rattle.command_line.specs.Faults.{IsRefusal};
@@ -140,7 +141,7 @@ fn of_streams<'a, I, W, E>(
 }
 
 /// Says on standard output why a command failed that answers in JSON there, if standard output has not
-/// failed itself.
+/// failed itself and is no input.
 fn say_error<R: Files + AllocGlobal, W: Write>(
     rt: &R,
     line: &CommandLine,
@@ -149,8 +150,9 @@ fn say_error<R: Files + AllocGlobal, W: Write>(
 )
     ensures object { SaysErrors line.now → GetsErrorObject failure.now (W.contents output.old.stream) (W.contents output.new.stream) }
     ensures none { (SaysErrors line.now → ⊥) → W.contents output.new.stream ≡ W.contents output.old.stream }
+    ensures not_for_it { (IsForOutput failure.now → ⊥) → W.contents output.new.stream ≡ W.contents output.old.stream }
 {
-    if says_errors(line) && output.file_error().is_none() && !failure.is_broken_pipe() {
+    if says_errors(line) && output.file_error().is_none() && failure.is_for_output() {
         write_error_object(rt.alloc(), failure, output);
     }
 }

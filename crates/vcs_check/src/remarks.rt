@@ -8,13 +8,13 @@ ghost use Rattle.movie_hints.specs.Hints.{Explains};
 use crate::answering::{STANDARD, takes_file};
 use crate::kept::Kept;
 use crate::reasons::write_reason;
-use command_line::{Command, CommandLine};
+use command_line::{Command, CommandLine, Making};
 use commands::{InputForm, Status, read_all};
 use input_text::read_text;
 use movie_file::{Movie, read_inputs, read_movie};
 use movie_hints::{
     Hint, TextHint, hint_of, hint_of_claims, hint_of_counts, hint_of_inputs, hint_of_rom,
-    hint_of_text,
+    hint_of_storage, hint_of_text,
 };
 use named_files::STANDARD_INPUT;
 use riot_map::Cart;
@@ -97,7 +97,7 @@ fn hint_of_part(movie: &Movie, first: NonZeroU32, count: u32, every: NonZeroU32)
     if left == 0 {
         return Some(Hint::HasFrames { frames });
     }
-    hint_of_counts(u64::from(left.min(count)), every)
+    hint_of_counts(u64::from(left.min(count)), every, false)
 }
 
 /// What keeps a command from being done with a movie that can be read.
@@ -128,21 +128,22 @@ fn hint_of_bytes(alloc: Global, command: &Command, bytes: &[u8]) -> Option<Hint>
     }
 }
 
-/// What is wrong with inputs as text: they can't be read, or are too many.
-fn hint_of_lines(alloc: Global, bytes: &[u8], every: NonZeroU32) -> Option<TextHint<'_>> {
+/// What is wrong with inputs as text: they can't be read, or are too many or none. Where a carriage
+/// return alone ends a line, a comment goes on to the end of the text.
+fn hint_of_lines(alloc: Global, bytes: &[u8], making: Making) -> Option<TextHint<'_>> {
     match read_text(alloc, bytes) {
         Ok(inputs) => {
-            let hint = hint_of_counts(inputs.len() as u64, every)?;
-            Some(TextHint::Whole(hint))
+            let hint = hint_of_counts(inputs.len() as u64, making.every, making.to_the_end)?;
+            Some(TextHint::Whole(hint_of_storage(bytes).unwrap_or(hint)))
         }
         Err(_) => hint_of_text(alloc, bytes),
     }
 }
 
 /// What is wrong with inputs as bytes.
-fn hint_of_triples(alloc: Global, bytes: &[u8], every: NonZeroU32) -> Option<Hint> {
+fn hint_of_triples(alloc: Global, bytes: &[u8], making: Making) -> Option<Hint> {
     match read_inputs(alloc, bytes) {
-        Ok(inputs) => hint_of_counts(inputs.len() as u64, every),
+        Ok(inputs) => hint_of_counts(inputs.len() as u64, making.every, making.to_the_end),
         Err(error) => hint_of_inputs(alloc, bytes, error),
     }
 }
@@ -153,12 +154,12 @@ fn tell_of_inputs<R: Files + AllocGlobal + Eprint>(
     inputs: &str,
     bytes: &[u8],
     form: InputForm,
-    every: NonZeroU32,
+    making: Making,
 ) {
     let name = name_of(inputs);
     match form {
-        InputForm::Text => tell(rt, name, hint_of_lines(rt.alloc(), bytes, every)),
-        InputForm::Bytes => tell_whole(rt, name, hint_of_triples(rt.alloc(), bytes, every)),
+        InputForm::Text => tell(rt, name, hint_of_lines(rt.alloc(), bytes, making)),
+        InputForm::Bytes => tell_whole(rt, name, hint_of_triples(rt.alloc(), bytes, making)),
     }
 }
 
@@ -173,15 +174,18 @@ fn tell_of_rom<R: Files + Eprint>(rt: &R, rom: &str, bytes: &[u8], inputs: &str)
 }
 
 /// Says which file was refused, and what is wrong with it. Inputs were read only if the ROM is a
-/// cartridge.
+/// cartridge, and the ROM of a report only if the movie is one.
 fn tell_of_refusal<R: Files + AllocGlobal + Eprint>(rt: &R, line: &CommandLine, kept: &Kept) {
     let Some(first) = &kept.first else {
         return;
     };
+    if let (Command::Report { rom: Some(rom), .. }, Some(second)) = (&line.command, &kept.second) {
+        return tell_whole(rt, name_of(rom), Some(hint_of_rom(second)));
+    }
     let Command::Make {
         inputs,
         form,
-        every,
+        making,
     } = &line.command
     else {
         let hint = hint_of_bytes(rt.alloc(), &line.command, first);
@@ -191,14 +195,15 @@ fn tell_of_refusal<R: Files + AllocGlobal + Eprint>(rt: &R, line: &CommandLine, 
         return tell_of_rom(rt, &line.input, first, inputs);
     }
     if let Some(second) = &kept.second {
-        tell_of_inputs(rt, inputs, second, *form, *every);
+        tell_of_inputs(rt, inputs, second, *form, *making);
     }
 }
 
 /// Says which frames at the end of a movie that was written no checkpoint follows, if any.
 fn tell_of_output<R: Files + AllocGlobal + Eprint>(rt: &R, line: &CommandLine) {
     let every = match line.command {
-        Command::Make { every, .. } | Command::Cut { every, .. } => every,
+        Command::Make { making, .. } if !making.to_the_end => making.every,
+        Command::Cut { every, .. } => every,
         _ => return,
     };
     if takes_file(line) {
@@ -209,6 +214,21 @@ fn tell_of_output<R: Files + AllocGlobal + Eprint>(rt: &R, line: &CommandLine) {
     };
     if let Some(bytes) = read_again(rt, output) {
         tell_whole(rt, output, hint_of_claims(&bytes, every));
+    }
+}
+
+/// Says how a text of inputs is stored that was read otherwise than it was meant.
+fn tell_of_storage<R: Files + Eprint>(rt: &R, command: &Command, kept: &Kept) {
+    let Command::Make {
+        inputs,
+        form: InputForm::Text,
+        ..
+    } = command
+    else {
+        return;
+    };
+    if let Some(text) = &kept.second {
+        tell_whole(rt, name_of(inputs), hint_of_storage(text));
     }
 }
 
@@ -246,7 +266,8 @@ fn tell_of_no_frame<R: Files + AllocGlobal + Eprint>(rt: &R, line: &CommandLine,
 }
 
 /// Says which file was refused and why, how many frames a movie has that has none of those that were
-/// asked for, and which frames of a movie that was written no checkpoint follows.
+/// asked for, how inputs are stored that were read otherwise than they were meant, and which frames of a
+/// movie that was written no checkpoint follows.
 pub(crate) fn remark<R: Files + AllocGlobal + Eprint>(
     rt: &R,
     line: &CommandLine,
@@ -257,6 +278,7 @@ pub(crate) fn remark<R: Files + AllocGlobal + Eprint>(
         Status::Refused => tell_of_refusal(rt, line, kept),
         Status::Done => {
             tell_of_no_frame(rt, line, kept);
+            tell_of_storage(rt, &line.command, kept);
             tell_of_output(rt, line);
         }
         Status::False | Status::Fault | Status::Unexpected => {}

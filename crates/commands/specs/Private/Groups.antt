@@ -4,12 +4,12 @@ use Rattle.command_line.specs.declared.command.Command.TheVariants.{Make, Frames
 
 -- It is about a movie.
 abbrev pub IsAboutMovies : Command → Type 0
-IsAboutMovies (Make inputs form every) = ⊥
+IsAboutMovies (Make inputs form making) = ⊥
 IsAboutMovies other = Unit {0}
 
 -- It is, and it writes nothing before its answer is whole.
 abbrev pub IsAtOnce : Command → Type 0
-IsAtOnce (Make inputs form every) = ⊥
+IsAtOnce (Make inputs form making) = ⊥
 IsAtOnce (Frames first count details notation) = ⊥
 IsAtOnce (Pictures first count) = ⊥
 IsAtOnce (Trace frame) = ⊥

@@ -13,4 +13,4 @@ pub returns-in-Err-clause-ends : goal.returns-in-Err-clause-ends
 returns-in-Err-clause-ends g c =
     let e = c.of_streams-failure.ensures in
     failed c.args.line.now _ _ _ c.in-Err.failure c.of_streams-failure.result e.0 e.1 e.2 _ c.in-Err.is e.6
-    (grind (arith, c.report-in-Err.ensures)) c.say_error.ensures.object c.say_error.ensures.none
+    (grind (arith, c.report-in-Err.ensures)) c.say_error.ensures.object c.say_error.ensures.none c.say_error.ensures.not_for_it

@@ -1,6 +1,6 @@
 -- Which file a failure is about. This project's own.
 use Rattle.std.specs.Prelude.{Option, None, IsSomeAnd}
-use Rattle.named_files.specs.FileErrors.{IsBrokenPipe as IsBroken}
+use Rattle.named_files.specs.FileErrors.{IsUntold as IsFileUntold}
 use Rattle.named_files.specs.declared.file_error.CreateError.{CreateError}
 use Rattle.named_files.specs.declared.file_error.CreateError.TheVariants as created
 use Rattle.named_files.specs.declared.file_error.FileError.{FileError}
@@ -16,13 +16,13 @@ abbrev pub of_create_error : CreateError → Failure
 of_create_error (created.Open file_error) = Open file_error
 of_create_error created.NoMemory = Run NoMemory None
 
--- The file that failed is a pipe that nobody reads any more.
-abbrev pub IsBrokenPipe : Failure → Type 0
-IsBrokenPipe failure = IsSomeAnd (file_error_of failure) IsBroken
+-- Nobody is told why a file failed.
+abbrev pub IsUntold : Failure → Type 0
+IsUntold failure = IsSomeAnd (file_error_of failure) (λ file_error. IsFileUntold file_error.reason)
 
--- The program ends without a text: nobody reads it any more.
+-- The program ends without a text: nobody reads it any more, or it would come into an input.
 abbrev pub IsSilent : Ending → Type 0
-IsSilent (Failed failure) = IsBrokenPipe failure
+IsSilent (Failed failure) = IsUntold failure
 IsSilent ending = ⊥
 
 -- The same failure by the error of an input, if a read failed and no error of a file is known,

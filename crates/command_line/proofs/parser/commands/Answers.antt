@@ -11,10 +11,13 @@ returns c =
           (
             c.in_ok-info.ensures,
             (
-              c.in_ok-inputs.ensures,
+              c.in_ok-claims.ensures,
               (
-                c.in_ok-cartridge.ensures,
-                (c.in_ok-convert.ensures, (c.in_ok-frames.ensures, (c.in_ok-pictures.ensures, (c.in_ok-cut.ensures, (c.in_ok-trace.ensures, tt))))),
+                c.in_ok-inputs.ensures,
+                (
+                  c.in_ok-cartridge.ensures,
+                  (c.in_ok-convert.ensures, (c.in_ok-frames.ensures, (c.in_ok-pictures.ensures, (c.in_ok-cut.ensures, (c.in_ok-trace.ensures, tt))))),
+                ),
               ),
             ),
           ),

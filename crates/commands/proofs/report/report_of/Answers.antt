@@ -1,5 +1,5 @@
 use Rattle.std.proofs.Common.{refl, string_bytes}
-use Rattle.commands.proofs.report.report.Goals as goal
+use Rattle.commands.proofs.report.report_of.Goals as goal
 
 pub report-requires-after_bounds : goal.report-requires-after_bounds
 report-requires-after_bounds g c κs within = (c.without_pictures-plan.result.keep, c.in_ok-verdict.ensures.verdict)

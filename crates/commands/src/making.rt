@@ -1,0 +1,182 @@
+//! Movies of runs from power-on, with the checkpoints that `make` is asked for.
+ghost use Rattle.std.specs.Prelude.{◌≡◌, ◌≤◌, ◌<◌, ◌++◌, ◌/◌, [], length, IfErr, IfOk, IfSome, IsTrue, None};
+ghost use Rattle.std.specs.Prelude.{true, vec_capacity, vec_len};
+ghost use Rattle.riot_map.specs.Cart.{is_cart_length};
+ghost use Rattle.vcs_machine.specs.States.{state_at_power_on};
+ghost use Rattle.movie_file.specs.Judgement.{IsGenuine};
+ghost use Rattle.movie_file.specs.Making.{IsFirstFault, counts_fit};
+ghost use Rattle.movie_file.specs.Movie.{IsState};
+ghost use Rattle.movie_hints.specs.Counts.{checkpoints_of};
+ghost use Rattle.commands.specs.Make.{IsMadeMovie, do_claims_fit, is_last_claimed, last_claim};
+ghost use Rattle.commands.specs.Private.MadeRuns.{Explains, HasRun};
+
+use movie_file::{
+    Checkpoint, MOST_CHECKPOINTS, MakeError, Movie, Progress, Work, claim, do_counts_fit, movie_of,
+    version_made,
+};
+use riot_map::Cart;
+use run_cursor::RunFault;
+use std::alloc::Global;
+use vcs_machine::{Input, State, halt};
+
+/// A run from power-on, up to its end or its first fault.
+#[derive(Drop)]
+struct MadeRun {
+    checkpoints: Vec<Checkpoint>,
+    /// The state after the last frame.
+    state: State,
+    fault: Option<RunFault>,
+}
+
+/// How many checkpoints a movie has that is made of so many frames.
+fn checkpoints_of(frames: usize, every: u32, to_the_end: bool) -> usize
+    requires { 1 ≤ every }
+    ensures { result ≡ checkpoints_of frames every to_the_end }
+{
+    let every = every as usize;
+    if to_the_end {
+        frames.div_ceil(every)
+    } else {
+        frames / every
+    }
+}
+
+/// Whether a movie can have so many frames, and these checkpoints.
+fn do_claims_fit(frames: usize, every: u32, to_the_end: bool) -> bool
+    ensures { result ≡ do_claims_fit frames every to_the_end }
+{
+    do_counts_fit(frames, every)
+        && checkpoints_of(frames, every, to_the_end) <= MOST_CHECKPOINTS as usize
+}
+
+/// The run from power-on. The checkpoints are put into an empty list that has room for them.
+fn run_of<P: Progress>(
+    mut checkpoints: Vec<Checkpoint>,
+    cart: &Cart,
+    start: &State,
+    inputs: &[Input],
+    every: u32,
+    progress: &P,
+) -> MadeRun
+    requires empty { checkpoints.items ≡ [] }
+    requires start { start.now ≡ state_at_power_on cart.now }
+    requires fits { IsTrue (counts_fit (length inputs.now) every) }
+    requires room { length inputs.now / every ≤ vec_capacity checkpoints }
+    ensures ends { result.fault ≡ None → HasRun cart.now inputs.now every (length inputs.now) result.checkpoints.items result.state }
+    ensures faults { IfSome result.fault (λ fault. IsFirstFault cart.now inputs.now fault.frame fault.kind) }
+    ensures capacity { vec_capacity result.checkpoints ≡ vec_capacity checkpoints }
+{
+    let mut state = start.copy();
+    for i in 0..inputs.len() {
+        let frame = i as u32 + 1;
+        match halt(cart, &mut state, inputs[i]) {
+            None => claim(&mut checkpoints, every, frame, &state),
+            Some(halt) => {
+                let kind = halt.kind;
+                return MadeRun {
+                    checkpoints,
+                    state,
+                    fault: Some(RunFault { frame, kind }),
+                };
+            }
+        }
+        progress.advance();
+    }
+    MadeRun {
+        checkpoints,
+        state,
+        fault: None,
+    }
+}
+
+/// Adds the checkpoint after the last frame, if it is asked for and none stands there. It takes no
+/// memory.
+fn with_last_claim(
+    mut checkpoints: Vec<Checkpoint>,
+    frames: u32,
+    every: u32,
+    to_the_end: bool,
+    state: &State,
+) -> Vec<Checkpoint>
+    requires every { 1 ≤ every }
+    requires room { is_last_claimed frames every to_the_end ≡ true → vec_len checkpoints < vec_capacity checkpoints }
+    ensures items { result.items ≡ checkpoints.items ++ last_claim frames every to_the_end state.now }
+    ensures lawful { IsState state.now }
+{
+    let state = state.copy();
+    if to_the_end && frames % every != 0 {
+        checkpoints.push_reserved(Checkpoint {
+            frame: frames,
+            state,
+        });
+    }
+    checkpoints
+}
+
+/// The movie of a run that ended. It takes no memory.
+fn movie_of_run(
+    cart: Cart,
+    start: State,
+    inputs: Vec<Input>,
+    run: MadeRun,
+    every: u32,
+    to_the_end: bool,
+) -> Movie
+    requires start { start ≡ state_at_power_on cart }
+    requires fits { IsTrue (do_claims_fit (length inputs.items) every to_the_end) }
+    requires ran { HasRun cart inputs.items every (length inputs.items) run.checkpoints.items run.state }
+    requires room { checkpoints_of (length inputs.items) every to_the_end ≤ vec_capacity run.checkpoints }
+    ensures made { IsMadeMovie cart inputs.items every to_the_end result }
+    ensures genuine { IsGenuine result }
+{
+    let frames = inputs.len();
+    let checkpoints = with_last_claim(
+        run.checkpoints,
+        frames as u32,
+        every,
+        to_the_end,
+        &run.state,
+    );
+    let version = version_made(&cart, frames);
+    movie_of(version, cart, start, inputs, checkpoints)
+}
+
+/// The movie of a run from power-on on a cartridge, one frame for each input, with a checkpoint after
+/// each `every` frames, and to the end after the last one too.
+///
+/// `BadCounts` comes first, as of `make_movie`. Then the memory of the checkpoints is taken, in one
+/// allocation; if that is refused `NoMemory` comes before any frame. `Fault` names the first frame
+/// that faults. The frames are told as one work, which begins after that memory was taken.
+pub(crate) fn make_run<P: Progress>(
+    alloc: Global,
+    cart: Cart,
+    inputs: Vec<Input>,
+    every: u32,
+    to_the_end: bool,
+    progress: &P,
+) -> Result<Movie, MakeError>
+    ensures made { IfOk result (IsMadeMovie cart inputs.items every to_the_end) }
+    ensures genuine { IfOk result (λ movie. IsGenuine movie) }
+    ensures fits { IfOk result (λ _. IsTrue (do_claims_fit (length inputs.items) every to_the_end)) }
+    ensures refused { IfErr result (Explains cart inputs.items every to_the_end) }
+{
+    let frames = inputs.len();
+    if !do_claims_fit(frames, every, to_the_end) {
+        return Err(MakeError::BadCounts);
+    }
+    let count = checkpoints_of(frames, every, to_the_end);
+    let Ok(checkpoints) = Vec::with_capacity(alloc, count) else {
+        return Err(MakeError::NoMemory);
+    };
+    let start = State::power_on(&cart);
+    progress.begin(Work::Frames(frames as u32));
+    let run = run_of(checkpoints, &cart, &start, &inputs, every, progress);
+    progress.end();
+    match run.fault {
+        None => Ok(movie_of_run(cart, start, inputs, run, every, to_the_end)),
+        Some(fault) => Err(MakeError::Fault {
+            frame: fault.frame,
+            kind: fault.kind,
+        }),
+    }
+}
