@@ -16,7 +16,7 @@ from collections.abc import Iterable, Iterator
 from typing import Any, Self
 
 from votmeshaw import files, verdicts
-from votmeshaw.facts import NONE
+from votmeshaw.facts import KINDS, NONE
 from votmeshaw.names import name_in, named, readable
 from votmeshaw.verdicts import Verdict
 from votmeshaw.verifier import with_reason
@@ -77,11 +77,12 @@ def told(item: dict[str, Any]) -> str:
 
 
 def why(item: dict[str, Any]) -> str:
-    """Why the movie of an object of the file is refused or isn't judged now, what is wrong if a program contradicts itself, or nothing."""
+    """What is wrong with the movie of an object of the file now, if it isn't genuine; what is wrong if a program contradicts itself; or
+    nothing."""
     new = item["new"] or {}
     if item["change"] == CONTRADICTED:
         return f"{readable(name_in(item, 'path'))}: the same program said something else of the same bytes. Don't rely on this machine, or on this program"
-    if not new.get("reason") and new.get("verdict") != NONE:
+    if not new or new["verdict"] == KINDS[0]:
         return ""
     return f"{readable(name_in(item, 'path'))}: {with_reason(new['line'], new.get('reason', ''))}"
 

@@ -5,7 +5,7 @@ import os
 from collections.abc import Iterator
 
 from votmeshaw.cartridges import Cartridges
-from votmeshaw.facts import KINDS
+from votmeshaw.facts import KINDS, NONE
 from votmeshaw.names import readable, shell_word
 from votmeshaw.verdicts import Verdict
 from votmeshaw.verifier import with_reason
@@ -50,7 +50,8 @@ class Expected:
         """A line for each movie that isn't as it should be: its name, the line of its verdict, and the reason."""
         for it in answers:
             if it["verdict"] != KINDS[0]:
-                yield f"not genuine: {readable(it['path'])}: {with_reason(it['line'], it.get('reason', ''))}"
+                word = NONE if it["verdict"] == NONE else "not genuine"
+                yield f"{word}: {readable(it['path'])}: {with_reason(it['line'], it.get('reason', ''))}"
             elif told := self.told(it):
                 yield f"not as expected: {told}"
 

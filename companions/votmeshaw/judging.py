@@ -38,11 +38,12 @@ def judged(verifier: Verifier, folder: Folder, movie: Movie, cartridges: Cartrid
         return unjudged(movie, "changed while it was judged", verifier)
     began = time.monotonic()
     try:
-        data = whole(data, cartridges)
-        answer = verifier.answer(data, "report", "-", "--json")
+        movie_data = whole(data, cartridges)
+        answer = verifier.answer(movie_data, "report", "-", "--json")
     except (NoAnswer, Damaged) as error:
         return unjudged(movie, str(error), verifier)
-    verdict = _verdict(movie, hashlib.sha256(data).hexdigest(), answer, verifier)
+    digest = movie.digest if movie_data is data else hashlib.sha256(movie_data).hexdigest()
+    verdict = _verdict(movie, digest, answer, verifier)
     verdict["seconds"] = round(time.monotonic() - began, 3)
     return verdict
 

@@ -77,8 +77,9 @@ def object_in(line: bytes) -> dict[str, Any]:
         found = json.loads(line.decode("utf-8"), parse_constant=lambda word: _no(f"{word} is no number"), object_pairs_hook=_members)
     except RecursionError:
         raise ValueError("too deep") from None
-    within = [found]
-    for _ in range(DEEPEST):
+    within, depth = [found], 0
+    while within and depth < DEEPEST:
+        depth += 1
         within = [it for value in within if isinstance(value, dict | list) for it in (value.values() if isinstance(value, dict) else value)]
     return found if isinstance(found, dict) and not within else _no("too deep" if within else "not an object")
 

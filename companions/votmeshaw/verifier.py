@@ -113,9 +113,12 @@ class Verifier:
 
     def answer(self, movie: bytes, *words: str) -> Answer:
         """The answer to a question, whose movie is '-': these bytes come on standard input."""
-        with self.running(movie, *words) as process:
-            out, err = process.communicate()
-        return Answer(process.returncode, out, err)
+        # (one pipe alone is read to its end, and costs less than two that are read by turns)
+        with os.fdopen(os.memfd_create("errors"), "w+b", buffering=0) as errors:
+            with self.running(movie, *words, stderr=errors) as process:
+                out, _ = process.communicate()
+            errors.seek(0)
+            return Answer(process.returncode, out, errors.read())
 
     @contextlib.contextmanager
     def running(self, movie: bytes, *words: str, **how: Any) -> Iterator[subprocess.Popen[bytes]]:
