@@ -1,0 +1,35 @@
+//! The television interface adaptor (TIA) of the Atari 2600 as the chip does it, clock by clock. Its
+//! sources are the Stella Programmer's Guide, Andrew Towers' notes on the TIA, and what was measured
+//! in Stella 6.7; `specs/` says each rule, and whence it is.
+#![tactic(auto)]
+
+mod ball;
+mod bits;
+mod collision;
+mod colour;
+mod counter;
+mod effect;
+mod laws;
+mod missile;
+mod motion;
+mod objects;
+mod pixel;
+mod player;
+mod playfield;
+mod read;
+mod register;
+mod state;
+mod tia;
+mod waiting;
+mod write;
+
+pub use ball::Ball;
+pub use effect::Effect;
+pub use laws::law_of_records;
+pub use missile::{Missile, MissileCopy};
+pub use pixel::Pixel;
+pub use player::{Player, PlayerCopy};
+pub use register::{Register, WSYNC};
+pub use state::TiaState;
+pub use tia::Tia;
+pub use waiting::Waiting;

@@ -1,0 +1,270 @@
+//! The two missiles.
+ghost use Rattle.std.specs.Prelude.{◌≡◌, ◌<◌, ◌≤◌, Option};
+ghost use Rattle.tia_chip.specs.Missile.{begins_missile, copy_about_to_show, copy_before_step};
+ghost use Rattle.tia_chip.specs.Missile.{is_locked, is_missile_changed, is_missile_drawn};
+ghost use Rattle.tia_chip.specs.Missile.{is_missile_lit, looked_at_missile, missile_after_nusiz};
+ghost use Rattle.tia_chip.specs.Missile.{missile_after_resmp, missile_after_step};
+ghost use Rattle.tia_chip.specs.Missile.{missile_after_strobe, release_of, resized_copy, size_of};
+ghost use Rattle.tia_chip.specs.Missile.{stepped_missile_copy, strobed_missile_copy};
+ghost use Rattle.tia_chip.specs.Private.Ranges.{IsMissileCopyInRange, IsMissileInRange, IsWidth};
+
+use crate::bits::has_bit;
+use crate::counter::{begins_copy, next_counter, strobed_counter};
+
+/// A copy of a missile that is on its way.
+#[derive(Clone, Copy, Debug, PartialEq, Eq)]
+pub struct MissileCopy {
+    /// How far it is: it is drawn from place 4 on.
+    pub place: u8,
+    /// The size at which it is over if the missile moves.
+    pub own_size: u8,
+}
+
+/// A missile, with the registers that are its own.
+#[derive(Clone, Copy, Debug, PartialEq, Eq)]
+pub struct Missile {
+    pub enam: u8,
+    pub resmp: u8,
+    pub hmm: u8,
+    /// 0 to 159.
+    pub counter: u8,
+    pub copy: Option<MissileCopy>,
+    /// Whether HMOVE moves it.
+    pub moves: bool,
+    /// Whether its copy was drawn when it was last looked at.
+    pub seen: bool,
+}
+
+/// The size of a missile or ball, by bits 5 and 4 of NUSIZ or CTRLPF.
+pub fn size(register: u8) -> u8
+    ensures value { result ≡ size_of register }
+    ensures range { result ≤ 8 }
+{
+    1 << (register / 16 % 4)
+}
+
+/// Whether a copy is drawn.
+fn is_drawn(copy: Option<MissileCopy>) -> bool
+    ensures { result ≡ is_missile_drawn copy }
+{
+    match copy {
+        None => false,
+        Some(copy) => copy.place >= 4,
+    }
+}
+
+/// A copy as the step from place 3 finds it.
+fn copy_about_to_show(size: u8, clock: u8, moves: bool) -> MissileCopy
+    ensures { result ≡ copy_about_to_show size clock moves }
+{
+    if moves && clock % 4 == 1 {
+        MissileCopy {
+            place: 3,
+            own_size: 0,
+        }
+    } else if moves && clock % 4 == 2 && size <= 2 {
+        MissileCopy {
+            place: 4,
+            own_size: 2,
+        }
+    } else {
+        MissileCopy {
+            place: 3,
+            own_size: size,
+        }
+    }
+}
+
+/// A copy as a step at this clock finds it.
+fn copy_before_step(
+    size: u8,
+    clock: u8,
+    moves: bool,
+    copy: Option<MissileCopy>,
+) -> Option<MissileCopy>
+    requires copy { IsMissileCopyInRange copy }
+    requires size { size ≤ 8 }
+    ensures value { result ≡ copy_before_step size clock moves copy }
+    ensures range { IsMissileCopyInRange result }
+{
+    match copy {
+        Some(copy) if copy.place == 3 => Some(copy_about_to_show(size, clock, moves)),
+        _ => copy,
+    }
+}
+
+/// A copy after a step, unless another begins.
+fn stepped_copy(size: u8, moves: bool, copy: Option<MissileCopy>) -> Option<MissileCopy>
+    requires copy { IsMissileCopyInRange copy }
+    requires size { size ≤ 8 }
+    ensures value { result ≡ stepped_missile_copy size moves copy }
+    ensures range { IsMissileCopyInRange result }
+{
+    match copy {
+        None => None,
+        Some(copy) => {
+            let end = 4 + (if moves { copy.own_size } else { size });
+            let place = copy.place + 1;
+            if place >= end {
+                None
+            } else {
+                Some(MissileCopy { place, ..copy })
+            }
+        }
+    }
+}
+
+/// A copy once NUSIZ has this size.
+fn resized_copy(size: u8, copy: Option<MissileCopy>) -> Option<MissileCopy>
+    requires copy { IsMissileCopyInRange copy }
+    requires size { size ≤ 8 }
+    ensures value { result ≡ resized_copy size copy }
+    ensures range { IsMissileCopyInRange result }
+{
+    match copy {
+        Some(copy) if copy.place >= 4 + size => None,
+        _ => copy,
+    }
+}
+
+/// A copy after a strobe that takes effect so many steps late.
+fn strobed_copy(
+    size: u8,
+    in_blank: bool,
+    late: u8,
+    copy: Option<MissileCopy>,
+) -> Option<MissileCopy>
+    requires copy { IsMissileCopyInRange copy }
+    requires late { late ≤ 2 }
+    ensures value { result ≡ strobed_missile_copy size in_blank late copy }
+    ensures range { IsMissileCopyInRange result }
+{
+    match copy {
+        None => None,
+        Some(copy) if copy.place < 4 => Some(MissileCopy {
+            place: late,
+            ..copy
+        }),
+        Some(copy) if size >= 4 => {
+            let half = if copy.place < 8 { 4 } else { 8 };
+            Some(MissileCopy {
+                place: half + late,
+                ..copy
+            })
+        }
+        Some(copy) => {
+            if in_blank {
+                None
+            } else {
+                Some(MissileCopy { place: 5, ..copy })
+            }
+        }
+    }
+}
+
+/// How far a missile's counter is behind that of the player that lets it go, by the player's width.
+fn release(width: u8) -> u8
+    requires { IsWidth width }
+    ensures value { result ≡ release_of width }
+    ensures range { result ≤ 12 }
+{
+    match width {
+        1 => 5,
+        2 => 8,
+        _ => 12,
+    }
+}
+
+impl Missile {
+    /// Whether it keeps copies from beginning.
+    fn is_locked(&self) -> bool
+        ensures { result ≡ is_locked self.now }
+    {
+        has_bit(self.resmp, 1)
+    }
+
+    /// Whether a copy begins with this step.
+    fn begins(&self, nusiz: u8) -> bool
+        ensures { result ≡ begins_missile nusiz self.now }
+    {
+        begins_copy(nusiz % 8, self.counter) && !self.is_locked()
+    }
+
+    /// Looks at it: what is seen stays until the next look.
+    pub(crate) fn look(&mut self)
+        requires { IsMissileInRange self.old }
+        ensures value { self.new ≡ looked_at_missile self.old }
+        ensures range { IsMissileInRange self.new }
+    {
+        self.seen = is_drawn(self.copy);
+    }
+
+    /// A step at a clock of the line, before which it is looked at.
+    pub(crate) fn step(&mut self, nusiz: u8, clock: u8)
+        requires { IsMissileInRange self.old }
+        ensures value { self.new ≡ missile_after_step nusiz clock self.old }
+        ensures range { IsMissileInRange self.new }
+    {
+        let size = size(nusiz);
+        self.copy = copy_before_step(size, clock, self.moves, self.copy);
+        self.look();
+        self.copy = if self.begins(nusiz) {
+            Some(MissileCopy {
+                place: 0,
+                own_size: 1,
+            })
+        } else {
+            stepped_copy(size, self.moves, self.copy)
+        };
+        self.counter = next_counter(self.counter);
+    }
+
+    /// A write of NUSIZ of its player.
+    pub(crate) fn write_nusiz(&mut self, nusiz: u8)
+        requires { IsMissileInRange self.old }
+        ensures value { self.new ≡ missile_after_nusiz nusiz self.old }
+        ensures range { IsMissileInRange self.new }
+    {
+        self.copy = resized_copy(size(nusiz), self.copy);
+    }
+
+    /// RESM, which takes effect so many steps late.
+    pub(crate) fn strobe(&mut self, nusiz: u8, in_blank: bool, late: u8)
+        requires range { IsMissileInRange self.old }
+        requires late { late ≤ 2 }
+        ensures value { self.new ≡ missile_after_strobe nusiz in_blank late self.old }
+        ensures range { IsMissileInRange self.new }
+    {
+        self.counter = strobed_counter(late);
+        self.copy = strobed_copy(size(nusiz), in_blank, late, self.copy);
+    }
+
+    /// Writes RESMP, with the width and the counter of its player.
+    pub(crate) fn write_resmp(&mut self, width: u8, counter: u8, resmp: u8)
+        requires range { IsMissileInRange self.old }
+        requires width { IsWidth width }
+        requires counter { counter < 160 }
+        ensures value { self.new ≡ missile_after_resmp width counter resmp self.old }
+        ensures range { IsMissileInRange self.new }
+    {
+        if self.is_locked() && !has_bit(resmp, 1) {
+            let ahead = u16::from(counter) + 160;
+            self.counter = ((ahead - u16::from(release(width))) % 160) as u8;
+        }
+        self.resmp = resmp;
+    }
+
+    /// Whether it is lit.
+    pub(crate) fn is_lit(&self) -> bool
+        ensures { result ≡ is_missile_lit self.now }
+    {
+        self.seen && has_bit(self.enam, 1) && !self.is_locked()
+    }
+
+    /// Whether a write that made it of `before` changed ENAM or RESMP.
+    pub(crate) fn is_changed_from(&self, before: &Missile) -> bool
+        ensures { result ≡ is_missile_changed before.now self.now }
+    {
+        before.enam != self.enam || before.resmp != self.resmp
+    }
+}

@@ -1,0 +1,378 @@
+//! The two players.
+ghost use Rattle.std.specs.Prelude.{◌≡◌, ◌<◌, ◌≤◌, Option};
+ghost use Rattle.tia_chip.specs.Player.{begins_player, ends_bit, graphic_of, is_drawn, is_drawn_at};
+ghost use Rattle.tia_chip.specs.Player.{is_player_changed, looked_at_player, next_place};
+ghost use Rattle.tia_chip.specs.Player.{player_after_step, player_after_strobe, stepped_copy};
+ghost use Rattle.tia_chip.specs.Player.{strobed_copy, width_of, with_awaited_step};
+ghost use Rattle.tia_chip.specs.Player.{is_drawn_next, shows_one};
+ghost use Rattle.tia_chip.specs.PlayerWidth.{beginning_of, change_of, copy_at_change, copy_in_mode};
+ghost use Rattle.tia_chip.specs.PlayerWidth.{player_after_nusiz, steps_to_change, with_width};
+ghost use Rattle.tia_chip.specs.PlayerWidth.{place_at_change};
+ghost use Rattle.tia_chip.specs.Private.Ranges.{IsCopyInRange, IsPlaceInRange, IsPlayerInRange, IsWidth};
+
+use crate::bits::has_bit;
+use crate::counter::{begins_copy, next_counter, strobed_counter};
+use crate::register::value_by_delay;
+
+/// A copy of a player that is on its way.
+#[derive(Clone, Copy, Debug, PartialEq, Eq)]
+pub struct PlayerCopy {
+    /// How far it is, from 0 to 9: it is drawn from place 5 on, if wide from place 6 on.
+    pub place: u8,
+    /// Which of its 8 bits comes next, from the left.
+    pub bit: u8,
+}
+
+/// A player, with the registers that draw and move it.
+#[derive(Clone, Copy, Debug, PartialEq, Eq)]
+pub struct Player {
+    pub nusiz: u8,
+    pub refp: u8,
+    /// The graphic that was written last.
+    pub grp_new: u8,
+    /// The graphic that is shown with VDELP.
+    pub grp_old: u8,
+    pub vdelp: u8,
+    pub hmp: u8,
+    /// 0 to 159.
+    pub counter: u8,
+    pub copy: Option<PlayerCopy>,
+    /// The width in force: 1, 2 or 4.
+    pub width: u8,
+    /// How many steps of a drawn copy pass until the width is that of NUSIZ; 0 if it is.
+    pub change: u8,
+    /// Whether HMOVE moves it.
+    pub moves: bool,
+    /// Whether it showed a bit that is 1 when it was last looked at.
+    pub seen: bool,
+}
+
+/// The width of a player's bits by NUSIZ.
+pub fn width(nusiz: u8) -> u8
+    ensures value { result ≡ width_of nusiz }
+    ensures range { IsWidth result }
+{
+    match nusiz % 8 {
+        5 => 2,
+        7 => 4,
+        _ => 1,
+    }
+}
+
+/// Whether a copy is drawn at a place.
+fn is_drawn_at(width: u8, place: u8) -> bool
+    ensures { result ≡ is_drawn_at width place }
+{
+    place >= (if width == 1 { 5 } else { 6 })
+}
+
+/// Whether a copy is drawn.
+fn is_drawn(width: u8, copy: Option<PlayerCopy>) -> bool
+    ensures { result ≡ is_drawn width copy }
+{
+    match copy {
+        None => false,
+        Some(copy) => is_drawn_at(width, copy.place),
+    }
+}
+
+/// The place after a step.
+fn next_place(place: u8) -> u8
+    requires { IsPlaceInRange place }
+    ensures value { result ≡ next_place place }
+    ensures range { IsPlaceInRange result }
+{
+    if place == 9 { 6 } else { place + 1 }
+}
+
+/// Whether the step from a place ends a bit.
+fn ends_bit(width: u8, place: u8) -> bool
+    requires place { IsPlaceInRange place }
+    requires width { IsWidth width }
+    ensures { result ≡ ends_bit width place }
+{
+    let next = next_place(place);
+    if width == 1 {
+        next >= 6
+    } else {
+        place >= 6 && (next - 6) % width == 0
+    }
+}
+
+/// A copy after a step.
+fn stepped_copy(width: u8, copy: Option<PlayerCopy>) -> Option<PlayerCopy>
+    requires copy { IsCopyInRange copy }
+    requires width { IsWidth width }
+    ensures value { result ≡ stepped_copy width copy }
+    ensures range { IsCopyInRange result }
+{
+    match copy {
+        None => None,
+        Some(copy) => {
+            let place = next_place(copy.place);
+            if !ends_bit(width, copy.place) {
+                Some(PlayerCopy {
+                    place,
+                    bit: copy.bit,
+                })
+            } else if copy.bit == 7 {
+                None
+            } else {
+                Some(PlayerCopy {
+                    place,
+                    bit: copy.bit + 1,
+                })
+            }
+        }
+    }
+}
+
+/// Whether a step from a copy leads to a place at which it is drawn.
+fn is_drawn_next(width: u8, copy: Option<PlayerCopy>) -> bool
+    requires { IsCopyInRange copy }
+    ensures { result ≡ is_drawn_next width copy }
+{
+    match copy {
+        None => false,
+        Some(copy) => is_drawn_at(width, next_place(copy.place)),
+    }
+}
+
+/// A copy after a strobe that takes effect so many steps late.
+fn strobed_copy(late: u8, copy: Option<PlayerCopy>) -> Option<PlayerCopy>
+    requires copy { IsCopyInRange copy }
+    requires late { late ≤ 2 }
+    ensures value { result ≡ strobed_copy late copy }
+    ensures range { IsCopyInRange result }
+{
+    match copy {
+        None => None,
+        Some(copy) if copy.place < 4 => Some(PlayerCopy {
+            place: late,
+            ..copy
+        }),
+        Some(copy) => Some(copy),
+    }
+}
+
+/// How many steps pass until a width changes from `old` to `new`, with a copy at this place; 0 if it
+/// changes at once.
+fn steps_to_change(in_blank: bool, old: u8, new: u8, place: u8) -> u8
+    requires old { IsWidth old }
+    requires place { IsPlaceInRange place }
+    ensures value { result ≡ steps_to_change in_blank old new place }
+    ensures range { result ≤ 5 }
+{
+    let soon = if in_blank { place } else { place + 1 };
+    let left = (14 - place) % old;
+    if soon < 4 || old != 1 && soon < 6 {
+        0
+    } else if old == 1 || new == 1 {
+        if in_blank && is_drawn_at(old, place) {
+            1
+        } else {
+            2
+        }
+    } else if left != 0 {
+        left + 1
+    } else if in_blank {
+        0
+    } else {
+        old + 1
+    }
+}
+
+/// How many steps a change of width waits for.
+fn change_of(in_blank: bool, old: u8, new: u8, copy: Option<PlayerCopy>) -> u8
+    requires old { IsWidth old }
+    requires copy { IsCopyInRange copy }
+    ensures value { result ≡ change_of in_blank old new copy }
+    ensures range { result ≤ 5 }
+{
+    match copy {
+        None => 0,
+        Some(copy) => steps_to_change(in_blank, old, new, copy.place),
+    }
+}
+
+/// The place of a copy as the width changes.
+fn place_at_change(in_blank: bool, old: u8, new: u8, place: u8) -> u8
+    requires { IsPlaceInRange place }
+    ensures value { result ≡ place_at_change in_blank old new place }
+    ensures range { result ≤ place }
+{
+    let soon = if in_blank { place } else { place + 1 };
+    if old != 1 && new == 1 && (4..6).contains(&soon) {
+        place - 1
+    } else {
+        place
+    }
+}
+
+/// A copy as the width changes.
+fn copy_at_change(in_blank: bool, old: u8, new: u8, copy: Option<PlayerCopy>) -> Option<PlayerCopy>
+    requires { IsCopyInRange copy }
+    ensures value { result ≡ copy_at_change in_blank old new copy }
+    ensures range { IsCopyInRange result }
+{
+    match copy {
+        None => None,
+        Some(copy) => Some(PlayerCopy {
+            place: place_at_change(in_blank, old, new, copy.place),
+            ..copy
+        }),
+    }
+}
+
+/// The counter of the step with which a copy began.
+fn beginning_of(counter: u8, place: u8) -> u8
+    requires place { IsPlaceInRange place }
+    ensures { result ≡ beginning_of counter place }
+{
+    ((u16::from(counter) + 159 - u16::from(place)) % 160) as u8
+}
+
+/// A copy as NUSIZ goes from one mode to another.
+fn copy_in_mode(old: u8, new: u8, counter: u8, copy: Option<PlayerCopy>) -> Option<PlayerCopy>
+    requires { IsCopyInRange copy }
+    ensures value { result ≡ copy_in_mode old new counter copy }
+    ensures range { IsCopyInRange result }
+{
+    match copy {
+        None => None,
+        Some(copy) => {
+            let is_new = old != new && copy.place < 2;
+            if is_new && !begins_copy(new, beginning_of(counter, copy.place)) {
+                None
+            } else {
+                Some(copy)
+            }
+        }
+    }
+}
+
+impl Player {
+    /// The graphic that it shows.
+    fn graphic(&self) -> u8
+        ensures { result ≡ graphic_of self.now }
+    {
+        value_by_delay(self.vdelp, self.grp_old, self.grp_new)
+    }
+
+    /// Whether it shows a bit that is 1.
+    fn shows_one(&self) -> bool
+        requires { IsPlayerInRange self.now }
+        ensures { result ≡ shows_one self.now self.now.copy }
+    {
+        match self.copy {
+            None => false,
+            Some(copy) => {
+                let bit = if has_bit(self.refp, 3) {
+                    copy.bit
+                } else {
+                    7 - copy.bit
+                };
+                is_drawn_at(self.width, copy.place) && has_bit(self.graphic(), bit)
+            }
+        }
+    }
+
+    /// Looks at it: what is seen stays until the next look.
+    pub(crate) fn look(&mut self)
+        requires { IsPlayerInRange self.old }
+        ensures value { self.new ≡ looked_at_player self.old }
+        ensures range { IsPlayerInRange self.new }
+    {
+        self.seen = self.shows_one();
+    }
+
+    /// Takes a step off those that a change of width waits for.
+    fn await_step(&mut self)
+        requires { IsPlayerInRange self.old }
+        ensures value { self.new ≡ with_awaited_step self.old }
+        ensures range { IsPlayerInRange self.new }
+    {
+        if self.change == 1 {
+            self.width = width(self.nusiz);
+        }
+        self.change = self.change.saturating_sub(1);
+    }
+
+    /// Whether a copy begins with this step.
+    fn begins(&self) -> bool
+        ensures { result ≡ begins_player self.now }
+    {
+        begins_copy(self.nusiz % 8, self.counter)
+    }
+
+    /// A step, before which it is looked at.
+    pub(crate) fn step(&mut self)
+        requires { IsPlayerInRange self.old }
+        ensures value { self.new ≡ player_after_step self.old }
+        ensures range { IsPlayerInRange self.new }
+    {
+        self.look();
+        let begins = self.begins();
+        let counts = !begins && is_drawn_next(self.width, self.copy);
+        self.copy = if begins {
+            Some(PlayerCopy { place: 0, bit: 0 })
+        } else {
+            stepped_copy(self.width, self.copy)
+        };
+        self.counter = next_counter(self.counter);
+        if counts {
+            self.await_step();
+        }
+    }
+
+    /// RESP, which takes effect so many steps late.
+    pub(crate) fn strobe(&mut self, late: u8)
+        requires range { IsPlayerInRange self.old }
+        requires late { late ≤ 2 }
+        ensures value { self.new ≡ player_after_strobe late self.old }
+        ensures range { IsPlayerInRange self.new }
+    {
+        self.counter = strobed_counter(late);
+        self.copy = strobed_copy(late, self.copy);
+    }
+
+    /// Takes a new width, at once or later.
+    fn set_width(&mut self, in_blank: bool, new: u8)
+        requires range { IsPlayerInRange self.old }
+        requires width { IsWidth new }
+        ensures value { self.new ≡ with_width in_blank new self.old }
+        ensures range { IsPlayerInRange self.new }
+    {
+        let steps = change_of(in_blank, self.width, new, self.copy);
+        if self.width == new {
+            self.change = 0;
+        } else if steps == 0 {
+            self.copy = copy_at_change(in_blank, self.width, new, self.copy);
+            self.width = new;
+            self.change = 0;
+        } else {
+            self.change = steps;
+        }
+    }
+
+    /// Writes NUSIZ.
+    pub(crate) fn write_nusiz(&mut self, in_blank: bool, nusiz: u8)
+        requires { IsPlayerInRange self.old }
+        ensures value { self.new ≡ player_after_nusiz in_blank nusiz self.old }
+        ensures range { IsPlayerInRange self.new }
+    {
+        self.copy = copy_in_mode(self.nusiz % 8, nusiz % 8, self.counter, self.copy);
+        self.nusiz = nusiz;
+        self.set_width(in_blank, width(nusiz));
+    }
+
+    /// Whether a write that made it of `before` changed what it draws.
+    pub(crate) fn is_changed_from(&self, before: &Player) -> bool
+        ensures { result ≡ is_player_changed before.now self.now }
+    {
+        let same = before.graphic() == self.graphic()
+            && before.refp == self.refp
+            && before.vdelp == self.vdelp;
+        is_drawn(self.width, self.copy) && !same
+    }
+}
