@@ -20,6 +20,8 @@ def lines():
     if registers := facts.get("registers"):
         yield "registers: " + ", ".join(f"{name} {registers[name]}" for name in ("A", "X", "Y", "S", "P", "PC"))
         yield f"beam: scanline {facts['scanline']}, cycle {facts['cycle']}"
+    if (frame := facts.get("claimed_state_after")) is not None:
+        yield f"claimed state: the run's after frame {frame}"
     for name in "segments", "claims":
         signs = facts.get(name, "")
         for at in range(0, len(signs), 64):

@@ -1,5 +1,6 @@
 pub mod CheckpointLemmas
 pub mod ClaimLemmas
+pub mod ClaimPlaceLemmas
 pub mod ClaimSignLemmas
 pub mod DifferenceLemmas
 pub mod FirstSignLemmas

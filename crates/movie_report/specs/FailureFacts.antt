@@ -14,6 +14,7 @@ use Rattle.replay_segments.specs.declared.run_states.LeftState.{LeftState}
 use Rattle.replay_segments.specs.declared.verdict.Verdict.{Verdict}
 use Rattle.replay_segments.specs.declared.verdict.Verdict.TheVariants.{Genuine, FalseCheckpoint}
 use Rattle.replay_segments.specs.declared.verdict.Verdict.TheVariants.{Fault}
+use Rattle.movie_report.specs.ClaimPlace.{place_text}
 use Rattle.movie_report.specs.ClaimSigns.{claim_signs}
 use Rattle.movie_report.specs.Differences.{differences_text}
 use Rattle.movie_report.specs.Reasons.{sentence_in, reason_text}
@@ -48,13 +49,14 @@ abbrev pub left_text : Notation → Option LeftState → List ℕ
 left_text notation None = []
 left_text notation (Some left) = registers_text notation left.state.cpu ++ beam_text notation left.scanline (line_cycle_of left.state)
 
--- What is said after a false checkpoint of this number and frame, where the segments have these signs: what differs, the
--- signs of segments and of claims, and a sentence about them.
+-- What is said after a false checkpoint of this number and frame, where the segments have these signs: what differs, where else
+-- the run is in the claimed state, the signs of segments and of claims, and a sentence about them.
 abbrev pub false_text : Notation → MovieData → ℕ → ℕ → List Sign → List ℕ
 false_text notation m number frame signs =
     claim_text notation (slice_get m.checkpoints (number - 1)) (run m m.start 0 frame)
+    ++ (place_text notation m (slice_get m.checkpoints (number - 1))
     ++ (signs_text notation (codes "segments") signs ++ (signs_text notation (codes "claims") (claim_signs m)
-    ++ reason_text notation (sentence_in m number signs)))
+    ++ reason_text notation (sentence_in m number signs))))
 
 -- What is said after a fault in this frame: where it is, and the signs.
 abbrev pub halt_text : Notation → MovieData → ℕ → List Sign → List ℕ

@@ -1,4 +1,5 @@
 pub mod CheckpointFacts
+pub mod ClaimPlace
 pub mod ClaimSigns
 pub mod Claims
 pub mod Differences

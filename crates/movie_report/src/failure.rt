@@ -11,6 +11,7 @@ ghost use Rattle.movie_report.specs.FailureFacts.{beam_text, left_text, register
 ghost use Rattle.movie_report.specs.FailureFacts.{HasFailure};
 ghost use Rattle.movie_report.specs.Reasons.{reason_text, sentence_in};
 
+use crate::claim_place::place_facts;
 use crate::claim_signs::claim_signs;
 use crate::differences::{Comparison, differences};
 use crate::reason::{reason, sentence};
@@ -118,14 +119,16 @@ fn false_facts<R: Threads + Sync, P: Progress + Sync>(
 {
     let _ = movie.frames();
     let found = found_state(movie, number, frame, progress);
-    let claim = claim_facts(alloc, notation, &movie.checkpoint(number).state, &found)?;
+    let claimed = &movie.checkpoint(number).state;
+    let claim = claim_facts(alloc, notation, claimed, &found)?;
+    let place = place_facts(alloc, notation, movie, claimed, progress)?;
     let before = u32::from(number) - 1;
     let signs = signs_of(rt, alloc, movie, before, Sign::Differs, workers, progress)?;
     let segments = sign_facts(alloc, notation, "segments", &signs)?;
     let found = claim_signs(alloc, movie, number, frame, &found, progress)?;
     let claims = sign_facts(alloc, notation, "claims", &found)?;
     let reason = reason_facts(alloc, notation, movie, number, &signs, &found)?;
-    format!(in alloc; "{claim}{segments}{claims}{reason}")
+    format!(in alloc; "{claim}{place}{segments}{claims}{reason}")
 }
 
 /// What is said after a fault.

@@ -2,6 +2,7 @@
 #![tactic(auto)]
 
 mod checkpoints;
+mod claim_place;
 mod claim_signs;
 mod claimed;
 mod differences;

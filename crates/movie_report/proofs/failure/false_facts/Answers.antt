@@ -15,6 +15,6 @@ returns g c =
     (λ text is. (
       c.in_ok-signs.signs.items,
       c.in_ok-signs.ensures.signs,
-      rw (c.checkpoint.ensures, c.found_state-found.ensures, ← c.in_ok-claim.ensures, ← segments, ← claims, ← reason) is,
+      rw (c.checkpoint.ensures, c.found_state-found.ensures, ← c.in_ok-claim.ensures, ← c.in_ok-place.ensures, ← segments, ← claims, ← reason) is,
     ))
     c.format.ensures.ok
