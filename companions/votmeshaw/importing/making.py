@@ -10,6 +10,8 @@ from votmeshaw.command import Stop
 from votmeshaw.importing.runs import Frames
 from votmeshaw.verifier import Answer, NoAnswer, Verifier
 
+# The status of a run that faults.
+FAULTS = 2
 # How many frames are looked at for their lines: those of a minute.
 LOOKED_AT = 3600
 CYCLES = re.compile(rb"^frame \d+: (\d+) cycles", re.M)
@@ -37,18 +39,18 @@ def asked_of(verifier: Verifier, movie: bytes, *words: str) -> Answer:
     return answer
 
 
-def made(verifier: Verifier, game: bytes, frames: Frames, every: int, to_the_end: bool = False) -> Made:
+def made(verifier: Verifier, game: bytes, frames: Frames, every: int, to_the_end: bool = False, to_the_fault: bool = False) -> Made:
     """The movie of a game with these inputs, from power-on, with a checkpoint after each so many frames, and to the end after the last
-    one too."""
+    one too. Of a run that faults there is one to the fault, which ends with the frame that does."""
     with tempfile.TemporaryDirectory(prefix="vcs_import-") as folder:
         rom, inputs, movie = (pathlib.Path(folder, it) for it in ("game", "inputs", "movie"))
         rom.write_bytes(game)
         inputs.write_bytes(frames.text())
-        end = ["--to-the-end"] if to_the_end else []
+        end = [word for word, is_asked in (("--to-the-end", to_the_end), ("--to-the-fault", to_the_fault)) if is_asked]
         answer = asked_of(verifier, b"", "make", str(rom), str(inputs), "--text", "--every", str(every), *end, "--out", str(movie))
-        if answer.status == 0 and not movie.exists():
+        is_made = answer.status == 0 or (to_the_fault and answer.status == FAULTS)
+        if is_made and not movie.exists():
             raise Stop("vcs_check make: no movie was made")
-        is_made = answer.status == 0
         return Made(movie.read_bytes() if is_made else None, answer.line, "" if is_made else answer.reason)
 
 

@@ -21,7 +21,7 @@ use Rattle.command_line.specs.Table.{cuts_row, digests_row, explain_row, file_ro
 use Rattle.command_line.specs.Table.{inputs_row, json_row, memory_row, new_row, numbers_row}
 use Rattle.command_line.specs.Table.{old_row, watch_row}
 use Rattle.command_line.specs.Table.{out_row, pictures_row, rom_row}
-use Rattle.command_line.specs.Table.{expected_rom_row, power_on_row, sha256_row, text_row, to_the_end_row, workers_row}
+use Rattle.command_line.specs.Table.{expected_rom_row, power_on_row, sha256_row, text_row, to_the_end_row, to_the_fault_row, workers_row}
 use Rattle.command_line.specs.declared.command.Command.{Command}
 use Rattle.command_line.specs.declared.command.CommandLine.{CommandLine}
 use Rattle.command_line.specs.declared.command.Making.{Making}
@@ -92,10 +92,11 @@ pub record AreExpectations (rows : List Row) (expectations : Expectations) : Typ
   pub power_on : (expectations.power_on ≡ true) ↔ IsGiven power_on_row rows
   pub to_the_end : (expectations.to_the_end ≡ true) ↔ IsGiven to_the_end_row rows
 
--- Of which frames a movie that is made claims the state.
+-- Of which frames a movie that is made claims the state, and whether it may end with a fault.
 pub record IsMaking (rows : List Row) (making : Making) : Type 0 where
   pub every : number_of checkpoints_row rows ≡ Some (non_zero_u32_get making.every)
   pub to_the_end : (making.to_the_end ≡ true) ↔ IsGiven to_the_end_row rows
+  pub to_the_fault : (making.to_the_fault ≡ true) ↔ IsGiven to_the_fault_row rows
 
 -- The command of this name, of which `clap` found these values.
 abbrev pub IsCommandAt : Text → List Row → Command → Type 0

@@ -104,6 +104,10 @@ power_on_row = record { name = codes "power-on"; kind = switch }
 abbrev pub to_the_end_row : Argument
 to_the_end_row = record { name = codes "to-the-end"; kind = switch }
 
+-- That a run that faults is made a movie, too.
+abbrev pub to_the_fault_row : Argument
+to_the_fault_row = record { name = codes "to-the-fault"; kind = switch }
+
 abbrev pub json_row : Argument
 json_row = record { name = codes "json"; kind = switch }
 
@@ -127,7 +131,7 @@ report_listed = record {
 abbrev pub make_listed : Listed
 make_listed = record {
   name = codes "make";
-  arguments = rom_row ∷ inputs_row ∷ text_row ∷ checkpoints_row ∷ to_the_end_row ∷ out_row ∷ [];
+  arguments = rom_row ∷ inputs_row ∷ text_row ∷ checkpoints_row ∷ to_the_end_row ∷ to_the_fault_row ∷ out_row ∷ [];
 }
 
 abbrev pub info_listed : Listed

@@ -6,13 +6,15 @@ use replay_plan::{Details, Expectations, InputForm, Notation, Plan, Workers};
 use std::alloc::AllocError;
 use std::num::NonZeroU32;
 
-/// Of which frames a movie that is made claims the state.
+/// Of which frames a movie that is made claims the state, and whether it may end with a fault.
 #[derive(Clone, Copy, Debug, PartialEq, Eq)]
 pub struct Making {
     /// After every so many frames a checkpoint stands.
     pub every: NonZeroU32,
     /// Whether one stands after the last frame too.
     pub to_the_end: bool,
+    /// Whether a run that faults makes a movie too: the one up to its fault, which its last frame has.
+    pub to_the_fault: bool,
 }
 
 /// What is asked for. Each command but `Make` asks about a movie.

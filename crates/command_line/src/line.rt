@@ -178,7 +178,7 @@ fn form_of(matches: &ArgMatches<'_>) -> InputForm
     }
 }
 
-/// Of which frames a movie that is made claims the state.
+/// Of which frames a movie that is made claims the state, and whether it may end with a fault.
 fn making_of(matches: &ArgMatches<'_>) -> Making
     requires { IsNumberIn 1 4294967295 (one_of checkpoints_row.name (rows_of (found_of matches.now))) }
     ensures { IsMaking (rows_of (found_of matches.now)) result }
@@ -186,6 +186,7 @@ fn making_of(matches: &ArgMatches<'_>) -> Making
     Making {
         every: number_from_one(matches, "every"),
         to_the_end: is_given(matches, "to-the-end"),
+        to_the_fault: is_given(matches, "to-the-fault"),
     }
 }
 

@@ -167,7 +167,7 @@ fn report<'a>(alloc: Global) -> Result<Command<'a>, AllocError>
             alloc,
             "rom",
             "ROM",
-            "Say whether the movie's cartridge is this file"
+            "Say whether the movie's cartridge is this file, and in which bytes it differs"
         ),
         word(
             alloc,
@@ -222,6 +222,11 @@ fn make<'a>(alloc: Global) -> Result<Command<'a>, AllocError>
             alloc,
             "to-the-end",
             "Claim the state after the last frame too",
+        ),
+        switch(
+            alloc,
+            "to-the-fault",
+            "If a frame faults, make the movie that ends with it",
         ),
         out(
             alloc,

@@ -3,6 +3,8 @@ pub mod ColumnLemmas
 pub mod CommandAnswers
 pub mod CutMovies
 pub mod CutParts
+pub mod FaultMovies
+pub mod MadeAnswers
 pub mod MadeMovies
 pub mod RunFrames
 pub mod RunSteps

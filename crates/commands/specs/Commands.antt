@@ -72,7 +72,7 @@ ReadsRomFor command (Err error) old new read = Keeps old new × (read ≡ None)
 -- The answer of a command about these bytes. `make` also reads inputs, of which `old` were left before
 -- it and `new` are left after it, and a report may read a ROM.
 abbrev pub AnswersBytes : Command → List ℕ → (old new : Option (List ℕ)) → AnswerData → Type 0
-AnswersBytes (Make inputs form making) bytes old new answer = Makes form bytes old new (non_zero_u32_get making.every) making.to_the_end answer
+AnswersBytes (Make inputs form making) bytes old new answer = Makes form bytes old new (non_zero_u32_get making.every) making.to_the_end making.to_the_fault answer
 AnswersBytes command bytes old new answer =
     (read : Option (List ℕ)) × ReadsRomFor command (movie_at bytes) old new read × AnswersFound command bytes read (movie_at bytes) answer
 

@@ -1,25 +1,30 @@
 -- What the making of a movie writes for the bytes of a ROM and of inputs, and its status. This
 -- project's own.
-use Rattle.std.specs.Prelude.{◌≡◌, ◌⊎◌, ℕ, ◌%◌, ◌==◌, ◌&&◌, ◌++◌, Bool, not, nat_le, List, [], ◌∷◌, length}
-use Rattle.std.specs.Prelude.{if◌then◌else◌, Option, Some, Result, Ok, Err, IsTrue}
+use Rattle.std.specs.Prelude.{◌≡◌, ◌⊎◌, ℕ, ◌+◌, ◌-◌, ◌*◌, ◌/◌, ◌%◌, ◌==◌, ◌&&◌, ◌++◌, Bool, true, false, not, nat_le, List, [], ◌∷◌, length}
+use Rattle.std.specs.Prelude.{if◌then◌else◌, Option, Some, Result, Ok, Err, IsTrue, slice_get, take}
 use Rattle.std.specs.Result.{result_map_both}
 use Rattle.std.specs.Io.KnownBytes.{Keeps}
 use Rattle.riot_map.specs.Cart.{is_cart_length}
 use Rattle.input_text.specs.Texts.{inputs_in}
 use Rattle.vcs_machine.specs.Inputs.{InputData}
+use Rattle.vcs_machine.specs.States.{state_at_power_on}
 use Rattle.vcs_machine.specs.declared.fault.FaultKind.{FaultKind}
 use Rattle.vcs_machine.specs.declared.fields.StateFields.{StateFields}
 use Rattle.movie_file.specs.Format.{most_checkpoints}
 use Rattle.movie_file.specs.InputLists.{all_inputs_at}
 use Rattle.movie_file.specs.Judgement.{IsGenuine}
-use Rattle.movie_file.specs.Making.{IsMadeOf, IsFirstFault, counts_fit}
+use Rattle.movie_file.specs.Making.{IsMadeOf, IsFirstFault, counts_fit, version_made}
 use Rattle.movie_file.specs.Movie.{MovieData}
 use Rattle.movie_file.specs.Run.{run}
+use Rattle.movie_file.specs.Spelling.{spelling}
 use Rattle.movie_file.specs.declared.checkpoint.Checkpoint.{Checkpoint}
 use Rattle.movie_file.specs.declared.error.MovieError.TheVariants.{BadCartSize, BadCounts}
 use Rattle.movie_hints.specs.Counts.{checkpoints_of}
 use Rattle.replay_plan.specs.declared.input_form.InputForm.{InputForm}
+use Rattle.replay_plan.specs.declared.keep.Keep.{Keep}
 use Rattle.replay_plan.specs.declared.input_form.InputForm.TheVariants.{Bytes, Text}
+use Rattle.replay_segments.specs.Verdicts.{IsVerdict}
+use Rattle.replay_segments.specs.declared.verdict.Verdict.TheVariants.{Fault}
 use Rattle.commands.specs.Answers.{AnswerData, line_answer, movie_answer}
 use Rattle.commands.specs.Streams.{ReadsAll}
 use Rattle.commands.specs.declared.line.Line.{Line}
@@ -49,13 +54,32 @@ pub record IsMadeMovie (cart : List ℕ) (inputs : List InputData) (every : ℕ)
   pub ran : run m m.start 0 (length inputs) ≡ Some last
   pub checkpoints_are : m.checkpoints ≡ claims ++ last_claim (length inputs) every to_the_end last
 
+-- The movie of a run from power-on of which this frame is the first that faults: it ends with that
+-- frame, and has a checkpoint after every so many of the frames before.
+pub record IsMadeToTheFault (cart : List ℕ) (inputs : List InputData) (every frame : ℕ) (m : MovieData) : Type 0 where
+  pub version : m.version ≡ version_made (length cart) frame
+  pub cart_is : m.cart ≡ cart
+  pub start : m.start ≡ state_at_power_on cart
+  pub inputs_are : m.inputs ≡ take frame inputs
+  pub count : length m.checkpoints ≡ (frame - 1) / every
+  pub places : (j : ℕ) (c : Checkpoint) → slice_get m.checkpoints j ≡ Some c → c.frame ≡ every * (j + 1)
+  pub states : (j : ℕ) (c : Checkpoint) → slice_get m.checkpoints j ≡ Some c → run m m.start 0 c.frame ≡ Some c.state
+
+-- What is written of a run's first fault: its line, and where a movie to the fault is asked for that
+-- movie, of which this fault is the verdict.
+abbrev pub WritesFault : List ℕ → List InputData → ℕ → Bool → ℕ → FaultKind → AnswerData → Type 0
+WritesFault cart inputs every false frame kind answer = answer ≡ line_answer (lines.Fault frame kind)
+WritesFault cart inputs every true frame kind answer =
+    (m : MovieData) × IsMadeToTheFault cart inputs every frame m × ((keep : Keep) → IsVerdict m keep (Fault frame kind))
+    × (answer ≡ record (line_answer (lines.Fault frame kind)) { file = spelling m })
+
 -- What is written of a cartridge and inputs: the movie of their run, which is genuine, or the run's
 -- first fault; or that their counts are refused.
-abbrev pub MakesOf : List ℕ → List InputData → ℕ → Bool → AnswerData → Type 0
-MakesOf cart inputs every to_the_end answer =
+abbrev pub MakesOf : List ℕ → List InputData → ℕ → Bool → Bool → AnswerData → Type 0
+MakesOf cart inputs every to_the_end to_the_fault answer =
     (IsTrue (do_claims_fit (length inputs) every to_the_end)
     × (((m : MovieData) × IsMadeMovie cart inputs every to_the_end m × IsGenuine m × (answer ≡ movie_answer lines.Made m))
-    ⊎ ((frame : ℕ) × (kind : FaultKind) × IsFirstFault cart inputs frame kind × (answer ≡ line_answer (lines.Fault frame kind)))))
+    ⊎ ((frame : ℕ) × (kind : FaultKind) × IsFirstFault cart inputs frame kind × WritesFault cart inputs every to_the_fault frame kind answer)))
     ⊎ ((¬ IsTrue (do_claims_fit (length inputs) every to_the_end)) × (answer ≡ line_answer (lines.Refused BadCounts)))
 
 -- The inputs that some bytes are in this form, or the line of why they are none.
@@ -64,13 +88,14 @@ inputs_by Bytes input = result_map_both (λ inputs. inputs) lines.Refused (all_i
 inputs_by Text input = result_map_both (λ inputs. inputs) lines.BadLine (inputs_in input)
 
 -- What is written of a cartridge and what reading the inputs found.
-abbrev pub MakesFrom : List ℕ → Result (List InputData) Line → ℕ → Bool → AnswerData → Type 0
-MakesFrom cart (Ok inputs) every to_the_end answer = MakesOf cart inputs every to_the_end answer
-MakesFrom cart (Err line) every to_the_end answer = answer ≡ line_answer line
+abbrev pub MakesFrom : List ℕ → Result (List InputData) Line → ℕ → Bool → Bool → AnswerData → Type 0
+MakesFrom cart (Ok inputs) every to_the_end to_the_fault answer = MakesOf cart inputs every to_the_end to_the_fault answer
+MakesFrom cart (Err line) every to_the_end to_the_fault answer = answer ≡ line_answer line
 
 -- What is written of the bytes of a ROM, and what is read of the inputs: if no cartridge has the
 -- ROM's length, nothing.
-abbrev pub Makes : InputForm → List ℕ → Option (List ℕ) → Option (List ℕ) → ℕ → Bool → AnswerData → Type 0
-Makes form rom old new every to_the_end answer =
-    (IsTrue (is_cart_length (length rom)) × ((input : List ℕ) × ReadsAll old new input × MakesFrom rom (inputs_by form input) every to_the_end answer))
+abbrev pub Makes : InputForm → List ℕ → Option (List ℕ) → Option (List ℕ) → ℕ → Bool → Bool → AnswerData → Type 0
+Makes form rom old new every to_the_end to_the_fault answer =
+    (IsTrue (is_cart_length (length rom))
+    × ((input : List ℕ) × ReadsAll old new input × MakesFrom rom (inputs_by form input) every to_the_end to_the_fault answer))
     ⊎ ((¬ IsTrue (is_cart_length (length rom))) × Keeps old new × (answer ≡ line_answer (lines.Refused BadCartSize)))

@@ -31,7 +31,7 @@ status_with agreement other = other
 -- a program of this name.
 abbrev pub ReportsMovie : Notation → List ℕ → Option (List ℕ) → Expectations → List ℕ → MovieData → AnswerData → Type 0
 ReportsMovie notation program rom expectations bytes m answer =
-    (verdict : Verdict) × (facts : List ℕ) × HasVerdict m verdict × IsReport notation program bytes m verdict (agreement_of m rom expectations) facts
+    (verdict : Verdict) × (facts : List ℕ) × HasVerdict m verdict × IsReport notation program bytes m verdict rom (agreement_of m rom expectations) facts
     × (answer ≡ text_answer (status_with (agreement_of m rom expectations) (status_of (verdict_line m verdict)))
     (line_in notation (line_bytes (verdict_line m verdict)) ++ facts))
 

@@ -215,14 +215,14 @@ pub fn run_command<
     let alloc = rt.alloc();
     if let Command::Make { form, making, .. } = command {
         let rom = read_all(alloc, input)?;
-        let to_the_end = making.to_the_end;
         let answer = make(
             alloc,
             rom,
             *form,
             inputs,
             making.every.get(),
-            to_the_end,
+            making.to_the_end,
+            making.to_the_fault,
             gate,
         )?;
         return Ok(answer.write_file_first(file, text)?);

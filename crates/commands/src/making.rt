@@ -4,11 +4,11 @@ ghost use Rattle.std.specs.Prelude.{true, vec_capacity, vec_len};
 ghost use Rattle.riot_map.specs.Cart.{is_cart_length};
 ghost use Rattle.vcs_machine.specs.States.{state_at_power_on};
 ghost use Rattle.movie_file.specs.Judgement.{IsGenuine};
-ghost use Rattle.movie_file.specs.Making.{IsFirstFault, counts_fit};
-ghost use Rattle.movie_file.specs.Movie.{IsState};
+ghost use Rattle.movie_file.specs.Making.{counts_fit};
+ghost use Rattle.movie_file.specs.Movie.{IsMovie, IsState};
 ghost use Rattle.movie_hints.specs.Counts.{checkpoints_of};
 ghost use Rattle.commands.specs.Make.{IsMadeMovie, do_claims_fit, is_last_claimed, last_claim};
-ghost use Rattle.commands.specs.Private.MadeRuns.{Explains, HasRun};
+ghost use Rattle.commands.specs.Private.MadeRuns.{Explains, HasFault, HasRun, IsMadeRun, movie_up_to};
 
 use movie_file::{
     Checkpoint, MOST_CHECKPOINTS, MakeError, Movie, Progress, Work, claim, do_counts_fit, movie_of,
@@ -19,11 +19,18 @@ use run_cursor::RunFault;
 use std::alloc::Global;
 use vcs_machine::{Input, State, halt};
 
+/// A movie that is made, and the fault of its last frame, if that faults.
+#[derive(Drop)]
+pub(crate) struct MadeMovie {
+    pub(crate) movie: Movie,
+    pub(crate) fault: Option<RunFault>,
+}
+
 /// A run from power-on, up to its end or its first fault.
 #[derive(Drop)]
 struct MadeRun {
     checkpoints: Vec<Checkpoint>,
-    /// The state after the last frame.
+    /// The state after the last frame, if the run ended.
     state: State,
     fault: Option<RunFault>,
 }
@@ -63,7 +70,7 @@ fn run_of<P: Progress>(
     requires fits { IsTrue (counts_fit (length inputs.now) every) }
     requires room { length inputs.now / every ≤ vec_capacity checkpoints }
     ensures ends { result.fault ≡ None → HasRun cart.now inputs.now every (length inputs.now) result.checkpoints.items result.state }
-    ensures faults { IfSome result.fault (λ fault. IsFirstFault cart.now inputs.now fault.frame fault.kind) }
+    ensures faults { IfSome result.fault (λ fault. HasFault cart.now inputs.now every fault.frame fault.kind result.checkpoints.items) }
     ensures capacity { vec_capacity result.checkpoints ≡ vec_capacity checkpoints }
 {
     let mut state = start.copy();
@@ -141,8 +148,27 @@ fn movie_of_run(
     movie_of(version, cart, start, inputs, checkpoints)
 }
 
+/// The movie of a run that faults in this frame, whose input is its last one. It takes no memory.
+fn movie_to_the_fault(
+    cart: Cart,
+    start: State,
+    mut inputs: Vec<Input>,
+    checkpoints: Vec<Checkpoint>,
+    frame: u32,
+) -> Movie
+    requires { IsTrue (is_cart_length (length cart)) → IsState start
+        → IsMovie (movie_up_to cart start inputs.items checkpoints.items frame) }
+    ensures value { result ≡ movie_up_to cart start inputs.items checkpoints.items frame }
+    ensures lawful { IsMovie result }
+{
+    inputs.truncate(frame as usize);
+    let version = version_made(&cart, frame as usize);
+    movie_of(version, cart, start, inputs, checkpoints)
+}
+
 /// The movie of a run from power-on on a cartridge, one frame for each input, with a checkpoint after
-/// each `every` frames, and to the end after the last one too.
+/// each `every` frames, and to the end after the last one too. If a frame faults, the movie ends with
+/// the first that does, where that is asked for.
 ///
 /// `BadCounts` comes first, as of `make_movie`. Then the memory of the checkpoints is taken, in one
 /// allocation; if that is refused `NoMemory` comes before any frame. `Fault` names the first frame
@@ -153,12 +179,12 @@ pub(crate) fn make_run<P: Progress>(
     inputs: Vec<Input>,
     every: u32,
     to_the_end: bool,
+    to_the_fault: bool,
     progress: &P,
-) -> Result<Movie, MakeError>
-    ensures made { IfOk result (IsMadeMovie cart inputs.items every to_the_end) }
-    ensures genuine { IfOk result (λ movie. IsGenuine movie) }
+) -> Result<MadeMovie, MakeError>
+    ensures made { IfOk result (λ made. IsMadeRun cart inputs.items every to_the_end to_the_fault made.movie made.fault) }
     ensures fits { IfOk result (λ _. IsTrue (do_claims_fit (length inputs.items) every to_the_end)) }
-    ensures refused { IfErr result (Explains cart inputs.items every to_the_end) }
+    ensures refused { IfErr result (Explains cart inputs.items every to_the_end to_the_fault) }
 {
     let frames = inputs.len();
     if !do_claims_fit(frames, every, to_the_end) {
@@ -172,11 +198,17 @@ pub(crate) fn make_run<P: Progress>(
     progress.begin(Work::Frames(frames as u32));
     let run = run_of(checkpoints, &cart, &start, &inputs, every, progress);
     progress.end();
-    match run.fault {
-        None => Ok(movie_of_run(cart, start, inputs, run, every, to_the_end)),
-        Some(fault) => Err(MakeError::Fault {
+    let Some(fault) = run.fault else {
+        let movie = movie_of_run(cart, start, inputs, run, every, to_the_end);
+        return Ok(MadeMovie { movie, fault: None });
+    };
+    if !to_the_fault {
+        return Err(MakeError::Fault {
             frame: fault.frame,
             kind: fault.kind,
-        }),
+        });
     }
+    let movie = movie_to_the_fault(cart, start, inputs, run.checkpoints, fault.frame);
+    let fault = Some(fault);
+    Ok(MadeMovie { movie, fault })
 }

@@ -83,6 +83,7 @@ fn report_of<T: Threads + Wait + Sync, G: Gate + Progress + Sync>(
         bytes,
         movie,
         &verdict,
+        rom,
         agreement,
         workers,
         gate,

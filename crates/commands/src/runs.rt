@@ -87,10 +87,10 @@ pub fn run_make<R: Read, S: Read, W: Write, L: Write>(
 ) -> Result<Status, RunError>
     // The output is that of the bytes read, and nothing else.
     ensures ok { IfOk result (λ status. (read : List ℕ) × (answer : AnswerData) × ReadsAll (R.remaining rom.old) (R.remaining rom.new) read
-        × Makes form read (S.remaining inputs.old) (S.remaining inputs.new) every false answer × (status ≡ answer.status)
+        × Makes form read (S.remaining inputs.old) (S.remaining inputs.new) every false false answer × (status ≡ answer.status)
         × Appends (W.contents movie.old) (W.contents movie.new) answer.file × Appends (L.contents line.old) (L.contents line.new) answer.text) }
     ensures write_fault { result ≡ Err RunError.WriteFault → (read : List ℕ) × (answer : AnswerData) × ReadsAll (R.remaining rom.old) (R.remaining rom.new) read
-        × Makes form read (S.remaining inputs.old) (S.remaining inputs.new) every false answer
+        × Makes form read (S.remaining inputs.old) (S.remaining inputs.new) every false false answer
         × WritesPart (W.contents movie.old) (W.contents movie.new) answer.file (L.contents line.old) (L.contents line.new) answer.text }
 
     // What was written after the other errors.
@@ -100,7 +100,7 @@ pub fn run_make<R: Read, S: Read, W: Write, L: Write>(
     ensures no_thread { result ≢ Err RunError.NoThread }
 {
     let bytes = read_all(alloc, rom)?;
-    let answer = make(alloc, bytes, form, inputs, every, false, &NoProgress)?;
+    let answer = make(alloc, bytes, form, inputs, every, false, false, &NoProgress)?;
     Ok(answer.write_file_first(movie, line)?)
 }
 

@@ -1,3 +1,4 @@
+pub mod CartridgeDifferenceLemmas
 pub mod CheckpointLemmas
 pub mod ClaimLemmas
 pub mod ClaimPlaceLemmas

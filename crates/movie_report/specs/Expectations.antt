@@ -7,6 +7,7 @@ use Rattle.movie_file.specs.Movie.{MovieData}
 use Rattle.movie_file.specs.Record.{record_of}
 use Rattle.replay_plan.specs.declared.expectations.Expectations.{Expectations}
 use Rattle.replay_plan.specs.declared.notation.Notation.{Notation}
+use Rattle.movie_report.specs.CartridgeDifferences.{cartridge_differences}
 use Rattle.movie_report.specs.Notations.{answer_fact}
 use Rattle.movie_report.specs.Segments.{ends_with_checkpoint}
 use Rattle.movie_report.specs.declared.expectations.Agreement.{Agreement}
@@ -46,9 +47,10 @@ is_no (Some answer) = not answer
 abbrev pub disagrees : Agreement → Bool
 disagrees agreement = is_no agreement.cartridge || is_no agreement.start || is_no agreement.last_frame
 
--- A line or a member for each that is expected.
-abbrev pub agreement_text : Notation → Agreement → List ℕ
-agreement_text notation agreement =
+-- A line or a member for each that is expected, and in what the cartridge differs from a ROM that is.
+abbrev pub agreement_text : Notation → Option (List ℕ) → List ℕ → Agreement → List ℕ
+agreement_text notation rom cart agreement =
     answer_fact notation (codes "cartridge_expected") (codes "cartridge expected: ") agreement.cartridge
+    ++ (cartridge_differences notation rom cart
     ++ (answer_fact notation (codes "start_expected") (codes "start expected: ") agreement.start
-    ++ answer_fact notation (codes "last_frame_expected") (codes "last frame expected: ") agreement.last_frame)
+    ++ answer_fact notation (codes "last_frame_expected") (codes "last frame expected: ") agreement.last_frame))

@@ -1,5 +1,5 @@
 -- The facts of a movie and its verdict. This project's own.
-use Rattle.std.specs.Prelude.{◌≡◌, ℕ, ◌+◌, ◌==◌, List, [], ◌∷◌, ◌++◌, length, codes, if◌then◌else◌}
+use Rattle.std.specs.Prelude.{◌≡◌, ℕ, ◌+◌, ◌==◌, List, [], ◌∷◌, ◌++◌, length, codes, Option, if◌then◌else◌}
 use Rattle.std.specs.Fmt.{decimal}
 use Rattle.std.specs.Str.{bytes_eq}
 use Rattle.hex.specs.Hex.{encode_lower}
@@ -92,10 +92,10 @@ notes_and_facts_text notation program bytes m start power =
     notes_text notation (notes_of m start power)
     ++ (facts_text notation program bytes m start power ++ start_differences_text notation start power)
 
--- A report of the movie that these bytes are and of its verdict, and of how it agrees with what is expected, by a program of this
--- name.
-abbrev pub IsReport : Notation → List ℕ → List ℕ → MovieData → Verdict → Agreement → List ℕ → Type 0
-IsReport notation program bytes m verdict agreement text =
+-- A report of the movie that these bytes are and of its verdict, and of how it agrees with a ROM, if one is expected, and with the
+-- rest, by a program of this name.
+abbrev pub IsReport : Notation → List ℕ → List ℕ → MovieData → Verdict → Option (List ℕ) → Agreement → List ℕ → Type 0
+IsReport notation program bytes m verdict rom agreement text =
     (failure : List ℕ) × HasFailure notation m verdict failure
-    × (text ≡ head_text notation verdict ++ (failure ++ (agreement_text notation agreement
+    × (text ≡ head_text notation verdict ++ (failure ++ (agreement_text notation rom m.cart agreement
     ++ (notes_and_facts_text notation program bytes m (record_of m.start) (record_of (state_at_power_on m.cart)) ++ end_text notation))))

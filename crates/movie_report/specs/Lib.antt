@@ -1,3 +1,4 @@
+pub mod CartridgeDifferences
 pub mod CheckpointFacts
 pub mod ClaimPlace
 pub mod ClaimSigns

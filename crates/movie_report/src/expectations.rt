@@ -5,6 +5,7 @@ ghost use Rattle.movie_report.specs.Expectations.{agreement_of, agreement_text, 
 ghost use Rattle.movie_report.specs.Expectations.{disagrees, has_digest, is_no, is_of_rom};
 ghost use Rattle.movie_report.specs.Expectations.{starts_at_power_on};
 
+use crate::cartridge_differences::cartridge_differences;
 use crate::notation::AnswerFact;
 use crate::segments::ends_with_checkpoint;
 use movie_file::{Movie, write_state};
@@ -99,12 +100,21 @@ impl Agreement {
         is_no(self.cartridge) || is_no(self.start) || is_no(self.last_frame)
     }
 
-    /// A line or a member for each that is expected.
-    pub(crate) fn text(self, alloc: Global, notation: Notation) -> Result<String, AllocError>
-        ensures { IfOk result (λ text. string_bytes text ≡ agreement_text notation self) }
+    /// A line or a member for each that is expected, and in what the cartridge differs from the ROM
+    /// that is expected, if one is.
+    pub(crate) fn text(
+        self,
+        alloc: Global,
+        notation: Notation,
+        rom: Option<&[u8]>,
+        cart: &Cart,
+    ) -> Result<String, AllocError>
+        ensures { IfOk result (λ text. string_bytes text
+            ≡ agreement_text notation (option_copied rom.entry) cart.now self) }
     {
+        let differences = cartridge_differences(alloc, notation, rom, cart)?;
         format!(in alloc;
-            "{}{}{}",
+            "{}{differences}{}{}",
             AnswerFact(
                 notation,
                 "cartridge_expected",

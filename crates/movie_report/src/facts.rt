@@ -1,5 +1,6 @@
 //! The facts of a movie, and its report.
 ghost use Rattle.std.specs.Prelude.{◌≡◌, IfOk, string_bytes};
+ghost use Rattle.std.specs.Option.{option_copied};
 ghost use Rattle.vcs_machine.specs.States.{state_at_power_on};
 ghost use Rattle.movie_file.specs.Record.{record_of};
 ghost use Rattle.replay_segments.specs.Verdicts.{HasVerdict};
@@ -196,8 +197,8 @@ fn notes_and_facts(
 /// the place and the last checkpoint before it. Of both follows which segments between checkpoints
 /// reach their claims: the verdict says it of the first that doesn't and of those before it, and the
 /// others are replayed. Of a false checkpoint a sentence says what the signs show; for that at most
-/// two segments more are replayed. Then comes whether the movie is as expected, where anything is;
-/// then notes, and the facts: the cartridge's length, digests and bank scheme, whether the start
+/// two segments more are replayed. Then comes whether the movie is as expected, where anything is,
+/// and in which bytes its cartridge differs from the ROM that is, if one is given; then notes, and the facts: the cartridge's length, digests and bank scheme, whether the start
 /// state is that of power-on, where checkpoints stand, and what the movie is. The numbers of a start
 /// that isn't power-on are the last.
 ///
@@ -216,16 +217,18 @@ pub fn report<R: Threads + Sync, P: Progress + Sync>(
     bytes: &[u8],
     movie: &Movie,
     verdict: &Verdict,
+    rom: Option<&[u8]>,
     agreement: Agreement,
     workers: Workers,
     progress: &P,
 ) -> Result<String, AllocError>
     requires { HasVerdict movie.now verdict.now }
-    ensures { IfOk result (λ text. IsReport notation program.now bytes.now movie.now verdict.now agreement (string_bytes text)) }
+    ensures { IfOk result (λ text. IsReport notation program.now bytes.now movie.now verdict.now
+        (option_copied rom.entry) agreement (string_bytes text)) }
 {
     let head = head(alloc, notation, verdict)?;
     let failure = failure_facts(rt, alloc, notation, movie, verdict, workers, progress)?;
-    let expected = agreement.text(alloc, notation)?;
+    let expected = agreement.text(alloc, notation, rom, movie.cart())?;
     let rest = notes_and_facts(alloc, notation, program, bytes, movie)?;
     let end = end(notation);
     format!(in alloc; "{head}{failure}{expected}{rest}{end}")

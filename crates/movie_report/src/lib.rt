@@ -1,6 +1,7 @@
 //! What a judge asks after a verdict: facts of a movie, and of the place where its run went wrong.
 #![tactic(auto)]
 
+mod cartridge_differences;
 mod checkpoints;
 mod claim_place;
 mod claim_signs;

@@ -186,6 +186,7 @@ fn frames_of_a_movie_that_is_made_are_told(rt: HostRuntime) {
         making: Making {
             every: NonZeroU32::MIN,
             to_the_end: false,
+            to_the_fault: false,
         },
     };
     let inputs = [0xFF, 0x3F, 0, 0xFF, 0x3F, 0];

@@ -1,18 +1,26 @@
 -- A run from power-on and the checkpoints that are made of it, and why it is no movie. This project's
 -- own.
-use Rattle.std.specs.Prelude.{◌≡◌, ℕ, List, Bool, IsTrue, Some, length, take}
+use Rattle.std.specs.Prelude.{◌≡◌, ℕ, ◌+◌, ◌<◌, List, Bool, true, false, IsTrue, Option, Some, None, length, take}
 use Rattle.std.specs.List.{All}
 use Rattle.vcs_machine.specs.Inputs.{InputData, is_input}
 use Rattle.vcs_machine.specs.States.{state_at_power_on}
+use Rattle.vcs_machine.specs.declared.fault.FaultKind.{FaultKind}
 use Rattle.vcs_machine.specs.declared.fields.StateFields.{StateFields}
 use Rattle.movie_file.specs.ClaimedStates.{Claims}
-use Rattle.movie_file.specs.Judgement.{AllSound}
-use Rattle.movie_file.specs.Making.{IsFirstFault, bare}
+use Rattle.movie_file.specs.Judgement.{AllSound, FaultsAt, IsGenuine}
+use Rattle.movie_file.specs.Making.{IsFirstFault, bare, version_made}
+use Rattle.movie_file.specs.Movie.{MovieData}
 use Rattle.movie_file.specs.Run.{run}
 use Rattle.movie_file.specs.declared.checkpoint.Checkpoint.{Checkpoint}
 use Rattle.movie_file.specs.declared.error.MakeError.{MakeError}
 use Rattle.movie_file.specs.declared.error.MakeError.TheVariants.{Fault, BadCounts, NoMemory}
-use Rattle.commands.specs.Make.{do_claims_fit}
+use Rattle.replay_plan.specs.declared.keep.Keep.{Keep}
+use Rattle.replay_segments.specs.Verdicts.{IsVerdict}
+use Rattle.replay_segments.specs.declared.verdict.Verdict.TheVariants as verdicts
+use Rattle.run_cursor.specs.declared.cursor.RunFault.{RunFault}
+use Rattle.commands.specs.Make.{IsMadeMovie, IsMadeToTheFault, do_claims_fit}
+use Rattle.commands.specs.declared.line.Line.{Line}
+use Rattle.commands.specs.declared.line.Line.TheVariants as lines
 
 -- So many frames ended, the last one in this state, and these are the checkpoints after every so many.
 pub record HasRun (cart : List ℕ) (inputs : List InputData) (every frames : ℕ) (checkpoints : List Checkpoint) (state : StateFields) : Type 0 where
@@ -21,9 +29,36 @@ pub record HasRun (cart : List ℕ) (inputs : List InputData) (every frames : �
   pub claims : Claims (bare cart inputs) 0 every frames checkpoints
   pub inputs_are : All (λ i. IsTrue (is_input i)) (take frames inputs)
 
+-- Each frame before this one ended, it faults, and these are the checkpoints after every so many of those before.
+pub record HasFault (cart : List ℕ) (inputs : List InputData) (every frame : ℕ) (kind : FaultKind) (checkpoints : List Checkpoint) : Type 0 where
+  pub before : ℕ
+  pub frame_is : frame ≡ before + 1
+  pub within : before < length inputs
+  pub sound : AllSound (bare cart inputs) (state_at_power_on cart) 0 before
+  pub fault : FaultsAt (bare cart inputs) (state_at_power_on cart) 0 before kind
+  pub claims : Claims (bare cart inputs) 0 every before checkpoints
+  pub inputs_are : All (λ i. IsTrue (is_input i)) (take frame inputs)
+
+-- The movie of these parts with the first so many inputs.
+abbrev pub movie_up_to : List ℕ → StateFields → List InputData → List Checkpoint → ℕ → MovieData
+movie_up_to cart start inputs checkpoints frame =
+    record { version = version_made (length cart) frame; cart = cart; start = start; inputs = take frame inputs; checkpoints = checkpoints }
+
+-- The movie of a run that ended, or the one to its fault, if that is asked for.
+abbrev pub IsMadeRun : List ℕ → List InputData → ℕ → Bool → Bool → MovieData → Option RunFault → Type 0
+IsMadeRun cart inputs every to_the_end to_the_fault m None = IsMadeMovie cart inputs every to_the_end m × IsGenuine m
+IsMadeRun cart inputs every to_the_end to_the_fault m (Some fault) =
+    (to_the_fault ≡ true) × IsFirstFault cart inputs fault.frame fault.kind × IsMadeToTheFault cart inputs every fault.frame m
+    × ((keep : Keep) → IsVerdict m keep (verdicts.Fault fault.frame fault.kind))
+
+-- What is said of it.
+abbrev pub line_of : MovieData → Option RunFault → Line
+line_of m None = lines.Made (length m.inputs) (length m.checkpoints)
+line_of m (Some fault) = lines.Fault fault.frame fault.kind
+
 -- The counts are looked at first.
-abbrev pub Explains : List ℕ → List InputData → ℕ → Bool → MakeError → Type 0
-Explains cart inputs every to_the_end (Fault frame kind) =
-    IsTrue (do_claims_fit (length inputs) every to_the_end) × IsFirstFault cart inputs frame kind
-Explains cart inputs every to_the_end BadCounts = ¬ IsTrue (do_claims_fit (length inputs) every to_the_end)
-Explains cart inputs every to_the_end NoMemory = Unit {0}
+abbrev pub Explains : List ℕ → List InputData → ℕ → Bool → Bool → MakeError → Type 0
+Explains cart inputs every to_the_end to_the_fault (Fault frame kind) =
+    IsTrue (do_claims_fit (length inputs) every to_the_end) × IsFirstFault cart inputs frame kind × (to_the_fault ≡ false)
+Explains cart inputs every to_the_end to_the_fault BadCounts = ¬ IsTrue (do_claims_fit (length inputs) every to_the_end)
+Explains cart inputs every to_the_end to_the_fault NoMemory = Unit {0}

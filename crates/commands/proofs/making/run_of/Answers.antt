@@ -32,7 +32,17 @@ returns-in-Some-clause-faults g c =
     let at = slice_get_read c.args.inputs.now (length c.args.inputs.now) c.loop-i.i c.index-inputs-i.result refl c.loop-i-test.true c.index-inputs-i.is in
     let m = bare c.args.cart.now c.args.inputs.now in
     let faults = faults-here m m.start 0 c.loop-i.i c.loop-i.i _ _ c.loop-i.invariant.made.ran (omega arith) at _ _ c.in-Some.ensures.failed in
-    (c.loop-i.i, refl, c.loop-i.invariant.made.sound, faults)
+    record {
+      before = c.loop-i.i;
+      frame_is = refl;
+      within = c.loop-i-test.true;
+      sound = c.loop-i.invariant.made.sound;
+      fault = faults;
+      claims = c.loop-i.invariant.made.claims;
+      inputs_are =
+          All-more (λ i. IsTrue (is_input i)) c.args.inputs.now c.loop-i.i c.index-inputs-i.result c.loop-i-test.true c.loop-i.invariant.made.inputs_are
+          (rw c.index-inputs-i.is at c.halt.ensures.lawful);
+    }
 
 pub loop-i-preserved : goal.loop-i-preserved
 loop-i-preserved g c =

@@ -1,0 +1,52 @@
+-- Where the bytes of a ROM that is expected aren't those of a cartridge. This project's own.
+use Rattle.std.specs.Prelude.{ℕ, Bool, not, ◌==◌, List, [], ◌∷◌, ◌++◌, codes, length, slice_index, take, drop, Option, Some, None}
+use Rattle.std.specs.Prelude.{if◌then◌else◌}
+use Rattle.std.specs.Fmt.{decimal}
+use Rattle.std.specs.List.{filter, flat_map, range_with_len}
+use Rattle.std.specs.Str.{bytes_eq}
+use Rattle.vcs_machine.specs.Faults.{hex2, hex4}
+use Rattle.replay_plan.specs.declared.notation.Notation.{Notation}
+use Rattle.replay_plan.specs.declared.notation.Notation.TheVariants.{Lines, Json}
+
+-- Two lists of bytes differ at a place, counted from 0.
+abbrev pub is_different_at : List ℕ → List ℕ → ℕ → Bool
+is_different_at rom cart offset = not (slice_index rom offset == slice_index cart offset)
+
+-- All places at which a ROM differs from a cartridge of its length, the lowest first.
+unfoldable pub different_offsets : List ℕ → List ℕ → List ℕ
+different_offsets rom cart = filter (is_different_at rom cart) (range_with_len 0 (length cart))
+
+-- What is said of a place: the byte that is expected there and the one that is found, in a line, or as
+-- an element of an array after those before it.
+abbrev pub byte_text : Notation → ℕ → ℕ → ℕ → List ℕ
+byte_text Lines offset expected found =
+    codes "cartridge " ++ (hex4 offset ++ (codes ": expected " ++ (hex2 expected ++ (codes ", found " ++ (hex2 found ++ 10 ∷ [])))))
+byte_text Json offset expected found =
+    codes ",{\"offset\":\"" ++ (hex4 offset ++ (codes "\",\"expected\":\"" ++ (hex2 expected
+    ++ (codes "\",\"found\":\"" ++ (hex2 found ++ codes "\"}")))))
+
+-- What is said of places, in their order.
+abbrev pub bytes_text : Notation → List ℕ → List ℕ → List ℕ → List ℕ
+bytes_text notation rom cart offsets = flat_map (λ offset. byte_text notation offset (slice_index rom offset) (slice_index cart offset)) offsets
+
+-- How many places there are, and what is said of the first four.
+abbrev pub places_text : Notation → List ℕ → List ℕ → List ℕ → List ℕ
+places_text Lines rom cart offsets =
+    codes "cartridge differs: " ++ (decimal (length offsets) ++ (codes " bytes" ++ (10 ∷ bytes_text Lines rom cart (take 4 offsets))))
+places_text Json rom cart offsets =
+    codes ",\"differing_bytes\":" ++ (decimal (length offsets) ++ (codes ",\"cartridge_differs\":["
+    ++ (drop 1 (bytes_text Json rom cart (take 4 offsets)) ++ codes "]")))
+
+-- Two lengths that differ.
+abbrev pub lengths_text : Notation → ℕ → ℕ → List ℕ
+lengths_text Lines expected found =
+    codes "cartridge length: expected " ++ (decimal expected ++ (codes ", found " ++ (decimal found ++ 10 ∷ [])))
+lengths_text Json expected found = codes ",\"expected_length\":" ++ decimal expected
+
+-- In what a cartridge isn't the ROM that is expected, if one is: in its length, or else in its bytes.
+abbrev pub cartridge_differences : Notation → Option (List ℕ) → List ℕ → List ℕ
+cartridge_differences notation None cart = []
+cartridge_differences notation (Some rom) cart =
+    if bytes_eq rom cart then []
+    else if length rom == length cart then places_text notation rom cart (different_offsets rom cart)
+    else lengths_text notation (length rom) (length cart)
