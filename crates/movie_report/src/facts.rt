@@ -196,9 +196,11 @@ fn notes_and_facts(
 /// the beam's place that its frame left; for these so much of the movie is replayed as lies between
 /// the place and the last checkpoint before it. Of both follows which segments between checkpoints
 /// reach their claims: the verdict says it of the first that doesn't and of those before it, and the
-/// others are replayed. Of a false checkpoint a sentence says what the signs show; for that at most
-/// two segments more are replayed. Then comes whether the movie is as expected, where anything is,
-/// and in which bytes its cartridge differs from the ROM that is, if one is given; then notes, and the facts: the cartridge's length, digests and bank scheme, whether the start
+/// others are replayed. Of a false checkpoint also comes after which other frame the run has the
+/// claimed state, for which the run is replayed, and in which claims the run is, for which it goes on
+/// to the last; and a sentence. Then comes whether the movie is as expected, where anything is, and in
+/// which bytes its cartridge differs from the ROM that is, if one is given; then notes, and the facts:
+/// the cartridge's length, digests and bank scheme, whether the start
 /// state is that of power-on, where checkpoints stand, and what the movie is. The numbers of a start
 /// that isn't power-on are the last.
 ///
