@@ -2,6 +2,7 @@
 
 import argparse
 import contextlib
+import io
 import json
 import os
 import pathlib
@@ -135,6 +136,16 @@ def signals_held() -> Iterator[None]:
             raise Ended(number)
 
 
+class _Output(io.FileIO):
+    """Standard output, which an error names."""
+
+    def write(self, data: Any) -> int:
+        try:
+            return super().write(data)
+        except OSError as error:
+            raise OSError(error.errno, error.strerror, "standard output") from None
+
+
 def _open_streams() -> None:
     """Puts nothing in the place of standard streams that are closed, so that no file gets their numbers. Without an output nothing
     is done."""
@@ -147,6 +158,9 @@ def _open_streams() -> None:
     if is_closed:
         sys.stdout = open(os.devnull, "w")
         raise Stop("standard output is closed")
+    if sys.stdout is sys.__stdout__:
+        buffer = io.BufferedWriter(_Output(1, "wb", closefd=False))
+        sys.stdout = io.TextIOWrapper(buffer, sys.stdout.encoding, sys.stdout.errors, line_buffering=sys.stdout.line_buffering)
 
 
 def _drop_output() -> None:

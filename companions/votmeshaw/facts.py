@@ -92,8 +92,11 @@ def _contradictions(kind: str, status: int | None, line: str, facts: dict[str, A
     if line_of(facts) != line:
         yield f"with the line {line[:80]!r} and facts of {line_of(facts)[:80]!r}"
     yield from (f"with {name}" for name, its in OF_ONE.items() if facts.get(name) and kind != its)
-    if kind == KINDS[0] and set(facts.get("segments", "")) - {"."}:
-        yield f"with segments {facts['segments'][:80]}"
+    for name in ("segments", "claims"):
+        if kind == KINDS[0] and set(facts.get(name, "")) - {"."}:
+            yield f"with {name} {facts[name][:80]}"
+    if kind == KINDS[1] and "claims" in facts and facts["claims"].find("X") != facts["checkpoint"] - 1:
+        yield f"with claims {facts['claims'][:80]}"
     yield from (f"with {it}" for it in _of_numbers(facts))
 
 

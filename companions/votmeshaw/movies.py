@@ -226,6 +226,6 @@ class Folder:
             waiting += [path for path, is_folder, _, name in reversed(below) if is_folder and not name.startswith(b".")]
             for path, is_folder, leads_out, name in below:
                 if leads_out and not name.startswith(b"."):
-                    yield path + b"/", "a link to a folder out of the archive isn't followed"
+                    yield path + b"/", "a link to a folder that is outside or hidden isn't followed"
                 elif not is_folder and path.lower().endswith(endings):
                     yield path, ""
