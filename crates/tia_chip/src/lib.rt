@@ -1,6 +1,6 @@
 //! The television interface adaptor (TIA) of the Atari 2600 as the chip does it, clock by clock. Its
 //! sources are the Stella Programmer's Guide, Andrew Towers' notes on the TIA, and what was measured
-//! in Stella 6.7; `specs/` says each rule, and whence it is.
+//! in Stella 6.7; `specs/` states each rule with its source.
 #![tactic(auto)]
 
 mod ball;
