@@ -1,0 +1,7 @@
+pub mod AnswerLemmas
+pub mod HeldLemmas
+pub mod KindLemmas
+pub mod ModeLemmas
+pub mod QuietLemmas
+pub mod RowLemmas
+pub mod RunLemmas

@@ -1,0 +1,7 @@
+-- Definitions of how things are kept and done. Only private contracts and proofs cite them: what is
+-- promised can be read without them.
+pub mod Fetches
+pub mod Found
+pub mod Held
+pub mod Kinds
+pub mod Rows

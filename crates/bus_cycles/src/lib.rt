@@ -1,0 +1,11 @@
+//! The processor of `mos_cpu` by the cycle: each cycle of an instruction is one access of a bus.
+#![tactic(auto)]
+
+mod bus;
+mod finding;
+mod held;
+mod kind;
+mod processor;
+
+pub use bus::{CycleBus, Purpose};
+pub use processor::{step, step_running};
