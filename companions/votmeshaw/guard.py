@@ -23,8 +23,10 @@ class Guard:
 
 
 def _wait(mark: int) -> None:
-    """What the process does. It keeps no file of the run open, and what ends the run's group doesn't end it."""
+    """What the process does. It keeps no file of the run open, nor the folder in which the run began, whose disk may be unmounted once
+    the run has ended; and what ends the run's group doesn't end it."""
     os.setsid()
+    os.chdir("/")
     for it in (signal.SIGINT, signal.SIGTERM, signal.SIGHUP):
         signal.signal(it, signal.SIG_IGN)
     os.dup2(mark, 0)
