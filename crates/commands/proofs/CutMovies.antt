@@ -23,7 +23,7 @@ module _ (m c : MovieData) (first count every : ℕ) (cut : IsCutOf m first coun
   cut_run zero le = rw add-zero (sym cut.start)
   cut_run (suc k) le =
       let more : first - 1 + suc k ≡ suc (first - 1 + k) = omega arith in
-      rw (more, input_is k (omega arith), cut.cart_is, cut_run k (omega arith)) refl
+      rw (more, input_is k (omega arith), cut.cartridge_is, cut_run k (omega arith)) refl
 
   -- it is sound
   pub genuine : IsGenuine c
@@ -47,8 +47,8 @@ same_claims m from cs ds lengths each =
 
 -- ---- one cut
 
-same_movie : (c d : MovieData) → c.version ≡ d.version → c.cart ≡ d.cart → c.start ≡ d.start → c.inputs ≡ d.inputs → c.checkpoints ≡ d.checkpoints → c ≡ d
-same_movie c d version cart start inputs checkpoints = grind arith
+same_movie : (c d : MovieData) → c.version ≡ d.version → c.cartridge ≡ d.cartridge → c.start ≡ d.start → c.inputs ≡ d.inputs → c.checkpoints ≡ d.checkpoints → c ≡ d
+same_movie c d version cartridge start inputs checkpoints = grind arith
 
 pub one_cut : (m c d : MovieData) (first count every : ℕ) → IsCutOf m first count every c → IsCutOf m first count every d → c ≡ d
 one_cut m c d first count every cut again =

@@ -23,10 +23,10 @@ asked_lawful m first count all =
     let rest = drop (first - 1) m.inputs in
     recursion_from_All lawful (take count rest) (All-take lawful count rest (All-drop lawful (first - 1) m.inputs (All-from_recursion lawful m.inputs all)))
 
-module _ (m : MovieData) (first count : ℕ) {every got frames version : ℕ} {cart : List ℕ} {start : StateFields}
+module _ (m : MovieData) (first count : ℕ) {every got frames version : ℕ} {cartridge : List ℕ} {start : StateFields}
     {all inputs : List InputData} {cs : List Checkpoint}
     (got_is : got ≡ first) (frames_is : frames ≡ frames_asked m first count) (all_is : all ≡ m.inputs)
-    (taken : inputs ≡ slice_range all (got - 1) (got - 1 + frames)) (cart_is : cart ≡ m.cart) (version_is : version ≡ version_made (length cart) frames)
+    (taken : inputs ≡ slice_range all (got - 1) (got - 1 + frames)) (cartridge_is : cartridge ≡ m.cartridge) (version_is : version ≡ version_made (length cartridge) frames)
     (ran : run m m.start 0 (got - 1) ≡ Some start) (far : Claims m (got - 1) every frames cs) where
   asked : inputs ≡ inputs_asked m first count
   asked =
@@ -36,18 +36,18 @@ module _ (m : MovieData) (first count : ℕ) {every got frames version : ℕ} {c
   frames_are : frames ≡ length inputs
   frames_are = rw asked frames_is
 
-  pub IsMovie-cut : IsMovie m → IsTrue (counts_fit frames every) → IsTrue (is_cart_length (length cart)) → IsState start
-      → IsMovie (parts version cart start inputs cs)
+  pub IsMovie-cut : IsMovie m → IsTrue (counts_fit frames every) → IsTrue (is_cart_length (length cartridge)) → IsState start
+      → IsMovie (parts version cartridge start inputs cs)
   IsMovie-cut movie fits lawful state =
-      IsMovie-parts m (got - 1) every version cart start inputs cs cart_is (rw frames_are at version_is) ran movie.start.bank (rw frames_are at fits)
+      IsMovie-parts m (got - 1) every version cartridge start inputs cs cartridge_is (rw frames_are at version_is) ran movie.start.bank (rw frames_are at fits)
       (rw frames_are at far) lawful state (rw asked (asked_lawful m first count movie.inputs))
 
-  pub IsCutOf-parts : Ends m (got - 1 + frames) → IsCutOf m first count every (parts version cart start inputs cs)
+  pub IsCutOf-parts : Ends m (got - 1 + frames) → IsCutOf m first count every (parts version cartridge start inputs cs)
   IsCutOf-parts ends =
       let here = rw (got_is, frames_are) at far in
       record {
         version = rw frames_are at version_is;
-        cart_is = cart_is;
+        cartridge_is = cartridge_is;
         start = rw got_is at ran;
         inputs_are = asked;
         ends = rw (got_is, frames_are) at ends;

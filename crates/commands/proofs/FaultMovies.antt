@@ -27,23 +27,23 @@ use Rattle.commands.specs.Private.MadeRuns.{HasFault, movie_up_to}
 use Rattle.commands.proofs.MadeMovies.{sound_of_run}
 
 -- checkpoints at multiples of frames up to n rise
-rising : (cart every n b last : ℕ) (cs : List Checkpoint) → 1 ≤ every → last ≤ every * b
+rising : (cartridge_length every n b last : ℕ) (cs : List Checkpoint) → 1 ≤ every → last ≤ every * b
     → ((j : ℕ) (c : Checkpoint) → slice_get cs j ≡ Some c → c.frame ≡ every * (b + j + 1))
-    → ((j : ℕ) (c : Checkpoint) → slice_get cs j ≡ Some c → IsStateWith cart c.state) → every * (b + length cs) ≤ n → AreCheckpoints cart last n cs
-rising cart every n b last [] some low places lawful fits = tt
-rising cart every n b last (d ∷ cs) some low places lawful fits =
+    → ((j : ℕ) (c : Checkpoint) → slice_get cs j ≡ Some c → IsStateWith cartridge_length c.state) → every * (b + length cs) ≤ n → AreCheckpoints cartridge_length last n cs
+rising cartridge_length every n b last [] some low places lawful fits = tt
+rising cartridge_length every n b last (d ∷ cs) some low places lawful fits =
     let first : d.frame ≡ every * (b + 0 + 1) = places 0 d refl in
     let next = λ (j : ℕ) (c : Checkpoint) (e : slice_get cs j ≡ Some c). lawful (suc j) c e in
-    let later = rising cart every n (b + 1) d.frame cs some (omega (arith, first)) (λ j c e. omega (arith, places (suc j) c e)) next (omega arith) in
+    let later = rising cartridge_length every n (b + 1) d.frame cs some (omega (arith, first)) (λ j c e. omega (arith, places (suc j) c e)) next (omega arith) in
     (omega arith, omega arith, lawful 0 d refl, later)
 
-module _ (cart : List ℕ) (inputs : List InputData) (every frame : ℕ) (kind : FaultKind) (cs : List Checkpoint)
-    (far : HasFault cart inputs every frame kind cs) where
+module _ (cartridge : List ℕ) (inputs : List InputData) (every frame : ℕ) (kind : FaultKind) (cs : List Checkpoint)
+    (far : HasFault cartridge inputs every frame kind cs) where
   abbrev m : MovieData
-  m = movie_up_to cart (state_at_power_on cart) inputs cs frame
+  m = movie_up_to cartridge (state_at_power_on cartridge) inputs cs frame
 
   abbrev whole : MovieData
-  whole = bare cart inputs
+  whole = bare cartridge inputs
 
   long : length (take frame inputs) ≡ frame
   long = length-take-le frame inputs (omega (arith, far.frame_is, far.within))
@@ -66,21 +66,21 @@ module _ (cart : List ℕ) (inputs : List InputData) (every frame : ℕ) (kind :
       let less = le-div (far.before / every) (length inputs) every fit.2 (omega (arith, div-mul-le_self far.before every, far.within)) in
       omega (arith, far.claims.count, fit.3, less)
 
-  rise : IsTrue (counts_fit (length inputs) every) → AreCheckpoints (length cart) 0 (length (take frame inputs)) cs
+  rise : IsTrue (counts_fit (length inputs) every) → AreCheckpoints (length cartridge) 0 (length (take frame inputs)) cs
   rise fits =
-      rising (length cart) every (length (take frame inputs)) 0 0 cs (counts_are (length inputs) every fits).2 (omega arith)
+      rising (length cartridge) every (length (take frame inputs)) 0 0 cs (counts_are (length inputs) every fits).2 (omega arith)
       (λ j c e. omega (arith, far.claims.places j c e))
-      (λ j c e. record { state = far.claims.lawful j c e; bank = bank_fits whole (0 + c.frame) c.state (bank_at_start cart) (far.claims.states j c e) })
+      (λ j c e. record { state = far.claims.lawful j c e; bank = bank_fits whole (0 + c.frame) c.state (bank_at_start cartridge) (far.claims.states j c e) })
       (rw (far.claims.count, long, far.frame_is) (omega arith))
 
-  pub IsMovie-to_the_fault : IsTrue (counts_fit (length inputs) every) → IsTrue (is_cart_length (length cart)) → IsState (state_at_power_on cart) → IsMovie m
+  pub IsMovie-to_the_fault : IsTrue (counts_fit (length inputs) every) → IsTrue (is_cart_length (length cartridge)) → IsState (state_at_power_on cartridge) → IsMovie m
   IsMovie-to_the_fault fits lawful first =
       let fit = counts_are (length inputs) every fits in
       let within : frame ≤ length inputs = omega (arith, far.frame_is, far.within) in
       record {
         version = grind (arith, nat_tests);
-        cart = grind (arith, nat_tests);
-        start = record { state = first; bank = bank_at_start cart };
+        cartridge = grind (arith, nat_tests);
+        start = record { state = first; bank = bank_at_start cartridge };
         some_frames = omega (arith, long, far.frame_is);
         few_frames = rw long (grind (arith, nat_tests));
         few_checkpoints = few fits;
@@ -94,12 +94,12 @@ module _ (cart : List ℕ) (inputs : List InputData) (every frame : ℕ) (kind :
       let within = (frame_in_range m movie j c at).1 in
       same_run c.frame (omega (arith, long, within)) ∙ rw none at (far.claims.states j c at)
 
-  pub IsMadeToTheFault-parts : IsMovie m → IsMadeToTheFault cart inputs every frame m
+  pub IsMadeToTheFault-parts : IsMovie m → IsMadeToTheFault cartridge inputs every frame m
   IsMadeToTheFault-parts movie =
       let before : frame - 1 ≡ far.before = omega (arith, far.frame_is) in
       record {
         version = refl;
-        cart_is = refl;
+        cartridge_is = refl;
         start = refl;
         inputs_are = refl;
         count = rw before far.claims.count;
@@ -125,5 +125,5 @@ module _ (cart : List ℕ) (inputs : List InputData) (every frame : ℕ) (kind :
   pub IsVerdict-to_the_fault : IsMovie m → (keep : Keep) → IsVerdict m keep (Fault frame kind)
   IsVerdict-to_the_fault movie keep = (far.before, omega (arith, long, far.frame_is), omega (arith, far.frame_is), sound movie, faults)
 
-  pub is_first_fault : IsFirstFault cart inputs frame kind
+  pub is_first_fault : IsFirstFault cartridge inputs frame kind
   is_first_fault = (far.before, far.frame_is, far.sound, far.fault)

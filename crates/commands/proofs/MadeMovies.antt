@@ -39,11 +39,11 @@ sound_of_run m k ends claimed i less =
     )
 
 -- one checkpoint more, after the last frame
-last_stands : (cart last n : ℕ) (cs : List Checkpoint) (d : Checkpoint) → last < n → d.frame ≡ n → IsStateWith cart d.state
-    → ((j : ℕ) (c : Checkpoint) → slice_get cs j ≡ Some c → c.frame < n) → AreCheckpoints cart last n cs → AreCheckpoints cart last n (cs ++ d ∷ [])
-last_stands cart last n [] d later place lawful before stand = (omega arith, omega arith, lawful, tt)
-last_stands cart last n (c ∷ cs) d later place lawful before stand =
-    (stand.0, stand.1, stand.2, last_stands cart c.frame n cs d (before 0 c refl) place lawful (λ j x at. before (suc j) x at) stand.3)
+last_stands : (cartridge_length last n : ℕ) (cs : List Checkpoint) (d : Checkpoint) → last < n → d.frame ≡ n → IsStateWith cartridge_length d.state
+    → ((j : ℕ) (c : Checkpoint) → slice_get cs j ≡ Some c → c.frame < n) → AreCheckpoints cartridge_length last n cs → AreCheckpoints cartridge_length last n (cs ++ d ∷ [])
+last_stands cartridge_length last n [] d later place lawful before stand = (omega arith, omega arith, lawful, tt)
+last_stands cartridge_length last n (c ∷ cs) d later place lawful before stand =
+    (stand.0, stand.1, stand.2, last_stands cartridge_length c.frame n cs d (before 0 c refl) place lawful (λ j x at. before (suc j) x at) stand.3)
 
 -- a multiple up to a number that is none is below it
 below_last : (every n j frame : ℕ) → 1 ≤ every → n % every ≢ 0 → frame ≡ every * (j + 1) → frame ≤ n → frame < n
@@ -69,9 +69,9 @@ one_more n every true is =
       | inr e ↦ let rest : n % every ≢ 0 = eqb-false _ _ e in (rest, omega (arith, rest))
     ]
 
-module _ (cart : List ℕ) (inputs : List InputData) (every : ℕ) (to_the_end : Bool) (cs : List Checkpoint) (last : StateFields)
-    (fits : IsTrue (do_claims_fit (length inputs) every to_the_end)) (ran : HasRun cart inputs every (length inputs) cs last)
-    (first : IsState (state_at_power_on cart)) (state : IsState last) (lawful : IsTrue (is_cart_length (length cart))) where
+module _ (cartridge : List ℕ) (inputs : List InputData) (every : ℕ) (to_the_end : Bool) (cs : List Checkpoint) (last : StateFields)
+    (fits : IsTrue (do_claims_fit (length inputs) every to_the_end)) (ran : HasRun cartridge inputs every (length inputs) cs last)
+    (first : IsState (state_at_power_on cartridge)) (state : IsState last) (lawful : IsTrue (is_cart_length (length cartridge))) where
   abbrev n : ℕ
   n = length inputs
 
@@ -79,34 +79,34 @@ module _ (cart : List ℕ) (inputs : List InputData) (every : ℕ) (to_the_end :
   d = record { frame = n; state = last }
 
   abbrev made : MovieData
-  made = parts (version_made (length cart) n) cart (state_at_power_on cart) inputs (cs ++ last_claim n every to_the_end last)
+  made = parts (version_made (length cartridge) n) cartridge (state_at_power_on cartridge) inputs (cs ++ last_claim n every to_the_end last)
 
   abbrev old : MovieData
-  old = record (bare cart inputs) { checkpoints = cs }
+  old = record (bare cartridge inputs) { checkpoints = cs }
 
-  same_run : (k : ℕ) → run made made.start 0 k ≡ run (bare cart inputs) (state_at_power_on cart) 0 k
-  same_run k = run_same made (bare cart inputs) (state_at_power_on cart) 0 k refl refl
+  same_run : (k : ℕ) → run made made.start 0 k ≡ run (bare cartridge inputs) (state_at_power_on cartridge) 0 k
+  same_run k = run_same made (bare cartridge inputs) (state_at_power_on cartridge) 0 k refl refl
 
   all : AllByRecursion (λ i. IsTrue (is_input i)) inputs
   all = recursion_from_All (λ i. IsTrue (is_input i)) inputs (rw (take_all n inputs (omega arith)) at ran.inputs_are)
 
-  before : IsMadeOf cart inputs every old × IsGenuine old × (IsTrue (is_cart_length (length cart)) → IsMovie old)
-  before = made_movie cart inputs every cs (fits_both n every to_the_end fits).0 ran.sound ran.claims first all
+  before : IsMadeOf cartridge inputs every old × IsGenuine old × (IsTrue (is_cart_length (length cartridge)) → IsMovie old)
+  before = made_movie cartridge inputs every cs (fits_both n every to_the_end fits).0 ran.sound ran.claims first all
 
-  states : (j : ℕ) (c : Checkpoint) → slice_get cs j ≡ Some c → run (bare cart inputs) (state_at_power_on cart) 0 c.frame ≡ Some c.state
+  states : (j : ℕ) (c : Checkpoint) → slice_get cs j ≡ Some c → run (bare cartridge inputs) (state_at_power_on cartridge) 0 c.frame ≡ Some c.state
   states j c at = let none : 0 + c.frame ≡ c.frame = omega arith in rw none at (ran.claims.states j c at)
 
   all_states : (j : ℕ) (c : Checkpoint) → slice_get (cs ++ last_claim n every to_the_end last) j ≡ Some c
-      → run (bare cart inputs) (state_at_power_on cart) 0 c.frame ≡ Some c.state
+      → run (bare cartridge inputs) (state_at_power_on cartridge) 0 c.frame ≡ Some c.state
   all_states =
       elim (cases_Bool (is_last_claimed n every to_the_end)) [
         | inl e ↦
             rw e
-            (each_more (λ (j : ℕ) (c : Checkpoint). run (bare cart inputs) (state_at_power_on cart) 0 c.frame ≡ Some c.state) cs d states ran.ran)
+            (each_more (λ (j : ℕ) (c : Checkpoint). run (bare cartridge inputs) (state_at_power_on cartridge) 0 c.frame ≡ Some c.state) cs d states ran.ran)
         | inr e ↦ rw (e, append-nil) states
       ]
 
-  pub IsMadeMovie-parts : IsMadeMovie cart inputs every to_the_end made
+  pub IsMadeMovie-parts : IsMadeMovie cartridge inputs every to_the_end made
   IsMadeMovie-parts = record { claims = cs; last = last; made = before.0; ran = same_run n ∙ ran.ran; checkpoints_are = refl }
 
   pub IsGenuine-parts : IsGenuine made
@@ -124,14 +124,14 @@ module _ (cart : List ℕ) (inputs : List InputData) (every : ℕ) (to_the_end :
             let few = (fits_both n every to_the_end fits).1 in
             rw e (record {
               version = movie.version;
-              cart = movie.cart;
+              cartridge = movie.cartridge;
               start = movie.start;
               some_frames = movie.some_frames;
               few_frames = movie.few_frames;
               few_checkpoints = omega (arith, length-append cs (d ∷ []), ran.claims.count, more.1, few);
               inputs = movie.inputs;
               checkpoints =
-                  last_stands (length cart) 0 n cs d fit.0 refl (record { state = state; bank = bank_fits (bare cart inputs) n last (bank_at_start cart) ran.ran })
+                  last_stands (length cartridge) 0 n cs d fit.0 refl (record { state = state; bank = bank_fits (bare cartridge inputs) n last (bank_at_start cartridge) ran.ran })
                   (λ j c at. below_last every n j c.frame fit.2 more.0 (ran.claims.places j c at) (frame_in_range old movie j c at).1) movie.checkpoints;
             })
         | inr e ↦ rw (e, append-nil) movie

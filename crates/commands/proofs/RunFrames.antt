@@ -68,8 +68,8 @@ no_line m notation details = none_from m (λ x o. played_line m notation details
         go None e = refl
         go (Some input) e =
             let none : 0 + f ≡ f = omega arith in
-            let failed : Some (frame_of m.cart state input) ≡ Some (Failed kind left) = rw (none, e) at fails in
-            let is : frame_of m.cart state input ≡ Failed kind left = cc in
+            let failed : Some (frame_of m.cartridge state input) ≡ Some (Failed kind left) = rw (none, e) at fails in
+            let is : frame_of m.cartridge state input ≡ Failed kind left = cc in
             rw is refl
 
 no_picture : (m : MovieData) → EndsAtFault m (picture_of_frame m)

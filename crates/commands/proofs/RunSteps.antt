@@ -23,7 +23,7 @@ pub ends_or_faults : (m : MovieData) (n : ℕ) → n ≤ length m.inputs → End
 ends_or_faults m zero le = inl (m.start, refl)
 ends_or_faults m (suc n) le = elim (ends_or_faults m n (omega arith)) [
   | inr faults ↦ inr (faults.0, faults.1, faults_sooner m n (suc n) faults.0 faults.1 (omega arith) faults.2)
-  | inl ended ↦ play ended.0 ended.1 (frame_of m.cart ended.0 input) refl
+  | inl ended ↦ play ended.0 ended.1 (frame_of m.cartridge ended.0 input) refl
 ]
   where
     input : InputData
@@ -32,7 +32,7 @@ ends_or_faults m (suc n) le = elim (ends_or_faults m n (omega arith)) [
     there : slice_get m.inputs n ≡ Some input
     there = slice_get-get_or m.inputs n _ (omega arith)
 
-    play : (state : StateFields) → run m m.start 0 n ≡ Some state → (outcome : FrameOutcome) → frame_of m.cart state input ≡ outcome
+    play : (state : StateFields) → run m m.start 0 n ≡ Some state → (outcome : FrameOutcome) → frame_of m.cartridge state input ≡ outcome
         → Ends m (suc n) ⊎ ((frame : ℕ) × (kind : FaultKind) × FaultsWithin m (suc n) frame kind)
     play state ran (Played new rows) e = inl (new, rw add-one at (run-next m m.start 0 n n state input ran (omega arith) there new rows e))
     play state ran (Failed kind left) e =

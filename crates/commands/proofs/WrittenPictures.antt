@@ -25,7 +25,7 @@ use Rattle.commands.proofs.WrittenFrames.{asked_ends_or_faults}
 
 -- the picture of the frame after which a cursor goes on
 pub drawn_by : (m : MovieData) (k : ℕ) (c : CursorData) (input : InputData) (rows : Rows) (new : StateFields) → IsAt m k c
-    → slice_get m.inputs k ≡ Some input → frame_of m.cart c.state input ≡ Played new rows → picture_bytes rows ≡ picture_of_frame m k
+    → slice_get m.inputs k ≡ Some input → frame_of m.cartridge c.state input ≡ Played new rows → picture_bytes rows ≡ picture_of_frame m k
 drawn_by m k c input rows new at there ends = let none : 0 + k ≡ k = omega arith in rw (at.ran, there, ends) (sym (append-nil (picture_bytes rows)))
 
 module _ (m : MovieData) (first count : ℕ) where

@@ -6,4 +6,4 @@ use Rattle.commands.specs.declared.line.Line.TheVariants as lines
 
 -- Its bytes, lowest address first, and a line that says how many they are.
 abbrev pub cartridge_answer : MovieData → AnswerData
-cartridge_answer m = record (line_answer (lines.Cartridge (length m.cart))) { file = m.cart }
+cartridge_answer m = record (line_answer (lines.Cartridge (length m.cartridge))) { file = m.cartridge }

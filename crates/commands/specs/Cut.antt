@@ -16,8 +16,8 @@ use Rattle.commands.specs.declared.line.Line.TheVariants as lines
 -- has their inputs, and claims the state of the run after every so many of them. Its version is the
 -- one of a movie that is made of its cartridge and inputs.
 pub record IsCutOf (m : MovieData) (first count every : ℕ) (c : MovieData) : Type 0 where
-  pub version : c.version ≡ version_made (length c.cart) (length c.inputs)
-  pub cart_is : c.cart ≡ m.cart
+  pub version : c.version ≡ version_made (length c.cartridge) (length c.inputs)
+  pub cartridge_is : c.cartridge ≡ m.cartridge
   pub start : run m m.start 0 (first - 1) ≡ Some c.start
   pub inputs_are : c.inputs ≡ inputs_asked m first count
   pub ends : Ends m (first - 1 + length c.inputs)

@@ -116,7 +116,7 @@ abbrev pub played_line : MovieData → Notation → Details → ℕ → Option S
 played_line m notation details frame None input = []
 played_line m notation details frame (Some state) None = []
 played_line m notation details frame (Some state) (Some input) =
-    outcome_line m.checkpoints notation details frame (cycles_of m.cart state input) (frame_of m.cart state input)
+    outcome_line m.checkpoints notation details frame (cycles_of m.cartridge state input) (frame_of m.cartridge state input)
 
 -- Of frame k + 1 of the movie's one unbroken run.
 abbrev pub frame_line : MovieData → Notation → Details → ℕ → List ℕ

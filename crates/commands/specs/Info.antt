@@ -12,10 +12,10 @@ use Rattle.commands.specs.declared.status.Status.TheVariants.{Done}
 -- of JSON,
 abbrev pub object_text : MovieData → List ℕ
 object_text m =
-    codes "{\"version\":" ++ (decimal m.version ++ (codes ",\"cartridge\":" ++ (decimal (length m.cart) ++ (codes ",\"frames\":" ++ (decimal (length m.inputs)
+    codes "{\"version\":" ++ (decimal m.version ++ (codes ",\"cartridge\":" ++ (decimal (length m.cartridge) ++ (codes ",\"frames\":" ++ (decimal (length m.inputs)
     ++ (codes ",\"checkpoints\":" ++ (decimal (length m.checkpoints) ++ (codes "}" ++ 10 ∷ []))))))))
 
 -- or as a line.
 abbrev pub information_in : Notation → MovieData → AnswerData
-information_in Lines m = line_answer (lines.Movie m.version (length m.cart) (length m.inputs) (length m.checkpoints))
+information_in Lines m = line_answer (lines.Movie m.version (length m.cartridge) (length m.inputs) (length m.checkpoints))
 information_in Json m = text_answer Done (object_text m)

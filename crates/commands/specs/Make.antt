@@ -47,19 +47,19 @@ last_claim frames every to_the_end state =
 
 -- The movie of a run from power-on with a checkpoint after every so many frames, and to the end with
 -- the state after the last one.
-pub record IsMadeMovie (cart : List ℕ) (inputs : List InputData) (every : ℕ) (to_the_end : Bool) (m : MovieData) : Type 0 where
+pub record IsMadeMovie (cartridge : List ℕ) (inputs : List InputData) (every : ℕ) (to_the_end : Bool) (m : MovieData) : Type 0 where
   pub claims : List Checkpoint
   pub last : StateFields
-  pub made : IsMadeOf cart inputs every (record m { checkpoints = claims })
+  pub made : IsMadeOf cartridge inputs every (record m { checkpoints = claims })
   pub ran : run m m.start 0 (length inputs) ≡ Some last
   pub checkpoints_are : m.checkpoints ≡ claims ++ last_claim (length inputs) every to_the_end last
 
 -- The movie of a run from power-on of which this frame is the first that faults: it ends with that
 -- frame, and has a checkpoint after every so many of the frames before.
-pub record IsMadeToTheFault (cart : List ℕ) (inputs : List InputData) (every frame : ℕ) (m : MovieData) : Type 0 where
-  pub version : m.version ≡ version_made (length cart) frame
-  pub cart_is : m.cart ≡ cart
-  pub start : m.start ≡ state_at_power_on cart
+pub record IsMadeToTheFault (cartridge : List ℕ) (inputs : List InputData) (every frame : ℕ) (m : MovieData) : Type 0 where
+  pub version : m.version ≡ version_made (length cartridge) frame
+  pub cartridge_is : m.cartridge ≡ cartridge
+  pub start : m.start ≡ state_at_power_on cartridge
   pub inputs_are : m.inputs ≡ take frame inputs
   pub count : length m.checkpoints ≡ (frame - 1) / every
   pub places : (j : ℕ) (c : Checkpoint) → slice_get m.checkpoints j ≡ Some c → c.frame ≡ every * (j + 1)
@@ -68,18 +68,18 @@ pub record IsMadeToTheFault (cart : List ℕ) (inputs : List InputData) (every f
 -- What is written of a run's first fault: its line, and where a movie to the fault is asked for that
 -- movie, of which this fault is the verdict.
 abbrev pub WritesFault : List ℕ → List InputData → ℕ → Bool → ℕ → FaultKind → AnswerData → Type 0
-WritesFault cart inputs every false frame kind answer = answer ≡ line_answer (lines.Fault frame kind)
-WritesFault cart inputs every true frame kind answer =
-    (m : MovieData) × IsMadeToTheFault cart inputs every frame m × ((keep : Keep) → IsVerdict m keep (Fault frame kind))
+WritesFault cartridge inputs every false frame kind answer = answer ≡ line_answer (lines.Fault frame kind)
+WritesFault cartridge inputs every true frame kind answer =
+    (m : MovieData) × IsMadeToTheFault cartridge inputs every frame m × ((keep : Keep) → IsVerdict m keep (Fault frame kind))
     × (answer ≡ record (line_answer (lines.Fault frame kind)) { file = spelling m })
 
 -- What is written of a cartridge and inputs: the movie of their run, which is genuine, or the run's
 -- first fault; or that their counts are refused.
 abbrev pub MakesOf : List ℕ → List InputData → ℕ → Bool → Bool → AnswerData → Type 0
-MakesOf cart inputs every to_the_end to_the_fault answer =
+MakesOf cartridge inputs every to_the_end to_the_fault answer =
     (IsTrue (do_claims_fit (length inputs) every to_the_end)
-    × (((m : MovieData) × IsMadeMovie cart inputs every to_the_end m × IsGenuine m × (answer ≡ movie_answer lines.Made m))
-    ⊎ ((frame : ℕ) × (kind : FaultKind) × IsFirstFault cart inputs frame kind × WritesFault cart inputs every to_the_fault frame kind answer)))
+    × (((m : MovieData) × IsMadeMovie cartridge inputs every to_the_end m × IsGenuine m × (answer ≡ movie_answer lines.Made m))
+    ⊎ ((frame : ℕ) × (kind : FaultKind) × IsFirstFault cartridge inputs frame kind × WritesFault cartridge inputs every to_the_fault frame kind answer)))
     ⊎ ((¬ IsTrue (do_claims_fit (length inputs) every to_the_end)) × (answer ≡ line_answer (lines.Refused BadCounts)))
 
 -- The inputs that some bytes are in this form, or the line of why they are none.
@@ -89,8 +89,8 @@ inputs_by Text input = result_map_both (λ inputs. inputs) lines.BadLine (inputs
 
 -- What is written of a cartridge and what reading the inputs found.
 abbrev pub MakesFrom : List ℕ → Result (List InputData) Line → ℕ → Bool → Bool → AnswerData → Type 0
-MakesFrom cart (Ok inputs) every to_the_end to_the_fault answer = MakesOf cart inputs every to_the_end to_the_fault answer
-MakesFrom cart (Err line) every to_the_end to_the_fault answer = answer ≡ line_answer line
+MakesFrom cartridge (Ok inputs) every to_the_end to_the_fault answer = MakesOf cartridge inputs every to_the_end to_the_fault answer
+MakesFrom cartridge (Err line) every to_the_end to_the_fault answer = answer ≡ line_answer line
 
 -- What is written of the bytes of a ROM, and what is read of the inputs: if no cartridge has the
 -- ROM's length, nothing.

@@ -32,15 +32,15 @@ use Rattle.std.proofs.Math.Seq.{take-add}
 
 -- the state at the head of the bytes
 pub head_state_takes : (h : Sizes) (bytes : List ℕ) (f : StateFields) → record_length h.version ≤ length bytes → IsBytes bytes → head_state_at h bytes ≡ Some f
-    → IsStateWith h.cart f × (take (record_length h.version) bytes ≡ movie_record h.version f)
+    → IsStateWith h.cartridge_length f × (take (record_length h.version) bytes ≡ movie_record h.version f)
 head_state_takes h bytes f long fits e =
-    let n = record_length h.version in movie_state_takes h.version h.cart (take n bytes) f (IsBytes-take n bytes fits) (omega (arith, length-take n bytes)) e
+    let n = record_length h.version in movie_state_takes h.version h.cartridge_length (take n bytes) f (IsBytes-take n bytes fits) (omega (arith, length-take n bytes)) e
 
-pub head_state_again : (h : Sizes) (f : StateFields) (rest : List ℕ) → IsTrue (takes_cart h.version h.cart) → IsStateWith h.cart f
+pub head_state_again : (h : Sizes) (f : StateFields) (rest : List ℕ) → IsTrue (takes_cart h.version h.cartridge_length) → IsStateWith h.cartridge_length f
     → head_state_at h (movie_record h.version f ++ rest) ≡ Some f
 head_state_again h f rest takes state =
     let head = take_at (movie_record h.version f) rest (record_length h.version) (length-movie_record h.version f state.state) in
-    rw (head, movie_state_again h.version h.cart f takes state) refl
+    rw (head, movie_state_again h.version h.cartridge_length f takes state) refl
 
 -- a checkpoint is read by its number and the frame of the one before it
 abbrev pub checkpoint_at : Sizes → ℕ × ℕ → List ℕ → Result Checkpoint MovieError
@@ -57,7 +57,7 @@ unfolding checkpoints_at
 reads_checkpoints h = record { none = λ s bytes. refl; more = λ n s bytes. rw add-one refl }
 
 abbrev AreAfter : Sizes → ℕ × ℕ → List Checkpoint → Type 0
-AreAfter h s cs = AreCheckpoints h.cart s.1 h.frames cs
+AreAfter h s cs = AreCheckpoints h.cartridge_length s.1 h.frames cs
 
 checkpoint_takes : (h : Sizes) (s : ℕ × ℕ) (bytes : List ℕ) (c : Checkpoint) → checkpoint_length h.version ≤ length bytes → IsBytes bytes
     → checkpoint_at h s bytes ≡ Ok c
@@ -84,10 +84,10 @@ checkpoints_take h =
     items_take (reads_checkpoints h)
     (checkpoint_bytes h.version) (AreAfter h) (λ s. tt) (checkpoint_takes h)
 
-length-checkpoint : (version cart : ℕ) (c : Checkpoint) → IsStateWith cart c.state → length (checkpoint_bytes version c) ≡ checkpoint_length version
-length-checkpoint version cart c h = omega (arith, length-movie_record version c.state h.state)
+length-checkpoint : (version cartridge_length : ℕ) (c : Checkpoint) → IsStateWith cartridge_length c.state → length (checkpoint_bytes version c) ≡ checkpoint_length version
+length-checkpoint version cartridge_length c h = omega (arith, length-movie_record version c.state h.state)
 
-pub checkpoints_again : (h : Sizes) → IsTrue (takes_cart h.version h.cart) → h.frames < 2 ^ 32
+pub checkpoints_again : (h : Sizes) → IsTrue (takes_cart h.version h.cartridge_length) → h.frames < 2 ^ 32
     → (s : ℕ × ℕ) (cs : List Checkpoint) (rest : List ℕ) → AreAfter h s cs
     → checkpoints_from h (length cs) s (flat_map (checkpoint_bytes h.version) cs ++ rest) ≡ Ok (cs, rest)
 unfolding claimed_checkpoint
@@ -96,13 +96,13 @@ checkpoints_again h takes small =
     (checkpoint_bytes h.version) (AreAfter h) (λ s c cs rest each.
     let order : IsTrue (ltb s.1 c.frame && leb c.frame h.frames) = and_from _ _ (lt-ltb s.1 c.frame each.0) (le-leb c.frame h.frames each.1) in
     let frame = wide32.again c.frame (omega arith) in
-    (rw (frame, order, head_state_again h c.state rest takes each.2) refl, length-checkpoint h.version h.cart c each.2, each.3))
+    (rw (frame, order, head_state_again h c.state rest takes each.2) refl, length-checkpoint h.version h.cartridge_length c each.2, each.3))
 
-pub length-checkpoints : (version cart : ℕ) (cs : List Checkpoint) (last n : ℕ) → AreCheckpoints cart last n cs
+pub length-checkpoints : (version cartridge_length : ℕ) (cs : List Checkpoint) (last n : ℕ) → AreCheckpoints cartridge_length last n cs
     → length (flat_map (checkpoint_bytes version) cs) ≡ checkpoint_length version * length cs
-length-checkpoints version cart [] last n each = omega arith
-length-checkpoints version cart (c ∷ cs) last n each =
-    let first = length-checkpoint version cart c each.2 in
-    let others = length-checkpoints version cart cs c.frame n each.3 in
+length-checkpoints version cartridge_length [] last n each = omega arith
+length-checkpoints version cartridge_length (c ∷ cs) last n each =
+    let first = length-checkpoint version cartridge_length c each.2 in
+    let others = length-checkpoints version cartridge_length cs c.frame n each.3 in
     ap length (flat_map-cons (checkpoint_bytes version) c cs)
     ∙ omega (arith, first, others, length-append (checkpoint_bytes version c) (flat_map (checkpoint_bytes version) cs))

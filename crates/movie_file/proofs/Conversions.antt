@@ -14,7 +14,7 @@ use Rattle.movie_file.proofs.RunLemmas.{run_same}
 pub converted-lawful : (m : MovieData) → IsMovie m → IsMovie (in_version_2 m)
 converted-lawful m h = record {
   version = refl;
-  cart = let cart = h.cart in grind (arith, nat_tests);
+  cartridge = let cartridge = h.cartridge in grind (arith, nat_tests);
   start = h.start;
   some_frames = h.some_frames;
   few_frames = omega (arith, h.few_frames, most_frames-most m.version);

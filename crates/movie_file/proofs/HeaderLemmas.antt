@@ -55,19 +55,19 @@ counts_take version bytes x fits e =
     rw (← ok_is (a.0.0, b.0.0, b.0.1) x g.1) (record { parts = parts; rest_fits = u.rest_fits }, are.0, are.1, are.2)
 
 abbrev pub sizes_header : Sizes → List ℕ
-sizes_header h = magic ++ to_be_bytes w16 h.version ++ to_be_bytes w16 h.cart ++ to_be_bytes w32 h.frames ++ to_be_bytes w16 h.checkpoints
+sizes_header h = magic ++ to_be_bytes w16 h.version ++ to_be_bytes w16 h.cartridge_length ++ to_be_bytes w32 h.frames ++ to_be_bytes w16 h.checkpoints
 
 pub record Sized (bytes : List ℕ) (x : Sizes × List ℕ) : Type 0 where
   pub takes : Takes bytes (sizes_header x.0) x.1
   pub version : IsTrue (is_version x.0.version)
-  pub cart : IsTrue (takes_cart x.0.version x.0.cart)
+  pub cartridge : IsTrue (takes_cart x.0.version x.0.cartridge_length)
   pub some_frames : 1 ≤ x.0.frames
   pub few_frames : x.0.frames ≤ most_frames x.0.version
   pub few_checkpoints : x.0.checkpoints ≤ most_checkpoints
   pub long : body_length x.0 ≤ length x.1
 
 abbrev pub sizes_are : ℕ → ℕ → ℕ → ℕ → Sizes
-sizes_are version cart frames checkpoints = record { version = version; cart = cart; frames = frames; checkpoints = checkpoints }
+sizes_are version cartridge_length frames checkpoints = record { version = version; cartridge_length = cartridge_length; frames = frames; checkpoints = checkpoints }
 
 pub sizes_take : (bytes : List ℕ) (x : Sizes × List ℕ) → IsBytes bytes → sizes_at bytes ≡ Ok x → Sized bytes x
 unfolding sizes_at version_at cart_length_at
@@ -87,7 +87,7 @@ sizes_take bytes x fits e =
     rw (← g.1) (record {
       takes = record { parts = ta.parts ∙ ap (λ (w : List ℕ). magic ++ w) after_magic; rest_fits = tc.0.rest_fits };
       version = tv.1;
-      cart = tl.1;
+      cartridge = tl.1;
       some_frames = tc.1;
       few_frames = tc.2;
       few_checkpoints = tc.3;
@@ -107,15 +107,15 @@ counts_again version n m rest some few fewer =
     let checkpoints = number_again wide16 m rest (omega arith) in
     rw (frames, checkpoints, le-leb 1 n some, le-leb n (most_frames version) few, le-leb m most_checkpoints fewer) refl
 
-pub sizes_again : (h : Sizes) (rest : List ℕ) → IsTrue (is_version h.version) → IsTrue (takes_cart h.version h.cart) → 1 ≤ h.frames
+pub sizes_again : (h : Sizes) (rest : List ℕ) → IsTrue (is_version h.version) → IsTrue (takes_cart h.version h.cartridge_length) → 1 ≤ h.frames
     → h.frames ≤ most_frames h.version → h.checkpoints ≤ most_checkpoints → body_length h ≤ length rest
     → sizes_at (sizes_header h ++ rest) ≡ Ok (h, rest)
 unfolding sizes_at magic_at version_at cart_length_at
-sizes_again h rest version cart some few_frames few_checkpoints long =
+sizes_again h rest version cartridge some few_frames few_checkpoints long =
     let r3 = to_be_bytes w32 h.frames ++ (to_be_bytes w16 h.checkpoints ++ rest) in
-    let r2 = to_be_bytes w16 h.cart ++ r3 in
+    let r2 = to_be_bytes w16 h.cartridge_length ++ r3 in
     let r1 = to_be_bytes w16 h.version ++ r2 in
     let magic_again = number_again wide32 (from_be_bytes w32 magic) r1 (lit< tt) in
     let version_again = tested_again is_version BadVersion h.version r2 (grind (arith, nat_tests)) version in
-    let cart_again = tested_again (takes_cart h.version) BadCartSize h.cart r3 (grind (arith, nat_tests)) cart in
+    let cart_again = tested_again (takes_cart h.version) BadCartSize h.cartridge_length r3 (grind (arith, nat_tests)) cartridge in
     rw (magic_again, version_again, cart_again, counts_again h.version h.frames h.checkpoints rest some few_frames few_checkpoints, le-ltb _ _ long) refl

@@ -96,102 +96,102 @@ Claims-none m from every = record { count = omega arith; places = λ j c e. absu
 -- ---- the movie
 
 abbrev pub parts : ℕ → List ℕ → StateFields → List InputData → List Checkpoint → MovieData
-parts version cart start inputs checkpoints = record { version = version; cart = cart; start = start; inputs = inputs; checkpoints = checkpoints }
+parts version cartridge start inputs checkpoints = record { version = version; cartridge = cartridge; start = start; inputs = inputs; checkpoints = checkpoints }
 
 -- ---- the bank
 
 -- a frame on a cartridge without banks keeps the bank
-frame_bank : (m : MovieData) (k : ℕ) (s t : StateFields) → has_banks (length m.cart) ≡ false → state_after (frame_after m k s) ≡ Some t → t.bank ≡ s.bank
+frame_bank : (m : MovieData) (k : ℕ) (s t : StateFields) → has_banks (length m.cartridge) ≡ false → state_after (frame_after m k s) ≡ Some t → t.bank ≡ s.bank
 frame_bank m k s t single e = by (slice_get m.inputs k) e
   where
     outcome : (o : FrameOutcome) → (left_by o).bank ≡ s.bank → state_after (Some o) ≡ Some t → t.bank ≡ s.bank
     outcome (Played left rows) kept e = cc
     outcome (Failed kind left) kept e = absurd cc
 
-    by : (i : Option InputData) → state_after (option_map (λ input. frame_of m.cart s input) i) ≡ Some t → t.bank ≡ s.bank
-    by (Some input) e = outcome (frame_of m.cart s input) (frame_of-bank m.cart s input single) e
+    by : (i : Option InputData) → state_after (option_map (λ input. frame_of m.cartridge s input) i) ≡ Some t → t.bank ≡ s.bank
+    by (Some input) e = outcome (frame_of m.cartridge s input) (frame_of-bank m.cartridge s input single) e
     by None e = absurd cc
 
 -- and so does a run
-run-bank : (m : MovieData) (s : StateFields) (from k : ℕ) (t : StateFields) → has_banks (length m.cart) ≡ false → run m s from k ≡ Some t → t.bank ≡ s.bank
+run-bank : (m : MovieData) (s : StateFields) (from k : ℕ) (t : StateFields) → has_banks (length m.cartridge) ≡ false → run m s from k ≡ Some t → t.bank ≡ s.bank
 run-bank m s from zero t single e = cc
 run-bank m s from (suc k) t single e =
     option_and_then_some (λ u. state_after (frame_after m (from + k) u)) (run m s from k) t e
     (λ u ran next. frame_bank m (from + k) u t single next ∙ run-bank m s from k u single ran)
 
 -- the bank of a state is 0 where the cartridge has none
-pub bank_at_start : (cart : List ℕ) → IsTrue (fits_bank (length cart) (state_at_power_on cart))
-bank_at_start cart = grind (arith, nat_tests)
+pub bank_at_start : (cartridge : List ℕ) → IsTrue (fits_bank (length cartridge) (state_at_power_on cartridge))
+bank_at_start cartridge = grind (arith, nat_tests)
 
 -- each state of a run fits the cartridge, if the first does
-pub bank_fits : (m : MovieData) (k : ℕ) (t : StateFields) → IsTrue (fits_bank (length m.cart) m.start) → run m m.start 0 k ≡ Some t
-    → IsTrue (fits_bank (length m.cart) t)
+pub bank_fits : (m : MovieData) (k : ℕ) (t : StateFields) → IsTrue (fits_bank (length m.cartridge) m.start) → run m m.start 0 k ≡ Some t
+    → IsTrue (fits_bank (length m.cartridge) t)
 bank_fits m k t first ran =
-    elim (cases_Bool (has_banks (length m.cart))) [
+    elim (cases_Bool (has_banks (length m.cartridge))) [
       | inl banks ↦ rw banks refl
       | inr single ↦ rw (single, run-bank m m.start 0 k t single ran) (rw single at first)
     ]
 
 -- checkpoints at multiples rise
-rising : (cart every n b last : ℕ) (cs : List Checkpoint) → 1 ≤ every → last ≤ every * b
+rising : (cartridge_length every n b last : ℕ) (cs : List Checkpoint) → 1 ≤ every → last ≤ every * b
     → ((j : ℕ) (c : Checkpoint) → slice_get cs j ≡ Some c → c.frame ≡ every * (b + j + 1))
-    → ((j : ℕ) (c : Checkpoint) → slice_get cs j ≡ Some c → IsStateWith cart c.state) → every * (b + length cs) ≤ n → AreCheckpoints cart last n cs
-rising cart every n b last [] some low places lawful fits = tt
-rising cart every n b last (d ∷ cs) some low places lawful fits =
+    → ((j : ℕ) (c : Checkpoint) → slice_get cs j ≡ Some c → IsStateWith cartridge_length c.state) → every * (b + length cs) ≤ n → AreCheckpoints cartridge_length last n cs
+rising cartridge_length every n b last [] some low places lawful fits = tt
+rising cartridge_length every n b last (d ∷ cs) some low places lawful fits =
     let first : d.frame ≡ every * (b + 0 + 1) = places 0 d refl in
     let next = λ (j : ℕ) (c : Checkpoint) (e : slice_get cs j ≡ Some c). lawful (suc j) c e in
-    let later = rising cart every n (b + 1) d.frame cs some (omega (arith, first)) (λ j c e. omega (arith, places (suc j) c e)) next (omega arith) in
+    let later = rising cartridge_length every n (b + 1) d.frame cs some (omega (arith, first)) (λ j c e. omega (arith, places (suc j) c e)) next (omega arith) in
     (omega arith, omega arith, lawful 0 d refl, later)
 
-module _ (m : MovieData) (from every version : ℕ) (cart : List ℕ) (start : StateFields) (inputs : List InputData) (cs : List Checkpoint)
-    (cart_is : cart ≡ m.cart) (version_is : version ≡ version_made (length cart) (length inputs)) (ran : run m m.start 0 from ≡ Some start)
-    (first : IsTrue (fits_bank (length m.cart) m.start)) (fits : IsTrue (counts_fit (length inputs) every)) (far : Claims m from every (length inputs) cs) where
-  claims_rise : AreCheckpoints (length m.cart) 0 (length inputs) cs
+module _ (m : MovieData) (from every version : ℕ) (cartridge : List ℕ) (start : StateFields) (inputs : List InputData) (cs : List Checkpoint)
+    (cartridge_is : cartridge ≡ m.cartridge) (version_is : version ≡ version_made (length cartridge) (length inputs)) (ran : run m m.start 0 from ≡ Some start)
+    (first : IsTrue (fits_bank (length m.cartridge) m.start)) (fits : IsTrue (counts_fit (length inputs) every)) (far : Claims m from every (length inputs) cs) where
+  claims_rise : AreCheckpoints (length m.cartridge) 0 (length inputs) cs
   claims_rise =
-      rising (length m.cart) every (length inputs) 0 0 cs (counts_are (length inputs) every fits).2 (omega arith)
+      rising (length m.cartridge) every (length inputs) 0 0 cs (counts_are (length inputs) every fits).2 (omega arith)
       (λ j c e. omega (arith, far.places j c e))
       (λ j c e. record { state = far.lawful j c e; bank = bank_fits m (from + c.frame) c.state first (far.states j c e) })
       (rw far.count (omega arith))
 
   -- the parts make a movie
-  pub IsMovie-parts : IsTrue (is_cart_length (length cart)) → IsState start → AllByRecursion (λ i. IsTrue (is_input i)) inputs
-      → IsMovie (parts version cart start inputs cs)
+  pub IsMovie-parts : IsTrue (is_cart_length (length cartridge)) → IsState start → AllByRecursion (λ i. IsTrue (is_input i)) inputs
+      → IsMovie (parts version cartridge start inputs cs)
   IsMovie-parts lawful state all =
       let fit = counts_are (length inputs) every fits in
       record {
         version = rw version_is (grind (arith, nat_tests));
-        cart = rw version_is (grind (arith, nat_tests));
-        start = record { state = state; bank = rw cart_is (bank_fits m from start first ran) };
+        cartridge = rw version_is (grind (arith, nat_tests));
+        start = record { state = state; bank = rw cartridge_is (bank_fits m from start first ran) };
         some_frames = fit.0;
         few_frames = rw version_is (grind (arith, nat_tests));
         few_checkpoints = omega (arith, far.count, fit.3);
         inputs = all;
-        checkpoints = rw cart_is claims_rise;
+        checkpoints = rw cartridge_is claims_rise;
       }
 
 -- the movie that is made, of a run without a fault
-pub made_movie : (cart : List ℕ) (inputs : List InputData) (every : ℕ) (cs : List Checkpoint) → IsTrue (counts_fit (length inputs) every)
-    → AllSound (bare cart inputs) (state_at_power_on cart) 0 (length inputs) → Claims (bare cart inputs) 0 every (length inputs) cs
-    → IsState (state_at_power_on cart) → AllByRecursion (λ i. IsTrue (is_input i)) inputs
-    → let m : MovieData = record (bare cart inputs) { checkpoints = cs } in
-    IsMadeOf cart inputs every m × IsGenuine m × (IsTrue (is_cart_length (length cart)) → IsMovie m)
-made_movie cart inputs every cs fit sound far state all =
-    let m : MovieData = record (bare cart inputs) { checkpoints = cs } in
-    let same = λ (k : ℕ). run_same m (bare cart inputs) m.start 0 k refl refl in
+pub made_movie : (cartridge : List ℕ) (inputs : List InputData) (every : ℕ) (cs : List Checkpoint) → IsTrue (counts_fit (length inputs) every)
+    → AllSound (bare cartridge inputs) (state_at_power_on cartridge) 0 (length inputs) → Claims (bare cartridge inputs) 0 every (length inputs) cs
+    → IsState (state_at_power_on cartridge) → AllByRecursion (λ i. IsTrue (is_input i)) inputs
+    → let m : MovieData = record (bare cartridge inputs) { checkpoints = cs } in
+    IsMadeOf cartridge inputs every m × IsGenuine m × (IsTrue (is_cart_length (length cartridge)) → IsMovie m)
+made_movie cartridge inputs every cs fit sound far state all =
+    let m : MovieData = record (bare cartridge inputs) { checkpoints = cs } in
+    let same = λ (k : ℕ). run_same m (bare cartridge inputs) m.start 0 k refl refl in
     let claimed = λ (j : ℕ) (c : Checkpoint) (e : slice_get cs j ≡ Some c).
     let none : 0 + c.frame ≡ c.frame = omega arith in same c.frame ∙ rw none at (far.states j c e) in (
-      record { version = refl; cart_is = refl; start = refl; inputs_are = refl; count = far.count; places = far.places; states = claimed },
+      record { version = refl; cartridge_is = refl; start = refl; inputs_are = refl; count = far.count; places = far.places; states = claimed },
       λ i less. let here = sound i less in (
         here.0,
         same (i + 1) ∙ here.1,
         λ j c e place. let frame : c.frame ≡ i + 1 = omega arith in let claim = rw frame at (claimed j c e) in let ran = here.1 in cc,
       ),
-      λ lawful. IsMovie-parts (bare cart inputs) 0 every m.version cart m.start inputs cs refl refl refl (bank_at_start cart) fit far lawful state all,
+      λ lawful. IsMovie-parts (bare cartridge inputs) 0 every m.version cartridge m.start inputs cs refl refl refl (bank_at_start cartridge) fit far lawful state all,
     )
 
 -- why a run stopped is why no movie is made
-pub explains : (cart : List ℕ) (inputs : List InputData) (every : ℕ) (e : MakeError) → IsTrue (counts_fit (length inputs) every)
-    → RunFails cart inputs e → Explains cart inputs every e
-explains cart inputs every (Fault frame kind) fit fails = (fit, fails)
-explains cart inputs every BadCounts fit fails = absurd fails
-explains cart inputs every NoMemory fit fails = absurd fails
+pub explains : (cartridge : List ℕ) (inputs : List InputData) (every : ℕ) (e : MakeError) → IsTrue (counts_fit (length inputs) every)
+    → RunFails cartridge inputs e → Explains cartridge inputs every e
+explains cartridge inputs every (Fault frame kind) fit fails = (fit, fails)
+explains cartridge inputs every BadCounts fit fails = absurd fails
+explains cartridge inputs every NoMemory fit fails = absurd fails

@@ -26,31 +26,31 @@ pub most_frames-most : (version : ℕ) → most_frames version ≤ 262143
 most_frames-most version = grind (arith, nat_tests)
 
 -- version 1 has no cartridge with banks, so that its bank is 0
-bank_of_old : (version cart bank : ℕ) → eqb version 1 ≡ true → IsTrue (takes_cart version cart) → IsTrue (has_banks cart || eqb bank 0) → bank ≡ 0
-bank_of_old version cart bank old takes fits = grind (arith, nat_tests)
+bank_of_old : (version cartridge_length bank : ℕ) → eqb version 1 ≡ true → IsTrue (takes_cart version cartridge_length) → IsTrue (has_banks cartridge_length || eqb bank 0) → bank ≡ 0
+bank_of_old version cartridge_length bank old takes fits = grind (arith, nat_tests)
 
 -- ---- there and back
 
 pub length-movie_record : (version : ℕ) (f : StateFields) → IsState f → length (movie_record version f) ≡ record_length version
 length-movie_record version f h = omega (arith, length-take (record_length version) (record_of f), length-record_of f h, record_length-most version)
 
-whole_again : (version cart : ℕ) (f : StateFields) → IsTrue (takes_cart version cart) → IsStateWith cart f
+whole_again : (version cartridge_length : ℕ) (f : StateFields) → IsTrue (takes_cart version cartridge_length) → IsStateWith cartridge_length f
     → whole_record version (movie_record version f) ≡ record_of f
-whole_again version cart f takes h =
+whole_again version cartridge_length f takes h =
     let len = length-record_of f h.state in
     let whole : take state_length (record_of f) ≡ record_of f = take_all state_length (record_of f) (omega (arith, len)) in
     elim (cases_Bool (eqb version 1)) [
       | inl old ↦
-          let none : f.bank ≡ 0 = bank_of_old version cart f.bank old takes h.bank in
+          let none : f.bank ≡ 0 = bank_of_old version cartridge_length f.bank old takes h.bank in
           let last = ap (λ (s : StateFields). s.bank) (fields_again f h.state) ∙ none in
           rw old (sym (rw last at (take_more (record_of f) bank_place 0 (omega (arith, len)))) ∙ whole)
       | inr new ↦ rw new whole
     ]
 
-pub movie_state_again : (version cart : ℕ) (f : StateFields) → IsTrue (takes_cart version cart) → IsStateWith cart f
-    → movie_state_at version cart (movie_record version f) ≡ Some f
+pub movie_state_again : (version cartridge_length : ℕ) (f : StateFields) → IsTrue (takes_cart version cartridge_length) → IsStateWith cartridge_length f
+    → movie_state_at version cartridge_length (movie_record version f) ≡ Some f
 unfolding movie_state_at
-movie_state_again version cart f takes h = let fits = h.bank in rw (whole_again version cart f takes h, state_again f h.state, fits) refl
+movie_state_again version cartridge_length f takes h = let fits = h.bank in rw (whole_again version cartridge_length f takes h, state_again f h.state, fits) refl
 
 -- a byte 0 more, and a whole record, are bytes
 IsBytes-zero : (bytes : List ℕ) → IsBytes bytes → IsBytes (bytes ++ 0 ∷ [])
@@ -69,17 +69,17 @@ whole_back version bytes len =
       | inr new ↦ rw new (take_all state_length bytes (omega (arith, record_length-most version)))
     ]
 
-fitting : (cart : ℕ) (o : Option StateFields) (f : StateFields) → with_fitting_bank cart o ≡ Some f → (o ≡ Some f) × IsTrue (fits_bank cart f)
-fitting cart (Some g) f e =
-    let c = cond_some (fits_bank cart g) g f e in
+fitting : (cartridge_length : ℕ) (o : Option StateFields) (f : StateFields) → with_fitting_bank cartridge_length o ≡ Some f → (o ≡ Some f) × IsTrue (fits_bank cartridge_length f)
+fitting cartridge_length (Some g) f e =
+    let c = cond_some (fits_bank cartridge_length g) g f e in
     (ap (λ (x : StateFields). Some x) c.1, rw (← c.1) c.0)
-fitting cart None f e = absurd (cc)
+fitting cartridge_length None f e = absurd (cc)
 
-pub movie_state_takes : (version cart : ℕ) (bytes : List ℕ) (f : StateFields) → IsBytes bytes → length bytes ≡ record_length version
-    → movie_state_at version cart bytes ≡ Some f
-    → IsStateWith cart f × (bytes ≡ movie_record version f)
+pub movie_state_takes : (version cartridge_length : ℕ) (bytes : List ℕ) (f : StateFields) → IsBytes bytes → length bytes ≡ record_length version
+    → movie_state_at version cartridge_length bytes ≡ Some f
+    → IsStateWith cartridge_length f × (bytes ≡ movie_record version f)
 unfolding movie_state_at
-movie_state_takes version cart bytes f fits len e =
-    let found = fitting cart (recorded_state (whole_record version bytes)) f e in
+movie_state_takes version cartridge_length bytes f fits len e =
+    let found = fitting cartridge_length (recorded_state (whole_record version bytes)) f e in
     let taken = state_takes (whole_record version bytes) f (IsBytes-whole version bytes fits) found.0 in
     (record { state = taken.0; bank = found.1 }, sym (whole_back version bytes len) ∙ ap (take (record_length version)) taken.1)

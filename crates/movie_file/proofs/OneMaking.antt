@@ -37,43 +37,43 @@ same_claim c d frames states =
     ap (λ (f : ℕ). claim f c.state) frames ∙ ap (claim d.frame) same
 
 -- a movie has each frame that faults
-fault_within : (cart : List ℕ) (inputs : List InputData) (k : ℕ) (kind : FaultKind) → FaultsAt (bare cart inputs) (state_at_power_on cart) 0 k kind
+fault_within : (cartridge : List ℕ) (inputs : List InputData) (k : ℕ) (kind : FaultKind) → FaultsAt (bare cartridge inputs) (state_at_power_on cartridge) 0 k kind
     → k < length inputs
-fault_within cart inputs k kind (state, left, ran, faults) = grind (arith, slice_get_cases)
+fault_within cartridge inputs k kind (state, left, ran, faults) = grind (arith, slice_get_cases)
 
 -- a made movie's run is that of the movie that claims nothing
-made_run : (cart : List ℕ) (inputs : List InputData) (every : ℕ) (m : MovieData) → IsMadeOf cart inputs every m → (k : ℕ)
-    → run m m.start 0 k ≡ run (bare cart inputs) (state_at_power_on cart) 0 k
-made_run cart inputs every m made k = rw made.start (run_same m (bare cart inputs) (state_at_power_on cart) 0 k made.cart_is made.inputs_are)
+made_run : (cartridge : List ℕ) (inputs : List InputData) (every : ℕ) (m : MovieData) → IsMadeOf cartridge inputs every m → (k : ℕ)
+    → run m m.start 0 k ≡ run (bare cartridge inputs) (state_at_power_on cartridge) 0 k
+made_run cartridge inputs every m made k = rw made.start (run_same m (bare cartridge inputs) (state_at_power_on cartridge) 0 k made.cartridge_is made.inputs_are)
 
-pub no_made_fault : (cart : List ℕ) (inputs : List InputData) (every frame : ℕ) (kind : FaultKind) (m : MovieData) → IsMadeOf cart inputs every m
-    → IsGenuine m → IsFirstFault cart inputs frame kind → ⊥
-no_made_fault cart inputs every frame kind m made genuine (k, is, before, fault) =
-    let sound = genuine k (rw made.inputs_are (fault_within cart inputs k kind fault)) in
-    let gone = run-fault (bare cart inputs) (state_at_power_on cart) 0 k kind fault in
-    let same = made_run cart inputs every m made (k + 1) in
+pub no_made_fault : (cartridge : List ℕ) (inputs : List InputData) (every frame : ℕ) (kind : FaultKind) (m : MovieData) → IsMadeOf cartridge inputs every m
+    → IsGenuine m → IsFirstFault cartridge inputs frame kind → ⊥
+no_made_fault cartridge inputs every frame kind m made genuine (k, is, before, fault) =
+    let sound = genuine k (rw made.inputs_are (fault_within cartridge inputs k kind fault)) in
+    let gone = run-fault (bare cartridge inputs) (state_at_power_on cartridge) 0 k kind fault in
+    let same = made_run cartridge inputs every m made (k + 1) in
     let ran = sound.1 in absurd cc
 
-pub one_made_movie : (cart : List ℕ) (inputs : List InputData) (every : ℕ) (m n : MovieData) → IsMadeOf cart inputs every m
-    → IsMadeOf cart inputs every n → m ≡ n
-one_made_movie cart inputs every m n made again =
+pub one_made_movie : (cartridge : List ℕ) (inputs : List InputData) (every : ℕ) (m n : MovieData) → IsMadeOf cartridge inputs every m
+    → IsMadeOf cartridge inputs every n → m ≡ n
+one_made_movie cartridge inputs every m n made again =
     let same = same_lists m.checkpoints n.checkpoints (made.count ∙ sym again.count) (λ j c d at here.
     let frames : c.frame ≡ d.frame = made.places j c at ∙ sym (again.places j d here) in
-    let one = rw frames at (sym (made_run cart inputs every m made c.frame) ∙ made.states j c at) in
-    let two = sym (made_run cart inputs every n again d.frame) ∙ again.states j d here in
+    let one = rw frames at (sym (made_run cartridge inputs every m made c.frame) ∙ made.states j c at) in
+    let two = sym (made_run cartridge inputs every n again d.frame) ∙ again.states j d here in
     same_claim c d frames (sym one ∙ two)) in
-    same_movie _ _ _ _ _ _ _ _ _ _ (made.version ∙ sym again.version) (made.cart_is ∙ sym again.cart_is) (made.start ∙ sym again.start)
+    same_movie _ _ _ _ _ _ _ _ _ _ (made.version ∙ sym again.version) (made.cartridge_is ∙ sym again.cartridge_is) (made.start ∙ sym again.start)
     (made.inputs_are ∙ sym again.inputs_are) same
   where
     same_movie : (v w : ℕ) (c d : List ℕ) (s t : StateFields) (i j : List InputData) (k l : List Checkpoint) → v ≡ w → c ≡ d → s ≡ t → i ≡ j → k ≡ l
         → parts v c s i k ≡ parts w d t j l
-    same_movie v w c d s t i j k l version cart start inputs checkpoints = cc
+    same_movie v w c d s t i j k l version cartridge start inputs checkpoints = cc
 
-pub one_first_fault : (cart : List ℕ) (inputs : List InputData) (frame other : ℕ) (kind other_kind : FaultKind) → IsFirstFault cart inputs frame kind
-    → IsFirstFault cart inputs other other_kind
+pub one_first_fault : (cartridge : List ℕ) (inputs : List InputData) (frame other : ℕ) (kind other_kind : FaultKind) → IsFirstFault cartridge inputs frame kind
+    → IsFirstFault cartridge inputs other other_kind
     → (frame ≡ other) × (kind ≡ other_kind)
-one_first_fault cart inputs frame other kind other_kind (k, is, before, fault) (k', is', before', fault') =
-    let later = λ (less : k < k'). sound_no_fault (bare cart inputs) (state_at_power_on cart) 0 k kind (before' k less) fault in
-    let sooner = λ (less : k' < k). sound_no_fault (bare cart inputs) (state_at_power_on cart) 0 k' other_kind (before k' less) fault' in
+one_first_fault cartridge inputs frame other kind other_kind (k, is, before, fault) (k', is', before', fault') =
+    let later = λ (less : k < k'). sound_no_fault (bare cartridge inputs) (state_at_power_on cartridge) 0 k kind (before' k less) fault in
+    let sooner = λ (less : k' < k). sound_no_fault (bare cartridge inputs) (state_at_power_on cartridge) 0 k' other_kind (before k' less) fault' in
     let same : k' ≡ k = omega arith in
-    (omega arith, same_kind (bare cart inputs) (state_at_power_on cart) 0 k kind other_kind fault (rw same at fault'))
+    (omega arith, same_kind (bare cartridge inputs) (state_at_power_on cartridge) 0 k kind other_kind fault (rw same at fault'))

@@ -15,9 +15,9 @@ use Rattle.movie_file.specs.Judgement.{IsSound, AllSound, FaultsAt, IsFalseAt}
 use Rattle.movie_file.proofs.CheckpointLemmas.{checkpoints_rise}
 
 -- a run knows nothing of the version and of the checkpoints
-pub run_same : (m n : MovieData) (s : StateFields) (from k : ℕ) → m.cart ≡ n.cart → m.inputs ≡ n.inputs → run m s from k ≡ run n s from k
-run_same m n s from zero cart inputs = refl
-run_same m n s from (suc k) cart inputs = rw (run_same m n s from k cart inputs, cart, inputs) refl
+pub run_same : (m n : MovieData) (s : StateFields) (from k : ℕ) → m.cartridge ≡ n.cartridge → m.inputs ≡ n.inputs → run m s from k ≡ run n s from k
+run_same m n s from zero cartridge inputs = refl
+run_same m n s from (suc k) cartridge inputs = rw (run_same m n s from k cartridge inputs, cartridge, inputs) refl
 
 -- from where a run stands it goes on as a run of its own
 pub run-shift : (m : MovieData) (s : StateFields) (a i : ℕ) (t : StateFields) → run m s a i ≡ Some t → (j : ℕ) → run m s a (i + j) ≡ run m t (a + i) j
@@ -45,13 +45,13 @@ AllSound-shift m s a i t j is first second x less =
 -- ---- one frame more: frame a + k + 1, whose input is the one at index n
 module _ (m : MovieData) (s : StateFields) (a k n : ℕ) (state : StateFields) (input : InputData)
     (ran : run m s a k ≡ Some state) (place : n ≡ a + k) (at : slice_get m.inputs n ≡ Some input) where
-  frame_is : (outcome : FrameOutcome) → frame_of m.cart state input ≡ outcome → frame_after m (a + k) state ≡ Some outcome
+  frame_is : (outcome : FrameOutcome) → frame_of m.cartridge state input ≡ outcome → frame_after m (a + k) state ≡ Some outcome
   frame_is outcome e = rw (sym place, at, e) refl
 
-  pub run-next : (new : StateFields) (rows : Rows) → frame_of m.cart state input ≡ Played new rows → run m s a (k + 1) ≡ Some new
+  pub run-next : (new : StateFields) (rows : Rows) → frame_of m.cartridge state input ≡ Played new rows → run m s a (k + 1) ≡ Some new
   run-next new rows ends = rw (add-one, ran, frame_is (Played new rows) ends) refl
 
-  pub faults-here : (kind : FaultKind) (left : StateFields) → frame_of m.cart state input ≡ Failed kind left → FaultsAt m s a k kind
+  pub faults-here : (kind : FaultKind) (left : StateFields) → frame_of m.cartridge state input ≡ Failed kind left → FaultsAt m s a k kind
   faults-here kind left fails = (state, left, ran, frame_is (Failed kind left) fails)
 
 -- after a fault there is no state
@@ -71,7 +71,7 @@ sound_no_false m s a k n (here, ran', claims) (state, j, c, ran, num, got, at, n
 -- a frame has one false checkpoint, and one fault
 pub same_number : (m : MovieData) (s : StateFields) (a k n n' : ℕ) → IsMovie m → IsFalseAt m s a k n → IsFalseAt m s a k n' → n ≡ n'
 same_number m s a k n n' lawful (state, j, c, ran, num, got, at, ne) (state', j', c', ran', num', got', at', ne') =
-    let rise = checkpoints_rise (length m.cart) m.checkpoints 0 (length m.inputs) in
+    let rise = checkpoints_rise (length m.cartridge) m.checkpoints 0 (length m.inputs) in
     let later : ¬ (j < j') = λ less. let h = rise j j' c c' lawful.checkpoints less got got' in omega arith in
     let sooner : ¬ (j' < j) = λ less. let h = rise j' j c' c lawful.checkpoints less got' got in omega arith in
     omega arith

@@ -15,7 +15,7 @@ is_version version = (version == 1) || (version == 2)
 
 -- the cartridges of a version, by their length: version 1 has none with banks
 abbrev pub takes_cart : ℕ → ℕ → Bool
-takes_cart version cart = is_cart_length cart && ((version == 2) || not (has_banks cart))
+takes_cart version cartridge_length = is_cart_length cartridge_length && ((version == 2) || not (has_banks cartridge_length))
 
 -- a movie of version 1 has 1 to 65,535 frames, one of version 2 up to 262,143
 abbrev pub most_frames : ℕ → ℕ
@@ -48,4 +48,4 @@ checkpoint_length version = 4 + record_length version
 -- the bytes after a header
 abbrev pub body_length : Sizes → ℕ
 body_length h =
-    h.cart + record_length h.version + input_length * h.frames + checkpoint_length h.version * h.checkpoints
+    h.cartridge_length + record_length h.version + input_length * h.frames + checkpoint_length h.version * h.checkpoints

@@ -17,7 +17,7 @@ use Rattle.movie_file.specs.Run.{run}
 -- the version of a movie that is made of a cartridge of so many bytes and so many inputs: 1 if
 -- that has room for them
 abbrev pub version_made : ℕ → ℕ → ℕ
-version_made cart frames = if has_banks cart || nat_lt (most_frames 1) frames then 2 else 1
+version_made cartridge_length frames = if has_banks cartridge_length || nat_lt (most_frames 1) frames then 2 else 1
 
 -- frames of which a movie can be made, with a checkpoint after each `every` of them
 abbrev pub counts_fit : ℕ → ℕ → Bool
@@ -26,10 +26,10 @@ counts_fit frames every =
 
 -- The movie of a run from power-on. Checkpoint j + 1 claims the state of the run after frame every
 -- * (j + 1), and there is one for each multiple of `every` up to the last frame.
-pub record IsMadeOf (cart : List ℕ) (inputs : List InputData) (every : ℕ) (m : MovieData) : Type 0 where
-  pub version : m.version ≡ version_made (length cart) (length inputs)
-  pub cart_is : m.cart ≡ cart
-  pub start : m.start ≡ state_at_power_on cart
+pub record IsMadeOf (cartridge : List ℕ) (inputs : List InputData) (every : ℕ) (m : MovieData) : Type 0 where
+  pub version : m.version ≡ version_made (length cartridge) (length inputs)
+  pub cartridge_is : m.cartridge ≡ cartridge
+  pub start : m.start ≡ state_at_power_on cartridge
   pub inputs_are : m.inputs ≡ inputs
   pub count : length m.checkpoints ≡ length inputs / every
   pub places : (j : ℕ) (c : Checkpoint) → slice_get m.checkpoints j ≡ Some c → c.frame ≡ every * (j + 1)
@@ -37,25 +37,25 @@ pub record IsMadeOf (cart : List ℕ) (inputs : List InputData) (every : ℕ) (m
 
 -- a movie that claims nothing
 abbrev pub bare : List ℕ → List InputData → MovieData
-bare cart inputs =
+bare cartridge inputs =
     record {
-      version = version_made (length cart) (length inputs);
-      cart = cart;
-      start = state_at_power_on cart;
+      version = version_made (length cartridge) (length inputs);
+      cartridge = cartridge;
+      start = state_at_power_on cartridge;
       inputs = inputs;
       checkpoints = [];
     }
 
 -- this frame of the run from power-on, counted from 1, faults, and each frame before it ends
 abbrev pub IsFirstFault : List ℕ → List InputData → ℕ → FaultKind → Type 0
-IsFirstFault cart inputs frame kind =
-    (k : ℕ) × (frame ≡ k + 1) × AllSound (bare cart inputs) (state_at_power_on cart) 0 k
-    × FaultsAt (bare cart inputs) (state_at_power_on cart) 0 k kind
+IsFirstFault cartridge inputs frame kind =
+    (k : ℕ) × (frame ≡ k + 1) × AllSound (bare cartridge inputs) (state_at_power_on cartridge) 0 k
+    × FaultsAt (bare cartridge inputs) (state_at_power_on cartridge) 0 k kind
 
 -- Why no movie is made. The counts are looked at first, and memory is taken before the run, if
 -- there is a checkpoint.
 abbrev pub Explains : List ℕ → List InputData → ℕ → MakeError → Type 0
-Explains cart inputs every (Fault frame kind) =
-    IsTrue (counts_fit (length inputs) every) × IsFirstFault cart inputs frame kind
-Explains cart inputs every BadCounts = ¬ IsTrue (counts_fit (length inputs) every)
-Explains cart inputs every NoMemory = IsTrue (counts_fit (length inputs) every) × (0 < length inputs / every)
+Explains cartridge inputs every (Fault frame kind) =
+    IsTrue (counts_fit (length inputs) every) × IsFirstFault cartridge inputs frame kind
+Explains cartridge inputs every BadCounts = ¬ IsTrue (counts_fit (length inputs) every)
+Explains cartridge inputs every NoMemory = IsTrue (counts_fit (length inputs) every) × (0 < length inputs / every)

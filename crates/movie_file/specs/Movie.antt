@@ -11,7 +11,7 @@ use Rattle.movie_file.specs.Record.{fits_bank}
 -- inputs are those of frames 1, 2, .., and checkpoints have the numbers 1, 2, ..
 pub record MovieData : Type 0 where
   pub version : ℕ
-  pub cart : List ℕ
+  pub cartridge : List ℕ
   pub start : StateFields
   pub inputs : List InputData
   pub checkpoints : List Checkpoint
@@ -25,24 +25,24 @@ pub record IsState (f : StateFields) : Type 0 where
   pub ram : length f.riot.ram ≡ 128
 
 -- a state of a console with a cartridge of so many bytes: without banks its bank is 0
-pub record IsStateWith (cart : ℕ) (f : StateFields) : Type 0 where
+pub record IsStateWith (cartridge_length : ℕ) (f : StateFields) : Type 0 where
   pub state : IsState f
-  pub bank : IsTrue (fits_bank cart f)
+  pub bank : IsTrue (fits_bank cartridge_length f)
 
 -- each frame number is greater than the one before it, and none is above n; each claimed state is
 -- one with the cartridge
 abbrev pub AreCheckpoints : ℕ → ℕ → ℕ → List Checkpoint → Type 0
-AreCheckpoints cart last n [] = Unit {0}
-AreCheckpoints cart last n (c ∷ cs) =
-    (last < c.frame) × (c.frame ≤ n) × IsStateWith cart c.state × AreCheckpoints cart c.frame n cs
+AreCheckpoints cartridge_length last n [] = Unit {0}
+AreCheckpoints cartridge_length last n (c ∷ cs) =
+    (last < c.frame) × (c.frame ≤ n) × IsStateWith cartridge_length c.state × AreCheckpoints cartridge_length c.frame n cs
 
 -- what a movie keeps to
 pub record IsMovie (m : MovieData) : Type 0 where
   pub version : IsTrue (is_version m.version)
-  pub cart : IsTrue (takes_cart m.version (length m.cart))
-  pub start : IsStateWith (length m.cart) m.start
+  pub cartridge : IsTrue (takes_cart m.version (length m.cartridge))
+  pub start : IsStateWith (length m.cartridge) m.start
   pub some_frames : 1 ≤ length m.inputs
   pub few_frames : length m.inputs ≤ most_frames m.version
   pub few_checkpoints : length m.checkpoints ≤ most_checkpoints
   pub inputs : AllByRecursion (λ i. IsTrue (is_input i)) m.inputs
-  pub checkpoints : AreCheckpoints (length m.cart) 0 (length m.inputs) m.checkpoints
+  pub checkpoints : AreCheckpoints (length m.cartridge) 0 (length m.inputs) m.checkpoints

@@ -64,7 +64,7 @@ sizes_at bytes = do
   v ← version_at a
   l ← cart_length_at v.0 v.1
   c ← counts_at v.0 l.1
-  enough_of (record { version = v.0; cart = l.0; frames = c.0; checkpoints = c.1 }) c.2
+  enough_of (record { version = v.0; cartridge_length = l.0; frames = c.0; checkpoints = c.1 }) c.2
 
 abbrev pub input_data_at : List ℕ → InputData
 input_data_at bytes = record { swcha = slice_index bytes 0; swchb = slice_index bytes 1; buttons = slice_index bytes 2 }
@@ -86,7 +86,7 @@ frame_at bytes = from_be_bytes w32 (take 4 bytes)
 
 -- the state at the head of the bytes, with the version and the cartridge of a header
 abbrev pub head_state_at : Sizes → List ℕ → Option StateFields
-head_state_at h bytes = movie_state_at h.version h.cart (take (record_length h.version) bytes)
+head_state_at h bytes = movie_state_at h.version h.cartridge_length (take (record_length h.version) bytes)
 
 -- the checkpoint of number j: its frame is greater than the last one and one of the movie's, and
 -- its state is one
@@ -107,11 +107,11 @@ checkpoints_at h (suc m) j last bytes = do
 -- what stands after the header, to the end
 unfoldable pub body_at : Sizes → List ℕ → Result MovieData MovieError
 body_at h bytes = do
-  start ← ok_or (head_state_at h (drop h.cart bytes)) (BadState 0)
-  inputs ← inputs_at h.frames 1 (drop (record_length h.version) (drop h.cart bytes))
+  start ← ok_or (head_state_at h (drop h.cartridge_length bytes)) (BadState 0)
+  inputs ← inputs_at h.frames 1 (drop (record_length h.version) (drop h.cartridge_length bytes))
   checkpoints ← checkpoints_at h h.checkpoints 1 0 inputs.1
   if length checkpoints.1 == 0
-      then Ok (record { version = h.version; cart = take h.cart bytes; start = start; inputs = inputs.0; checkpoints = checkpoints.0 })
+      then Ok (record { version = h.version; cartridge = take h.cartridge_length bytes; start = start; inputs = inputs.0; checkpoints = checkpoints.0 })
       else Err Trailing
 
 -- the movie that the bytes are, or their refusal

@@ -30,13 +30,13 @@ movie_record version f = take (record_length version) (record_of f)
 
 -- a bank other than 0 is there only if a cartridge of so many bytes has banks
 abbrev pub fits_bank : ℕ → StateFields → Bool
-fits_bank cart f = has_banks cart || (f.bank == 0)
+fits_bank cartridge_length f = has_banks cartridge_length || (f.bank == 0)
 
 abbrev pub with_fitting_bank : ℕ → Option StateFields → Option StateFields
-with_fitting_bank cart (Some f) = if fits_bank cart f then Some f else None
-with_fitting_bank cart None = None
+with_fitting_bank cartridge_length (Some f) = if fits_bank cartridge_length f then Some f else None
+with_fitting_bank cartridge_length None = None
 
 -- the state whose record in a movie the bytes are: of this version, with a cartridge of so many
 -- bytes
 unfoldable pub movie_state_at : ℕ → ℕ → List ℕ → Option StateFields
-movie_state_at version cart bytes = with_fitting_bank cart (recorded_state (whole_record version bytes))
+movie_state_at version cartridge_length bytes = with_fitting_bank cartridge_length (recorded_state (whole_record version bytes))

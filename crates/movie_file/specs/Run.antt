@@ -9,7 +9,7 @@ use Rattle.movie_file.specs.Movie.{MovieData}
 
 -- what frame k + 1 of a movie does to a state, if the movie has that frame
 abbrev pub frame_after : MovieData → ℕ → StateFields → Option FrameOutcome
-frame_after m k state = option_map (λ input. frame_of m.cart state input) (slice_get m.inputs k)
+frame_after m k state = option_map (λ input. frame_of m.cartridge state input) (slice_get m.inputs k)
 
 -- the state after a frame that ended
 abbrev pub state_after : Option FrameOutcome → Option StateFields

@@ -11,7 +11,7 @@ use Rattle.movie_file.specs.Record.{movie_record}
 -- the magic, the version, the length of the cartridge, and the numbers of frames and checkpoints
 abbrev pub header_of : MovieData → List ℕ
 header_of m =
-    magic ++ to_be_bytes w16 m.version ++ to_be_bytes w16 (length m.cart)
+    magic ++ to_be_bytes w16 m.version ++ to_be_bytes w16 (length m.cartridge)
     ++ to_be_bytes w32 (length m.inputs) ++ to_be_bytes w16 (length m.checkpoints)
 
 -- a frame number and a state, in a movie of this version
@@ -21,7 +21,7 @@ checkpoint_bytes version c = to_be_bytes w32 c.frame ++ movie_record version c.s
 -- the header, the cartridge, the start state, the inputs and the checkpoints
 abbrev pub spelling : MovieData → List ℕ
 spelling m =
-    header_of m ++ m.cart ++ movie_record m.version m.start ++ flat_map input_bytes m.inputs
+    header_of m ++ m.cartridge ++ movie_record m.version m.start ++ flat_map input_bytes m.inputs
     ++ flat_map (checkpoint_bytes m.version) m.checkpoints
 
 -- the bytes spell the movie

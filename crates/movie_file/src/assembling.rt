@@ -19,14 +19,14 @@ pub fn movie_of(
 ) -> Movie
     requires { IsMovie (record {
       version = version;
-      cart = cart;
+      cartridge = cart;
       start = start;
       inputs = inputs.items;
       checkpoints = checkpoints.items;
     }) }
     ensures { result ≡ record {
       version = version;
-      cart = cart;
+      cartridge = cart;
       start = start;
       inputs = inputs.items;
       checkpoints = checkpoints.items;

@@ -33,10 +33,10 @@ pub(crate) fn is_version(version: u16) -> bool
 }
 
 /// Whether a version has cartridges of this length. Version 1 has none with banks.
-pub(crate) fn takes_cart(version: u16, cart: u16) -> bool
-    ensures { result ≡ takes_cart version cart }
+pub(crate) fn takes_cart(version: u16, bytes: u16) -> bool
+    ensures { result ≡ takes_cart version bytes }
 {
-    Cart::is_length(cart as usize) && (version == 2 || !Cart::is_banked(cart as usize))
+    Cart::is_length(bytes as usize) && (version == 2 || !Cart::is_banked(bytes as usize))
 }
 
 /// The most frames of a movie of a version.

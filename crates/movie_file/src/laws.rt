@@ -44,14 +44,14 @@ pub const fn law_of_inputs()
 /// A law: of a cartridge and inputs one movie can be made at most, their run has one first fault at
 /// most, and not both are there.
 pub const fn law_of_making()
-    ensures one_movie { (cart : List ℕ) (inputs : List InputData) (every : ℕ) (m n : MovieData)
-        → IsMadeOf cart inputs every m → IsMadeOf cart inputs every n → m ≡ n }
-    ensures one_fault { (cart : List ℕ) (inputs : List InputData) (frame other : ℕ)
-        (kind other_kind : FaultKind) → IsFirstFault cart inputs frame kind
-        → IsFirstFault cart inputs other other_kind → (frame ≡ other) × (kind ≡ other_kind) }
-    ensures not_both { (cart : List ℕ) (inputs : List InputData) (every frame : ℕ)
-        (kind : FaultKind) (m : MovieData) → IsMadeOf cart inputs every m → IsGenuine m
-        → IsFirstFault cart inputs frame kind → ⊥ }
+    ensures one_movie { (cartridge : List ℕ) (inputs : List InputData) (every : ℕ) (m n : MovieData)
+        → IsMadeOf cartridge inputs every m → IsMadeOf cartridge inputs every n → m ≡ n }
+    ensures one_fault { (cartridge : List ℕ) (inputs : List InputData) (frame other : ℕ)
+        (kind other_kind : FaultKind) → IsFirstFault cartridge inputs frame kind
+        → IsFirstFault cartridge inputs other other_kind → (frame ≡ other) × (kind ≡ other_kind) }
+    ensures not_both { (cartridge : List ℕ) (inputs : List InputData) (every frame : ℕ)
+        (kind : FaultKind) (m : MovieData) → IsMadeOf cartridge inputs every m → IsGenuine m
+        → IsFirstFault cartridge inputs frame kind → ⊥ }
 {}
 
 /// A law: the record of a state is read as that state, and bytes that are read as a state are its
@@ -67,7 +67,7 @@ pub const fn law_of_records()
 pub const fn law_of_checkpoints()
     ensures range { (m : MovieData) (j : ℕ) (c : Checkpoint) → IsMovie m
         → slice_get m.checkpoints j ≡ Some c
-        → (0 < c.frame) × (c.frame ≤ length m.inputs) × IsStateWith (length m.cart) c.state }
+        → (0 < c.frame) × (c.frame ≤ length m.inputs) × IsStateWith (length m.cartridge) c.state }
     ensures rising { (m : MovieData) (i j : ℕ) (c d : Checkpoint) → IsMovie m → i < j
         → slice_get m.checkpoints i ≡ Some c → slice_get m.checkpoints j ≡ Some d
         → c.frame < d.frame }

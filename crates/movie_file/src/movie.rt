@@ -25,7 +25,7 @@ impl Model for Movie {
 
     ghost view = { λ m. record {
       version = m.version;
-      cart = m.cart;
+      cartridge = m.cart;
       start = m.start;
       inputs = m.inputs.items;
       checkpoints = m.checkpoints.items;
@@ -33,7 +33,7 @@ impl Model for Movie {
 
     ghost invariant = { λ m. IsMovie (record {
       version = m.version;
-      cart = m.cart;
+      cartridge = m.cart;
       start = m.start;
       inputs = m.inputs.items;
       checkpoints = m.checkpoints.items;
@@ -76,7 +76,7 @@ impl Movie {
 
     /// Its cartridge.
     pub fn cart(&self) -> &Cart
-        ensures { result.now ≡ self.now.cart }
+        ensures { result.now ≡ self.now.cartridge }
     {
         &self.cart
     }

@@ -30,7 +30,7 @@ use vcs_machine::Input;
 /// Memory taken for a movie: all that it needs, before its first state is judged.
 #[derive(Drop)]
 struct Reserved {
-    cart: Vec<u8>,
+    cartridge: Vec<u8>,
     inputs: Vec<Input>,
     checkpoints: Vec<Checkpoint>,
 }
@@ -38,18 +38,18 @@ struct Reserved {
 impl Reserved {
     /// The bytes of a cartridge, and room for the inputs and checkpoints of a movie of these sizes,
     /// and for no more.
-    fn new(alloc: Global, cart: &[u8], sizes: Sizes) -> Result<Reserved, AllocError>
-        ensures cart { IfOk result (λ reserved. reserved.cart.items ≡ cart.now) }
+    fn new(alloc: Global, cartridge: &[u8], sizes: Sizes) -> Result<Reserved, AllocError>
+        ensures cartridge { IfOk result (λ reserved. reserved.cartridge.items ≡ cartridge.now) }
         ensures inputs { IfOk result (λ reserved. (reserved.inputs.items ≡ [])
             × (vec_capacity reserved.inputs ≡ sizes.frames)) }
         ensures checkpoints { IfOk result (λ reserved. (reserved.checkpoints.items ≡ [])
             × (vec_capacity reserved.checkpoints ≡ sizes.checkpoints)) }
     {
-        let cart = Vec::from_slice(alloc, cart)?;
+        let cartridge = Vec::from_slice(alloc, cartridge)?;
         let inputs = Vec::with_capacity(alloc, sizes.frames as usize)?;
         let checkpoints = Vec::with_capacity(alloc, sizes.checkpoints as usize)?;
         Ok(Reserved {
-            cart,
+            cartridge,
             inputs,
             checkpoints,
         })
@@ -58,11 +58,11 @@ impl Reserved {
     /// What follows a header: the cartridge, whose bytes are here already, and the rest.
     #[tactic(auto, unfolding(crate::specs::Reading::body_at))]
     fn fill(self, sizes: Sizes, bytes: &[u8]) -> Result<MovieParts, MovieError>
-        requires takes { IsTrue (takes_cart sizes.version sizes.cart) }
+        requires takes { IsTrue (takes_cart sizes.version sizes.cartridge_length) }
         requires frames { sizes.frames ≤ most_frames sizes.version }
         requires checkpoints { sizes.checkpoints ≤ most_checkpoints }
         requires long { body_length sizes ≤ length bytes.now }
-        requires cart { self.cart.items ≡ take sizes.cart bytes.now }
+        requires cartridge { self.cartridge.items ≡ take sizes.cartridge_length bytes.now }
         requires inputs_room { (self.inputs.items ≡ [])
             × (sizes.frames ≤ vec_capacity self.inputs) }
         requires checkpoints_room { (self.checkpoints.items ≡ [])
@@ -70,7 +70,7 @@ impl Reserved {
         ensures gives { Gives data_of result (body_at sizes bytes.now) }
         ensures never { IfErr result (λ e. e ≢ MovieError.NoMemory) }
     {
-        let (_, rest) = bytes.split_at(sizes.cart as usize);
+        let (_, rest) = bytes.split_at(sizes.cartridge_length as usize);
         let (start, rest) = rest.split_at(record_length(sizes.version));
         let Some(start) = movie_state_in(sizes, start) else {
             return Err(MovieError::BadState(0));
@@ -80,7 +80,7 @@ impl Reserved {
         if !rest.is_empty() {
             return Err(MovieError::Trailing);
         }
-        let Ok(cart) = Cart::new(self.cart) else {
+        let Ok(cart) = Cart::new(self.cartridge) else {
             unreachable!()
         };
         Ok(MovieParts {
@@ -106,7 +106,7 @@ pub fn read_movie(alloc: Global, bytes: &[u8]) -> Result<Movie, MovieError>
     ensures memory { result ≡ Err MovieError.NoMemory → IsOk (sizes_at bytes.now) }
 {
     let (sizes, rest) = sizes_in(bytes)?;
-    let reserved = Reserved::new(alloc, &rest[..sizes.cart as usize], sizes)?;
+    let reserved = Reserved::new(alloc, &rest[..sizes.cartridge_length as usize], sizes)?;
     let parts = reserved.fill(sizes, rest)?;
     Ok(Movie::from_parts(parts))
 }

@@ -73,10 +73,10 @@ fn whole_state_in(version: u16, bytes: &[u8]) -> Option<State>
 #[tactic(auto, unfolding(crate::specs::Record::movie_state_at))]
 pub(crate) fn movie_state_in(sizes: Sizes, bytes: &[u8]) -> Option<State>
     requires { length bytes.now ≡ record_length sizes.version }
-    ensures { result ≡ movie_state_at sizes.version sizes.cart bytes.now }
+    ensures { result ≡ movie_state_at sizes.version sizes.cartridge_length bytes.now }
 {
     let state = whole_state_in(sizes.version, bytes)?;
-    if Cart::is_banked(sizes.cart as usize) || state.fields().bank == 0 {
+    if Cart::is_banked(sizes.cartridge_length as usize) || state.fields().bank == 0 {
         Some(state)
     } else {
         None

@@ -20,13 +20,13 @@ abbrev pub header_length : ℕ
 header_length = 14
 
 -- After a header, a cartridge of so many bytes, the start state in a version and so many inputs,
-abbrev pub after_inputs : (version cart inputs : ℕ) → ℕ
-after_inputs version cart inputs = header_length + cart + record_length version + input_length * inputs
+abbrev pub after_inputs : (version cartridge_length inputs : ℕ) → ℕ
+after_inputs version cartridge_length inputs = header_length + cartridge_length + record_length version + input_length * inputs
 
 -- and after so many checkpoints, too.
-abbrev pub after_checkpoints : (version cart inputs checkpoints : ℕ) → ℕ
-after_checkpoints version cart inputs checkpoints =
-    after_inputs version cart inputs + checkpoint_length version * checkpoints
+abbrev pub after_checkpoints : (version cartridge_length inputs checkpoints : ℕ) → ℕ
+after_checkpoints version cartridge_length inputs checkpoints =
+    after_inputs version cartridge_length inputs + checkpoint_length version * checkpoints
 
 -- The input after so many, and the checkpoint.
 abbrev pub input_place : List ℕ → ℕ → ℕ

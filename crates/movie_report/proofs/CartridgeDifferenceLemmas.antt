@@ -10,19 +10,19 @@ use Rattle.movie_report.specs.Private.Elements.{AreElements}
 use Rattle.replay_plan.specs.declared.notation.Notation.TheVariants.{Json}
 
 -- One place more.
-pub one_place_more : (rom cart : List ℕ) (offset : ℕ) → filter (is_different_at rom cart) (range_with_len 0 (offset + 1))
-    ≡ filter (is_different_at rom cart) (range_with_len 0 offset) ++ cond (is_different_at rom cart offset) (offset ∷ []) []
-one_place_more rom cart offset =
-    let more = filter_of_map_range_with_len_more (is_different_at rom cart) (λ (n : ℕ). n) 0 offset offset (zero-add offset) in
+pub one_place_more : (rom cartridge : List ℕ) (offset : ℕ) → filter (is_different_at rom cartridge) (range_with_len 0 (offset + 1))
+    ≡ filter (is_different_at rom cartridge) (range_with_len 0 offset) ++ cond (is_different_at rom cartridge offset) (offset ∷ []) []
+one_place_more rom cartridge offset =
+    let more = filter_of_map_range_with_len_more (is_different_at rom cartridge) (λ (n : ℕ). n) 0 offset offset (zero-add offset) in
     rw (map-id (range_with_len 0 (offset + 1)), map-id (range_with_len 0 offset)) at more
 
 -- The list of those before it with this one, if the bytes differ here, and else alone.
-module _ (rom cart items : List ℕ) (offset : ℕ) (before : items ≡ filter (is_different_at rom cart) (range_with_len 0 offset)) where
-  pub with_place : get_or rom offset 0 ≢ get_or cart offset 0 → items ++ offset ∷ [] ≡ filter (is_different_at rom cart) (range_with_len 0 (offset + 1))
-  with_place differ = rw (one_place_more rom cart offset, ne_eqb (get_or rom offset 0) (get_or cart offset 0) differ, before) refl
+module _ (rom cartridge items : List ℕ) (offset : ℕ) (before : items ≡ filter (is_different_at rom cartridge) (range_with_len 0 offset)) where
+  pub with_place : get_or rom offset 0 ≢ get_or cartridge offset 0 → items ++ offset ∷ [] ≡ filter (is_different_at rom cartridge) (range_with_len 0 (offset + 1))
+  with_place differ = rw (one_place_more rom cartridge offset, ne_eqb (get_or rom offset 0) (get_or cartridge offset 0) differ, before) refl
 
-  pub without_place : get_or rom offset 0 ≡ get_or cart offset 0 → items ≡ filter (is_different_at rom cart) (range_with_len 0 (offset + 1))
-  without_place same = rw (one_place_more rom cart offset, eq-eqb (get_or rom offset 0) (get_or cart offset 0) same, append-nil, before) refl
+  pub without_place : get_or rom offset 0 ≡ get_or cartridge offset 0 → items ≡ filter (is_different_at rom cartridge) (range_with_len 0 (offset + 1))
+  without_place same = rw (one_place_more rom cartridge offset, eq-eqb (get_or rom offset 0) (get_or cartridge offset 0) same, append-nil, before) refl
 
 -- The first four places, or as many as there are.
 pub first_four : (offsets : List ℕ) (shown : ℕ) → shown ≡ min (length offsets) 4 → take shown offsets ≡ take 4 offsets
@@ -31,6 +31,6 @@ first_four offsets shown is = let same : shown ≡ min 4 (length offsets) = omeg
 pub ruleset places_shown = (first_four)
 
 -- What is said of places are elements of an array.
-pub AreElements-bytes_text : (rom cart offsets : List ℕ) → AreElements (bytes_text Json rom cart offsets)
-AreElements-bytes_text rom cart [] = inl refl
-AreElements-bytes_text rom cart (offset ∷ offsets) = inr (_, refl)
+pub AreElements-bytes_text : (rom cartridge offsets : List ℕ) → AreElements (bytes_text Json rom cartridge offsets)
+AreElements-bytes_text rom cartridge [] = inl refl
+AreElements-bytes_text rom cartridge (offset ∷ offsets) = inr (_, refl)

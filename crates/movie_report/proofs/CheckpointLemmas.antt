@@ -5,6 +5,6 @@ use Rattle.movie_file.specs.declared.checkpoint.Checkpoint.{Checkpoint}
 use Rattle.movie_report.proofs.ListLemmas.{drop_at}
 
 -- It stands after the last one, and the others after it.
-pub next_checkpoint : (cart last n : ℕ) (cs : List Checkpoint) (i : ℕ) (c : Checkpoint) → AreCheckpoints cart last n (drop i cs)
-    → slice_get cs (i + 1 - 1) ≡ Some c → (last < c.frame) × AreCheckpoints cart c.frame n (drop (i + 1) cs)
-next_checkpoint cart last n cs i c left here = let next = rw (drop_at cs i c here) at left in (next.0, next.3)
+pub next_checkpoint : (cartridge_length last n : ℕ) (cs : List Checkpoint) (i : ℕ) (c : Checkpoint) → AreCheckpoints cartridge_length last n (drop i cs)
+    → slice_get cs (i + 1 - 1) ≡ Some c → (last < c.frame) × AreCheckpoints cartridge_length c.frame n (drop (i + 1) cs)
+next_checkpoint cartridge_length last n cs i c left here = let next = rw (drop_at cs i c here) at left in (next.0, next.3)

@@ -10,11 +10,11 @@ use Rattle.replay_plan.specs.declared.notation.Notation.TheVariants.{Lines, Json
 
 -- Two lists of bytes differ at a place, counted from 0.
 abbrev pub is_different_at : List ℕ → List ℕ → ℕ → Bool
-is_different_at rom cart offset = not (slice_index rom offset == slice_index cart offset)
+is_different_at rom cartridge offset = not (slice_index rom offset == slice_index cartridge offset)
 
 -- All places at which a ROM differs from a cartridge of its length, the lowest first.
 unfoldable pub different_offsets : List ℕ → List ℕ → List ℕ
-different_offsets rom cart = filter (is_different_at rom cart) (range_with_len 0 (length cart))
+different_offsets rom cartridge = filter (is_different_at rom cartridge) (range_with_len 0 (length cartridge))
 
 -- What is said of a place: the byte that is expected there and the one that is found, in a line, or as
 -- an element of an array after those before it.
@@ -27,15 +27,15 @@ byte_text Json offset expected found =
 
 -- What is said of places, in their order.
 abbrev pub bytes_text : Notation → List ℕ → List ℕ → List ℕ → List ℕ
-bytes_text notation rom cart offsets = flat_map (λ offset. byte_text notation offset (slice_index rom offset) (slice_index cart offset)) offsets
+bytes_text notation rom cartridge offsets = flat_map (λ offset. byte_text notation offset (slice_index rom offset) (slice_index cartridge offset)) offsets
 
 -- How many places there are, and what is said of the first four.
 abbrev pub places_text : Notation → List ℕ → List ℕ → List ℕ → List ℕ
-places_text Lines rom cart offsets =
-    codes "cartridge differs: " ++ (decimal (length offsets) ++ (codes " bytes" ++ (10 ∷ bytes_text Lines rom cart (take 4 offsets))))
-places_text Json rom cart offsets =
+places_text Lines rom cartridge offsets =
+    codes "cartridge differs: " ++ (decimal (length offsets) ++ (codes " bytes" ++ (10 ∷ bytes_text Lines rom cartridge (take 4 offsets))))
+places_text Json rom cartridge offsets =
     codes ",\"differing_bytes\":" ++ (decimal (length offsets) ++ (codes ",\"cartridge_differs\":["
-    ++ (drop 1 (bytes_text Json rom cart (take 4 offsets)) ++ codes "]")))
+    ++ (drop 1 (bytes_text Json rom cartridge (take 4 offsets)) ++ codes "]")))
 
 -- Two lengths that differ.
 abbrev pub lengths_text : Notation → ℕ → ℕ → List ℕ
@@ -45,8 +45,8 @@ lengths_text Json expected found = codes ",\"expected_length\":" ++ decimal expe
 
 -- In what a cartridge isn't the ROM that is expected, if one is: in its length, or else in its bytes.
 abbrev pub cartridge_differences : Notation → Option (List ℕ) → List ℕ → List ℕ
-cartridge_differences notation None cart = []
-cartridge_differences notation (Some rom) cart =
-    if bytes_eq rom cart then []
-    else if length rom == length cart then places_text notation rom cart (different_offsets rom cart)
-    else lengths_text notation (length rom) (length cart)
+cartridge_differences notation None cartridge = []
+cartridge_differences notation (Some rom) cartridge =
+    if bytes_eq rom cartridge then []
+    else if length rom == length cartridge then places_text notation rom cartridge (different_offsets rom cartridge)
+    else lengths_text notation (length rom) (length cartridge)

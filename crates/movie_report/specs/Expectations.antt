@@ -14,27 +14,27 @@ use Rattle.movie_report.specs.declared.expectations.Agreement.{Agreement}
 
 -- A cartridge has exactly the bytes of a ROM, if there is one,
 abbrev pub is_of_rom : List ℕ → Option (List ℕ) → Bool
-is_of_rom cart None = true
-is_of_rom cart (Some rom) = bytes_eq cart rom
+is_of_rom cartridge None = true
+is_of_rom cartridge (Some rom) = bytes_eq cartridge rom
 
 -- and this SHA-256, if there is one.
 abbrev pub has_digest : List ℕ → Option (List ℕ) → Bool
-has_digest cart None = true
-has_digest cart (Some digest) = bytes_eq (sha256 cart) digest
+has_digest cartridge None = true
+has_digest cartridge (Some digest) = bytes_eq (sha256 cartridge) digest
 
 -- It is the one that is expected, if a ROM or a digest is.
 abbrev pub cartridge_agreement : List ℕ → Option (List ℕ) → Option (List ℕ) → Option Bool
-cartridge_agreement cart None None = None
-cartridge_agreement cart rom digest = Some (is_of_rom cart rom && has_digest cart digest)
+cartridge_agreement cartridge None None = None
+cartridge_agreement cartridge rom digest = Some (is_of_rom cartridge rom && has_digest cartridge digest)
 
 -- A movie's start state has the record of power-on.
 abbrev pub starts_at_power_on : MovieData → Bool
-starts_at_power_on m = bytes_eq (record_of m.start) (record_of (state_at_power_on m.cart))
+starts_at_power_on m = bytes_eq (record_of m.start) (record_of (state_at_power_on m.cartridge))
 
 -- How a movie agrees with what is expected of it.
 abbrev pub agreement_of : MovieData → Option (List ℕ) → Expectations → Agreement
 agreement_of m rom expected = record {
-  cartridge = cartridge_agreement m.cart rom expected.digest;
+  cartridge = cartridge_agreement m.cartridge rom expected.digest;
   start = if expected.power_on then Some (starts_at_power_on m) else None;
   last_frame = if expected.to_the_end then Some (ends_with_checkpoint m) else None;
 }
@@ -49,8 +49,8 @@ disagrees agreement = is_no agreement.cartridge || is_no agreement.start || is_n
 
 -- A line or a member for each that is expected, and in what the cartridge differs from a ROM that is.
 abbrev pub agreement_text : Notation → Option (List ℕ) → List ℕ → Agreement → List ℕ
-agreement_text notation rom cart agreement =
+agreement_text notation rom cartridge agreement =
     answer_fact notation (codes "cartridge_expected") (codes "cartridge expected: ") agreement.cartridge
-    ++ (cartridge_differences notation rom cart
+    ++ (cartridge_differences notation rom cartridge
     ++ (answer_fact notation (codes "start_expected") (codes "start expected: ") agreement.start
     ++ answer_fact notation (codes "last_frame_expected") (codes "last frame expected: ") agreement.last_frame))

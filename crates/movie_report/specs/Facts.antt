@@ -27,16 +27,16 @@ use Rattle.replay_plan.specs.declared.notation.Notation.TheVariants.{Lines, Json
 
 -- The bank scheme by which a cartridge is played.
 abbrev pub banks_of : List ℕ → List ℕ
-banks_of cart = if has_banks (length cart) then codes "F8" else codes "none"
+banks_of cartridge = if has_banks (length cartridge) then codes "F8" else codes "none"
 
 -- The length of a cartridge, its digests, and its bank scheme.
 abbrev pub cartridge_text : Notation → List ℕ → List ℕ
-cartridge_text notation cart =
-    number_fact notation (codes "cartridge") (codes "cartridge: ") (length cart) (codes " bytes")
-    ++ (word_fact notation (codes "md5") (codes "md5: ") (encode_lower (md5 cart))
-    ++ (word_fact notation (codes "sha1") (codes "sha1: ") (encode_lower (sha1 cart))
-    ++ (word_fact notation (codes "sha256") (codes "sha256: ") (encode_lower (sha256 cart))
-    ++ word_fact notation (codes "banks") (codes "banks: ") (banks_of cart))))
+cartridge_text notation cartridge =
+    number_fact notation (codes "cartridge") (codes "cartridge: ") (length cartridge) (codes " bytes")
+    ++ (word_fact notation (codes "md5") (codes "md5: ") (encode_lower (md5 cartridge))
+    ++ (word_fact notation (codes "sha1") (codes "sha1: ") (encode_lower (sha1 cartridge))
+    ++ (word_fact notation (codes "sha256") (codes "sha256: ") (encode_lower (sha256 cartridge))
+    ++ word_fact notation (codes "banks") (codes "banks: ") (banks_of cartridge))))
 
 -- Whether a start state is that of power-on: of the records of both.
 abbrev pub start_text : Notation → List ℕ → List ℕ → List ℕ
@@ -83,7 +83,7 @@ end_text Json = codes "}" ++ 10 ∷ []
 -- What a movie is, whatever its verdict: the cartridge, whether it starts at power-on, its checkpoints and its file.
 abbrev pub facts_text : Notation → List ℕ → List ℕ → MovieData → List ℕ → List ℕ → List ℕ
 facts_text notation program bytes m start power =
-    cartridge_text notation m.cart ++ (start_text notation start power ++ (checkpoints_text notation m ++ movie_text notation program bytes m))
+    cartridge_text notation m.cartridge ++ (start_text notation start power ++ (checkpoints_text notation m ++ movie_text notation program bytes m))
 
 -- What follows what went wrong: the notes, the facts, and last the numbers of a start that isn't power-on. With the records of
 -- the start state and of power-on.
@@ -97,5 +97,5 @@ notes_and_facts_text notation program bytes m start power =
 abbrev pub IsReport : Notation → List ℕ → List ℕ → MovieData → Verdict → Option (List ℕ) → Agreement → List ℕ → Type 0
 IsReport notation program bytes m verdict rom agreement text =
     (failure : List ℕ) × HasFailure notation m verdict failure
-    × (text ≡ head_text notation verdict ++ (failure ++ (agreement_text notation rom m.cart agreement
-    ++ (notes_and_facts_text notation program bytes m (record_of m.start) (record_of (state_at_power_on m.cart)) ++ end_text notation))))
+    × (text ≡ head_text notation verdict ++ (failure ++ (agreement_text notation rom m.cartridge agreement
+    ++ (notes_and_facts_text notation program bytes m (record_of m.start) (record_of (state_at_power_on m.cartridge)) ++ end_text notation))))

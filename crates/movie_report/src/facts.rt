@@ -178,7 +178,7 @@ fn notes_and_facts(
     movie: &Movie,
 ) -> Result<String, AllocError>
     ensures { IfOk result (λ text. string_bytes text ≡ notes_and_facts_text notation program.now bytes.now movie.now
-        (record_of movie.now.start) (record_of (state_at_power_on movie.now.cart))) }
+        (record_of movie.now.start) (record_of (state_at_power_on movie.now.cartridge))) }
 {
     let start = write_state(movie.start());
     let power_on = write_state(&State::power_on(movie.cart()));

@@ -15,11 +15,11 @@ use Rattle.replay_segments.proofs.ListLemmas.{same_at}
 module _ (m : MovieData) (movie : IsMovie m) where
   -- A checkpoint is after a frame of its movie.
   pub frame_in_range : (j : ℕ) (c : Checkpoint) → slice_get m.checkpoints j ≡ Some c → (0 < c.frame) × (c.frame ≤ length m.inputs)
-  frame_in_range j c at = let h = checkpoint_in_range (length m.cart) m.checkpoints 0 (length m.inputs) j c movie.checkpoints at in (h.0, h.1)
+  frame_in_range j c at = let h = checkpoint_in_range (length m.cartridge) m.checkpoints 0 (length m.inputs) j c movie.checkpoints at in (h.0, h.1)
 
   -- A later checkpoint is after a later frame.
   pub frames_rise : (i j : ℕ) (c d : Checkpoint) → i < j → slice_get m.checkpoints i ≡ Some c → slice_get m.checkpoints j ≡ Some d → c.frame < d.frame
-  frames_rise i j c d less at there = checkpoints_rise (length m.cart) m.checkpoints 0 (length m.inputs) i j c d movie.checkpoints less at there
+  frames_rise i j c d less at there = checkpoints_rise (length m.cartridge) m.checkpoints 0 (length m.inputs) i j c d movie.checkpoints less at there
 
   -- Two checkpoints are one, or stand in the order of their frames.
   pub in_order : (i j : ℕ) (c d : Checkpoint) → slice_get m.checkpoints i ≡ Some c → slice_get m.checkpoints j ≡ Some d

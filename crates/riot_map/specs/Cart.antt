@@ -18,19 +18,19 @@ has_banks n = n == 8192
 -- cartridge fills its part of the address space again and again, since the lines above its length
 -- don't reach it.
 abbrev pub cart_byte : List ℕ → ℕ → ℕ → ℕ
-cart_byte cart bank address =
-    if has_banks (length cart) then slice_index cart (4096 * bank + address % 4096)
-    else slice_index cart (address % length cart)
+cart_byte cartridge bank address =
+    if has_banks (length cartridge) then slice_index cartridge (4096 * bank + address % 4096)
+    else slice_index cartridge (address % length cartridge)
 
 -- The bank after an access: of two banks the first is selected at 1FF8 and the second at 1FF9, on
 -- the 13 address lines. That a data access alone selects, read or write, and not the fetch of an
 -- instruction's byte, is this project's own.
 abbrev pub bank_after : List ℕ → ℕ → ℕ → ℕ
-bank_after cart bank address =
-    if has_banks (length cart) && (address % 8192 == 0x1FF8) then 0
-    else if has_banks (length cart) && (address % 8192 == 0x1FF9) then 1
+bank_after cartridge bank address =
+    if has_banks (length cartridge) && (address % 8192 == 0x1FF8) then 0
+    else if has_banks (length cartridge) && (address % 8192 == 0x1FF9) then 1
     else bank
 
 -- The bank of a console that was just switched on: of two banks the second. This project's own.
 abbrev pub bank_at_power_on : List ℕ → ℕ
-bank_at_power_on cart = if has_banks (length cart) then 1 else 0
+bank_at_power_on cartridge = if has_banks (length cartridge) then 1 else 0

@@ -15,13 +15,13 @@ use Rattle.movie_file.proofs.RunLemmas.{faults-here, run-fault, run-next}
 use Rattle.run_cursor.specs.Cursor.{CursorData, IsAt}
 use Rattle.run_cursor.specs.RunFaults.{FaultsWithin, FrameFails}
 
-module _ (m : MovieData) (k : ℕ) (state left : StateFields) (cart : List ℕ) (input : InputData) (at : IsAt m k (record { movie = m; frame = k; state = state }))
-    (same : cart ≡ m.cart) (there : slice_get m.inputs (k + 1 - 1) ≡ Some input) where
+module _ (m : MovieData) (k : ℕ) (state left : StateFields) (cartridge : List ℕ) (input : InputData) (at : IsAt m k (record { movie = m; frame = k; state = state }))
+    (same : cartridge ≡ m.cartridge) (there : slice_get m.inputs (k + 1 - 1) ≡ Some input) where
   pub here : slice_get m.inputs k ≡ Some input
   here = let e : k + 1 - 1 ≡ k = omega arith in rw e at there
 
   -- it ends,
-  pub one_further : k < length m.inputs → (rows : Rows) → frame_of cart state input ≡ Played left rows
+  pub one_further : k < length m.inputs → (rows : Rows) → frame_of cartridge state input ≡ Played left rows
       → IsAt m (k + 1) (record { movie = m; frame = k + 1; state = left })
   one_further less rows ends = record {
     movie_is = refl;
@@ -32,7 +32,7 @@ module _ (m : MovieData) (k : ℕ) (state left : StateFields) (cart : List ℕ) 
   }
 
   -- or fails
-  pub not_further : (error : FrameError) → FailsAs (frame_of cart state input) error left → FrameFails m k error
+  pub not_further : (error : FrameError) → FailsAs (frame_of cartridge state input) error left → FrameFails m k error
   not_further (Fault kind) fails = faults-here m m.start 0 k k state input at.ran (omega arith) here kind left (rw same at fails)
   not_further NoMemory fails = tt
 

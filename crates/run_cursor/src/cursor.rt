@@ -121,8 +121,8 @@ impl<'a> Cursor<'a> {
         ensures ok { OnOk result (IsAt self.old.movie (self.old.frame + 1) self.new) }
         ensures timed { IfOk result (λ timed. (input : InputData) × (rows : Rows)
             × (slice_get self.old.movie.inputs self.old.frame ≡ Some input)
-            × (frame_of self.old.movie.cart self.old.state input ≡ Played self.new.state rows)
-            × (timed.cycles ≡ cycles_of self.old.movie.cart self.old.state input)
+            × (frame_of self.old.movie.cartridge self.old.state input ≡ Played self.new.state rows)
+            × (timed.cycles ≡ cycles_of self.old.movie.cartridge self.old.state input)
             × (timed.rows ≡ length rows) × (timed.picture ≡ (if keep then Some rows else None))) }
         ensures at { IsAt self.old.movie self.old.frame self.old }
         ensures err { IfErr result (FrameFails self.old.movie self.old.frame) }

@@ -50,15 +50,15 @@ fn after_frame(timer: u8, line_cycle: u8) -> [u8; 187] {
 
 /// The 2048 bytes of a cartridge with a program at F000.
 pub(crate) fn rom(program: &[u8]) -> [u8; 2048] {
-    let mut cart = [0; 2048];
+    let mut bytes = [0; 2048];
     for (i, byte) in program.iter().enumerate() {
         if i < 2048 {
-            cart[i] = *byte;
+            bytes[i] = *byte;
         }
     }
-    cart[0x010] = 0x02;
-    cart[0x7FD] = 0xF0;
-    cart
+    bytes[0x010] = 0x02;
+    bytes[0x7FD] = 0xF0;
+    bytes
 }
 
 /// A movie of so many frames with idle inputs, and checkpoints after the frame of a given number,

@@ -17,10 +17,10 @@ use Rattle.vcs_machine.specs.declared.fields.StateFields.{StateFields}
 use Rattle.vcs_machine.proofs.KeptFacts.{turn-kept}
 use Rattle.vcs_machine.proofs.OneStop.{stop_of-keeps}
 
-module _ {S : Type 0} (drawn : S → ℕ → ℕ → ℕ → S) (cart : List ℕ) (bank : ℕ) (single : has_banks (length cart) ≡ false) where
+module _ {S : Type 0} (drawn : S → ℕ → ℕ → ℕ → S) (cartridge : List ℕ) (bank : ℕ) (single : has_banks (length cartridge) ≡ false) where
   -- The cartridge and the bank of a console.
   abbrev Holds : Console S → Type 0
-  Holds c = (c.cart ≡ cart) × (c.bank ≡ bank)
+  Holds c = (c.cartridge ≡ cartridge) × (c.bank ≡ bank)
 
   read_at-holds : (c : Console S) (place : Place) → Holds c → Holds (read_at c place)
   read_at-holds c (Cart address) h = (h.0, rw (h.0, single) h.1)
@@ -45,9 +45,9 @@ outcome-bank : (line_cycle : ℕ) (stop : Stop (Console (List Pixel))) → (left
 outcome-bank line_cycle (Ended m) = refl
 outcome-bank line_cycle other = refl
 
-pub frame_of-bank : (cart : List ℕ) (s : StateFields) (i : InputData) → has_banks (length cart) ≡ false → (left_by (frame_of cart s i)).bank ≡ s.bank
+pub frame_of-bank : (cartridge : List ℕ) (s : StateFields) (i : InputData) → has_banks (length cartridge) ≡ false → (left_by (frame_of cartridge s i)).bank ≡ s.bank
 unfolding frame_of
-frame_of-bank cart s i single =
-    let stop = stop_of (console_rules with_pixel_logged) (machine_of cart s i []) in
+frame_of-bank cartridge s i single =
+    let stop = stop_of (console_rules with_pixel_logged) (machine_of cartridge s i []) in
     outcome-bank (line_cycle_of s) stop
-    ∙ (stop-holds with_pixel_logged cart s.bank single (machine_of cart s i []) (refl, refl)).1
+    ∙ (stop-holds with_pixel_logged cartridge s.bank single (machine_of cartridge s i []) (refl, refl)).1

@@ -14,17 +14,17 @@ place-cart : (address place : ℕ) → place_of address ≡ Cart place → has_b
 place-cart address place e = (grind (arith, nat_tests), grind (arith, nat_tests))
 
 -- The byte after one of the cartridge, as an instruction's.
-pub told-after : {S : Type 0} (drawn : S → ℕ → ℕ → ℕ → S) (c : Console S) (address place : ℕ) (cart : List ℕ) (bank : ℕ) (byte : Option ℕ)
-    → address < 65536 → place_of address ≡ Cart place → cart ≡ c.cart → bank ≡ c.bank
-    → IfSome byte (λ b. b ≡ cart_byte cart bank (place + 1)) → IfSome byte (λ b. place % 4096 < 4095)
+pub told-after : {S : Type 0} (drawn : S → ℕ → ℕ → ℕ → S) (c : Console S) (address place : ℕ) (cartridge : List ℕ) (bank : ℕ) (byte : Option ℕ)
+    → address < 65536 → place_of address ≡ Cart place → cartridge ≡ c.cartridge → bank ≡ c.bank
+    → IfSome byte (λ b. b ≡ cart_byte cartridge bank (place + 1)) → IfSome byte (λ b. place % 4096 < 4095)
     → IfSome byte (λ b. (meaning_of drawn).peeked c ((address + 1) % 65536) ≡ Some b)
 unfolding meaning_of
-told-after drawn c address place cart bank None word e of_cart of_bank same inside = tt
-told-after drawn c address place cart bank (Some byte) word e of_cart of_bank same inside =
+told-after drawn c address place cartridge bank None word e of_cart of_bank same inside = tt
+told-after drawn c address place cartridge bank (Some byte) word e of_cart of_bank same inside =
     let at = place-cart address place e in
     let high : address / 4096 % 2 ≡ 1 = eqb-true _ _ at.0 in
     let few : address % 4096 < 4095 = rw at.1 at inside in
     let next : (address + 1) % 65536 ≡ address + 1 = omega (arith, few) in
     let there : (address + 1) / 4096 % 2 ≡ 1 = omega (arith, high, few) in
-    let here : byte ≡ cart_byte c.cart c.bank (address + 1) = rw (at.1, of_cart, of_bank) at same in
+    let here : byte ≡ cart_byte c.cartridge c.bank (address + 1) = rw (at.1, of_cart, of_bank) at same in
     rw (next, there, here) refl

@@ -134,18 +134,18 @@ module _ {S : Type 0} (drawn : S → ℕ → ℕ → ℕ → S) where
           (accesses_of-ascend i r (instruction_cycles i r.p) timing.2) (omega (arith, timing.1)))
 
   -- ---- a frame from a state
-  pub frame-place : (cart : List ℕ) (s : StateFields) (i : InputData) (sink : S) (count : ℕ) (m : Machine (Console S)) → IsTrue (is_state s)
-      → turns (console_rules drawn) count (machine_of cart s i sink) ≡ Went m → beam_place m.bus ≡ place_after 0 (line_cycle_of s + m.cycles)
-  frame-place cart s i sink count m lawful e =
+  pub frame-place : (cartridge : List ℕ) (s : StateFields) (i : InputData) (sink : S) (count : ℕ) (m : Machine (Console S)) → IsTrue (is_state s)
+      → turns (console_rules drawn) count (machine_of cartridge s i sink) ≡ Went m → beam_place m.bus ≡ place_after 0 (line_cycle_of s + m.cycles)
+  frame-place cartridge s i sink count m lawful e =
       let thirds = clock-thirds s lawful in
       let small = line_cycle-lt s lawful in
-      turns-place (3 * line_cycle_of s) count (machine_of cart s i sink) m (omega (arith, thirds, small)) e ∙ omega arith
+      turns-place (3 * line_cycle_of s) count (machine_of cartridge s i sink) m (omega (arith, thirds, small)) e ∙ omega arith
 
-  pub frame-meets : (cart : List ℕ) (s : StateFields) (i : InputData) (sink : S) (count : ℕ) (m : Machine (Console S)) → IsTrue (is_state s)
-      → turns (console_rules drawn) count (machine_of cart s i sink) ≡ Went m → m.cycles ≤ 24401
+  pub frame-meets : (cartridge : List ℕ) (s : StateFields) (i : InputData) (sink : S) (count : ℕ) (m : Machine (Console S)) → IsTrue (is_state s)
+      → turns (console_rules drawn) count (machine_of cartridge s i sink) ≡ Went m → m.cycles ≤ 24401
       → IfOk (instruction_at (meaning_of drawn) m.bus m.registers) (MeetsBeam drawn m.registers m.bus (line_cycle_of s + m.cycles))
-  frame-meets cart s i sink count m lawful e short =
+  frame-meets cartridge s i sink count m lawful e short =
       let small = line_cycle-lt s lawful in
       let few : line_cycle_of s + m.cycles ≤ 24476 = omega arith in
       let near : (0 + 3 * (line_cycle_of s + m.cycles)) % 14942208 ≡ 3 * (line_cycle_of s + m.cycles) = omega arith in
-      instruction-beam m.registers m.bus (line_cycle_of s + m.cycles) few (frame-place cart s i sink count m lawful e ∙ near)
+      instruction-beam m.registers m.bus (line_cycle_of s + m.cycles) few (frame-place cartridge s i sink count m lawful e ∙ near)

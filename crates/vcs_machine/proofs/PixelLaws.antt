@@ -106,14 +106,14 @@ keeps_log start = record {
 }
 
 -- ---- where a frame stops
-module _ (cart : List ℕ) (s : StateFields) (i : InputData) (lawful : IsTrue (is_state s)) where
+module _ (cartridge : List ℕ) (s : StateFields) (i : InputData) (lawful : IsTrue (is_state s)) where
   abbrev here : Machine (Console (List Pixel))
-  here = machine_at (stop_of (console_rules with_pixel_logged) (machine_of cart s i []))
+  here = machine_at (stop_of (console_rules with_pixel_logged) (machine_of cartridge s i []))
 
   stop-logged : IsLogged (3 * line_cycle_of s) here.bus here.cycles
   stop-logged = stop-timed with_pixel_logged (IsLogged (3 * line_cycle_of s)) (keeps_log (3 * line_cycle_of s))
       (λ c t h. record { inside = h.inside; in_line = h.in_line; beam = h.beam; places = h.places })
-      (machine_of cart s i [])
+      (machine_of cartridge s i [])
       (record {
         inside = clock_of s lawful;
         in_line = All-nil (λ p. p.x < 160);
@@ -123,7 +123,7 @@ module _ (cart : List ℕ) (s : StateFields) (i : InputData) (lawful : IsTrue (i
 
   pub frame-places : map beam_of_pixel here.bus.sink ≡ filter is_visible (range_with_len (3 * line_cycle_of s) (3 * here.cycles))
   frame-places =
-      let way = stop-way with_pixel_logged cart s i [] lawful in
+      let way = stop-way with_pixel_logged cartridge s i [] lawful in
       let few = way.room in
       stop-logged.places (omega (arith, few))
 

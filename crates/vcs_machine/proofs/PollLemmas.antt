@@ -63,9 +63,9 @@ opcode_row branch = grind arith
 back_by_five : (base : ℕ) → 5 ≤ base → base < 65536 → modulo (pos base +ℤ signed 0xFB) 65536 ≡ base - 5
 back_by_five base h k = grind (arith, ints)
 
-module _ {S : Type 0} (drawn : S → ℕ → ℕ → ℕ → S) (poll : Poll) (pc : ℕ) (c : Console S) (k : IsPoll c.cart c.bank pc poll) where
+module _ {S : Type 0} (drawn : S → ℕ → ℕ → ℕ → S) (poll : Poll) (pc : ℕ) (c : Console S) (k : IsPoll c.cartridge c.bank pc poll) where
   -- The bytes of the loop are at hand.
-  peeks : (address : ℕ) → pc - 3 ≤ address → address ≤ pc + 1 → (meaning_of drawn).peeked c address ≡ Some (cart_byte c.cart c.bank address)
+  peeks : (address : ℕ) → pc - 3 ≤ address → address ≤ pc + 1 → (meaning_of drawn).peeked c address ≡ Some (cart_byte c.cartridge c.bank address)
   unfolding meaning_of
   peeks address least most = let high : address / 4096 % 2 ≡ 1 = omega (arith, k.high, k.first, k.last) in rw high refl
 
@@ -92,7 +92,7 @@ module _ {S : Type 0} (drawn : S → ℕ → ℕ → ℕ → S) (poll : Poll) (p
       let low : (pc - 3 + 1) % 65536 ≡ pc - 2 = omega (arith, k.word, k.first) in
       let top : (pc - 3 + 2) % 65536 ≡ pc - 1 = omega (arith, k.word, k.first) in
       let next : pc ≡ (pc - 3 + 3) % 65536 = omega (arith, k.word, k.first) in
-      let address = cart_byte c.cart c.bank (pc - 2) + 256 * cart_byte c.cart c.bank (pc - 1) in
+      let address = cart_byte c.cartridge c.bank (pc - 2) + 256 * cart_byte c.cartridge c.bank (pc - 1) in
       let read = step_of-read (meaning_of drawn) r c Lda Absolute 4 false (record { address = address; crossed = false; next = pc }) 4 loads
       (rw (at, peeks (pc - 3) (omega arith) (omega arith), k.load) refl)
       (record {
@@ -106,7 +106,7 @@ module _ {S : Type 0} (drawn : S → ℕ → ℕ → ℕ → S) where
   -- What the rounds of a loop begin with: nothing is asked for, the machine is at the branch, and
   -- the branch is taken.
   pub record IsAtBranch (poll : Poll) (m : Machine (Console S)) : Type 0 where
-    pub loop : IsPoll m.bus.cart m.bus.bank m.registers.pc poll
+    pub loop : IsPoll m.bus.cartridge m.bus.bank m.registers.pc poll
     pub no_wait : m.bus.awaits_line ≡ false
     pub no_end : m.bus.ended ≡ false
     pub byte : m.registers.p < 256

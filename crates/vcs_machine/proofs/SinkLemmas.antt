@@ -77,20 +77,20 @@ stop-from : {B C : Type 0} (h : B → C) (stop : Stop B)
 stop-from h (Ended m) = (refl, refl)
 stop-from h stop = (refl, refl)
 
-module _ {S : Type 0} (drawn : S → ℕ → ℕ → ℕ → S) (cart : List ℕ) (s : StateFields) (i : InputData) (sink : S) where
+module _ {S : Type 0} (drawn : S → ℕ → ℕ → ℕ → S) (cartridge : List ℕ) (s : StateFields) (i : InputData) (sink : S) where
   abbrev here : Machine (Console (List Pixel))
-  here = machine_at (stop_of (console_rules with_pixel_logged) (machine_of cart s i []))
+  here = machine_at (stop_of (console_rules with_pixel_logged) (machine_of cartridge s i []))
 
   -- The stop of the frame that lists its pixels, by the one of the frame that draws them.
-  stops : (stop : Stop (Console S)) → stop_of (console_rules drawn) (machine_of cart s i sink) ≡ stop
-      → (stop_of (console_rules with_pixel_logged) (machine_of cart s i []) ≡ stop_at stop here) × (machine_along (drawn_on drawn sink) here ≡ machine_at stop)
+  stops : (stop : Stop (Console S)) → stop_of (console_rules drawn) (machine_of cartridge s i sink) ≡ stop
+      → (stop_of (console_rules with_pixel_logged) (machine_of cartridge s i []) ≡ stop_at stop here) × (machine_along (drawn_on drawn sink) here ≡ machine_at stop)
   stops stop e =
-      let along = stop_of-along (console_rules with_pixel_logged) (console_rules drawn) (drawn_on drawn sink) (follows drawn sink) (machine_of cart s i []) in
-      rw (sym along ∙ e) at (stop-from (drawn_on drawn sink) (stop_of (console_rules with_pixel_logged) (machine_of cart s i [])))
+      let along = stop_of-along (console_rules with_pixel_logged) (console_rules drawn) (drawn_on drawn sink) (follows drawn sink) (machine_of cartridge s i []) in
+      rw (sym along ∙ e) at (stop-from (drawn_on drawn sink) (stop_of (console_rules with_pixel_logged) (machine_of cartridge s i [])))
 
   -- A frame that ends on a console with a sink.
-  pub plays-on : (there : Machine (Console S)) → stop_of (console_rules drawn) (machine_of cart s i sink) ≡ Ended there
-      → PlaysOn drawn cart s i sink (state_left there) there.bus.sink there.cycles
+  pub plays-on : (there : Machine (Console S)) → stop_of (console_rules drawn) (machine_of cartridge s i sink) ≡ Ended there
+      → PlaysOn drawn cartridge s i sink (state_left there) there.bus.sink there.cycles
   plays-on there e =
       let f = stops (Ended there) e in (
         here,
@@ -101,8 +101,8 @@ module _ {S : Type 0} (drawn : S → ℕ → ℕ → ℕ → S) (cart : List ℕ
       )
 
   -- And one that does not.
-  pub halts-on : (kind : FaultKind) (there : Machine (Console S)) → stop_of (console_rules drawn) (machine_of cart s i sink) ≡ stop_with kind there
-      → Halts cart s i kind (state_left there) there.cycles
+  pub halts-on : (kind : FaultKind) (there : Machine (Console S)) → stop_of (console_rules drawn) (machine_of cartridge s i sink) ≡ stop_with kind there
+      → Halts cartridge s i kind (state_left there) there.cycles
   halts-on kind there e =
       let f = stops (stop_with kind there) e in
       let same = f.1 ∙ machine_at-halted kind there in

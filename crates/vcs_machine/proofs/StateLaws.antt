@@ -138,17 +138,17 @@ record IsLawfulConsole {S : Type 0} (c : Console S) : Type 0 where
   tia : IsLawfulTia c.tia.fields
   bank : c.bank < 2
 
-bank_after-lt : (cart : List ℕ) (bank address : ℕ) → bank < 2 → bank_after cart bank address < 2
-bank_after-lt cart bank address h = grind (arith, nat_tests)
+bank_after-lt : (cartridge : List ℕ) (bank address : ℕ) → bank < 2 → bank_after cartridge bank address < 2
+bank_after-lt cartridge bank address h = grind (arith, nat_tests)
 
 module _ {S : Type 0} (drawn : S → ℕ → ℕ → ℕ → S) where
   read_at-lawful : (c : Console S) (place : Place) → IsLawfulConsole c → IsLawfulConsole (read_at c place)
-  read_at-lawful c (Cart address) h = record { timer = h.timer; tia = h.tia; bank = bank_after-lt c.cart c.bank address h.bank }
+  read_at-lawful c (Cart address) h = record { timer = h.timer; tia = h.tia; bank = bank_after-lt c.cartridge c.bank address h.bank }
   read_at-lawful c (Io register) h = record { timer = read-interval c.riot register h.timer; tia = h.tia; bank = h.bank }
   read_at-lawful c other h = h
 
   written_at-lawful : (c : Console S) (place : Place) (v : ℕ) → IsLawfulConsole c → IsLawfulConsole (written_at c place v)
-  written_at-lawful c (Cart address) v h = record { timer = h.timer; tia = h.tia; bank = bank_after-lt c.cart c.bank address h.bank }
+  written_at-lawful c (Cart address) v h = record { timer = h.timer; tia = h.tia; bank = bank_after-lt c.cartridge c.bank address h.bank }
   written_at-lawful c (Tia register) v h = record { timer = h.timer; tia = written-lawful c.tia register v h.tia; bank = h.bank }
   written_at-lawful c (Ram index) v h = record { timer = h.timer; tia = h.tia; bank = h.bank }
   written_at-lawful c (Io register) v h = record { timer = write-interval c.riot register v h.timer; tia = h.tia; bank = h.bank }
@@ -177,9 +177,9 @@ module _ {S : Type 0} (drawn : S → ℕ → ℕ → ℕ → S) where
     console = turn-kept drawn IsLawfulConsole keeps_lawful (λ c k. record { timer = k.timer; tia = k.tia; bank = k.bank }) m next h.console e;
   }
 
-  start-lawful : (cart : List ℕ) (s : StateFields) (i : InputData) (sink : S) → IsTrue (is_state s) → IsLawfulMachine (machine_of cart s i sink)
+  start-lawful : (cartridge : List ℕ) (s : StateFields) (i : InputData) (sink : S) → IsTrue (is_state s) → IsLawfulMachine (machine_of cartridge s i sink)
   unfolding riot_of timer_of
-  start-lawful cart s i sink lawful =
+  start-lawful cartridge s i sink lawful =
       let parts = parts_of s lawful in
       record {
         status = parts.status;
@@ -190,11 +190,11 @@ module _ {S : Type 0} (drawn : S → ℕ → ℕ → ℕ → S) where
         };
       }
 
-  stop-lawful : (cart : List ℕ) (s : StateFields) (i : InputData) (sink : S) → IsTrue (is_state s)
-      → IsLawfulMachine (machine_at (stop_of (console_rules drawn) (machine_of cart s i sink)))
-  stop-lawful cart s i sink lawful =
-      stop_of-keeps (console_rules drawn) IsLawfulMachine (λ m next h short. turn-lawful m next h) (machine_of cart s i sink)
-      (start-lawful cart s i sink lawful)
+  stop-lawful : (cartridge : List ℕ) (s : StateFields) (i : InputData) (sink : S) → IsTrue (is_state s)
+      → IsLawfulMachine (machine_at (stop_of (console_rules drawn) (machine_of cartridge s i sink)))
+  stop-lawful cartridge s i sink lawful =
+      stop_of-keeps (console_rules drawn) IsLawfulMachine (λ m next h short. turn-lawful m next h) (machine_of cartridge s i sink)
+      (start-lawful cartridge s i sink lawful)
 
   left-lawful : (m : Machine (Console S)) → m.bus.tia.fields.clock % 3 ≡ 0 → IsLawfulMachine m → IsTrue (is_state (state_left m))
   left-lawful m aligned h = state_of_parts (state_left m) (record {
@@ -209,10 +209,10 @@ left_by-stop : (line_cycle : ℕ) (stop : Stop (Console (List Pixel))) → left_
 left_by-stop line_cycle (Ended m) = refl
 left_by-stop line_cycle other = refl
 
-pub frame_of-lawful : (cart : List ℕ) (s : StateFields) (i : InputData) → IsTrue (is_state s) → IsTrue (is_state (left_by (frame_of cart s i)))
+pub frame_of-lawful : (cartridge : List ℕ) (s : StateFields) (i : InputData) → IsTrue (is_state s) → IsTrue (is_state (left_by (frame_of cartridge s i)))
 unfolding frame_of
-frame_of-lawful cart s i lawful =
-    let stop = stop_of (console_rules with_pixel_logged) (machine_of cart s i []) in
-    let beam = (stop-way with_pixel_logged cart s i [] lawful).beam in
+frame_of-lawful cartridge s i lawful =
+    let stop = stop_of (console_rules with_pixel_logged) (machine_of cartridge s i []) in
+    let beam = (stop-way with_pixel_logged cartridge s i [] lawful).beam in
     rw (left_by-stop (line_cycle_of s) stop)
-    (left-lawful with_pixel_logged (machine_at stop) (omega (arith, beam)) (stop-lawful with_pixel_logged cart s i [] lawful))
+    (left-lawful with_pixel_logged (machine_at stop) (omega (arith, beam)) (stop-lawful with_pixel_logged cartridge s i [] lawful))

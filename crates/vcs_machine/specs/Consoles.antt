@@ -22,7 +22,7 @@ use Rattle.vcs_machine.specs.Frame.{Rules}
 -- says whether WSYNC was written in this instruction, and `ended` whether VSYNC has fallen in this
 -- frame.
 pub record Console (S : Type 0) : Type 0 where
-  pub cart : List ℕ
+  pub cartridge : List ℕ
   pub bank : ℕ
   pub riot : RiotState
   pub tia : TiaState
@@ -41,7 +41,7 @@ is_frame_end other = false
 module _ {S : Type 0} where
   -- The byte that a read gives.
   abbrev pub value_at : Console S → Place → ℕ
-  value_at c (Cart address) = cart_byte c.cart c.bank address
+  value_at c (Cart address) = cart_byte c.cartridge c.bank address
   value_at c (Tia register) = tia_read_of c.tia register
   value_at c (Ram index) = slice_index c.riot.ram index
   value_at c (Io register) = riot_read_of c.riot register
@@ -49,14 +49,14 @@ module _ {S : Type 0} where
   -- A read may select a bank, and one of the timer may clear its flag. That a read still sees the
   -- bank before it is this project's own.
   abbrev pub read_at : Console S → Place → Console S
-  read_at c (Cart address) = record c { bank = bank_after c.cart c.bank address }
+  read_at c (Cart address) = record c { bank = bank_after c.cartridge c.bank address }
   read_at c (Io register) = record c { riot = after_read c.riot register }
   read_at c other = c
 
   -- An instruction's byte. That no register of the TIA or the RIOT gives one, and that it selects
   -- no bank, is this project's own.
   abbrev pub peeked_at : Console S → Place → Option ℕ
-  peeked_at c (Cart address) = Some (cart_byte c.cart c.bank address)
+  peeked_at c (Cart address) = Some (cart_byte c.cartridge c.bank address)
   peeked_at c (Ram index) = Some (slice_index c.riot.ram index)
   peeked_at c other = None
 
@@ -73,7 +73,7 @@ module _ {S : Type 0} where
 
   -- A cartridge has no place to write to, but a write may select a bank.
   abbrev pub written_at : Console S → Place → ℕ → Console S
-  written_at c (Cart address) v = record c { bank = bank_after c.cart c.bank address }
+  written_at c (Cart address) v = record c { bank = bank_after c.cartridge c.bank address }
   written_at c (Tia register) v = after_tia_write c register v
   written_at c (Ram index) v = record c { riot = with_ram index v c.riot }
   written_at c (Io register) v = record c { riot = after_write c.riot register v }

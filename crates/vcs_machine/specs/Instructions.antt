@@ -104,4 +104,4 @@ undrawn_rules = console_rules with_pixel_lost
 
 -- The machine at a frame's start.
 abbrev pub undrawn_of : List ℕ → StateFields → InputData → Machine Undrawn
-undrawn_of cart s i = machine_of cart s i (record {})
+undrawn_of cartridge s i = machine_of cartridge s i (record {})

@@ -30,9 +30,9 @@ left_by (Failed kind s) = s
 -- a pressed button sets its latch if VBLANK has bit 6, and the line is 0. Only the latch is the
 -- Guide's.
 abbrev pub console_of : {S : Type 0} → List ℕ → StateFields → InputData → S → Console S
-console_of cart s i sink =
+console_of cartridge s i sink =
     record {
-      cart = cart;
+      cartridge = cartridge;
       bank = s.bank;
       riot = with_pins i.swcha i.swchb (riot_of s.riot);
       tia = at_frame_start (with_fire (tia_state_of s.tia) (is_pressed 0 i) (is_pressed 1 i));
@@ -42,7 +42,7 @@ console_of cart s i sink =
     }
 
 abbrev pub machine_of : {S : Type 0} → List ℕ → StateFields → InputData → S → Machine (Console S)
-machine_of cart s i sink = record { registers = s.cpu; bus = console_of cart s i sink; cycles = 0 }
+machine_of cartridge s i sink = record { registers = s.cpu; bus = console_of cartridge s i sink; cycles = 0 }
 
 -- The state that a machine leaves.
 abbrev pub state_left : {S : Type 0} → Machine (Console S) → StateFields
@@ -56,11 +56,11 @@ outcome_of line_cycle (Faulted fault m) = Failed (kind_of fault) (state_left m)
 
 -- What a frame on a cartridge does to a state, with this input.
 unfoldable pub frame_of : List ℕ → StateFields → InputData → FrameOutcome
-frame_of cart s i = outcome_of (line_cycle_of s) (stop_of (console_rules with_pixel_logged) (machine_of cart s i []))
+frame_of cartridge s i = outcome_of (line_cycle_of s) (stop_of (console_rules with_pixel_logged) (machine_of cartridge s i []))
 
 -- The cycles that a frame has taken when it stops, waits included.
 unfoldable pub cycles_of : List ℕ → StateFields → InputData → ℕ
-cycles_of cart s i = (machine_at (stop_of (console_rules with_pixel_logged) (machine_of cart s i []))).cycles
+cycles_of cartridge s i = (machine_at (stop_of (console_rules with_pixel_logged) (machine_of cartridge s i []))).cycles
 
 -- A frame's error, and the state that it leaves.
 abbrev pub FailsAs : FrameOutcome → FrameError → StateFields → Type 0
@@ -69,14 +69,14 @@ FailsAs outcome NoMemory s = Unit {0}
 
 -- A frame stops for this cause, leaves this state, and has taken so many cycles.
 abbrev pub Halts : List ℕ → StateFields → InputData → FaultKind → StateFields → ℕ → Type 0
-Halts cart s i kind after cycles =
+Halts cartridge s i kind after cycles =
     (here : Machine (Console (List Pixel)))
-    × (stop_of (console_rules with_pixel_logged) (machine_of cart s i []) ≡ stop_with kind here)
+    × (stop_of (console_rules with_pixel_logged) (machine_of cartridge s i []) ≡ stop_with kind here)
     × (state_left here ≡ after)
     × (here.cycles ≡ cycles)
 
 -- A frame that ends leaves this state after so many cycles, and its pixels have been put on a sink.
 abbrev pub PlaysOn : {S : Type 0} → (S → ℕ → ℕ → ℕ → S) → List ℕ → StateFields → InputData → S → StateFields → S → ℕ → Type 0
-PlaysOn drawn cart s i sink after sink_after cycles =
-    (here : Machine (Console (List Pixel))) × (stop_of (console_rules with_pixel_logged) (machine_of cart s i []) ≡ Ended here) × (state_left here ≡ after)
+PlaysOn drawn cartridge s i sink after sink_after cycles =
+    (here : Machine (Console (List Pixel))) × (stop_of (console_rules with_pixel_logged) (machine_of cartridge s i []) ≡ Ended here) × (state_left here ≡ after)
     × (sink_after_pixels drawn sink here.bus.sink ≡ sink_after) × (here.cycles ≡ cycles)

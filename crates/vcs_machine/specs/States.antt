@@ -27,16 +27,16 @@ line_cycle_of f = f.tia.clock / 3
 -- programming manual. The rest is this project's own: of two banks the second is selected, S is FF,
 -- I is set, and all else of the processor is 0.
 abbrev pub state_at_power_on : List ℕ → StateFields
-state_at_power_on cart = record {
+state_at_power_on cartridge = record {
   cpu = record {
     a = 0;
     x = 0;
     y = 0;
     s = 0xFF;
     p = 0x04;
-    pc = cart_byte cart (bank_at_power_on cart) 0xFFFC + 256 * cart_byte cart (bank_at_power_on cart) 0xFFFD;
+    pc = cart_byte cartridge (bank_at_power_on cartridge) 0xFFFC + 256 * cart_byte cartridge (bank_at_power_on cartridge) 0xFFFD;
   };
   riot = fields_of riot_at_power_on;
   tia = tia_at_power_on;
-  bank = bank_at_power_on cart;
+  bank = bank_at_power_on cartridge;
 }

@@ -40,7 +40,7 @@ impl<'a, S: Paint> Model for Console<'a, S> {
     ghost Value = { ConsoleOf S };
 
     ghost view = { λ c. record {
-      cart = c.mapped.cart.now;
+      cartridge = c.mapped.cart.now;
       bank = c.mapped.bank;
       riot = riot_seen c.devices;
       tia = tia_seen c.devices;
@@ -312,7 +312,7 @@ impl<'a, S: Paint> Console<'a, S> {
 
     /// The loop that waits for the timer whose branch stands at an address, if one does there.
     pub fn poll_at(&self, pc: u16) -> Option<Poll>
-        ensures { IfSome result (λ poll. IsPoll self.now.cart self.now.bank pc poll) }
+        ensures { IfSome result (λ poll. IsPoll self.now.cartridge self.now.bank pc poll) }
     {
         self.mapped.poll_at(pc)
     }

@@ -44,11 +44,11 @@ pub const fn law_of_passed_cycles<S>()
 /// beam where k cycles more have brought it: after the three clocks of its own cycle.
 pub const fn law_of_the_beam<S>()
     ensures clock { (drawn : S → ℕ → ℕ → ℕ → S) → IsClock (meaning_of drawn) place_after beam_place }
-    ensures frame { (drawn : S → ℕ → ℕ → ℕ → S) (cart : List ℕ) (s : StateFields) (i : InputData) (sink : S) (count : ℕ) (m : Machine (Console S))
-        → IsTrue (is_state s) → turns (console_rules drawn) count (machine_of cart s i sink) ≡ Went m
+    ensures frame { (drawn : S → ℕ → ℕ → ℕ → S) (cartridge : List ℕ) (s : StateFields) (i : InputData) (sink : S) (count : ℕ) (m : Machine (Console S))
+        → IsTrue (is_state s) → turns (console_rules drawn) count (machine_of cartridge s i sink) ≡ Went m
         → beam_place m.bus ≡ place_after 0 (line_cycle_of s + m.cycles) }
-    ensures accesses { (drawn : S → ℕ → ℕ → ℕ → S) (cart : List ℕ) (s : StateFields) (i : InputData) (sink : S) (count : ℕ) (m : Machine (Console S))
-        → IsTrue (is_state s) → turns (console_rules drawn) count (machine_of cart s i sink) ≡ Went m → m.cycles ≤ most_frame_cycles
+    ensures accesses { (drawn : S → ℕ → ℕ → ℕ → S) (cartridge : List ℕ) (s : StateFields) (i : InputData) (sink : S) (count : ℕ) (m : Machine (Console S))
+        → IsTrue (is_state s) → turns (console_rules drawn) count (machine_of cartridge s i sink) ≡ Went m → m.cycles ≤ most_frame_cycles
         → IfOk (instruction_at (meaning_of drawn) m.bus m.registers) (MeetsBeam drawn m.registers m.bus (line_cycle_of s + m.cycles)) }
 {}
 
@@ -63,8 +63,8 @@ pub const fn law_of_waits<S>()
 /// waits, and one more without its wait, the beam stands at one of the 228 clocks of a scanline,
 /// and a whole number of cycles after its begin.
 pub const fn law_of_whole_cycles()
-    ensures { (cart : List ℕ) (s : StateFields) (i : InputData) (count : ℕ) (m : Machine (Console (List Pixel))) → IsTrue (is_state s)
-        → turns (console_rules with_pixel_logged) count (machine_of cart s i []) ≡ Went m
+    ensures { (cartridge : List ℕ) (s : StateFields) (i : InputData) (count : ℕ) (m : Machine (Console (List Pixel))) → IsTrue (is_state s)
+        → turns (console_rules with_pixel_logged) count (machine_of cartridge s i []) ≡ Went m
         → let c = (step_of (meaning_of with_pixel_logged) m.registers m.bus).bus in
         (c.tia.fields.clock < 228) × (c.tia.fields.clock % 3 ≡ 0) }
 {}
@@ -72,15 +72,15 @@ pub const fn law_of_whole_cycles()
 /// A law: however a frame stops, it takes at most 24,401 cycles, its picture has at most 322 rows,
 /// and the state that it leaves has the beam's place: three clocks a cycle on from where it began.
 pub const fn law_of_frame_lengths()
-    ensures cycles { (cart : List ℕ) (s : StateFields) (i : InputData) → IsTrue (is_state s)
-        → (machine_at (stop_of (console_rules with_pixel_logged) (machine_of cart s i []))).cycles ≤ most_frame_cycles }
-    ensures rows { (cart : List ℕ) (s : StateFields) (i : InputData) → IsTrue (is_state s)
-        → rows_of (line_cycle_of s) (machine_at (stop_of (console_rules with_pixel_logged) (machine_of cart s i []))).cycles ≤ most_rows }
-    ensures beam { (cart : List ℕ) (s : StateFields) (i : InputData) → IsTrue (is_state s)
-        → let here = machine_at (stop_of (console_rules with_pixel_logged) (machine_of cart s i [])) in
+    ensures cycles { (cartridge : List ℕ) (s : StateFields) (i : InputData) → IsTrue (is_state s)
+        → (machine_at (stop_of (console_rules with_pixel_logged) (machine_of cartridge s i []))).cycles ≤ most_frame_cycles }
+    ensures rows { (cartridge : List ℕ) (s : StateFields) (i : InputData) → IsTrue (is_state s)
+        → rows_of (line_cycle_of s) (machine_at (stop_of (console_rules with_pixel_logged) (machine_of cartridge s i []))).cycles ≤ most_rows }
+    ensures beam { (cartridge : List ℕ) (s : StateFields) (i : InputData) → IsTrue (is_state s)
+        → let here = machine_at (stop_of (console_rules with_pixel_logged) (machine_of cartridge s i [])) in
         here.bus.tia.fields.clock ≡ 3 * line_cycle_of (state_left here) }
-    ensures line_cycle { (cart : List ℕ) (s : StateFields) (i : InputData) → IsTrue (is_state s)
-        → let here = machine_at (stop_of (console_rules with_pixel_logged) (machine_of cart s i [])) in
+    ensures line_cycle { (cartridge : List ℕ) (s : StateFields) (i : InputData) → IsTrue (is_state s)
+        → let here = machine_at (stop_of (console_rules with_pixel_logged) (machine_of cartridge s i [])) in
         line_cycle_of (state_left here) ≡ (line_cycle_of s + here.cycles) % 76 }
 {}
 
@@ -88,32 +88,32 @@ pub const fn law_of_frame_lengths()
 /// order, and so no pixel twice. None lies below the rows that are counted for its cycles, or to
 /// the right of them.
 pub const fn law_of_frame_pixels()
-    ensures places { (cart : List ℕ) (s : StateFields) (i : InputData) → IsTrue (is_state s)
-        → let here = machine_at (stop_of (console_rules with_pixel_logged) (machine_of cart s i [])) in
+    ensures places { (cartridge : List ℕ) (s : StateFields) (i : InputData) → IsTrue (is_state s)
+        → let here = machine_at (stop_of (console_rules with_pixel_logged) (machine_of cartridge s i [])) in
         map beam_of_pixel here.bus.sink ≡ filter is_visible (range_with_len (3 * line_cycle_of s) (3 * here.cycles)) }
-    ensures inside { (cart : List ℕ) (s : StateFields) (i : InputData) → IsTrue (is_state s)
-        → let here = machine_at (stop_of (console_rules with_pixel_logged) (machine_of cart s i [])) in
+    ensures inside { (cartridge : List ℕ) (s : StateFields) (i : InputData) → IsTrue (is_state s)
+        → let here = machine_at (stop_of (console_rules with_pixel_logged) (machine_of cartridge s i [])) in
         All (λ p. (p.line < rows_of (line_cycle_of s) here.cycles) × (p.x < 160)) here.bus.sink }
 {}
 
 /// A law: a frame that begins at a lawful state leaves a lawful one, whatever is on its cartridge.
 pub const fn law_of_lawful_states()
-    ensures { (cart : List ℕ) (s : StateFields) (i : InputData) → IsTrue (is_state s) → IsTrue (is_state (left_by (frame_of cart s i))) }
+    ensures { (cartridge : List ℕ) (s : StateFields) (i : InputData) → IsTrue (is_state s) → IsTrue (is_state (left_by (frame_of cartridge s i))) }
 {}
 
 /// A law: on a cartridge without banks a frame leaves the bank as it was.
 pub const fn law_of_banks()
-    ensures { (cart : List ℕ) (s : StateFields) (i : InputData) → has_banks (length cart) ≡ false
-        → (left_by (frame_of cart s i)).bank ≡ s.bank }
+    ensures { (cartridge : List ℕ) (s : StateFields) (i : InputData) → has_banks (length cartridge) ≡ false
+        → (left_by (frame_of cartridge s i)).bank ≡ s.bank }
 {}
 
 /// A law: a frame that is executed one instruction at a time, and draws nothing, leaves what any
 /// frame leaves, and takes as many cycles.
 pub const fn law_of_stepping()
-    ensures ended { (cart : List ℕ) (s : StateFields) (i : InputData) (count : ℕ) (here : Machine Undrawn)
-        → StopsAfter undrawn_rules (undrawn_of cart s i) count (Ended here)
-        → ((rows : Rows) × (frame_of cart s i ≡ Played (state_left here) rows)) × (cycles_of cart s i ≡ here.cycles) }
-    ensures failed { (cart : List ℕ) (s : StateFields) (i : InputData) (count : ℕ) (kind : FaultKind) (here : Machine Undrawn)
-        → StopsAfter undrawn_rules (undrawn_of cart s i) count (stop_with kind here)
-        → frame_of cart s i ≡ Failed kind (state_left here) }
+    ensures ended { (cartridge : List ℕ) (s : StateFields) (i : InputData) (count : ℕ) (here : Machine Undrawn)
+        → StopsAfter undrawn_rules (undrawn_of cartridge s i) count (Ended here)
+        → ((rows : Rows) × (frame_of cartridge s i ≡ Played (state_left here) rows)) × (cycles_of cartridge s i ≡ here.cycles) }
+    ensures failed { (cartridge : List ℕ) (s : StateFields) (i : InputData) (count : ℕ) (kind : FaultKind) (here : Machine Undrawn)
+        → StopsAfter undrawn_rules (undrawn_of cartridge s i) count (stop_with kind here)
+        → frame_of cartridge s i ≡ Failed kind (state_left here) }
 {}

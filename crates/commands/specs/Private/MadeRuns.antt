@@ -23,32 +23,32 @@ use Rattle.commands.specs.declared.line.Line.{Line}
 use Rattle.commands.specs.declared.line.Line.TheVariants as lines
 
 -- So many frames ended, the last one in this state, and these are the checkpoints after every so many.
-pub record HasRun (cart : List ℕ) (inputs : List InputData) (every frames : ℕ) (checkpoints : List Checkpoint) (state : StateFields) : Type 0 where
-  pub sound : AllSound (bare cart inputs) (state_at_power_on cart) 0 frames
-  pub ran : run (bare cart inputs) (state_at_power_on cart) 0 frames ≡ Some state
-  pub claims : Claims (bare cart inputs) 0 every frames checkpoints
+pub record HasRun (cartridge : List ℕ) (inputs : List InputData) (every frames : ℕ) (checkpoints : List Checkpoint) (state : StateFields) : Type 0 where
+  pub sound : AllSound (bare cartridge inputs) (state_at_power_on cartridge) 0 frames
+  pub ran : run (bare cartridge inputs) (state_at_power_on cartridge) 0 frames ≡ Some state
+  pub claims : Claims (bare cartridge inputs) 0 every frames checkpoints
   pub inputs_are : All (λ i. IsTrue (is_input i)) (take frames inputs)
 
 -- Each frame before this one ended, it faults, and these are the checkpoints after every so many of those before.
-pub record HasFault (cart : List ℕ) (inputs : List InputData) (every frame : ℕ) (kind : FaultKind) (checkpoints : List Checkpoint) : Type 0 where
+pub record HasFault (cartridge : List ℕ) (inputs : List InputData) (every frame : ℕ) (kind : FaultKind) (checkpoints : List Checkpoint) : Type 0 where
   pub before : ℕ
   pub frame_is : frame ≡ before + 1
   pub within : before < length inputs
-  pub sound : AllSound (bare cart inputs) (state_at_power_on cart) 0 before
-  pub fault : FaultsAt (bare cart inputs) (state_at_power_on cart) 0 before kind
-  pub claims : Claims (bare cart inputs) 0 every before checkpoints
+  pub sound : AllSound (bare cartridge inputs) (state_at_power_on cartridge) 0 before
+  pub fault : FaultsAt (bare cartridge inputs) (state_at_power_on cartridge) 0 before kind
+  pub claims : Claims (bare cartridge inputs) 0 every before checkpoints
   pub inputs_are : All (λ i. IsTrue (is_input i)) (take frame inputs)
 
 -- The movie of these parts with the first so many inputs.
 abbrev pub movie_up_to : List ℕ → StateFields → List InputData → List Checkpoint → ℕ → MovieData
-movie_up_to cart start inputs checkpoints frame =
-    record { version = version_made (length cart) frame; cart = cart; start = start; inputs = take frame inputs; checkpoints = checkpoints }
+movie_up_to cartridge start inputs checkpoints frame =
+    record { version = version_made (length cartridge) frame; cartridge = cartridge; start = start; inputs = take frame inputs; checkpoints = checkpoints }
 
 -- The movie of a run that ended, or the one to its fault, if that is asked for.
 abbrev pub IsMadeRun : List ℕ → List InputData → ℕ → Bool → Bool → MovieData → Option RunFault → Type 0
-IsMadeRun cart inputs every to_the_end to_the_fault m None = IsMadeMovie cart inputs every to_the_end m × IsGenuine m
-IsMadeRun cart inputs every to_the_end to_the_fault m (Some fault) =
-    (to_the_fault ≡ true) × IsFirstFault cart inputs fault.frame fault.kind × IsMadeToTheFault cart inputs every fault.frame m
+IsMadeRun cartridge inputs every to_the_end to_the_fault m None = IsMadeMovie cartridge inputs every to_the_end m × IsGenuine m
+IsMadeRun cartridge inputs every to_the_end to_the_fault m (Some fault) =
+    (to_the_fault ≡ true) × IsFirstFault cartridge inputs fault.frame fault.kind × IsMadeToTheFault cartridge inputs every fault.frame m
     × ((keep : Keep) → IsVerdict m keep (verdicts.Fault fault.frame fault.kind))
 
 -- What is said of it.
@@ -58,7 +58,7 @@ line_of m (Some fault) = lines.Fault fault.frame fault.kind
 
 -- The counts are looked at first.
 abbrev pub Explains : List ℕ → List InputData → ℕ → Bool → Bool → MakeError → Type 0
-Explains cart inputs every to_the_end to_the_fault (Fault frame kind) =
-    IsTrue (do_claims_fit (length inputs) every to_the_end) × IsFirstFault cart inputs frame kind × (to_the_fault ≡ false)
-Explains cart inputs every to_the_end to_the_fault BadCounts = ¬ IsTrue (do_claims_fit (length inputs) every to_the_end)
-Explains cart inputs every to_the_end to_the_fault NoMemory = Unit {0}
+Explains cartridge inputs every to_the_end to_the_fault (Fault frame kind) =
+    IsTrue (do_claims_fit (length inputs) every to_the_end) × IsFirstFault cartridge inputs frame kind × (to_the_fault ≡ false)
+Explains cartridge inputs every to_the_end to_the_fault BadCounts = ¬ IsTrue (do_claims_fit (length inputs) every to_the_end)
+Explains cartridge inputs every to_the_end to_the_fault NoMemory = Unit {0}

@@ -7,6 +7,6 @@ use Rattle.movie_file.specs.Making.{IsFirstFault}
 
 -- the run from power-on has its first fault at this frame; nothing else stops it
 abbrev pub RunFails : List ℕ → List InputData → MakeError → Type 0
-RunFails cart inputs (Fault frame kind) = IsFirstFault cart inputs frame kind
-RunFails cart inputs BadCounts = ⊥
-RunFails cart inputs NoMemory = ⊥
+RunFails cartridge inputs (Fault frame kind) = IsFirstFault cartridge inputs frame kind
+RunFails cartridge inputs BadCounts = ⊥
+RunFails cartridge inputs NoMemory = ⊥

@@ -4,4 +4,4 @@ use Rattle.movie_file.specs.Movie.{MovieData}
 
 abbrev pub data_of : MovieParts → MovieData
 data_of p =
-    record { version = p.version; cart = p.cart; start = p.start; inputs = p.inputs.items; checkpoints = p.checkpoints.items }
+    record { version = p.version; cartridge = p.cart; start = p.start; inputs = p.inputs.items; checkpoints = p.checkpoints.items }

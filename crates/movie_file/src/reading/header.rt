@@ -105,7 +105,7 @@ fn body_length(sizes: Sizes) -> usize
     let record = record_length(sizes.version);
     let inputs = INPUT_LENGTH * sizes.frames as usize;
     let checkpoints = (4 + record) * sizes.checkpoints as usize;
-    sizes.cart as usize + record + inputs + checkpoints
+    sizes.cartridge_length as usize + record + inputs + checkpoints
 }
 
 /// What the header says, and the bytes after it, of which there are enough.
@@ -115,17 +115,17 @@ pub(super) fn sizes_in(bytes: &[u8]) -> Result<(Sizes, &[u8]), MovieError>
     ensures never { IfErr result (λ e. e ≢ MovieError.NoMemory) }
     ensures long { IfOk result (λ x. body_length x.0 ≤ length x.1.now) }
     ensures version { IfOk result (λ x. IsTrue (is_version x.0.version)) }
-    ensures cart { IfOk result (λ x. IsTrue (takes_cart x.0.version x.0.cart)) }
+    ensures cartridge { IfOk result (λ x. IsTrue (takes_cart x.0.version x.0.cartridge_length)) }
     ensures few { IfOk result (λ x.
         (x.0.frames ≤ most_frames x.0.version) × (x.0.checkpoints ≤ most_checkpoints)) }
 {
     let rest = magic_in(bytes)?;
     let (version, rest) = version_in(rest)?;
-    let (cart, rest) = cart_length_in(version, rest)?;
+    let (cartridge_length, rest) = cart_length_in(version, rest)?;
     let (frames, checkpoints, rest) = counts_in(version, rest)?;
     let sizes = Sizes {
         version,
-        cart,
+        cartridge_length,
         frames,
         checkpoints,
     };

@@ -25,7 +25,7 @@ stop_along h (Faulted fault m) = Faulted fault (machine_along h m)
 -- A console that has drawn its list on a sink.
 abbrev pub drawn_on : {S : Type 0} → (S → ℕ → ℕ → ℕ → S) → S → Console (List Pixel) → Console S
 drawn_on drawn sink c = record {
-  cart = c.cart;
+  cartridge = c.cartridge;
   bank = c.bank;
   riot = c.riot;
   tia = c.tia;

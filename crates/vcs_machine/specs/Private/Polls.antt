@@ -47,15 +47,15 @@ least_of IfPlus = 0
 least_of IfMinus = 128
 
 -- Such a loop stands in the selected bank, its branch at this address.
-pub record IsPoll (cart : List ℕ) (bank pc : ℕ) (poll : Poll) : Type 0 where
+pub record IsPoll (cartridge : List ℕ) (bank pc : ℕ) (poll : Poll) : Type 0 where
   pub word : pc < 65536
   pub high : pc / 4096 % 2 ≡ 1
   pub first : 3 ≤ pc % 4096
   pub last : pc % 4096 ≤ 4093
-  pub load : cart_byte cart bank (pc - 3) ≡ 0xAD
-  pub place : place_of (cart_byte cart bank (pc - 2) + 256 * cart_byte cart bank (pc - 1)) ≡ Io poll.register
-  pub branch : cart_byte cart bank pc ≡ opcode_of poll.branch
-  pub offset : cart_byte cart bank (pc + 1) ≡ 0xFB
+  pub load : cart_byte cartridge bank (pc - 3) ≡ 0xAD
+  pub place : place_of (cart_byte cartridge bank (pc - 2) + 256 * cart_byte cartridge bank (pc - 1)) ≡ Io poll.register
+  pub branch : cart_byte cartridge bank pc ≡ opcode_of poll.branch
+  pub offset : cart_byte cartridge bank (pc + 1) ≡ 0xFB
   pub timer : has_bit poll.register 2 ≡ true
   pub cycles : poll.cycles ≡ 7 + (if not ((pc + 2) / 256 == (pc - 3) / 256) then 1 else 0)
 
