@@ -9,12 +9,12 @@ use Rattle.std.specs.Prelude.{nat_le}
 use Rattle.std.specs.Io.KnownBytes.{Appends, Keeps}
 use Rattle.mos_cpu.specs.declared.fault.CpuFault.{CpuFault}
 use Rattle.mos_cpu.specs.declared.fault.CpuFault.TheVariants.{BadOpcode}
-use Rattle.vcs_machine.specs.Consoles.{console_rules}
+use Rattle.vcs_machine.specs.Consoles.{frame_meaning_of}
 use Rattle.vcs_machine.specs.Faults.{kind_of, stop_with}
-use Rattle.vcs_machine.specs.Frame.{Ended, Faulted, Machine, Overlong, Reaches, Rules, Stop, StopsAs, Went}
+use Rattle.vcs_machine.specs.Frame.{Ended, Faulted, FrameMeaning, Machine, Overlong, Reaches, Stop, StopsAs, Went}
 use Rattle.vcs_machine.specs.Frame.{Faulty, is_over, stop_of, turn, turns}
 use Rattle.vcs_machine.specs.Instructions.{StopsAfter, Undrawn, begun, executed_at, machine_in}
-use Rattle.vcs_machine.specs.Instructions.{undrawn_rules, with_pixel_lost}
+use Rattle.vcs_machine.specs.Instructions.{undrawn_meaning, with_pixel_lost}
 use Rattle.vcs_machine.proofs.OneStop.{none-after, reaches-suc, stops_as-found}
 use Rattle.commands.specs.TraceLines.{trace_line}
 use Rattle.picture_file.specs.Prefixes.{AppendsPrefix}
@@ -25,8 +25,8 @@ use Rattle.commands.specs.Asked.{from_frames}
 use Rattle.commands.specs.Trace.{lines_of}
 use Rattle.commands.proofs.RunFrames.{frames_begin}
 
-abbrev R : Rules Undrawn
-R = undrawn_rules
+abbrev R : FrameMeaning Undrawn
+R = undrawn_meaning
 
 -- ---- whether it is over
 
@@ -34,7 +34,7 @@ pub short_of : (m : Machine Undrawn) → is_over R m ≡ false → m.cycles < 24
 short_of m e = let parts = or_parts (R.ended m.bus) (nat_le 24320 m.cycles) e in grind (arith, nat_tests)
 
 pub long_of : (m : Machine Undrawn) → is_over R m ≡ true → m.bus.ended ≡ false → 24320 ≤ m.cycles
-unfolding console_rules
+unfolding frame_meaning_of
 long_of m e f = let long = rw f at e in grind (arith, nat_tests)
 
 -- ---- the lines
@@ -135,14 +135,14 @@ module _ {banks : Bool} {start here : Machine Undrawn} {a b : Option (List ℕ)}
 
   pub ended_here : start.bus.ended ≡ false → here.bus.ended ≡ true
       → (count : ℕ) × StopsAfter R start count (Ended here) × Appends a b (lines_of banks (begun R start count))
-  unfolding console_rules
+  unfolding frame_meaning_of
   ended_here unended ended =
       let some = begun_some w.count w.reaches.reached (λ same. absurd (cc)) in
       (w.count, (w.reaches, record { count = w.count; some = some; reaches = w.reaches; ended = ended }), w.written)
 
   pub overlong_here : start.cycles ≡ 0 → here.bus.ended ≡ false → is_over R here ≡ true
       → (count : ℕ) × StopsAfter R start count (Overlong here) × Appends a b (lines_of banks (begun R start count))
-  unfolding console_rules
+  unfolding frame_meaning_of
   overlong_here fresh going over =
       let long = long_of here over going in
       let some = begun_some w.count w.reaches.reached (λ same. (let cycles : start.cycles ≡ here.cycles = cc in omega arith)) in

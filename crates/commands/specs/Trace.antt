@@ -9,7 +9,7 @@ use Rattle.vcs_machine.specs.Faults.{kind_of}
 use Rattle.vcs_machine.specs.Frame.{Ended, Faulted, Machine, Overlong, Reaches, Stop}
 use Rattle.vcs_machine.specs.Inputs.{InputData}
 use Rattle.vcs_machine.specs.Instructions.{StopsAfter, Undrawn, begun, executed_at, undrawn_of}
-use Rattle.vcs_machine.specs.Instructions.{undrawn_rules, with_pixel_lost}
+use Rattle.vcs_machine.specs.Instructions.{undrawn_meaning, with_pixel_lost}
 use Rattle.vcs_machine.specs.Pictures.{rows_of}
 use Rattle.vcs_machine.specs.States.{line_cycle_of}
 use Rattle.vcs_machine.specs.declared.fault.FaultKind.{FaultKind}
@@ -43,13 +43,13 @@ status_of (Faulted fault m) = statuses.Fault
 -- The first so many instructions of a frame, which begins in this state with this input.
 abbrev pub instructions : MovieData → StateFields → InputData → ℕ → List ℕ
 instructions m state input count =
-    lines_of (has_banks (length m.cartridge)) (begun undrawn_rules (undrawn_of m.cartridge state input) count)
+    lines_of (has_banks (length m.cartridge)) (begun undrawn_meaning (undrawn_of m.cartridge state input) count)
 
 -- All of them, up to where the frame stops, and its line.
 pub record TracesFrame (m : MovieData) (frame : ℕ) (state : StateFields) (input : InputData) (status : Status) (text : List ℕ) : Type 0 where
   pub count : ℕ
   pub stop : Stop Undrawn
-  pub stops : StopsAfter undrawn_rules (undrawn_of m.cartridge state input) count stop
+  pub stops : StopsAfter undrawn_meaning (undrawn_of m.cartridge state input) count stop
   pub text_is : text ≡ instructions m state input count ++ line_bytes (last_line frame (line_cycle_of state) stop)
   pub status_is : status ≡ status_of stop
 
@@ -69,4 +69,4 @@ Traces m frame status text =
 abbrev pub AppendsInstructions : MovieData → ℕ → Option (List ℕ) → Option (List ℕ) → Type 0
 AppendsInstructions m frame old new =
     (state : StateFields) × (input : InputData) × (count : ℕ) × (here : Machine Undrawn) × BeginsIn m frame state input
-    × Reaches undrawn_rules (undrawn_of m.cartridge state input) count here × Appends old new (instructions m state input count)
+    × Reaches undrawn_meaning (undrawn_of m.cartridge state input) count here × Appends old new (instructions m state input count)

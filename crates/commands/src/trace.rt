@@ -6,7 +6,7 @@ ghost use Rattle.movie_file.specs.Run.{run};
 ghost use Rattle.picture_file.specs.Prefixes.{AppendsPrefix};
 ghost use Rattle.commands.specs.TraceLines.{trace_line};
 ghost use Rattle.vcs_machine.specs.Frame.{Machine, Reaches};
-ghost use Rattle.vcs_machine.specs.Instructions.{StopsAfter, Undrawn, begun, undrawn_rules};
+ghost use Rattle.vcs_machine.specs.Instructions.{StopsAfter, Undrawn, begun, undrawn_meaning};
 ghost use Rattle.commands.specs.Private.Tracing.{stop_at};
 ghost use Rattle.commands.specs.Trace.{AppendsInstructions, Traces, lines_of};
 
@@ -53,12 +53,12 @@ fn write_instructions<L: Write>(
 ) -> Result<Option<FaultKind>, WriteError>
     requires fresh { stepping.old.cycles ≡ 0 }
     requires unended { stepping.old.bus.ended ≡ false }
-    ensures ok { IfOk result (λ fault. (count : ℕ) × StopsAfter undrawn_rules stepping.old count (stop_at fault stepping.new)
-        × Appends (L.contents lines.old) (L.contents lines.new) (lines_of has_banks (begun undrawn_rules stepping.old count))) }
-    ensures memory { result ≡ Err WriteError.NoMemory → (count : ℕ) × (here : Machine Undrawn) × Reaches undrawn_rules stepping.old count here
-        × Appends (L.contents lines.old) (L.contents lines.new) (lines_of has_banks (begun undrawn_rules stepping.old count)) }
-    ensures fault { result ≡ Err WriteError.WriteFault → (count : ℕ) × (here : Machine Undrawn) × Reaches undrawn_rules stepping.old count here
-        × AppendsPrefix (L.contents lines.old) (L.contents lines.new) (lines_of has_banks (begun undrawn_rules stepping.old count)) }
+    ensures ok { IfOk result (λ fault. (count : ℕ) × StopsAfter undrawn_meaning stepping.old count (stop_at fault stepping.new)
+        × Appends (L.contents lines.old) (L.contents lines.new) (lines_of has_banks (begun undrawn_meaning stepping.old count))) }
+    ensures memory { result ≡ Err WriteError.NoMemory → (count : ℕ) × (here : Machine Undrawn) × Reaches undrawn_meaning stepping.old count here
+        × Appends (L.contents lines.old) (L.contents lines.new) (lines_of has_banks (begun undrawn_meaning stepping.old count)) }
+    ensures fault { result ≡ Err WriteError.WriteFault → (count : ℕ) × (here : Machine Undrawn) × Reaches undrawn_meaning stepping.old count here
+        × AppendsPrefix (L.contents lines.old) (L.contents lines.new) (lines_of has_banks (begun undrawn_meaning stepping.old count)) }
 {
     while !stepping.is_over() {
         match stepping.next() {

@@ -5,11 +5,11 @@ use Rattle.mos_cpu.specs.Registers.{Registers}
 use Rattle.mos_cpu.specs.Execution.{Step, step_of}
 use Rattle.mos_cpu.specs.declared.fault.CpuFault.{CpuFault}
 use Rattle.mos_cpu.proofs.AlongMaps.{step_of-along}
-use Rattle.vcs_machine.specs.Frame.{Rules, Machine, Turn, Faulty, Went, turn, turn_by, stop_of}
+use Rattle.vcs_machine.specs.Frame.{FrameMeaning, Machine, Turn, Faulty, Went, turn, turn_by, stop_of}
 use Rattle.vcs_machine.specs.Private.Along.{Follows, machine_along, stop_along}
 use Rattle.vcs_machine.proofs.OneStop.{stop_of-shown, stops-ended, stops-faulty, stops-later, stops-long}
 
-module _ {B C : Type 0} (b : Rules B) (c : Rules C) (h : B → C) (follows : Follows b c h) where
+module _ {B C : Type 0} (b : FrameMeaning B) (c : FrameMeaning C) (h : B → C) (follows : Follows b c h) where
   abbrev turn_along : Turn B → Turn C
   turn_along (Faulty fault) = Faulty fault
   turn_along (Went m) = Went (machine_along h m)
@@ -22,8 +22,8 @@ module _ {B C : Type 0} (b : Rules B) (c : Rules C) (h : B → C) (follows : Fol
   turn-along : (m : Machine B) (t : Turn B) → turn b m ≡ t → turn c (machine_along h m) ≡ turn_along t
   unfolding turn
   turn-along m t e =
-      let step = step_of b.meaning m.registers m.bus in
-      ap (λ (s : Step C). turn_by c m.cycles s.registers s.bus s.answer) (step_of-along b.meaning c.meaning h follows.meaning m.registers m.bus)
+      let step = step_of b.calls m.registers m.bus in
+      ap (λ (s : Step C). turn_by c m.cycles s.registers s.bus s.answer) (step_of-along b.calls c.calls h follows.calls m.registers m.bus)
       ∙ turn_by-along m.cycles step.registers step.bus step.answer
       ∙ ap turn_along e
 

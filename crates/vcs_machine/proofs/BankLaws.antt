@@ -7,7 +7,7 @@ use Rattle.riot_map.specs.declared.places.Place.{Place}
 use Rattle.riot_map.specs.declared.places.Place.TheVariants.{Cart}
 use Rattle.tia_core.specs.Clock.{Pixel}
 use Rattle.vcs_machine.specs.Consoles.{Console, meaning_of, read_at, written_at}
-use Rattle.vcs_machine.specs.Consoles.{console_rules, with_pixel_logged}
+use Rattle.vcs_machine.specs.Consoles.{frame_meaning_of, with_pixel_logged}
 use Rattle.vcs_machine.specs.Frame.{Machine, machine_at, Stop, Ended}
 use Rattle.vcs_machine.specs.Frame.{stop_of}
 use Rattle.vcs_machine.specs.Inputs.{InputData}
@@ -38,8 +38,8 @@ module _ {S : Type 0} (drawn : S → ℕ → ℕ → ℕ → S) (cartridge : Lis
     written = λ c address v h. written_at-holds c (place_of address) v h;
   }
 
-  stop-holds : (m : Machine (Console S)) → Holds m.bus → Holds (machine_at (stop_of (console_rules drawn) m)).bus
-  stop-holds = stop_of-keeps (console_rules drawn) (λ m. Holds m.bus) (λ m next h short. turn-kept drawn Holds is_held (λ c h. h) m next h)
+  stop-holds : (m : Machine (Console S)) → Holds m.bus → Holds (machine_at (stop_of (frame_meaning_of drawn) m)).bus
+  stop-holds = stop_of-keeps (frame_meaning_of drawn) (λ m. Holds m.bus) (λ m next h short. turn-kept drawn Holds is_held (λ c h. h) m next h)
 
 outcome-bank : (line_cycle : ℕ) (stop : Stop (Console (List Pixel))) → (left_by (outcome_of line_cycle stop)).bank ≡ (machine_at stop).bus.bank
 outcome-bank line_cycle (Ended m) = refl
@@ -48,6 +48,6 @@ outcome-bank line_cycle other = refl
 pub frame_of-bank : (cartridge : List ℕ) (s : StateFields) (i : InputData) → has_banks (length cartridge) ≡ false → (left_by (frame_of cartridge s i)).bank ≡ s.bank
 unfolding frame_of
 frame_of-bank cartridge s i single =
-    let stop = stop_of (console_rules with_pixel_logged) (machine_of cartridge s i []) in
+    let stop = stop_of (frame_meaning_of with_pixel_logged) (machine_of cartridge s i []) in
     outcome-bank (line_cycle_of s) stop
     ∙ (stop-holds with_pixel_logged cartridge s.bank single (machine_of cartridge s i []) (refl, refl)).1

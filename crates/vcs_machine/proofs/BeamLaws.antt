@@ -19,7 +19,7 @@ use Rattle.tia_core.specs.declared.fields.TiaFields.{TiaFields}
 use Rattle.tia_core.specs.declared.register.Register.{Register}
 use Rattle.tia_core.proofs.ClockLemmas.{iterate-clocked-clock}
 use Rattle.vcs_machine.specs.Consoles.{Console, meaning_of, read_at, written_at, after_wait}
-use Rattle.vcs_machine.specs.Consoles.{wait_cycles, console_rules}
+use Rattle.vcs_machine.specs.Consoles.{frame_meaning_of, wait_cycles}
 use Rattle.vcs_machine.specs.Frame.{Machine, Went, machine_at, turn}
 use Rattle.vcs_machine.specs.Frame.{turns, overlong_cycles, stop_of}
 use Rattle.vcs_machine.proofs.KeptFacts.{turns-kept}
@@ -71,7 +71,7 @@ module _ {S : Type 0} (drawn : S → ℕ → ℕ → ℕ → S) where
   }
 
   -- So it is after an instruction that has yet to wait.
-  pub step-whole : (count : ℕ) (start m : Machine (Console S)) → IsWhole start.bus → turns (console_rules drawn) count start ≡ Went m
+  pub step-whole : (count : ℕ) (start m : Machine (Console S)) → IsWhole start.bus → turns (frame_meaning_of drawn) count start ≡ Went m
       → IsWhole (step_of (meaning_of drawn) m.registers m.bus).bus
   step-whole count start m whole e =
       step_of-kept (meaning_of drawn) IsWhole keeps_whole m.registers m.bus
@@ -96,10 +96,10 @@ module _ {S : Type 0} (drawn : S → ℕ → ℕ → ℕ → S) where
   after_wait-way line_cycle cycles r c small short at = grind (arith, cases_Bool, iterate-clocked-clock)
 
   way-goes_on : (line_cycle : ℕ) → line_cycle < 76 → (m next : Machine (Console S)) → OnItsWay line_cycle m → m.cycles < overlong_cycles
-      → turn (console_rules drawn) m ≡ Went next → OnItsWay line_cycle next
-  unfolding console_rules
+      → turn (frame_meaning_of drawn) m ≡ Went next → OnItsWay line_cycle next
+  unfolding frame_meaning_of
   way-goes_on line_cycle small m next way short e =
-      let t = turn-parts (console_rules drawn) m next e in
+      let t = turn-parts (frame_meaning_of drawn) m next e in
       let step = step_of (meaning_of drawn) m.registers m.bus in
       let most = rw t.answer at (step_of-most (meaning_of drawn) m.registers m.bus) in
       let moved = rw t.answer at (step_of-clock (meaning_of drawn) (λ t n. (t + 3 * n) % 228) (λ c. clock_of c % 228) is_clock m.registers m.bus) in
@@ -108,7 +108,7 @@ module _ {S : Type 0} (drawn : S → ℕ → ℕ → ℕ → S) where
       (let beam = way.beam in let inside = whole.0 in omega arith))
 
   pub way-stops : (line_cycle : ℕ) (m : Machine (Console S)) → line_cycle < 76 → m.cycles ≡ 0 → m.bus.tia.fields.clock ≡ 3 * line_cycle
-      → OnItsWay line_cycle (machine_at (stop_of (console_rules drawn) m))
+      → OnItsWay line_cycle (machine_at (stop_of (frame_meaning_of drawn) m))
   way-stops line_cycle m small fresh at =
-      stop_of-keeps (console_rules drawn) (OnItsWay line_cycle) (way-goes_on line_cycle small) m
+      stop_of-keeps (frame_meaning_of drawn) (OnItsWay line_cycle) (way-goes_on line_cycle small) m
       (record { beam = at ∙ (omega arith); most = omega arith; room = omega arith })

@@ -23,7 +23,7 @@ use Rattle.tia_core.specs.Beam.{beam_of}
 use Rattle.tia_core.specs.Clock.{after_clock}
 use Rattle.tia_core.specs.TiaState.{TiaState}
 use Rattle.tia_core.specs.Write.{tia_after_write}
-use Rattle.vcs_machine.specs.Consoles.{Console, after_wait, console_rules, meaning_of, passed, read_at}
+use Rattle.vcs_machine.specs.Consoles.{Console, after_wait, frame_meaning_of, meaning_of, passed, read_at}
 use Rattle.vcs_machine.specs.Consoles.{wait_cycles, written_at}
 use Rattle.vcs_machine.specs.Cycles.{MeetsBeam, after_one_cycle, beam_place, place_after}
 use Rattle.vcs_machine.specs.Frame.{Faulty, Machine, Turn, Went, turn, turn_after, turns}
@@ -90,20 +90,20 @@ module _ {S : Type 0} (drawn : S → ℕ → ℕ → ℕ → S) where
       by true e = rw e (iterate-clocked-place _ c.tia)
       by false e = rw e (omega arith)
 
-  pub turn-place : (start : ℕ) (m next : Machine (Console S)) → IsAt start m → turn (console_rules drawn) m ≡ Went next → IsAt start next
-  unfolding console_rules
+  pub turn-place : (start : ℕ) (m next : Machine (Console S)) → IsAt start m → turn (frame_meaning_of drawn) m ≡ Went next → IsAt start next
+  unfolding frame_meaning_of
   turn-place start m next at e =
-      let t = turn-parts (console_rules drawn) m next e in
+      let t = turn-parts (frame_meaning_of drawn) m next e in
       let step = step_of (meaning_of drawn) m.registers m.bus in
       let moved = rw t.answer at (step_of-clock (meaning_of drawn) place_after beam_place beam-clock m.registers m.bus) in
       rw (← t.same) (after_wait-place step.bus ∙ omega (arith, moved, at))
 
   pub turns-place : (start : ℕ) (count : ℕ) (first m : Machine (Console S)) → IsAt start first
-      → turns (console_rules drawn) count first ≡ Went m → IsAt start m
+      → turns (frame_meaning_of drawn) count first ≡ Went m → IsAt start m
   turns-place start zero first m at e = let same : first ≡ m = cc in rw (← same) at
-  turns-place start (suc n) first m at e = by (turns (console_rules drawn) n first) (λ k same. turns-place start n first k at same) e
+  turns-place start (suc n) first m at e = by (turns (frame_meaning_of drawn) n first) (λ k same. turns-place start n first k at same) e
     where
-      by : (t : Turn (Console S)) → ((k : Machine (Console S)) → t ≡ Went k → IsAt start k) → turn_after (console_rules drawn) t ≡ Went m → IsAt start m
+      by : (t : Turn (Console S)) → ((k : Machine (Console S)) → t ≡ Went k → IsAt start k) → turn_after (frame_meaning_of drawn) t ≡ Went m → IsAt start m
       by (Faulty fault) before after = absurd (cc)
       by (Went k) before after = turn-place start k m (before k refl) after
 
@@ -135,14 +135,14 @@ module _ {S : Type 0} (drawn : S → ℕ → ℕ → ℕ → S) where
 
   -- ---- a frame from a state
   pub frame-place : (cartridge : List ℕ) (s : StateFields) (i : InputData) (sink : S) (count : ℕ) (m : Machine (Console S)) → IsTrue (is_state s)
-      → turns (console_rules drawn) count (machine_of cartridge s i sink) ≡ Went m → beam_place m.bus ≡ place_after 0 (line_cycle_of s + m.cycles)
+      → turns (frame_meaning_of drawn) count (machine_of cartridge s i sink) ≡ Went m → beam_place m.bus ≡ place_after 0 (line_cycle_of s + m.cycles)
   frame-place cartridge s i sink count m lawful e =
       let thirds = clock-thirds s lawful in
       let small = line_cycle-lt s lawful in
       turns-place (3 * line_cycle_of s) count (machine_of cartridge s i sink) m (omega (arith, thirds, small)) e ∙ omega arith
 
   pub frame-meets : (cartridge : List ℕ) (s : StateFields) (i : InputData) (sink : S) (count : ℕ) (m : Machine (Console S)) → IsTrue (is_state s)
-      → turns (console_rules drawn) count (machine_of cartridge s i sink) ≡ Went m → m.cycles ≤ 24401
+      → turns (frame_meaning_of drawn) count (machine_of cartridge s i sink) ≡ Went m → m.cycles ≤ 24401
       → IfOk (instruction_at (meaning_of drawn) m.bus m.registers) (MeetsBeam drawn m.registers m.bus (line_cycle_of s + m.cycles))
   frame-meets cartridge s i sink count m lawful e short =
       let small = line_cycle-lt s lawful in

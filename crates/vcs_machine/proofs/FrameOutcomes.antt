@@ -5,7 +5,7 @@ use Rattle.std.specs.Prelude.{IfOk, IfErr, length}
 use Rattle.std.proofs.lemmas.List.FromFn.{length-map-range_with_len}
 use Rattle.mos_cpu.specs.Registers.{Registers}
 use Rattle.tia_core.specs.Clock.{Pixel}
-use Rattle.vcs_machine.specs.Consoles.{Console, console_rules}
+use Rattle.vcs_machine.specs.Consoles.{Console, frame_meaning_of}
 use Rattle.vcs_machine.specs.Faults.{stop_with}
 use Rattle.vcs_machine.specs.Frame.{Machine, Ended, Stop, machine_at, stop_of}
 use Rattle.vcs_machine.specs.Inputs.{InputData}
@@ -52,16 +52,16 @@ machine_at-halted kind m = grind arith
 
 -- However a frame stops, and whatever its pixels go to, its beam has moved by its cycles.
 module _ {S : Type 0} (drawn : S → ℕ → ℕ → ℕ → S) (cartridge : List ℕ) (s : StateFields) (i : InputData) (sink : S) (lawful : IsTrue (is_state s)) where
-  pub stop-way : OnItsWay drawn (line_cycle_of s) (machine_at (stop_of (console_rules drawn) (machine_of cartridge s i sink)))
+  pub stop-way : OnItsWay drawn (line_cycle_of s) (machine_at (stop_of (frame_meaning_of drawn) (machine_of cartridge s i sink)))
   stop-way = way-stops drawn (line_cycle_of s) (machine_of cartridge s i sink) (line_cycle-lt s lawful) refl (clock-thirds s lawful)
 
   -- So its beam is left where a cycle begins.
-  begins_cycle : (here : Machine (Console S)) → machine_at (stop_of (console_rules drawn) (machine_of cartridge s i sink)) ≡ here → here.bus.tia.fields.clock % 3 ≡ 0
+  begins_cycle : (here : Machine (Console S)) → machine_at (stop_of (frame_meaning_of drawn) (machine_of cartridge s i sink)) ≡ here → here.bus.tia.fields.clock % 3 ≡ 0
   begins_cycle here e = let beam = rw e at stop-way.beam in omega arith
 
   pub stop-aligned : (ran : Result ℕ Halt) (registers : Registers) (bus : Console S)
-      → IfOk ran (λ total. stop_of (console_rules drawn) (machine_of cartridge s i sink) ≡ Ended (record { registers = registers; bus = bus; cycles = total }))
-      → IfErr ran (λ halt. stop_of (console_rules drawn) (machine_of cartridge s i sink)
+      → IfOk ran (λ total. stop_of (frame_meaning_of drawn) (machine_of cartridge s i sink) ≡ Ended (record { registers = registers; bus = bus; cycles = total }))
+      → IfErr ran (λ halt. stop_of (frame_meaning_of drawn) (machine_of cartridge s i sink)
       ≡ stop_with halt.kind (record { registers = registers; bus = bus; cycles = halt.cycles }))
       → bus.tia.fields.clock % 3 ≡ 0
   stop-aligned (Ok total) registers bus ok err = begins_cycle _ (ap machine_at ok)

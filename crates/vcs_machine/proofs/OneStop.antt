@@ -7,95 +7,95 @@ use Rattle.std.proofs.lemmas.Bool.Decides.{nat_tests}
 use Rattle.mos_cpu.proofs.StepLaws.{step_of-least}
 use Rattle.mos_cpu.specs.Execution.{step_of}
 use Rattle.mos_cpu.specs.declared.fault.CpuFault.{CpuFault}
-use Rattle.vcs_machine.specs.Frame.{Rules, Machine, Turn, Faulty, Went, turn, turn_after, turn_by, turns}
+use Rattle.vcs_machine.specs.Frame.{FrameMeaning, Machine, Turn, Faulty, Went, turn, turn_after, turn_by, turns}
 use Rattle.vcs_machine.specs.Frame.{is_over, Reaches, Faults, Stop, Ended}
 use Rattle.vcs_machine.specs.Frame.{Overlong, Faulted, machine_at, StopsAs, stop_after, stop_within}
 use Rattle.vcs_machine.specs.Frame.{stop_of, most_turns, overlong_cycles}
 
-module _ {B : Type 0} (rules : Rules B) where
+module _ {B : Type 0} (meaning : FrameMeaning B) where
   -- What a turn is that went: an instruction with its wait.
   pub record IsTurn (m next : Machine B) : Type 0 where
     pub taken : ℕ
-    pub answer : (step_of rules.meaning m.registers m.bus).answer ≡ Ok taken
-    pub same : (let step = step_of rules.meaning m.registers m.bus in
-        record { registers = step.registers; bus = rules.after_wait step.bus; cycles = m.cycles + taken + rules.wait step.bus } ≡ next)
+    pub answer : (step_of meaning.calls m.registers m.bus).answer ≡ Ok taken
+    pub same : (let step = step_of meaning.calls m.registers m.bus in
+        record { registers = step.registers; bus = meaning.after_wait step.bus; cycles = m.cycles + taken + meaning.wait step.bus } ≡ next)
 
-  pub turn-parts : (m next : Machine B) → turn rules m ≡ Went next → IsTurn m next
+  pub turn-parts : (m next : Machine B) → turn meaning m ≡ Went next → IsTurn m next
   unfolding turn
-  turn-parts m next e = by (step_of rules.meaning m.registers m.bus).answer refl e
+  turn-parts m next e = by (step_of meaning.calls m.registers m.bus).answer refl e
     where
-      by : (let step = step_of rules.meaning m.registers m.bus in
-          (answer : Result ℕ CpuFault) → step.answer ≡ answer → turn_by rules m.cycles step.registers step.bus answer ≡ Went next → IsTurn m next)
+      by : (let step = step_of meaning.calls m.registers m.bus in
+          (answer : Result ℕ CpuFault) → step.answer ≡ answer → turn_by meaning m.cycles step.registers step.bus answer ≡ Went next → IsTurn m next)
       by (Err fault) is went = absurd (cc)
       by (Ok n) is went = record { taken = n; answer = is; same = cc }
 
   -- A turn takes at least two cycles.
-  pub turn-least : (m next : Machine B) → turn rules m ≡ Went next → m.cycles + 2 ≤ next.cycles
+  pub turn-least : (m next : Machine B) → turn meaning m ≡ Went next → m.cycles + 2 ≤ next.cycles
   turn-least m next e =
       let t = turn-parts m next e in
-      let least = rw t.answer at (step_of-least rules.meaning m.registers m.bus) in
+      let least = rw t.answer at (step_of-least meaning.calls m.registers m.bus) in
       rw (← t.same) (omega (arith, least))
 
   -- ---- what the search finds, by the next turn
   -- One try more finds the same, where the tries are enough.
-  one_more : (tries : ℕ) (m : Machine B) → overlong_cycles ≤ m.cycles + 2 * tries → stop_within rules (suc tries) m ≡ stop_within rules tries m
+  one_more : (tries : ℕ) (m : Machine B) → overlong_cycles ≤ m.cycles + 2 * tries → stop_within meaning (suc tries) m ≡ stop_within meaning tries m
   unfolding stop_within
   one_more zero m enough = let long : nat_le overlong_cycles m.cycles ≡ true = grind (arith, nat_tests) in rw long refl
   one_more (suc tries) m enough =
-      ap (λ (stop : Stop B). if nat_le overlong_cycles m.cycles then Overlong m else stop) (by_turn (turn rules m) refl (one_more tries))
+      ap (λ (stop : Stop B). if nat_le overlong_cycles m.cycles then Overlong m else stop) (by_turn (turn meaning m) refl (one_more tries))
     where
-      by_turn : (t : Turn B) → turn rules m ≡ t
-          → ((m : Machine B) → overlong_cycles ≤ m.cycles + 2 * tries → stop_within rules (suc tries) m ≡ stop_within rules tries m)
-          → stop_after rules (stop_within rules (suc tries)) m t ≡ stop_after rules (stop_within rules tries) m t
+      by_turn : (t : Turn B) → turn meaning m ≡ t
+          → ((m : Machine B) → overlong_cycles ≤ m.cycles + 2 * tries → stop_within meaning (suc tries) m ≡ stop_within meaning tries m)
+          → stop_after meaning (stop_within meaning (suc tries)) m t ≡ stop_after meaning (stop_within meaning tries) m t
       by_turn (Faulty fault) e later = refl
       by_turn (Went next) e later = let more = turn-least m next e in rw (later next (omega arith)) refl
 
   stop_of-turn : (m : Machine B)
-      → stop_of rules m ≡ (if nat_le overlong_cycles m.cycles then Overlong m else stop_after rules (stop_of rules) m (turn rules m))
+      → stop_of meaning m ≡ (if nat_le overlong_cycles m.cycles then Overlong m else stop_after meaning (stop_of meaning) m (turn meaning m))
   unfolding stop_of stop_within
   stop_of-turn m = sym (one_more most_turns m (omega arith))
 
-  pub stops-long : (m : Machine B) → overlong_cycles ≤ m.cycles → stop_of rules m ≡ Overlong m
+  pub stops-long : (m : Machine B) → overlong_cycles ≤ m.cycles → stop_of meaning m ≡ Overlong m
   stops-long m long = let yes : nat_le overlong_cycles m.cycles ≡ true = grind (arith, nat_tests) in rw (stop_of-turn m, yes) refl
 
-  stops-turn : (m : Machine B) → m.cycles < overlong_cycles → stop_of rules m ≡ stop_after rules (stop_of rules) m (turn rules m)
+  stops-turn : (m : Machine B) → m.cycles < overlong_cycles → stop_of meaning m ≡ stop_after meaning (stop_of meaning) m (turn meaning m)
   stops-turn m short = let no : nat_le overlong_cycles m.cycles ≡ false = grind (arith, nat_tests) in rw (stop_of-turn m, no) refl
 
-  pub stops-faulty : (m : Machine B) (fault : CpuFault) → m.cycles < overlong_cycles → turn rules m ≡ Faulty fault → stop_of rules m ≡ Faulted fault m
+  pub stops-faulty : (m : Machine B) (fault : CpuFault) → m.cycles < overlong_cycles → turn meaning m ≡ Faulty fault → stop_of meaning m ≡ Faulted fault m
   stops-faulty m fault short e = rw (stops-turn m short, e) refl
 
-  pub stops-ended : (m next : Machine B) → m.cycles < overlong_cycles → turn rules m ≡ Went next → rules.ended next.bus ≡ true → stop_of rules m ≡ Ended next
+  pub stops-ended : (m next : Machine B) → m.cycles < overlong_cycles → turn meaning m ≡ Went next → meaning.ended next.bus ≡ true → stop_of meaning m ≡ Ended next
   stops-ended m next short e over = rw (stops-turn m short, e, over) refl
 
-  pub stops-later : (m next : Machine B) → m.cycles < overlong_cycles → turn rules m ≡ Went next → rules.ended next.bus ≡ false
-      → stop_of rules m ≡ stop_of rules next
+  pub stops-later : (m next : Machine B) → m.cycles < overlong_cycles → turn meaning m ≡ Went next → meaning.ended next.bus ≡ false
+      → stop_of meaning m ≡ stop_of meaning next
   stops-later m next short e unended = rw (stops-turn m short, e, unended) refl
 
   -- ---- the stop that is shown of a frame is the one that the search finds
-  not_over : (m : Machine B) → is_over rules m ≡ false → (rules.ended m.bus ≡ false) × (m.cycles < overlong_cycles)
+  not_over : (m : Machine B) → is_over meaning m ≡ false → (meaning.ended m.bus ≡ false) × (m.cycles < overlong_cycles)
   not_over m e = let parts = or_parts _ _ e in (parts.0, let short = parts.1 in grind (arith, nat_tests))
 
   -- The turn by which a frame came here, and which begins before the frame stops.
   record CameBy (start here : Machine B) : Type 0 where
     before : Machine B
     short : before.cycles < overlong_cycles
-    went : turn rules before ≡ Went here
-    same : stop_of rules start ≡ stop_of rules before
+    went : turn meaning before ≡ Went here
+    same : stop_of meaning start ≡ stop_of meaning before
 
-  came_by : (start : Machine B) → start.cycles ≡ 0 → (n : ℕ) (here : Machine B) → 0 < n → Reaches rules start n here → CameBy start here
+  came_by : (start : Machine B) → start.cycles ≡ 0 → (n : ℕ) (here : Machine B) → 0 < n → Reaches meaning start n here → CameBy start here
   came_by start fresh zero here some r = absurd (omega arith)
   came_by start fresh (suc zero) here some r = record { before = start; short = omega arith; went = r.reached; same = refl }
-  came_by start fresh (suc (suc n)) here some r = by (turns rules (suc n) start) refl r.reached (came_by start fresh (suc n))
+  came_by start fresh (suc (suc n)) here some r = by (turns meaning (suc n) start) refl r.reached (came_by start fresh (suc n))
     where
-      by : (t : Turn B) → turns rules (suc n) start ≡ t → turn_after rules t ≡ Went here
-          → ((m : Machine B) → 0 < suc n → Reaches rules start (suc n) m → CameBy start m) → CameBy start here
+      by : (t : Turn B) → turns meaning (suc n) start ≡ t → turn_after meaning t ≡ Went here
+          → ((m : Machine B) → 0 < suc n → Reaches meaning start (suc n) m → CameBy start m) → CameBy start here
       by (Faulty fault) e went came = absurd (cc)
       by (Went m) e went came =
           let going = not_over m (r.least (suc n) (omega arith) (omega arith) m e) in
           let b = came m (omega arith) (record { reached = e; least = λ k less. r.least k (omega arith) }) in
           record { before = m; short = going.1; went = went; same = b.same ∙ stops-later b.before m b.short b.went going.0 }
 
-  pub stops_as-only : (start : Machine B) (stop : Stop B) → start.cycles ≡ 0 → StopsAs rules start stop → stop ≡ stop_of rules start
+  pub stops_as-only : (start : Machine B) (stop : Stop B) → start.cycles ≡ 0 → StopsAs meaning start stop → stop ≡ stop_of meaning start
   stops_as-only start (Ended here) fresh p =
       let b = came_by start fresh p.count here p.some p.reaches in sym (b.same ∙ stops-ended b.before here b.short b.went p.ended)
   stops_as-only start (Overlong here) fresh p =
@@ -103,7 +103,7 @@ module _ {B : Type 0} (rules : Rules B) where
       sym (b.same ∙ stops-later b.before here b.short b.went p.unended ∙ stops-long here p.long)
   stops_as-only start (Faulted fault here) fresh p = sym (by_count p.count p.reaches p.going)
     where
-      by_count : (n : ℕ) → Reaches rules start n here → (0 < n → is_over rules here ≡ false) → stop_of rules start ≡ Faulted fault here
+      by_count : (n : ℕ) → Reaches meaning start n here → (0 < n → is_over meaning here ≡ false) → stop_of meaning start ≡ Faulted fault here
       by_count zero r going = let at : start ≡ here = (let reached = r.reached in cc) in rw at (stops-faulty here fault (rw at at fresh_short) p.fails)
         where
           fresh_short : start.cycles < overlong_cycles
@@ -115,37 +115,37 @@ module _ {B : Type 0} (rules : Rules B) where
 
 -- ---- what holds where a frame stops
 -- A goal is shown of each way to stop, from a fact that each turn keeps before it.
-pub record Shows {B : Type 0} (rules : Rules B) (Fact : Machine B → Type 0) (Goal : Stop B → Type 0) : Type 0 where
+pub record Shows {B : Type 0} (meaning : FrameMeaning B) (Fact : Machine B → Type 0) (Goal : Stop B → Type 0) : Type 0 where
   pub long : (m : Machine B) → Fact m → overlong_cycles ≤ m.cycles → Goal (Overlong m)
-  pub faulty : (m : Machine B) (fault : CpuFault) → Fact m → m.cycles < overlong_cycles → turn rules m ≡ Faulty fault → Goal (Faulted fault m)
-  pub ended : (m next : Machine B) → Fact m → m.cycles < overlong_cycles → turn rules m ≡ Went next → rules.ended next.bus ≡ true → Goal (Ended next)
-  pub goes_on : (m next : Machine B) → Fact m → m.cycles < overlong_cycles → turn rules m ≡ Went next → rules.ended next.bus ≡ false → Fact next
+  pub faulty : (m : Machine B) (fault : CpuFault) → Fact m → m.cycles < overlong_cycles → turn meaning m ≡ Faulty fault → Goal (Faulted fault m)
+  pub ended : (m next : Machine B) → Fact m → m.cycles < overlong_cycles → turn meaning m ≡ Went next → meaning.ended next.bus ≡ true → Goal (Ended next)
+  pub goes_on : (m next : Machine B) → Fact m → m.cycles < overlong_cycles → turn meaning m ≡ Went next → meaning.ended next.bus ≡ false → Fact next
 
-module _ {B : Type 0} (rules : Rules B) (Fact : Machine B → Type 0) (Goal : Stop B → Type 0) (shows : Shows rules Fact Goal) where
-  by_tries : (tries : ℕ) (m : Machine B) → overlong_cycles ≤ m.cycles + 2 * tries → Fact m → Goal (stop_of rules m)
-  by_tries zero m enough fact = let long : overlong_cycles ≤ m.cycles = omega arith in rw (stops-long rules m long) (shows.long m fact long)
+module _ {B : Type 0} (meaning : FrameMeaning B) (Fact : Machine B → Type 0) (Goal : Stop B → Type 0) (shows : Shows meaning Fact Goal) where
+  by_tries : (tries : ℕ) (m : Machine B) → overlong_cycles ≤ m.cycles + 2 * tries → Fact m → Goal (stop_of meaning m)
+  by_tries zero m enough fact = let long : overlong_cycles ≤ m.cycles = omega arith in rw (stops-long meaning m long) (shows.long m fact long)
   by_tries (suc tries) m enough fact = elim (cases_lt m.cycles overlong_cycles) [
-    | inl short ↦ by_turn (turn rules m) refl short (by_tries tries)
-    | inr long ↦ rw (stops-long rules m long) (shows.long m fact long)
+    | inl short ↦ by_turn (turn meaning m) refl short (by_tries tries)
+    | inr long ↦ rw (stops-long meaning m long) (shows.long m fact long)
   ]
     where
-      by_turn : (t : Turn B) → turn rules m ≡ t → m.cycles < overlong_cycles
-          → ((m : Machine B) → overlong_cycles ≤ m.cycles + 2 * tries → Fact m → Goal (stop_of rules m)) → Goal (stop_of rules m)
-      by_turn (Faulty fault) e short later = rw (stops-faulty rules m fault short e) (shows.faulty m fault fact short e)
-      by_turn (Went next) e short later = elim (cases_Bool (rules.ended next.bus)) [
-        | inl over ↦ rw (stops-ended rules m next short e over) (shows.ended m next fact short e over)
-        | inr unended ↦ (let more = turn-least rules m next e in
-            rw (stops-later rules m next short e unended) (later next (omega arith) (shows.goes_on m next fact short e unended)))
+      by_turn : (t : Turn B) → turn meaning m ≡ t → m.cycles < overlong_cycles
+          → ((m : Machine B) → overlong_cycles ≤ m.cycles + 2 * tries → Fact m → Goal (stop_of meaning m)) → Goal (stop_of meaning m)
+      by_turn (Faulty fault) e short later = rw (stops-faulty meaning m fault short e) (shows.faulty m fault fact short e)
+      by_turn (Went next) e short later = elim (cases_Bool (meaning.ended next.bus)) [
+        | inl over ↦ rw (stops-ended meaning m next short e over) (shows.ended m next fact short e over)
+        | inr unended ↦ (let more = turn-least meaning m next e in
+            rw (stops-later meaning m next short e unended) (later next (omega arith) (shows.goes_on m next fact short e unended)))
       ]
 
-  pub stop_of-shown : (m : Machine B) → Fact m → Goal (stop_of rules m)
+  pub stop_of-shown : (m : Machine B) → Fact m → Goal (stop_of meaning m)
   stop_of-shown m = by_tries most_turns m (omega arith)
 
 -- What each turn keeps that begins before a frame is too long holds where the frame stops.
-pub stop_of-keeps : {B : Type 0} (rules : Rules B) (Fact : Machine B → Type 0)
-    → ((m next : Machine B) → Fact m → m.cycles < overlong_cycles → turn rules m ≡ Went next → Fact next)
-    → (m : Machine B) → Fact m → Fact (machine_at (stop_of rules m))
-stop_of-keeps rules Fact keeps = stop_of-shown rules Fact (λ stop. Fact (machine_at stop)) (record {
+pub stop_of-keeps : {B : Type 0} (meaning : FrameMeaning B) (Fact : Machine B → Type 0)
+    → ((m next : Machine B) → Fact m → m.cycles < overlong_cycles → turn meaning m ≡ Went next → Fact next)
+    → (m : Machine B) → Fact m → Fact (machine_at (stop_of meaning m))
+stop_of-keeps meaning Fact keeps = stop_of-shown meaning Fact (λ stop. Fact (machine_at stop)) (record {
   long = λ m fact long. fact;
   faulty = λ m fault fact short e. fact;
   ended = λ m next fact short e over. keeps m next fact short e;
@@ -153,22 +153,22 @@ stop_of-keeps rules Fact keeps = stop_of-shown rules Fact (λ stop. Fact (machin
 })
 
 -- ---- the search finds a way in which the frame stops
-module _ {B : Type 0} (rules : Rules B) where
-  pub reaches-suc : (start here next : Machine B) (n : ℕ) → Reaches rules start n here → (0 < n → is_over rules here ≡ false)
-      → turn rules here ≡ Went next → Reaches rules start (suc n) next
+module _ {B : Type 0} (meaning : FrameMeaning B) where
+  pub reaches-suc : (start here next : Machine B) (n : ℕ) → Reaches meaning start n here → (0 < n → is_over meaning here ≡ false)
+      → turn meaning here ≡ Went next → Reaches meaning start (suc n) next
   reaches-suc start here next n r going went = grind arith
 
   -- So many turns led here, and the frame's end has not come.
   record Underway (start here : Machine B) : Type 0 where
     count : ℕ
-    reaches : Reaches rules start count here
-    unended : 0 < count → rules.ended here.bus ≡ false
+    reaches : Reaches meaning start count here
+    unended : 0 < count → meaning.ended here.bus ≡ false
     begun : overlong_cycles ≤ here.cycles → 0 < count
 
-  going : (start here : Machine B) (u : Underway start here) → here.cycles < overlong_cycles → 0 < u.count → is_over rules here ≡ false
+  going : (start here : Machine B) (u : Underway start here) → here.cycles < overlong_cycles → 0 < u.count → is_over meaning here ≡ false
   going start here u short some = let no : nat_le overlong_cycles here.cycles ≡ false = grind (arith, nat_tests) in rw (u.unended some, no) refl
 
-  way_shown : (start : Machine B) → Shows rules (Underway start) (StopsAs rules start)
+  way_shown : (start : Machine B) → Shows meaning (Underway start) (StopsAs meaning start)
   way_shown start = record {
     long = λ m u long. record { count = u.count; some = u.begun long; reaches = u.reaches; unended = u.unended (u.begun long); long = long };
     faulty = λ m fault u short e. record { count = u.count; reaches = u.reaches; going = going start m u short; fails = e };
@@ -182,8 +182,8 @@ module _ {B : Type 0} (rules : Rules B) where
     };
   }
 
-  pub stops_as-found : (start : Machine B) (stop : Stop B) → start.cycles ≡ 0 → stop ≡ stop_of rules start → StopsAs rules start stop
-  stops_as-found start stop fresh e = rw e (stop_of-shown rules (Underway start) (StopsAs rules start) (way_shown start) start (record {
+  pub stops_as-found : (start : Machine B) (stop : Stop B) → start.cycles ≡ 0 → stop ≡ stop_of meaning start → StopsAs meaning start stop
+  stops_as-found start stop fresh e = rw e (stop_of-shown meaning (Underway start) (StopsAs meaning start) (way_shown start) start (record {
     count = 0;
     reaches = record { reached = refl; least = λ k less. absurd (omega arith) };
     unended = λ some. absurd (omega arith);
@@ -191,14 +191,14 @@ module _ {B : Type 0} (rules : Rules B) where
   }))
 
   -- ---- no turn that went follows a faulty one
-  faulty-on : (start : Machine B) (n : ℕ) (fault : CpuFault) → turns rules n start ≡ Faulty fault → (k : ℕ) → turns rules (k + n) start ≡ Faulty fault
+  faulty-on : (start : Machine B) (n : ℕ) (fault : CpuFault) → turns meaning n start ≡ Faulty fault → (k : ℕ) → turns meaning (k + n) start ≡ Faulty fault
   faulty-on start n fault e zero = rw zero-add e
   faulty-on start n fault e (suc k) = rw suc-add (rw (faulty-on start n fault e k) refl)
 
-  pub none-after : (start a here : Machine B) (fault : CpuFault) (f : Faults rules start here fault) (m : ℕ) → turns rules m start ≡ Went a → f.count < m → ⊥
+  pub none-after : (start a here : Machine B) (fault : CpuFault) (f : Faults meaning start here fault) (m : ℕ) → turns meaning m start ≡ Went a → f.count < m → ⊥
   none-after start a here fault f m reached gt =
-      let last : turns rules (suc f.count) start ≡ Faulty fault = rw f.reaches.reached f.fails in
+      let last : turns meaning (suc f.count) start ≡ Faulty fault = rw f.reaches.reached f.fails in
       let faulty = faulty-on start (suc f.count) fault last (m - suc f.count) in
       let at : m - suc f.count + suc f.count ≡ m = omega arith in
-      let same : turns rules m start ≡ Faulty fault = rw at at faulty in
+      let same : turns meaning m start ≡ Faulty fault = rw at at faulty in
       absurd (cc)

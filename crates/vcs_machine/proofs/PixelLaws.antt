@@ -12,7 +12,7 @@ use Rattle.tia_core.specs.Beam.{beam_of, beam_of_pixel, is_visible}
 use Rattle.tia_core.specs.Clock.{Pixel, pixels}
 use Rattle.tia_core.proofs.ClockLemmas.{iterate-clocked-beam, iterate-clocked-clock}
 use Rattle.tia_core.proofs.PixelPlaces.{pixels-in_line, pixels-places}
-use Rattle.vcs_machine.specs.Consoles.{Console, console_rules, meaning_of, passed, read_at}
+use Rattle.vcs_machine.specs.Consoles.{Console, frame_meaning_of, meaning_of, passed, read_at}
 use Rattle.vcs_machine.specs.Consoles.{with_pixel_logged, written_at}
 use Rattle.vcs_machine.specs.Frame.{Machine, machine_at, stop_of}
 use Rattle.vcs_machine.specs.Inputs.{InputData}
@@ -108,7 +108,7 @@ keeps_log start = record {
 -- ---- where a frame stops
 module _ (cartridge : List ℕ) (s : StateFields) (i : InputData) (lawful : IsTrue (is_state s)) where
   abbrev here : Machine (Console (List Pixel))
-  here = machine_at (stop_of (console_rules with_pixel_logged) (machine_of cartridge s i []))
+  here = machine_at (stop_of (frame_meaning_of with_pixel_logged) (machine_of cartridge s i []))
 
   stop-logged : IsLogged (3 * line_cycle_of s) here.bus here.cycles
   stop-logged = stop-timed with_pixel_logged (IsLogged (3 * line_cycle_of s)) (keeps_log (3 * line_cycle_of s))

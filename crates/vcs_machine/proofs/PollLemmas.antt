@@ -26,7 +26,7 @@ use Rattle.riot_map.specs.Timer.{Countdown, cycles_above, intim}
 use Rattle.riot_map.specs.declared.places.Place.TheVariants.{Io}
 use Rattle.riot_map.proofs.RiotLemmas.{read-again, value-again}
 use Rattle.riot_map.proofs.TimerLemmas.{ShowsAtLeast, shown-above}
-use Rattle.vcs_machine.specs.Consoles.{Console, after_wait, console_rules, meaning_of, passed, read_at}
+use Rattle.vcs_machine.specs.Consoles.{Console, after_wait, frame_meaning_of, meaning_of, passed, read_at}
 use Rattle.vcs_machine.specs.Consoles.{wait_cycles}
 use Rattle.vcs_machine.specs.Frame.{Faulty, Machine, Went, overlong_cycles, stop_of, turn}
 use Rattle.vcs_machine.specs.Private.Polls.{IsPoll, GoOn, after_load, goes_on, least_of, loaded_at, opcode_of}
@@ -115,25 +115,25 @@ module _ {S : Type 0} (drawn : S → ℕ → ℕ → ℕ → S) where
   -- An instruction with its wait, one that asks for none, and one that faults.
   pub waited_turn : (m : Machine (Console S)) (n : ℕ) (r : Registers) (bus : Console S)
       → (let step = step_of (meaning_of drawn) m.registers m.bus in Ok n ≡ step.answer → r ≡ step.registers → bus ≡ step.bus
-      → turn (console_rules drawn) m ≡ Went (record { registers = r; bus = after_wait drawn bus; cycles = m.cycles + n + wait_cycles bus }))
-  unfolding turn console_rules
+      → turn (frame_meaning_of drawn) m ≡ Went (record { registers = r; bus = after_wait drawn bus; cycles = m.cycles + n + wait_cycles bus }))
+  unfolding turn frame_meaning_of
   waited_turn m n r bus answer registers left = rw (← answer, ← registers, ← left) refl
 
   pub quiet_turn : (m : Machine (Console S)) (n : ℕ) (r : Registers) (bus : Console S)
       → (let step = step_of (meaning_of drawn) m.registers m.bus in Ok n ≡ step.answer → r ≡ step.registers → bus ≡ step.bus → bus.awaits_line ≡ false
-      → turn (console_rules drawn) m ≡ Went (record { registers = r; bus = bus; cycles = m.cycles + n }))
-  unfolding turn console_rules
+      → turn (frame_meaning_of drawn) m ≡ Went (record { registers = r; bus = bus; cycles = m.cycles + n }))
+  unfolding turn frame_meaning_of
   quiet_turn m n r bus answer registers left quiet = rw (← answer, ← registers, ← left, quiet, add-zero) refl
 
   pub faulty_turn : (m : Machine (Console S)) (fault : CpuFault) → Err fault ≡ (step_of (meaning_of drawn) m.registers m.bus).answer
-      → turn (console_rules drawn) m ≡ Faulty fault
-  unfolding turn console_rules
+      → turn (frame_meaning_of drawn) m ≡ Faulty fault
+  unfolding turn frame_meaning_of
   faulty_turn m fault e = rw (← e) refl
 
   -- One round: its branch, then its load.
   round : (poll : Poll) (m : Machine (Console S)) → IsAtBranch poll m → m.cycles + poll.cycles ≤ overlong_cycles
-      → stop_of (console_rules drawn) m ≡ stop_of (console_rules drawn) (after_load drawn poll.register poll.cycles m)
-  unfolding console_rules
+      → stop_of (frame_meaning_of drawn) m ≡ stop_of (frame_meaning_of drawn) (after_load drawn poll.register poll.cycles m)
+  unfolding frame_meaning_of
   round poll m at room =
       let sum = at.loop.cycles in
       let total : poll.cycles - 4 + 4 ≡ poll.cycles = omega (arith, sum) in
@@ -150,9 +150,9 @@ module _ {S : Type 0} (drawn : S → ℕ → ℕ → ℕ → S) where
       let bus = passed-add drawn m.bus (poll.cycles - 4) 4 ∙ ap (λ (n : ℕ). passed drawn m.bus n) total in
       let gone = quiet_turn m (poll.cycles - 4) _ _ (rw taken refl) (rw taken refl) (rw taken refl) at.no_wait in
       let back = quiet_turn mid 4 _ _ (rw loaded refl) (rw loaded refl) (rw loaded refl) at.no_wait in
-      stops-later (console_rules drawn) m mid early gone at.no_end
-      ∙ stops-later (console_rules drawn) mid _ late back at.no_end
-      ∙ (λ i. stop_of (console_rules drawn) (loaded_at m.registers poll.register (bus i) (cycles i)))
+      stops-later (frame_meaning_of drawn) m mid early gone at.no_end
+      ∙ stops-later (frame_meaning_of drawn) mid _ late back at.no_end
+      ∙ (λ i. stop_of (frame_meaning_of drawn) (loaded_at m.registers poll.register (bus i) (cycles i)))
 
   -- A load after a load forgets what the first one gave.
   after_again : (register a b : ℕ) (m : Machine (Console S)) → has_bit register 2 ≡ true → m.registers.p < 256
@@ -162,7 +162,7 @@ module _ {S : Type 0} (drawn : S → ℕ → ℕ → ℕ → S) where
   -- The machine after rounds that are passed at once: the frame stops as it would have stopped.
   pub rounds : (poll : Poll) (m : Machine (Console S)) → IsAtBranch poll m → (count : ℕ) → 0 < count → GoOn poll m.bus.riot count
       → m.cycles + poll.cycles * count ≤ overlong_cycles
-      → stop_of (console_rules drawn) m ≡ stop_of (console_rules drawn) (after_load drawn poll.register (poll.cycles * count) m)
+      → stop_of (frame_meaning_of drawn) m ≡ stop_of (frame_meaning_of drawn) (after_load drawn poll.register (poll.cycles * count) m)
   rounds poll m at zero some on room = absurd (omega (arith, some))
   rounds poll m at (suc zero) some on room = let one : poll.cycles * 1 ≡ poll.cycles = omega arith in rw one (round poll m at (rw one at room))
   rounds poll m at (suc (suc more)) some on room =
@@ -174,7 +174,7 @@ module _ {S : Type 0} (drawn : S → ℕ → ℕ → ℕ → S) where
       ∙ round poll (after_load drawn poll.register n m)
       (record { loop = at.loop; no_wait = at.no_wait; no_end = at.no_end; byte = signed-byte byte m.registers.p at.byte; taken = again })
       (omega (arith, room, sum))
-      ∙ ap (stop_of (console_rules drawn))
+      ∙ ap (stop_of (frame_meaning_of drawn))
       (after_again poll.register n poll.cycles m at.loop.timer at.byte ∙ ap (λ (k : ℕ). after_load drawn poll.register k m) sum)
 
 -- ---- how many rounds surely go on

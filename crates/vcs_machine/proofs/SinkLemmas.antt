@@ -18,7 +18,7 @@ use Rattle.vcs_machine.proofs.AlongBuses.{stop_of-along}
 use Rattle.vcs_machine.proofs.FrameOutcomes.{machine_at-halted}
 use Rattle.vcs_machine.specs.Frame.{Machine, Stop, Ended, Overlong, Faulted, machine_at, stop_of}
 use Rattle.vcs_machine.specs.Consoles.{Console, meaning_of, passed, value_at, peeked_at, read_at}
-use Rattle.vcs_machine.specs.Consoles.{written_at, after_wait, cycles_to_line_start, console_rules}
+use Rattle.vcs_machine.specs.Consoles.{written_at, after_wait, cycles_to_line_start, frame_meaning_of}
 use Rattle.vcs_machine.specs.Consoles.{with_pixel_logged}
 use Rattle.vcs_machine.specs.Private.Along.{Follows, machine_along, stop_along, drawn_on}
 
@@ -57,9 +57,9 @@ module _ {S : Type 0} (drawn : S → ℕ → ℕ → ℕ → S) (sink : S) where
     | inr not ↦ rw not refl
   ]
 
-  pub follows : Follows (console_rules with_pixel_logged) (console_rules drawn) (drawn_on drawn sink)
-  unfolding console_rules
-  follows = record { meaning = keeps_meaning; after_wait = after_wait-along; wait = λ c. refl; ended = λ c. refl }
+  pub follows : Follows (frame_meaning_of with_pixel_logged) (frame_meaning_of drawn) (drawn_on drawn sink)
+  unfolding frame_meaning_of
+  follows = record { calls = keeps_meaning; after_wait = after_wait-along; wait = λ c. refl; ended = λ c. refl }
 
 -- The stop of the same kind, at another machine.
 abbrev stop_at : {B C : Type 0} → Stop C → Machine B → Stop B
@@ -79,17 +79,17 @@ stop-from h stop = (refl, refl)
 
 module _ {S : Type 0} (drawn : S → ℕ → ℕ → ℕ → S) (cartridge : List ℕ) (s : StateFields) (i : InputData) (sink : S) where
   abbrev here : Machine (Console (List Pixel))
-  here = machine_at (stop_of (console_rules with_pixel_logged) (machine_of cartridge s i []))
+  here = machine_at (stop_of (frame_meaning_of with_pixel_logged) (machine_of cartridge s i []))
 
   -- The stop of the frame that lists its pixels, by the one of the frame that draws them.
-  stops : (stop : Stop (Console S)) → stop_of (console_rules drawn) (machine_of cartridge s i sink) ≡ stop
-      → (stop_of (console_rules with_pixel_logged) (machine_of cartridge s i []) ≡ stop_at stop here) × (machine_along (drawn_on drawn sink) here ≡ machine_at stop)
+  stops : (stop : Stop (Console S)) → stop_of (frame_meaning_of drawn) (machine_of cartridge s i sink) ≡ stop
+      → (stop_of (frame_meaning_of with_pixel_logged) (machine_of cartridge s i []) ≡ stop_at stop here) × (machine_along (drawn_on drawn sink) here ≡ machine_at stop)
   stops stop e =
-      let along = stop_of-along (console_rules with_pixel_logged) (console_rules drawn) (drawn_on drawn sink) (follows drawn sink) (machine_of cartridge s i []) in
-      rw (sym along ∙ e) at (stop-from (drawn_on drawn sink) (stop_of (console_rules with_pixel_logged) (machine_of cartridge s i [])))
+      let along = stop_of-along (frame_meaning_of with_pixel_logged) (frame_meaning_of drawn) (drawn_on drawn sink) (follows drawn sink) (machine_of cartridge s i []) in
+      rw (sym along ∙ e) at (stop-from (drawn_on drawn sink) (stop_of (frame_meaning_of with_pixel_logged) (machine_of cartridge s i [])))
 
   -- A frame that ends on a console with a sink.
-  pub plays-on : (there : Machine (Console S)) → stop_of (console_rules drawn) (machine_of cartridge s i sink) ≡ Ended there
+  pub plays-on : (there : Machine (Console S)) → stop_of (frame_meaning_of drawn) (machine_of cartridge s i sink) ≡ Ended there
       → PlaysOn drawn cartridge s i sink (state_left there) there.bus.sink there.cycles
   plays-on there e =
       let f = stops (Ended there) e in (
@@ -101,7 +101,7 @@ module _ {S : Type 0} (drawn : S → ℕ → ℕ → ℕ → S) (cartridge : Lis
       )
 
   -- And one that does not.
-  pub halts-on : (kind : FaultKind) (there : Machine (Console S)) → stop_of (console_rules drawn) (machine_of cartridge s i sink) ≡ stop_with kind there
+  pub halts-on : (kind : FaultKind) (there : Machine (Console S)) → stop_of (frame_meaning_of drawn) (machine_of cartridge s i sink) ≡ stop_with kind there
       → Halts cartridge s i kind (state_left there) there.cycles
   halts-on kind there e =
       let f = stops (stop_with kind there) e in

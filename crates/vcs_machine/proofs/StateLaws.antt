@@ -31,7 +31,7 @@ use Rattle.tia_core.specs.Private.Lawful.{IsLawfulTia}
 use Rattle.tia_core.specs.TiaState.{tia_of, with_fire}
 use Rattle.tia_core.proofs.FieldLemmas.{frame_begun-lawful, iterate-clocked-lawful, written-lawful}
 use Rattle.tia_core.proofs.LawfulNumbers.{lawful_of, passes}
-use Rattle.vcs_machine.specs.Consoles.{Console, console_rules, meaning_of, read_at, with_pixel_logged}
+use Rattle.vcs_machine.specs.Consoles.{Console, frame_meaning_of, meaning_of, read_at, with_pixel_logged}
 use Rattle.vcs_machine.specs.Consoles.{written_at}
 use Rattle.vcs_machine.specs.Frame.{Ended, Machine, Stop, Went, machine_at, stop_of, turn}
 use Rattle.vcs_machine.specs.Inputs.{InputData, is_pressed}
@@ -170,10 +170,10 @@ module _ {S : Type 0} (drawn : S → ℕ → ℕ → ℕ → S) where
     status : IsStatus m.registers.p
     console : IsLawfulConsole m.bus
 
-  turn-lawful : (m next : Machine (Console S)) → IsLawfulMachine m → turn (console_rules drawn) m ≡ Went next → IsLawfulMachine next
-  unfolding console_rules
+  turn-lawful : (m next : Machine (Console S)) → IsLawfulMachine m → turn (frame_meaning_of drawn) m ≡ Went next → IsLawfulMachine next
+  unfolding frame_meaning_of
   turn-lawful m next h e = record {
-    status = (let t = turn-parts (console_rules drawn) m next e in rw (← t.same) (step_of-status (meaning_of drawn) m.registers m.bus h.status));
+    status = (let t = turn-parts (frame_meaning_of drawn) m next e in rw (← t.same) (step_of-status (meaning_of drawn) m.registers m.bus h.status));
     console = turn-kept drawn IsLawfulConsole keeps_lawful (λ c k. record { timer = k.timer; tia = k.tia; bank = k.bank }) m next h.console e;
   }
 
@@ -191,9 +191,9 @@ module _ {S : Type 0} (drawn : S → ℕ → ℕ → ℕ → S) where
       }
 
   stop-lawful : (cartridge : List ℕ) (s : StateFields) (i : InputData) (sink : S) → IsTrue (is_state s)
-      → IsLawfulMachine (machine_at (stop_of (console_rules drawn) (machine_of cartridge s i sink)))
+      → IsLawfulMachine (machine_at (stop_of (frame_meaning_of drawn) (machine_of cartridge s i sink)))
   stop-lawful cartridge s i sink lawful =
-      stop_of-keeps (console_rules drawn) IsLawfulMachine (λ m next h short. turn-lawful m next h) (machine_of cartridge s i sink)
+      stop_of-keeps (frame_meaning_of drawn) IsLawfulMachine (λ m next h short. turn-lawful m next h) (machine_of cartridge s i sink)
       (start-lawful cartridge s i sink lawful)
 
   left-lawful : (m : Machine (Console S)) → m.bus.tia.fields.clock % 3 ≡ 0 → IsLawfulMachine m → IsTrue (is_state (state_left m))
@@ -212,7 +212,7 @@ left_by-stop line_cycle other = refl
 pub frame_of-lawful : (cartridge : List ℕ) (s : StateFields) (i : InputData) → IsTrue (is_state s) → IsTrue (is_state (left_by (frame_of cartridge s i)))
 unfolding frame_of
 frame_of-lawful cartridge s i lawful =
-    let stop = stop_of (console_rules with_pixel_logged) (machine_of cartridge s i []) in
+    let stop = stop_of (frame_meaning_of with_pixel_logged) (machine_of cartridge s i []) in
     let beam = (stop-way with_pixel_logged cartridge s i [] lawful).beam in
     rw (left_by-stop (line_cycle_of s) stop)
     (left-lawful with_pixel_logged (machine_at stop) (omega (arith, beam)) (stop-lawful with_pixel_logged cartridge s i [] lawful))

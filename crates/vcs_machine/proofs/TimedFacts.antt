@@ -5,7 +5,7 @@ use Rattle.mos_cpu.specs.Execution.{step_of}
 use Rattle.mos_cpu.specs.Registers.{Registers}
 use Rattle.mos_cpu.proofs.AlongMaps.{step_of-along}
 use Rattle.mos_cpu.proofs.StepLaws.{step_of-clock, step_of-kept}
-use Rattle.vcs_machine.specs.Consoles.{Console, after_wait, console_rules, meaning_of, wait_cycles}
+use Rattle.vcs_machine.specs.Consoles.{Console, after_wait, frame_meaning_of, meaning_of, wait_cycles}
 use Rattle.vcs_machine.specs.Frame.{Machine, Went, machine_at, stop_of, turn}
 use Rattle.vcs_machine.proofs.OneStop.{stop_of-keeps, turn-parts}
 
@@ -81,13 +81,13 @@ module _ {S : Type 0} (drawn : S → ℕ → ℕ → ℕ → S) (Fact : Console 
       by true e = rw e (waits _ _ (kept.passed c t _ h))
       by false e = let none : t + 0 ≡ t = omega arith in rw (e, none) (waits c t h)
 
-  turn-timed : (m next : Machine (Console S)) → Fact m.bus m.cycles → turn (console_rules drawn) m ≡ Went next → Fact next.bus next.cycles
-  unfolding console_rules
+  turn-timed : (m next : Machine (Console S)) → Fact m.bus m.cycles → turn (frame_meaning_of drawn) m ≡ Went next → Fact next.bus next.cycles
+  unfolding frame_meaning_of
   turn-timed m next h e =
-      let t = turn-parts (console_rules drawn) m next e in
+      let t = turn-parts (frame_meaning_of drawn) m next e in
       let step = step_of (meaning_of drawn) m.registers m.bus in
       rw (← t.same) (after_wait-timed step.bus (m.cycles + t.taken) (step_of-timed (meaning_of drawn) Fact kept m.registers m.bus m.cycles t.taken t.answer h))
 
   pub stop-timed : (m : Machine (Console S)) → Fact m.bus m.cycles
-      → (let here = machine_at (stop_of (console_rules drawn) m) in Fact here.bus here.cycles)
-  stop-timed = stop_of-keeps (console_rules drawn) (λ m. Fact m.bus m.cycles) (λ m next h short. turn-timed m next h)
+      → (let here = machine_at (stop_of (frame_meaning_of drawn) m) in Fact here.bus here.cycles)
+  stop-timed = stop_of-keeps (frame_meaning_of drawn) (λ m. Fact m.bus m.cycles) (λ m next h short. turn-timed m next h)

@@ -21,7 +21,7 @@ use Rattle.tia_core.specs.Clock.{after_clock}
 use Rattle.tia_core.specs.TiaState.{TiaState}
 use Rattle.tia_core.specs.Write.{tia_after_write}
 use Rattle.tia_core.proofs.ClockLemmas.{iterate-clocked-beam, iterate-clocked-clock, iterate-clocked-line}
-use Rattle.vcs_machine.specs.Consoles.{Console, after_wait, console_rules, meaning_of, passed, read_at}
+use Rattle.vcs_machine.specs.Consoles.{Console, after_wait, frame_meaning_of, meaning_of, passed, read_at}
 use Rattle.vcs_machine.specs.Consoles.{wait_cycles, written_at}
 use Rattle.vcs_machine.specs.Cycles.{beam_place, place_after}
 use Rattle.vcs_machine.specs.Frame.{Ended, Faulted, Machine, Went, overlong_cycles, stop_of, turn}
@@ -101,16 +101,16 @@ module _ {S : Type 0} (drawn : S → ℕ → ℕ → ℕ → S) where
   wait-most : (c : Console S) → wait_cycles c ≤ 75
   wait-most c = grind arith
 
-  turn-most : (m next : Machine (Console S)) → turn (console_rules drawn) m ≡ Went next → next.cycles ≤ m.cycles + 82
-  unfolding console_rules
+  turn-most : (m next : Machine (Console S)) → turn (frame_meaning_of drawn) m ≡ Went next → next.cycles ≤ m.cycles + 82
+  unfolding frame_meaning_of
   turn-most m next e =
-      let t = turn-parts (console_rules drawn) m next e in
+      let t = turn-parts (frame_meaning_of drawn) m next e in
       let most = rw t.answer at (step_of-most (meaning_of drawn) m.registers m.bus) in
       let wait = wait-most (step_of (meaning_of drawn) m.registers m.bus).bus in
       rw (← t.same) (omega (arith, most, wait))
 
   pub turn-next : (start : ℕ) (r : Registers) (c : Console S) (next : Machine (Console S)) → IsBegun start c → beam_cycles c - start < overlong_cycles
-      → turn (console_rules drawn) (machine_since start r c) ≡ Went next → IsNext start c next
+      → turn (frame_meaning_of drawn) (machine_since start r c) ≡ Went next → IsNext start c next
   turn-next start r c next b short e =
       let m = machine_since start r c in
       let place : ℕ = 3 * start + c.tia.fields.clock % 3 in
@@ -121,7 +121,7 @@ module _ {S : Type 0} (drawn : S → ℕ → ℕ → ℕ → S) where
       let at : beam_place c ≡ place_after place (beam_cycles c - start) = omega arith in
       let moved = turn-place drawn place m next at e in
       let inside = turn-kept drawn IsInside keeps_inside (λ c inside. record { clock = inside.clock; line = inside.line }) m next b.inside e in
-      let least = turn-least (console_rules drawn) m next e in
+      let least = turn-least (frame_meaning_of drawn) m next e in
       let most = turn-most m next e in
       let next_clock = inside.clock in
       let next_line = inside.line in
@@ -156,13 +156,13 @@ module _ {S : Type 0} (drawn : S → ℕ → ℕ → ℕ → S) where
   pub rounds-since : (start : ℕ) (r : Registers) (c : Console S) (poll : Poll) (count : ℕ) → IsBegun start c → IsAtBranch drawn poll (machine_since start r c)
       → 0 < count → GoOn poll c.riot count → beam_cycles c - start + poll.cycles * count ≤ overlong_cycles
       → (let bus = passed drawn c (poll.cycles * count) in
-      stop_of (console_rules drawn) (machine_since start r c)
-      ≡ stop_of (console_rules drawn) (machine_since start (with_a r (load_of (riot_read bus.riot poll.register) r.p)) (read_at bus (Io poll.register))))
+      stop_of (frame_meaning_of drawn) (machine_since start r c)
+      ≡ stop_of (frame_meaning_of drawn) (machine_since start (with_a r (load_of (riot_read bus.riot poll.register) r.p)) (read_at bus (Io poll.register))))
   rounds-since start r c poll count b at some on room =
       let n : ℕ = poll.cycles * count in
       let later = passed-later start c n poll.register b room in
       rounds drawn poll (machine_since start r c) at count some on room
-      ∙ (λ i. stop_of (console_rules drawn) (loaded_at r poll.register (passed drawn c n) (sym later.cycles i)))
+      ∙ (λ i. stop_of (frame_meaning_of drawn) (loaded_at r poll.register (passed drawn c n) (sym later.cycles i)))
 
 -- Before line 320 a frame isn't too long.
 pub early-short : {S : Type 0} (start : ℕ) (c : Console S) → IsBegun start c → c.tia.line < 320 → beam_cycles c - start < overlong_cycles
@@ -171,28 +171,28 @@ early-short start c b early = let clock = b.inside.clock in omega arith
 module _ {S : Type 0} (drawn : S → ℕ → ℕ → ℕ → S) (first : Machine (Console S)) (start : ℕ) (r : Registers) (c : Console S) where
   -- A frame on its way stops as it would have stopped from its first machine on.
   pub record IsUnderway : Type 0 where
-    pub stops : stop_of (console_rules drawn) first ≡ stop_of (console_rules drawn) (machine_since start r c)
+    pub stops : stop_of (frame_meaning_of drawn) first ≡ stop_of (frame_meaning_of drawn) (machine_since start r c)
     pub begun : IsBegun start c
     pub short : beam_cycles c - start < overlong_cycles
 
   pub faulty-stop : IsUnderway → (fault : CpuFault) → Err fault ≡ (step_of (meaning_of drawn) r c).answer
-      → stop_of (console_rules drawn) first ≡ Faulted fault (machine_since start r c)
+      → stop_of (frame_meaning_of drawn) first ≡ Faulted fault (machine_since start r c)
   faulty-stop u fault e =
       let m = machine_since start r c in
-      u.stops ∙ stops-faulty (console_rules drawn) m fault u.short (faulty_turn drawn m fault e)
+      u.stops ∙ stops-faulty (frame_meaning_of drawn) m fault u.short (faulty_turn drawn m fault e)
 
   -- After an instruction with its wait.
   pub record IsWaited (after_r : Registers) (after : Console S) : Type 0 where
     pub begun : IsBegun start after
     pub later : beam_cycles c < beam_cycles after
     pub most : beam_cycles after - start ≤ 24401
-    pub over : after.ended ≡ true → stop_of (console_rules drawn) first ≡ Ended (machine_since start after_r after)
-    pub on : after.ended ≡ false → stop_of (console_rules drawn) first ≡ stop_of (console_rules drawn) (machine_since start after_r after)
+    pub over : after.ended ≡ true → stop_of (frame_meaning_of drawn) first ≡ Ended (machine_since start after_r after)
+    pub on : after.ended ≡ false → stop_of (frame_meaning_of drawn) first ≡ stop_of (frame_meaning_of drawn) (machine_since start after_r after)
 
   pub waited-on : IsUnderway → (n : ℕ) (after_r : Registers) (bus : Console S)
       → (let step = step_of (meaning_of drawn) r c in Ok n ≡ step.answer → after_r ≡ step.registers → bus ≡ step.bus
       → IsWaited after_r (after_wait drawn bus))
-  unfolding console_rules
+  unfolding frame_meaning_of
   waited-on u n after_r bus answer registers left =
       let m = machine_since start r c in
       let after = after_wait drawn bus in
@@ -204,11 +204,11 @@ module _ {S : Type 0} (drawn : S → ℕ → ℕ → ℕ → S) (first : Machine
         later = on.later;
         most = rw (← on.same) on.most;
         over = λ ended. u.stops
-            ∙ stops-ended (console_rules drawn) m next u.short went ended
+            ∙ stops-ended (frame_meaning_of drawn) m next u.short went ended
             ∙ (λ i. Ended (record { registers = after_r; bus = after; cycles = on.same i }));
         on = λ unended. u.stops
-            ∙ stops-later (console_rules drawn) m next u.short went unended
-            ∙ (λ i. stop_of (console_rules drawn) (record { registers = after_r; bus = after; cycles = on.same i }));
+            ∙ stops-later (frame_meaning_of drawn) m next u.short went unended
+            ∙ (λ i. stop_of (frame_meaning_of drawn) (record { registers = after_r; bus = after; cycles = on.same i }));
       }
 
 -- After an instruction that asked for nothing, before line 320.
@@ -221,7 +221,7 @@ module _ {S : Type 0} (drawn : S → ℕ → ℕ → ℕ → S) (first : Machine
   pub quiet-on : IsUnderway drawn first start r c → (n : ℕ) (after_r : Registers) (bus : Console S)
       → (let step = step_of (meaning_of drawn) r c in Ok n ≡ step.answer → after_r ≡ step.registers → bus ≡ step.bus
       → bus.awaits_line ≡ false → bus.ended ≡ false → bus.tia.line < 320 → IsQuiet drawn first start c after_r bus)
-  unfolding console_rules
+  unfolding frame_meaning_of
   quiet-on u n after_r bus answer registers left no_wait no_end early =
       let m = machine_since start r c in
       let next : Machine (Console S) = record { registers = after_r; bus = bus; cycles = m.cycles + n } in
@@ -230,8 +230,8 @@ module _ {S : Type 0} (drawn : S → ℕ → ℕ → ℕ → S) (first : Machine
       record {
         underway = record {
           stops = u.stops
-              ∙ stops-later (console_rules drawn) m next u.short went no_end
-              ∙ (λ i. stop_of (console_rules drawn) (record { registers = after_r; bus = bus; cycles = on.same i }));
+              ∙ stops-later (frame_meaning_of drawn) m next u.short went no_end
+              ∙ (λ i. stop_of (frame_meaning_of drawn) (record { registers = after_r; bus = bus; cycles = on.same i }));
           begun = on.begun;
           short = early-short start bus on.begun early;
         };

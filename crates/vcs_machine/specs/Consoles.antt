@@ -16,7 +16,7 @@ use Rattle.tia_core.specs.Write.{tia_after_write, effect_of}
 use Rattle.tia_core.specs.Read.{tia_read as tia_read_of}
 use Rattle.tia_core.specs.declared.effect.Effect.{Effect}
 use Rattle.tia_core.specs.declared.effect.Effect.TheVariants.{Sync, FrameEnd}
-use Rattle.vcs_machine.specs.Frame.{Rules}
+use Rattle.vcs_machine.specs.Frame.{FrameMeaning}
 
 -- A console whose pixels go to a sink. `bank` is the selected bank of the cartridge, `awaits_line`
 -- says whether WSYNC was written in this instruction, and `ended` whether VSYNC has fallen in this
@@ -110,9 +110,9 @@ wait_cycles c = if c.awaits_line then cycles_to_line_start c.tia.fields.clock el
 abbrev pub after_wait : {S : Type 0} → (S → ℕ → ℕ → ℕ → S) → Console S → Console S
 after_wait drawn c = if c.awaits_line then record (passed drawn c (cycles_to_line_start c.tia.fields.clock)) { awaits_line = false } else c
 
--- A frame's rules on a console: this project's own.
-unfoldable pub console_rules : {S : Type 0} → (S → ℕ → ℕ → ℕ → S) → Rules (Console S)
-console_rules drawn = record { meaning = meaning_of drawn; after_wait = after_wait drawn; wait = wait_cycles; ended = λ c. c.ended }
+-- What a console is to a frame. This project's own.
+unfoldable pub frame_meaning_of : {S : Type 0} → (S → ℕ → ℕ → ℕ → S) → FrameMeaning (Console S)
+frame_meaning_of drawn = record { calls = meaning_of drawn; after_wait = after_wait drawn; wait = wait_cycles; ended = λ c. c.ended }
 
 -- A sink that lists the pixels in the order in which they were put.
 abbrev pub with_pixel_logged : List Pixel → ℕ → ℕ → ℕ → List Pixel

@@ -10,8 +10,8 @@ use Rattle.mos_cpu.specs.declared.fault.CpuFault.{CpuFault}
 
 -- What a frame asks of a bus: what its calls mean, the bus after the wait that an instruction left
 -- to it and the cycles of that wait, and whether the frame's end has come.
-pub record Rules (B : Type 0) : Type 0 where
-  pub meaning : Meaning B
+pub record FrameMeaning (B : Type 0) : Type 0 where
+  pub calls : Meaning B
   pub after_wait : B → B
   pub wait : B → ℕ
   pub ended : B → Bool
@@ -36,15 +36,15 @@ overlong_cycles = 24320
 abbrev pub most_frame_cycles : ℕ
 most_frame_cycles = 24401
 
-module _ {B : Type 0} (rules : Rules B) where
+module _ {B : Type 0} (meaning : FrameMeaning B) where
   abbrev pub turn_by : ℕ → Registers → B → Result ℕ CpuFault → Turn B
   turn_by cycles r bus (Err fault) = Faulty fault
-  turn_by cycles r bus (Ok n) = Went (record { registers = r; bus = rules.after_wait bus; cycles = cycles + n + rules.wait bus })
+  turn_by cycles r bus (Ok n) = Went (record { registers = r; bus = meaning.after_wait bus; cycles = cycles + n + meaning.wait bus })
 
   -- One instruction with its wait.
   unfoldable pub turn : Machine B → Turn B
   turn m =
-      let step = step_of rules.meaning m.registers m.bus in
+      let step = step_of meaning.calls m.registers m.bus in
       turn_by m.cycles step.registers step.bus step.answer
 
   abbrev pub turn_after : Turn B → Turn B
@@ -58,34 +58,34 @@ module _ {B : Type 0} (rules : Rules B) where
 
   -- Whether a frame stops here.
   abbrev pub is_over : Machine B → Bool
-  is_over m = rules.ended m.bus || nat_le overlong_cycles m.cycles
+  is_over m = meaning.ended m.bus || nat_le overlong_cycles m.cycles
 
 -- After so many instructions from the start the machine is here, and it was not over after fewer.
-pub record Reaches {B : Type 0} (rules : Rules B) (start : Machine B) (count : ℕ) (here : Machine B) : Type 0 where
-  pub reached : turns rules count start ≡ Went here
-  pub least : (k : ℕ) → k < count → 0 < k → (m : Machine B) → turns rules k start ≡ Went m → is_over rules m ≡ false
+pub record Reaches {B : Type 0} (meaning : FrameMeaning B) (start : Machine B) (count : ℕ) (here : Machine B) : Type 0 where
+  pub reached : turns meaning count start ≡ Went here
+  pub least : (k : ℕ) → k < count → 0 < k → (m : Machine B) → turns meaning k start ≡ Went m → is_over meaning m ≡ false
 
 -- A frame ends here: its end has come at the least number of instructions at which it is over,
-pub record Ends {B : Type 0} (rules : Rules B) (start here : Machine B) : Type 0 where
+pub record Ends {B : Type 0} (meaning : FrameMeaning B) (start here : Machine B) : Type 0 where
   pub count : ℕ
   pub some : 0 < count
-  pub reaches : Reaches rules start count here
-  pub ended : rules.ended here.bus ≡ true
+  pub reaches : Reaches meaning start count here
+  pub ended : meaning.ended here.bus ≡ true
 
 -- or it is too long without that,
-pub record IsOverlong {B : Type 0} (rules : Rules B) (start here : Machine B) : Type 0 where
+pub record IsOverlong {B : Type 0} (meaning : FrameMeaning B) (start here : Machine B) : Type 0 where
   pub count : ℕ
   pub some : 0 < count
-  pub reaches : Reaches rules start count here
-  pub unended : rules.ended here.bus ≡ false
+  pub reaches : Reaches meaning start count here
+  pub unended : meaning.ended here.bus ≡ false
   pub long : overlong_cycles ≤ here.cycles
 
 -- or the next instruction faults, before it is over.
-pub record Faults {B : Type 0} (rules : Rules B) (start here : Machine B) (fault : CpuFault) : Type 0 where
+pub record Faults {B : Type 0} (meaning : FrameMeaning B) (start here : Machine B) (fault : CpuFault) : Type 0 where
   pub count : ℕ
-  pub reaches : Reaches rules start count here
-  pub going : 0 < count → is_over rules here ≡ false
-  pub fails : turn rules here ≡ Faulty fault
+  pub reaches : Reaches meaning start count here
+  pub going : 0 < count → is_over meaning here ≡ false
+  pub fails : turn meaning here ≡ Faulty fault
 
 -- How a frame stops, and where.
 pub data Stop (B : Type 0) : Type 0 where
@@ -100,10 +100,10 @@ machine_at (Overlong m) = m
 machine_at (Faulted fault m) = m
 
 -- A frame from this start stops so.
-abbrev pub StopsAs : {B : Type 0} → Rules B → Machine B → Stop B → Type 0
-StopsAs rules start (Ended here) = Ends rules start here
-StopsAs rules start (Overlong here) = IsOverlong rules start here
-StopsAs rules start (Faulted fault here) = Faults rules start here fault
+abbrev pub StopsAs : {B : Type 0} → FrameMeaning B → Machine B → Stop B → Type 0
+StopsAs meaning start (Ended here) = Ends meaning start here
+StopsAs meaning start (Overlong here) = IsOverlong meaning start here
+StopsAs meaning start (Faulted fault here) = Faults meaning start here fault
 
 -- The one way in which a frame stops, found by trying one instruction after another. Each takes at
 -- least two cycles, so that this many are enough: a law says that a frame stops so, and in no other
@@ -111,15 +111,15 @@ StopsAs rules start (Faulted fault here) = Faults rules start here fault
 abbrev pub most_turns : ℕ
 most_turns = 12160
 
-module _ {B : Type 0} (rules : Rules B) where
+module _ {B : Type 0} (meaning : FrameMeaning B) where
   abbrev pub stop_after : (Machine B → Stop B) → Machine B → Turn B → Stop B
   stop_after later m (Faulty fault) = Faulted fault m
-  stop_after later m (Went next) = if rules.ended next.bus then Ended next else later next
+  stop_after later m (Went next) = if meaning.ended next.bus then Ended next else later next
 
   unfoldable pub stop_within : ℕ → Machine B → Stop B
   stop_within zero m = Overlong m
   stop_within (suc n) m =
-      if nat_le overlong_cycles m.cycles then Overlong m else stop_after (stop_within n) m (turn rules m)
+      if nat_le overlong_cycles m.cycles then Overlong m else stop_after (stop_within n) m (turn meaning m)
 
   unfoldable pub stop_of : Machine B → Stop B
   stop_of m = stop_within most_turns m

@@ -13,8 +13,8 @@ use Rattle.mos_cpu.specs.declared.access.Transfer.{Transfer}
 use Rattle.mos_cpu.specs.declared.access.Transfer.TheVariants.{Read, Write}
 use Rattle.mos_cpu.specs.declared.fault.CpuFault.{CpuFault}
 use Rattle.mos_cpu.specs.declared.operation.Operation.{Operation}
-use Rattle.vcs_machine.specs.Consoles.{Console, console_rules, meaning_of}
-use Rattle.vcs_machine.specs.Frame.{Faulty, Machine, Reaches, Rules, Stop, StopsAs, Turn, Went}
+use Rattle.vcs_machine.specs.Consoles.{Console, frame_meaning_of, meaning_of}
+use Rattle.vcs_machine.specs.Frame.{Faulty, FrameMeaning, Machine, Reaches, Stop, StopsAs, Turn, Went}
 use Rattle.vcs_machine.specs.Frame.{machine_at, turns}
 use Rattle.vcs_machine.specs.Inputs.{InputData}
 use Rattle.vcs_machine.specs.Outcomes.{machine_of}
@@ -82,15 +82,15 @@ abbrev pub machine_in : {B : Type 0} → Turn B → List (Machine B)
 machine_in (Faulty fault) = []
 machine_in (Went m) = m ∷ []
 
-module _ {B : Type 0} (rules : Rules B) where
+module _ {B : Type 0} (meaning : FrameMeaning B) where
   -- The machines at which the first so many instructions of a frame begin.
   abbrev pub begun : Machine B → ℕ → List (Machine B)
   begun start zero = []
-  begun start (suc n) = begun start n ++ machine_in (turns rules n start)
+  begun start (suc n) = begun start n ++ machine_in (turns meaning n start)
 
   -- A frame stops so, after so many instructions.
   abbrev pub StopsAfter : Machine B → ℕ → Stop B → Type 0
-  StopsAfter start count stop = Reaches rules start count (machine_at stop) × StopsAs rules start stop
+  StopsAfter start count stop = Reaches meaning start count (machine_at stop) × StopsAs meaning start stop
 
 -- ---- on a console that draws nothing
 abbrev pub Undrawn : Type 0
@@ -99,8 +99,8 @@ Undrawn = Console NoPixels
 abbrev pub with_pixel_lost : NoPixels → ℕ → ℕ → ℕ → NoPixels
 with_pixel_lost sink line x colour = sink
 
-abbrev pub undrawn_rules : Rules Undrawn
-undrawn_rules = console_rules with_pixel_lost
+abbrev pub undrawn_meaning : FrameMeaning Undrawn
+undrawn_meaning = frame_meaning_of with_pixel_lost
 
 -- The machine at a frame's start.
 abbrev pub undrawn_of : List ℕ → StateFields → InputData → Machine Undrawn

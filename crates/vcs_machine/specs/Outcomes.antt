@@ -4,7 +4,7 @@ use Rattle.std.specs.Prelude.{ℕ, ◌≡◌, false, List, []}
 use Rattle.riot_map.specs.Riot.{riot_of, fields_of, with_pins}
 use Rattle.tia_core.specs.TiaState.{tia_of as tia_state_of, with_fire, at_frame_start}
 use Rattle.tia_core.specs.Clock.{Pixel, sink_after_pixels}
-use Rattle.vcs_machine.specs.Consoles.{Console, console_rules, with_pixel_logged}
+use Rattle.vcs_machine.specs.Consoles.{Console, frame_meaning_of, with_pixel_logged}
 use Rattle.vcs_machine.specs.Faults.{kind_of, stop_with}
 use Rattle.vcs_machine.specs.Frame.{Machine, Stop, Ended, Overlong, Faulted, machine_at, stop_of}
 use Rattle.vcs_machine.specs.Inputs.{InputData, is_pressed}
@@ -56,11 +56,11 @@ outcome_of line_cycle (Faulted fault m) = Failed (kind_of fault) (state_left m)
 
 -- What a frame on a cartridge does to a state, with this input.
 unfoldable pub frame_of : List ℕ → StateFields → InputData → FrameOutcome
-frame_of cartridge s i = outcome_of (line_cycle_of s) (stop_of (console_rules with_pixel_logged) (machine_of cartridge s i []))
+frame_of cartridge s i = outcome_of (line_cycle_of s) (stop_of (frame_meaning_of with_pixel_logged) (machine_of cartridge s i []))
 
 -- The cycles that a frame has taken when it stops, waits included.
 unfoldable pub cycles_of : List ℕ → StateFields → InputData → ℕ
-cycles_of cartridge s i = (machine_at (stop_of (console_rules with_pixel_logged) (machine_of cartridge s i []))).cycles
+cycles_of cartridge s i = (machine_at (stop_of (frame_meaning_of with_pixel_logged) (machine_of cartridge s i []))).cycles
 
 -- A frame's error, and the state that it leaves.
 abbrev pub FailsAs : FrameOutcome → FrameError → StateFields → Type 0
@@ -71,12 +71,12 @@ FailsAs outcome NoMemory s = Unit {0}
 abbrev pub Halts : List ℕ → StateFields → InputData → FaultKind → StateFields → ℕ → Type 0
 Halts cartridge s i kind after cycles =
     (here : Machine (Console (List Pixel)))
-    × (stop_of (console_rules with_pixel_logged) (machine_of cartridge s i []) ≡ stop_with kind here)
+    × (stop_of (frame_meaning_of with_pixel_logged) (machine_of cartridge s i []) ≡ stop_with kind here)
     × (state_left here ≡ after)
     × (here.cycles ≡ cycles)
 
 -- A frame that ends leaves this state after so many cycles, and its pixels have been put on a sink.
 abbrev pub PlaysOn : {S : Type 0} → (S → ℕ → ℕ → ℕ → S) → List ℕ → StateFields → InputData → S → StateFields → S → ℕ → Type 0
 PlaysOn drawn cartridge s i sink after sink_after cycles =
-    (here : Machine (Console (List Pixel))) × (stop_of (console_rules with_pixel_logged) (machine_of cartridge s i []) ≡ Ended here) × (state_left here ≡ after)
+    (here : Machine (Console (List Pixel))) × (stop_of (frame_meaning_of with_pixel_logged) (machine_of cartridge s i []) ≡ Ended here) × (state_left here ≡ after)
     × (sink_after_pixels drawn sink here.bus.sink ≡ sink_after) × (here.cycles ≡ cycles)

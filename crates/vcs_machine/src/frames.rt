@@ -2,7 +2,7 @@
 ghost use Rattle.std.specs.Prelude.{◌≡◌, ◌≤◌, ◌+◌, true, false, if◌then◌else◌, Some, None, IfOk};
 ghost use Rattle.std.specs.Prelude.{IfErr, IfSome, IfNone, IsTrue};
 ghost use Rattle.tia_core.specs.Clock.{Pixel, sink_after_pixels};
-ghost use Rattle.vcs_machine.specs.Consoles.{console_rules, with_pixel_logged, Console};
+ghost use Rattle.vcs_machine.specs.Consoles.{frame_meaning_of, with_pixel_logged, Console};
 ghost use Rattle.vcs_machine.specs.Faults.{stop_with};
 ghost use Rattle.vcs_machine.specs.Inputs.{is_input};
 ghost use Rattle.vcs_machine.specs.Frame.{stop_of, Machine, Ended, most_frame_cycles};

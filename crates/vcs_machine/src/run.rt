@@ -1,7 +1,7 @@
 //! Instructions until a frame stops.
 ghost use Rattle.std.specs.Prelude.{◌≡◌, ◌<◌, ◌≤◌, ◌+◌, false, IfOk, IfErr};
 ghost use Rattle.mos_cpu.specs.Registers.{Registers};
-ghost use Rattle.vcs_machine.specs.Consoles.{console_rules};
+ghost use Rattle.vcs_machine.specs.Consoles.{frame_meaning_of};
 ghost use Rattle.vcs_machine.specs.Faults.{stop_with};
 ghost use Rattle.vcs_machine.specs.Frame.{Machine, stop_of, Ended, most_frame_cycles};
 ghost use Rattle.vcs_machine.specs.Private.Totals.{IsBegun, beam_cycles, machine_since};
@@ -24,8 +24,8 @@ fn pass_rounds<S: Paint>(cpu: Cpu, console: &mut Console<S>, start: u32) -> Cpu
     requires no_wait { console.old.awaits_line ≡ false }
     requires no_end { console.old.ended ≡ false }
     requires begun { IsBegun start console.old }
-    ensures stops { stop_of (console_rules S.drawn) (machine_since start cpu console.old)
-        ≡ stop_of (console_rules S.drawn) (machine_since start result console.new) }
+    ensures stops { stop_of (frame_meaning_of S.drawn) (machine_since start cpu console.old)
+        ≡ stop_of (frame_meaning_of S.drawn) (machine_since start result console.new) }
     ensures begun { IsBegun start console.new }
     ensures later { beam_cycles console.old ≤ beam_cycles console.new }
 {
@@ -66,8 +66,8 @@ fn pass_rounds_after<S: Paint>(
     requires no_wait { console.old.awaits_line ≡ false }
     requires no_end { console.old.ended ≡ false }
     requires begun { IsBegun start console.old }
-    ensures stops { stop_of (console_rules S.drawn) (machine_since start cpu.old console.old)
-        ≡ stop_of (console_rules S.drawn) (machine_since start cpu.new console.new) }
+    ensures stops { stop_of (frame_meaning_of S.drawn) (machine_since start cpu.old console.old)
+        ≡ stop_of (frame_meaning_of S.drawn) (machine_since start cpu.new console.new) }
     ensures begun { IsBegun start console.new }
     ensures later { beam_cycles console.old ≤ beam_cycles console.new }
 {
@@ -83,9 +83,9 @@ fn pass_rounds_after<S: Paint>(
 #[inline(always)]
 fn run_until_stop<S: Paint>(cpu: &mut RunningCpu, console: &mut Console<S>) -> Result<u32, Halt>
     requires line { console.old.tia.line ≡ 0 }
-    ensures ok { IfOk result (λ total. stop_of (console_rules S.drawn) (record { registers = cpu.old; bus = console.old; cycles = 0 })
+    ensures ok { IfOk result (λ total. stop_of (frame_meaning_of S.drawn) (record { registers = cpu.old; bus = console.old; cycles = 0 })
         ≡ Ended (record { registers = cpu.new; bus = console.new; cycles = total })) }
-    ensures err { IfErr result (λ halt. stop_of (console_rules S.drawn) (record { registers = cpu.old; bus = console.old; cycles = 0 })
+    ensures err { IfErr result (λ halt. stop_of (frame_meaning_of S.drawn) (record { registers = cpu.old; bus = console.old; cycles = 0 })
         ≡ stop_with halt.kind (record { registers = cpu.new; bus = console.new; cycles = halt.cycles })) }
     ensures most { IfOk result (λ total. total ≤ most_frame_cycles) }
 {
@@ -117,9 +117,9 @@ fn run_until_stop<S: Paint>(cpu: &mut RunningCpu, console: &mut Console<S>) -> R
 #[inline(always)]
 pub fn run_frame<S: Paint>(cpu: &mut Cpu, console: &mut Console<S>) -> Result<u32, Halt>
     requires line { console.old.tia.line ≡ 0 }
-    ensures ok { IfOk result (λ total. stop_of (console_rules S.drawn) (record { registers = cpu.old; bus = console.old; cycles = 0 })
+    ensures ok { IfOk result (λ total. stop_of (frame_meaning_of S.drawn) (record { registers = cpu.old; bus = console.old; cycles = 0 })
         ≡ Ended (record { registers = cpu.new; bus = console.new; cycles = total })) }
-    ensures err { IfErr result (λ halt. stop_of (console_rules S.drawn) (record { registers = cpu.old; bus = console.old; cycles = 0 })
+    ensures err { IfErr result (λ halt. stop_of (frame_meaning_of S.drawn) (record { registers = cpu.old; bus = console.old; cycles = 0 })
         ≡ stop_with halt.kind (record { registers = cpu.new; bus = console.new; cycles = halt.cycles })) }
     ensures most { IfOk result (λ total. total ≤ most_frame_cycles) }
 {

@@ -3,7 +3,7 @@ ghost use Rattle.std.specs.Prelude.{◌≡◌, ◌<◌, ◌≤◌, ◌+◌, IfOk
 ghost use Rattle.mos_cpu.specs.declared.fault.CpuFault.{CpuFault};
 ghost use Rattle.vcs_machine.specs.Faults.{kind_of};
 ghost use Rattle.vcs_machine.specs.Frame.{Faulty, Went, is_over, overlong_cycles, turn};
-ghost use Rattle.vcs_machine.specs.Instructions.{executed_at, undrawn_of, undrawn_rules};
+ghost use Rattle.vcs_machine.specs.Instructions.{executed_at, undrawn_meaning, undrawn_of};
 ghost use Rattle.vcs_machine.specs.Instructions.{with_pixel_lost};
 ghost use Rattle.vcs_machine.specs.Pictures.{rows_of};
 
@@ -78,9 +78,9 @@ impl<'a> Stepping<'a> {
     }
 
     /// Whether the frame stops here: it has ended, or it is too long.
-    #[tactic(auto, unfolding(crate::specs::Consoles::console_rules))]
+    #[tactic(auto, unfolding(crate::specs::Consoles::frame_meaning_of))]
     pub fn is_over(&self) -> bool
-        ensures { result ≡ is_over undrawn_rules self.now }
+        ensures { result ≡ is_over undrawn_meaning self.now }
     {
         self.has_ended() || self.cycles >= TOO_MANY_CYCLES
     }
@@ -89,10 +89,10 @@ impl<'a> Stepping<'a> {
     /// one changes nothing.
     pub fn next(&mut self) -> Result<Executed, FaultKind>
         requires { self.old.cycles < overlong_cycles }
-        ensures went { OnOk result (turn undrawn_rules self.old ≡ Went self.new) }
+        ensures went { OnOk result (turn undrawn_meaning self.old ≡ Went self.new) }
         ensures executed { IfOk result (λ executed. executed ≡ executed_at with_pixel_lost self.old) }
         ensures later { OnOk result (self.old.cycles + 2 ≤ self.new.cycles) }
-        ensures fault { IfErr result (λ kind. (fault : CpuFault) × (kind ≡ kind_of fault) × (turn undrawn_rules self.old ≡ Faulty fault)) }
+        ensures fault { IfErr result (λ kind. (fault : CpuFault) × (kind ≡ kind_of fault) × (turn undrawn_meaning self.old ≡ Faulty fault)) }
         ensures same { OnErr result (self.new ≡ self.old) }
     {
         let cpu = self.cpu;

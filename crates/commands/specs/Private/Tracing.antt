@@ -3,7 +3,7 @@ use Rattle.std.specs.Prelude.{ℕ, Bool, List, Option, Some, None}
 use Rattle.std.specs.Io.KnownBytes.{Appends}
 use Rattle.vcs_machine.specs.Faults.{stop_with}
 use Rattle.vcs_machine.specs.Frame.{Ended, Machine, Reaches, Stop}
-use Rattle.vcs_machine.specs.Instructions.{Undrawn, begun, undrawn_rules}
+use Rattle.vcs_machine.specs.Instructions.{Undrawn, begun, undrawn_meaning}
 use Rattle.vcs_machine.specs.declared.fault.FaultKind.{FaultKind}
 use Rattle.commands.specs.Trace.{lines_of}
 
@@ -15,5 +15,5 @@ stop_at (Some kind) m = stop_with kind m
 -- a frame has come here from its start, and the lines of its instructions so far are written
 pub record HasWritten (start : Machine Undrawn) (has_banks : Bool) (old new : Option (List ℕ)) (here : Machine Undrawn) : Type 0 where
   pub count : ℕ
-  pub reaches : Reaches undrawn_rules start count here
-  pub written : Appends old new (lines_of has_banks (begun undrawn_rules start count))
+  pub reaches : Reaches undrawn_meaning start count here
+  pub written : Appends old new (lines_of has_banks (begun undrawn_meaning start count))

@@ -4,11 +4,11 @@ use Rattle.std.specs.Prelude.{ℕ, ◌≡◌, List}
 use Rattle.mos_cpu.specs.Buses.{Respects}
 use Rattle.tia_core.specs.Clock.{Pixel, sink_after_pixels}
 use Rattle.vcs_machine.specs.Consoles.{Console}
-use Rattle.vcs_machine.specs.Frame.{Machine, Rules, Stop, Ended, Overlong, Faulted}
+use Rattle.vcs_machine.specs.Frame.{Machine, FrameMeaning, Stop, Ended, Overlong, Faulted}
 
 -- A map between buses that keeps what a frame asks of them.
-pub record Follows {B C : Type 0} (b : Rules B) (c : Rules C) (h : B → C) : Type 0 where
-  pub meaning : Respects b.meaning c.meaning h
+pub record Follows {B C : Type 0} (b : FrameMeaning B) (c : FrameMeaning C) (h : B → C) : Type 0 where
+  pub calls : Respects b.calls c.calls h
   pub after_wait : (x : B) → c.after_wait (h x) ≡ h (b.after_wait x)
   pub wait : (x : B) → c.wait (h x) ≡ b.wait x
   pub ended : (x : B) → c.ended (h x) ≡ b.ended x

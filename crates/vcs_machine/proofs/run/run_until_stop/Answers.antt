@@ -1,7 +1,7 @@
 use Rattle.std.proofs.Common.{◌≡◌, ◌<◌, ◌∙◌, arith, refl, true, false}
 use Rattle.mos_cpu.specs.declared.fault.CpuFault.{CpuFault}
 use Rattle.mos_cpu.specs.declared.fault.CpuFault.TheVariants.{BadOpcode, FetchOutside}
-use Rattle.vcs_machine.specs.Consoles.{after_wait, console_rules}
+use Rattle.vcs_machine.specs.Consoles.{after_wait, frame_meaning_of}
 use Rattle.vcs_machine.specs.Faults.{stop_with, kind_of}
 use Rattle.vcs_machine.specs.Frame.{Machine, Faulted}
 use Rattle.vcs_machine.specs.Private.Totals.{beam_cycles}
@@ -61,7 +61,7 @@ returns-then-cycles-ge-TOO_MANY_CYCLES-clause-err g c =
     rw (told, c.beam_cycles-then-has_event-2.ensures.bus)
     (w.on going
     ∙ (rw c.wait-waited.ensures.bus at c.pass_rounds_after.ensures.stops)
-    ∙ stops-long (console_rules g.S.Paint.drawn) _ long)
+    ∙ stops-long (frame_meaning_of g.S.Paint.drawn) _ long)
 
 pub loop-fault-smaller-else-cycles-ge-TOO_MANY_CYCLES : goal.loop-fault-smaller-else-cycles-ge-TOO_MANY_CYCLES
 loop-fault-smaller-else-cycles-ge-TOO_MANY_CYCLES g c =
