@@ -26,15 +26,15 @@ use Rattle.run_cursor.proofs.CursorLemmas.{none_after}
 
 module _ {X : Type 0} (what : ℕ → List X) (from : ℕ) where
   -- what comes of more frames begins with what comes of fewer
-  split : (k d : ℕ) → from_frames what from (k + d) ≡ from_frames what from k ++ from_frames what (from + k) d
-  split k zero = rw (add-zero, append-nil) refl
-  split k (suc d) =
+  frames_in_two : (k d : ℕ) → from_frames what from (k + d) ≡ from_frames what from k ++ from_frames what (from + k) d
+  frames_in_two k zero = rw (add-zero, append-nil) refl
+  frames_in_two k (suc d) =
       let more : k + suc d ≡ suc (k + d) = omega arith in
       let place : from + (k + d) ≡ from + k + d = omega arith in
-      rw (more, split k d, place) (append_assoc (from_frames what from k) _ _)
+      rw (more, frames_in_two k d, place) (append_assoc (from_frames what from k) _ _)
 
   pub frames_begin : (k len : ℕ) → k ≤ len → from_frames what from len ≡ from_frames what from k ++ from_frames what (from + k) (len - k)
-  frames_begin k len le = let all : k + (len - k) ≡ len = omega arith in rw all at (split k (len - k))
+  frames_begin k len le = let all : k + (len - k) ≡ len = omega arith in rw all at (frames_in_two k (len - k))
 
   -- of frames of which nothing comes nothing comes
   pub frames_none : (len : ℕ) → ((x : ℕ) → from ≤ x → what x ≡ []) → from_frames what from len ≡ []

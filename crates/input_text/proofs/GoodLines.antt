@@ -91,9 +91,9 @@ said text good = rw (first_bad-none (lines_of text) good) refl
 
 -- the next line, and what is left after it
 module _ (text line : List ℕ) (number : ℕ) (inputs : List InputData) (rest after : Option (Bor (List ℕ)))
-    (so : ReadSoFar text number inputs rest) (split : lines_left rest ≡ line ∷ lines_left after) where
+    (so : ReadSoFar text number inputs rest) (parted : lines_left rest ≡ line ∷ lines_left after) where
   next_lines : lines_of text ≡ so.done ++ line ∷ lines_left after
-  next_lines = so.lines ∙ ap (λ (ls : List (List ℕ)). so.done ++ ls) split
+  next_lines = so.lines ∙ ap (λ (ls : List (List ℕ)). so.done ++ ls) parted
 
   next_good : are_good (so.done ++ line ∷ []) ≡ fits inputs line
   next_good = good_push so.done line so.good ∙ ap (λ (is : List InputData). fits is line) (sym so.inputs_are)

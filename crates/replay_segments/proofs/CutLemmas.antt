@@ -74,11 +74,11 @@ module _ (k most found : ℕ) (numbers : List ℕ) (positive : 0 < k) (all : fou
 
       place : (0 < n) × (n ≤ most) × (n % k ≡ 0) → Contains numbers n
       place (some, le, whole) =
-          let split = div-add-mod' n k in
+          let division = div-add-mod' n k in
           let q : 0 < n / k = grind (arith, zero-mul k) in
           let j : n / k - 1 + 1 ≡ n / k = omega (arith, q) in
-          let less : n / k ≤ found / k = (le-div_iff_mul-le {k = k} {x = n / k} {y = found} positive).1 (omega (arith, split, whole, all)) in
+          let less : n / k ≤ found / k = (le-div_iff_mul-le {k = k} {x = n / k} {y = found} positive).1 (omega (arith, division, whole, all)) in
           let low : n / k - 1 < length numbers = omega (arith, q, less, count) in
           let (p, at) = slice_get-below numbers (n / k - 1) low in
-          let e : p ≡ n = rw (each (n / k - 1) p at, j) (omega (arith, split, whole)) in
+          let e : p ≡ n = rw (each (n / k - 1) p at, j) (omega (arith, division, whole)) in
           (n / k - 1, low, get_or_from_slice_get numbers (n / k - 1) p n at ∙ e)

@@ -40,10 +40,10 @@ pub painted-add : {S : Type 0} (drawn : S → ℕ → ℕ → ℕ → S) (sink :
 painted-add drawn sink m n s = rw (pixels-add m n s) (painted-append drawn sink (pixels m s) (pixels n (iterate after_clock m s)))
 
 -- some clocks, and then the rest of n
-pub clocks-split : {S : Type 0} (drawn : S → ℕ → ℕ → ℕ → S) (sink : S) (m n : ℕ) (s : TiaState) → m ≤ n → let after = iterate after_clock m s in
+pub clocks-in_two : {S : Type 0} (drawn : S → ℕ → ℕ → ℕ → S) (sink : S) (m n : ℕ) (s : TiaState) → m ≤ n → let after = iterate after_clock m s in
     (iterate after_clock (n - m) after ≡ iterate after_clock n s)
     × (sink_after_pixels drawn (sink_after_pixels drawn sink (pixels m s)) (pixels (n - m) after) ≡ sink_after_pixels drawn sink (pixels n s))
-clocks-split drawn sink m n s le =
+clocks-in_two drawn sink m n s le =
     let e : m + (n - m) ≡ n = omega arith in
     (rw e at (sym (iterate-add after_clock m (n - m) s)), rw e at (sym (painted-add drawn sink m (n - m) s)))
 
