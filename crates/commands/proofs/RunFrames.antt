@@ -19,8 +19,8 @@ use Rattle.replay_plan.specs.declared.watches.Details.{Details}
 use Rattle.replay_segments.specs.KeptPictures.{picture_after}
 use Rattle.commands.specs.Frames.{frame_line, played_line}
 use Rattle.commands.specs.Private.Views.{bytes_shown, picture_of_frame}
-use Rattle.commands.specs.declared.asked.View.{View}
-use Rattle.commands.specs.declared.asked.View.TheVariants.{Line, Picture}
+use Rattle.commands.specs.declared.asked_frames.View.{View}
+use Rattle.commands.specs.declared.asked_frames.View.TheVariants.{Line, Picture}
 use Rattle.commands.specs.Asked.{from_frames}
 use Rattle.run_cursor.proofs.CursorLemmas.{none_after}
 

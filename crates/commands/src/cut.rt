@@ -6,7 +6,7 @@ ghost use Rattle.commands.specs.declared.line.Line.TheVariants.{Cut};
 ghost use Rattle.commands.specs.Cut.{Cuts};
 
 use crate::answer::Answer;
-use crate::cutting::{CutError, cut_movie};
+use crate::cut_movie::{CutError, cut_movie};
 use crate::line::Line;
 use movie_file::{Movie, MovieError, Progress};
 use std::alloc::{AllocError, Global};

@@ -5,7 +5,7 @@ ghost use Rattle.std.specs.NonZero.{non_zero_u32_get};
 ghost use Rattle.picture_file.specs.Prefixes.{AppendsPrefix};
 ghost use Rattle.commands.specs.Frames.{AppendsLines, Describes};
 
-use crate::asked::{View, write_asked};
+use crate::asked_frames::{View, write_asked};
 use crate::last_line::write_fault;
 use crate::status::Status;
 use crate::stop::{Stop, WriteError};

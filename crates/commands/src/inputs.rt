@@ -5,7 +5,7 @@ ghost use Rattle.commands.specs.Asked.{inputs_asked};
 ghost use Rattle.commands.specs.Inputs.{Lists};
 
 use crate::answer::Answer;
-use crate::asked::frames_asked;
+use crate::asked_frames::frames_asked;
 use crate::status::Status;
 use input_text::{write_numbered, write_text};
 use movie_file::Movie;

@@ -4,14 +4,15 @@
 #![tactic(auto)]
 
 mod answer;
-mod asked;
+mod asked_frames;
 mod assembly;
 mod cartridge;
 mod claims;
 mod command;
 mod convert;
 mod cut;
-mod cutting;
+mod cut_movie;
+mod direct_calls;
 mod frame_line;
 mod frames;
 mod info;
@@ -20,13 +21,12 @@ mod last_line;
 mod laws;
 mod line;
 mod make;
-mod making;
+mod make_run;
 mod mnemonic;
 mod pictures;
 mod refusal;
 mod report;
 mod run_error;
-mod runs;
 mod status;
 mod stop;
 mod streams;
@@ -36,13 +36,13 @@ mod verdict_text;
 mod verify;
 
 pub use command::{notation_of, run_command};
+pub use direct_calls::{run, run_convert, run_info, run_make};
 pub use laws::law_of_cuts;
 pub use line::Line;
 pub use movie_file::{Progress, Work};
 pub use picture_file::{WriteFault, ppm, rgb};
 pub use replay_plan::{InputForm, Notation};
 pub use run_error::{ReadError, RunError};
-pub use runs::{run, run_convert, run_info, run_make};
 pub use status::Status;
 pub use streams::{INPUT_LIMIT, read_all};
 pub use verify_pool::{Gate, NoGate, Ticket};

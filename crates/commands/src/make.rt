@@ -6,7 +6,7 @@ ghost use Rattle.commands.specs.Streams.{IsTooLong};
 
 use crate::answer::Answer;
 use crate::line::Line;
-use crate::making::{MadeMovie, make_run};
+use crate::make_run::{MadeMovie, make_run};
 use crate::run_error::ReadError;
 use crate::streams::read_all;
 use input_text::{TextError, read_text};

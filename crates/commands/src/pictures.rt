@@ -8,7 +8,7 @@ ghost use Rattle.commands.specs.Lines.{line_bytes, status_of};
 ghost use Rattle.commands.specs.Pictures.{AppendsPictures, Draws};
 ghost use Rattle.commands.specs.Streams.{WritesPart};
 
-use crate::asked::{View, write_asked};
+use crate::asked_frames::{View, write_asked};
 use crate::last_line::write_last;
 use crate::line::Line;
 use crate::status::Status;

@@ -10,7 +10,7 @@ ghost use Rattle.vcs_machine.specs.Instructions.{StopsAfter, Undrawn, begun, und
 ghost use Rattle.commands.specs.Private.Tracing.{stop_at};
 ghost use Rattle.commands.specs.Trace.{AppendsInstructions, Traces, lines_of};
 
-use crate::asked::cursor_after;
+use crate::asked_frames::cursor_after;
 use crate::last_line::write_last;
 use crate::line::Line;
 use crate::status::Status;

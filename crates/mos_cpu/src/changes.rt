@@ -7,10 +7,10 @@ ghost use Rattle.mos_cpu.specs.Private.OpcodeRuns.{IsChanger, IsRow, IsLow, IsOp
 
 use crate::arithmetic::{dec, inc};
 use crate::bus::Bus;
+use crate::memory_modes::PlaceMode;
 use crate::mode::Mode;
 use crate::operation::Operation;
 use crate::outcome::Outcome;
-use crate::places::PlaceMode;
 use crate::running_cpu::RunningCpu;
 use crate::running_status::RunningStatus;
 use crate::shifts::{asl, lsr, rol, ror};

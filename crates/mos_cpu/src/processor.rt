@@ -16,11 +16,11 @@ use crate::implied::{
     Clc, Cld, Cli, Clv, Dex, Dey, Inx, Iny, Nop, Sec, Sed, Sei, Tax, Tay, Tsx, Txa, Txs, Tya,
     implied,
 };
-use crate::opcode_table::row;
-use crate::operation::Operation;
-use crate::places::{
+use crate::memory_modes::{
     Absolute, AbsoluteX, AbsoluteY, IndirectX, IndirectY, ZeroPage, ZeroPageX, ZeroPageY,
 };
+use crate::opcode_table::row;
+use crate::operation::Operation;
 use crate::reads::{Adc, And, Bit, Cmp, Cpx, Cpy, Eor, Lda, Ldx, Ldy, Ora, Sbc, read, value};
 use crate::registers::Cpu;
 use crate::running_cpu::RunningCpu;

@@ -9,9 +9,9 @@ ghost use Rattle.mos_cpu.specs.Private.OpcodeRuns.{IsReader, IsRow, IsLow, IsOpc
 use crate::addressing::Target;
 use crate::arithmetic::{and, bit, compare, eor, load, ora};
 use crate::bus::Bus;
+use crate::memory_modes::PlaceMode;
 use crate::mode::Mode;
 use crate::operation::Operation;
-use crate::places::PlaceMode;
 use crate::running_cpu::RunningCpu;
 use crate::sums::{adc, sbc};
 

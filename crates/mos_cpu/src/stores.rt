@@ -7,8 +7,8 @@ ghost use Rattle.mos_cpu.specs.Private.OpcodeRuns.{IsStorer, IsRow, IsLow, IsOpc
 
 use crate::addressing::Target;
 use crate::bus::Bus;
+use crate::memory_modes::PlaceMode;
 use crate::operation::Operation;
-use crate::places::PlaceMode;
 use crate::running_cpu::RunningCpu;
 
 /// An operation that stores a register.

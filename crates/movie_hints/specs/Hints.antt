@@ -28,8 +28,8 @@ use Rattle.movie_hints.specs.declared.mismatch.Field.TheVariants as fields
 use Rattle.movie_hints.specs.declared.mismatch.Found.{Found}
 use Rattle.movie_hints.specs.declared.mismatch.Found.TheVariants as found
 use Rattle.movie_hints.specs.declared.mismatch.Mismatch.{Mismatch}
-use Rattle.movie_hints.specs.declared.texts.TextHint.{TextHint}
-use Rattle.movie_hints.specs.declared.texts.TextHint.TheVariants as texts
+use Rattle.movie_hints.specs.declared.text_hint.TextHint.{TextHint}
+use Rattle.movie_hints.specs.declared.text_hint.TextHint.TheVariants as texts
 
 -- The first bytes are these.
 abbrev pub Begins : List ℕ → List ℕ → Type 0

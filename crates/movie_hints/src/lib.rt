@@ -13,7 +13,7 @@ mod places;
 mod plain_text;
 mod refusals;
 mod state_rules;
-mod texts;
+mod text_hint;
 mod word;
 
 pub use claims::hint_of_claims;
@@ -22,5 +22,5 @@ pub use inputs::{hint_of_counts, hint_of_inputs, hint_of_rom};
 pub use look::Look;
 pub use mismatch::{Expected, Field, Found, Mismatch};
 pub use refusals::hint_of;
-pub use texts::{TextHint, hint_of_storage, hint_of_text};
+pub use text_hint::{TextHint, hint_of_storage, hint_of_text};
 pub use word::Word;

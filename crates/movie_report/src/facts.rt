@@ -11,10 +11,10 @@ ghost use Rattle.movie_report.specs.Facts.{start_differences_text, start_text, I
 use crate::checkpoints::checkpoint_facts;
 use crate::differences::{Comparison, differences};
 use crate::expectations::Agreement;
-use crate::failure::failure_facts;
-use crate::head::verdict_head;
+use crate::failure_facts::failure_facts;
 use crate::notation::{NumberFact, WordFact};
 use crate::notes::notes;
+use crate::verdict_head::verdict_head;
 use hex::encode;
 use input_text::is_idle;
 use md5::Md5;

@@ -1,6 +1,6 @@
 //! What commands answer and write, without memory of their own.
 
-use crate::failure::{Failure, right};
+use crate::call_failure::{CallFailure, right};
 use crate::gate::Counting;
 use arrayvec::ArrayVec;
 use command_line::Command;
@@ -56,7 +56,7 @@ pub(crate) fn answer_with<T: Threads + Wait + Sync + AllocGlobal, R: Read, S: Re
 impl Answer {
     /// Right where the status and what was written are wanted. But for a failed write, nothing may
     /// be written before an error.
-    pub(crate) fn is(&self, status: Status, text: &[u8], file: &[u8]) -> Result<(), Failure> {
+    pub(crate) fn is(&self, status: Status, text: &[u8], file: &[u8]) -> Result<(), CallFailure> {
         self.judged(
             status,
             self.text.as_slice() == text && self.file.as_slice() == file,
@@ -65,7 +65,7 @@ impl Answer {
     }
 
     /// The same where some of the text's lines may be written before an error, each whole.
-    pub(crate) fn is_in_lines(&self, status: Status, text: &[u8]) -> Result<(), Failure> {
+    pub(crate) fn is_in_lines(&self, status: Status, text: &[u8]) -> Result<(), CallFailure> {
         let written = self.text.as_slice();
         self.judged(
             status,
@@ -81,16 +81,16 @@ impl Answer {
         status: Status,
         is_wanted: bool,
         is_beginning: bool,
-    ) -> Result<(), Failure> {
+    ) -> Result<(), CallFailure> {
         if !self.has_ended {
-            return Err(Failure::Wrong);
+            return Err(CallFailure::Wrong);
         }
         match self.status {
             Ok(found) => right(found == status && is_wanted),
             Err(error) if is_beginning || error == RunError::WriteFault => {
-                Err(Failure::Run(error))
+                Err(CallFailure::Run(error))
             }
-            Err(_) => Err(Failure::Wrong),
+            Err(_) => Err(CallFailure::Wrong),
         }
     }
 }

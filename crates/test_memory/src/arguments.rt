@@ -1,13 +1,13 @@
 //! The arguments of a command line.
 
-use crate::failure::{Failure, OUT_OF_MEMORY, right};
+use crate::call_failure::{CallFailure, OUT_OF_MEMORY, right};
 use command_line::{Command, CommandLine, LineFault, parse_line};
 use replay_plan::Keep;
 use std::alloc::{AllocError, Global};
 use std::io::{self, Print};
 
 /// Words that are a command.
-pub(crate) fn are_command(alloc: Global) -> Result<(), Failure> {
+pub(crate) fn are_command(alloc: Global) -> Result<(), CallFailure> {
     match parse_line(alloc, &["vcs_check", "verify", "m", "--pictures", "p"]) {
         Ok(
             CommandLine {
@@ -17,25 +17,25 @@ pub(crate) fn are_command(alloc: Global) -> Result<(), Failure> {
             },
         ) => right(Keep::new(1, 600) == Ok(plan.keep)),
         Err(LineFault::Memory) => Err(OUT_OF_MEMORY),
-        _ => Err(Failure::Wrong),
+        _ => Err(CallFailure::Wrong),
     }
 }
 
 /// Words that are no command.
-pub(crate) fn are_usage(alloc: Global) -> Result<(), Failure> {
+pub(crate) fn are_usage(alloc: Global) -> Result<(), CallFailure> {
     match parse_line(alloc, &["vcs_check", "verify", "m", "--workers", "65"]) {
         Err(LineFault::Usage { .. }) => Ok(()),
         Err(LineFault::Memory) => Err(OUT_OF_MEMORY),
-        _ => Err(Failure::Wrong),
+        _ => Err(CallFailure::Wrong),
     }
 }
 
 /// Words that ask for help.
-pub(crate) fn are_help(alloc: Global) -> Result<(), Failure> {
+pub(crate) fn are_help(alloc: Global) -> Result<(), CallFailure> {
     match parse_line(alloc, &["vcs_check", "--help"]) {
         Err(LineFault::Help { .. }) => Ok(()),
         Err(LineFault::Memory) => Err(OUT_OF_MEMORY),
-        _ => Err(Failure::Wrong),
+        _ => Err(CallFailure::Wrong),
     }
 }
 

@@ -1,7 +1,7 @@
 //! What the program tells of frames and of instructions, over bytes in place of files.
 
 use crate::answer::answer_to;
-use crate::failure::Failure;
+use crate::call_failure::CallFailure;
 use crate::movies::two_frames;
 use command_line::Command;
 use commands::Status;
@@ -25,12 +25,12 @@ frame 2: 16 cycles, 1 rows, memory 80 02, state f2a70320d91e4670e162fcbe768faf0d
 pub(crate) fn are_told<R: Threads + Wait + Sync + AllocGlobal>(
     rt: &R,
     digests: bool,
-) -> Result<(), Failure> {
+) -> Result<(), CallFailure> {
     let wanted = if digests { LINES_WITH_DIGESTS } else { LINES };
     let mut watches = Watches::none();
-    let address = Address::new(0x80).ok_or(Failure::Wrong)?;
+    let address = Address::new(0x80).ok_or(CallFailure::Wrong)?;
     if watches.add(address).is_err() {
-        return Err(Failure::Wrong);
+        return Err(CallFailure::Wrong);
     }
     let frames = Command::Frames {
         first: NonZeroU32::MIN,
@@ -57,7 +57,7 @@ const OBJECTS: &str =
 /// The same as objects of JSON.
 pub(crate) fn are_told_as_json<R: Threads + Wait + Sync + AllocGlobal>(
     rt: &R,
-) -> Result<(), Failure> {
+) -> Result<(), CallFailure> {
     let frames = Command::Frames {
         first: NonZeroU32::MIN,
         count: 3,
@@ -89,7 +89,7 @@ const BOTH_LINES: usize = FIRST_LINE + 26 + MEMORY;
 /// may be there before an error, each whole.
 pub(crate) fn are_told_with_memory<R: Threads + Wait + Sync + AllocGlobal>(
     rt: &R,
-) -> Result<(), Failure> {
+) -> Result<(), CallFailure> {
     let frames = Command::Frames {
         first: NonZeroU32::MIN,
         count: 3,
@@ -119,7 +119,7 @@ frame 1: 13 cycles, 1 rows
 ";
 
 /// The trace of a frame.
-pub(crate) fn is_traced<R: Threads + Wait + Sync + AllocGlobal>(rt: &R) -> Result<(), Failure> {
+pub(crate) fn is_traced<R: Threads + Wait + Sync + AllocGlobal>(rt: &R) -> Result<(), CallFailure> {
     let trace = Command::Trace {
         frame: NonZeroU32::MIN,
     };

@@ -16,19 +16,19 @@
 
 mod answer;
 mod arguments;
-mod failure;
+mod call_failure;
+mod command_calls;
 mod frames;
 mod gate;
 mod growths;
+mod memory_first;
 mod movies;
-mod order;
-mod run;
 mod segments;
 mod workers;
 mod wrong_movies;
 
+use call_failure::CallFailure;
 use commands::InputForm;
-use failure::Failure;
 use growths::{REFUSED, grow};
 use std::alloc::Global;
 use std::io::{self, Print, Read};
@@ -38,16 +38,16 @@ use std::thread::Threads;
 use wrong_movies::WrongMovie;
 
 /// Tries a call about a movie or its segments; none has another name.
-fn outcome_of_movies(alloc: Global, call: &str) -> Option<Result<(), Failure>> {
+fn outcome_of_movies(alloc: Global, call: &str) -> Option<Result<(), CallFailure>> {
     Some(match call {
         "cartridge" => movies::is_cartridge(alloc),
         "read_movie" => movies::is_read(alloc),
         "write_movie" => movies::is_written(alloc),
         "make_movie" => movies::is_made(alloc),
-        "read_movie_with_bad_state" => order::is_bad_state(alloc),
-        "read_inputs_with_bad_input" => order::is_bad_input(alloc),
-        "make_movie_with_fault" => order::is_faulty_run(alloc),
-        "frame_with_fault" => order::is_faulty_frame(alloc),
+        "read_movie_with_bad_state" => memory_first::is_bad_state(alloc),
+        "read_inputs_with_bad_input" => memory_first::is_bad_input(alloc),
+        "make_movie_with_fault" => memory_first::is_faulty_run(alloc),
+        "frame_with_fault" => memory_first::is_faulty_frame(alloc),
         "verify_one" => segments::is_judged_whole(alloc),
         "verify_one_without_pictures" => segments::is_judged_without_pictures(alloc),
         "cuts" => segments::is_cut(alloc),
@@ -64,7 +64,7 @@ fn outcome_of_workers<R: Threads + Wait + Sync>(
     rt: &R,
     alloc: Global,
     call: &str,
-) -> Option<Result<(), Failure>> {
+) -> Option<Result<(), CallFailure>> {
     Some(match call {
         "desk" => workers::has_desk(alloc),
         "crew" => workers::is_worked_on(rt, alloc),
@@ -83,7 +83,7 @@ fn outcome_of_wrong_movies<R: Threads + Wait + Sync>(
     rt: &R,
     alloc: Global,
     call: &str,
-) -> Option<Result<(), Failure>> {
+) -> Option<Result<(), CallFailure>> {
     use WrongMovie::{FalseCounter, FalseMemory, Fault};
     Some(match call {
         "gather_false_memory" => segments::is_gathered_as_wrong(alloc, FalseMemory),
@@ -106,38 +106,38 @@ fn outcome_of_commands<R: Threads + Wait + Sync + AllocGlobal>(
     rt: &R,
     alloc: Global,
     call: &str,
-) -> Option<Result<(), Failure>> {
+) -> Option<Result<(), CallFailure>> {
     Some(match call {
         "command" => arguments::are_command(alloc),
         "usage" => arguments::are_usage(alloc),
         "help" => arguments::are_help(alloc),
-        "run" => run::is_judged(rt, alloc, 1),
-        "run_by_two" => run::is_judged(rt, alloc, 2),
-        "run_of_9_megabytes" => run::is_refused(rt),
-        "run_make" => run::is_made(alloc, InputForm::Bytes),
-        "run_make_of_text" => run::is_made(alloc, InputForm::Text),
-        "run_inputs" => run::is_listed(rt, false),
-        "run_inputs_with_numbers" => run::is_listed(rt, true),
-        "run_report" => run::is_reported(rt, 1),
-        "run_report_by_two" => run::is_reported(rt, 2),
-        "run_report_of_false" => run::is_reported_false(rt, 1),
-        "run_report_of_false_by_two" => run::is_reported_false(rt, 2),
-        "run_verify_as_json" => run::is_judged_as_json(rt),
-        "run_refusal_as_json" => run::is_refused_as_json(rt),
-        "run_report_with_rom" => run::is_compared(rt),
-        "run_info" => run::is_told(alloc),
-        "run_information" => run::is_told_as_json(rt),
-        "run_claims" => run::is_claimed(rt),
-        "run_cartridge" => run::is_taken(rt),
-        "run_convert" => run::is_converted(alloc),
+        "run" => command_calls::is_judged(rt, alloc, 1),
+        "run_by_two" => command_calls::is_judged(rt, alloc, 2),
+        "run_of_9_megabytes" => command_calls::is_refused(rt),
+        "run_make" => command_calls::is_made(alloc, InputForm::Bytes),
+        "run_make_of_text" => command_calls::is_made(alloc, InputForm::Text),
+        "run_inputs" => command_calls::is_listed(rt, false),
+        "run_inputs_with_numbers" => command_calls::is_listed(rt, true),
+        "run_report" => command_calls::is_reported(rt, 1),
+        "run_report_by_two" => command_calls::is_reported(rt, 2),
+        "run_report_of_false" => command_calls::is_reported_false(rt, 1),
+        "run_report_of_false_by_two" => command_calls::is_reported_false(rt, 2),
+        "run_verify_as_json" => command_calls::is_judged_as_json(rt),
+        "run_refusal_as_json" => command_calls::is_refused_as_json(rt),
+        "run_report_with_rom" => command_calls::is_compared(rt),
+        "run_info" => command_calls::is_told(alloc),
+        "run_information" => command_calls::is_told_as_json(rt),
+        "run_claims" => command_calls::is_claimed(rt),
+        "run_cartridge" => command_calls::is_taken(rt),
+        "run_convert" => command_calls::is_converted(alloc),
         "run_frames" => frames::are_told(rt, false),
         "run_frames_with_digests" => frames::are_told(rt, true),
         "run_frames_as_json" => frames::are_told_as_json(rt),
         "run_frames_with_memory" => frames::are_told_with_memory(rt),
         "run_trace" => frames::is_traced(rt),
-        "run_pictures" => run::is_drawn(rt),
-        "run_cut" => run::is_cut_out(rt),
-        "run_cut_with_fault" => order::is_faulty_cut(rt),
+        "run_pictures" => command_calls::is_drawn(rt),
+        "run_cut" => command_calls::is_cut_out(rt),
+        "run_cut_with_fault" => memory_first::is_faulty_cut(rt),
         _ => return None,
     })
 }
@@ -147,7 +147,7 @@ fn outcome_of<R: Threads + Wait + Sync + AllocGlobal>(
     rt: &R,
     alloc: Global,
     call: &str,
-) -> Option<Result<(), Failure>> {
+) -> Option<Result<(), CallFailure>> {
     if let Some(outcome) = outcome_of_movies(alloc, call) {
         return Some(outcome);
     }

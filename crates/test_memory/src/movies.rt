@@ -1,6 +1,6 @@
 //! Movies: one of two frames byte by byte, longer ones that are made.
 
-use crate::failure::{Failure, OUT_OF_MEMORY, right};
+use crate::call_failure::{CallFailure, OUT_OF_MEMORY, right};
 use movie_file::{Movie, make_movie, read_movie, write_movie};
 use riot_map::Cart;
 use std::alloc::{AllocError, Global};
@@ -88,24 +88,24 @@ pub(crate) fn conversion() -> [u8; CONVERTED_LENGTH] {
 }
 
 /// The movie of two frames.
-pub(crate) fn movie(alloc: Global) -> Result<Movie, Failure> {
+pub(crate) fn movie(alloc: Global) -> Result<Movie, CallFailure> {
     Ok(read_movie(alloc, &two_frames())?)
 }
 
 /// The cartridge of a movie of two frames.
-pub(crate) fn cartridge(alloc: Global, movie: &[u8; LENGTH]) -> Result<Cart, Failure> {
+pub(crate) fn cartridge(alloc: Global, movie: &[u8; LENGTH]) -> Result<Cart, CallFailure> {
     let mut bytes = Vec::with_capacity(alloc, 2048)?;
     bytes.extend_from_slice(&movie[14..2062])?;
     match Cart::new(bytes) {
         Ok(cart) => Ok(cart),
-        Err(_) => Err(Failure::Wrong),
+        Err(_) => Err(CallFailure::Wrong),
     }
 }
 
 /// A movie of so many frames of that cartridge, with a checkpoint at every so many.
-pub(crate) fn make(alloc: Global, frames: usize, every: u32) -> Result<Movie, Failure> {
+pub(crate) fn make(alloc: Global, frames: usize, every: u32) -> Result<Movie, CallFailure> {
     let Some(idle) = Input::new(0xFF, 0x3F, 0) else {
-        return Err(Failure::Wrong);
+        return Err(CallFailure::Wrong);
     };
     let cart = cartridge(alloc, &two_frames())?;
     let inputs = vec![in alloc; idle; frames]?;
@@ -113,28 +113,28 @@ pub(crate) fn make(alloc: Global, frames: usize, every: u32) -> Result<Movie, Fa
 }
 
 /// A cartridge of two banks, which takes no memory beside its bytes.
-pub(crate) fn is_cartridge(alloc: Global) -> Result<(), Failure> {
+pub(crate) fn is_cartridge(alloc: Global) -> Result<(), CallFailure> {
     let bytes = vec![in alloc; 0u8; 8192]?;
     right(Cart::new(bytes).is_ok())
 }
 
-pub(crate) fn is_read(alloc: Global) -> Result<(), Failure> {
+pub(crate) fn is_read(alloc: Global) -> Result<(), CallFailure> {
     let movie = movie(alloc)?;
     right(movie.frames() == 2 && movie.checkpoints() == 1)
 }
 
 /// Where it is out of memory nothing is written.
-pub(crate) fn is_written(alloc: Global) -> Result<(), Failure> {
+pub(crate) fn is_written(alloc: Global) -> Result<(), CallFailure> {
     let movie = movie(alloc)?;
     let mut out = Vec::new(alloc);
     match write_movie(&movie, &mut out) {
         Ok(()) => right(out.as_slice() == two_frames().as_slice()),
         Err(AllocError) if out.is_empty() => Err(OUT_OF_MEMORY),
-        Err(AllocError) => Err(Failure::Wrong),
+        Err(AllocError) => Err(CallFailure::Wrong),
     }
 }
 
-pub(crate) fn is_made(alloc: Global) -> Result<(), Failure> {
+pub(crate) fn is_made(alloc: Global) -> Result<(), CallFailure> {
     let movie = make(alloc, 5, 2)?;
     right(movie.frames() == 5 && movie.checkpoints() == 2)
 }

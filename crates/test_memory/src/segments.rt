@@ -1,7 +1,7 @@
 //! Verdicts of one thread: of the whole movie, and of its segments.
 ghost use Rattle.replay_segments.specs.Cuts.{Fits};
 
-use crate::failure::{Failure, OUT_OF_MEMORY, right};
+use crate::call_failure::{CallFailure, OUT_OF_MEMORY, right};
 use crate::movies::movie;
 use crate::wrong_movies::WrongMovie;
 use movie_file::Movie;
@@ -11,14 +11,14 @@ use std::alloc::Global;
 use std::num::NonZeroU16;
 
 /// Right for a genuine verdict with so many pictures.
-pub(crate) fn is_genuine(verdict: &Verdict, pictures: usize) -> Result<(), Failure> {
+pub(crate) fn is_genuine(verdict: &Verdict, pictures: usize) -> Result<(), CallFailure> {
     match verdict {
         Verdict::Genuine { pictures: kept } => right(kept.len() == pictures),
-        _ => Err(Failure::Wrong),
+        _ => Err(CallFailure::Wrong),
     }
 }
 
-pub(crate) fn is_judged_whole(alloc: Global) -> Result<(), Failure> {
+pub(crate) fn is_judged_whole(alloc: Global) -> Result<(), CallFailure> {
     let movie = movie(alloc)?;
     match verify_one(alloc, &movie, Keep::new(1, 2)?) {
         Ok(verdict) => is_genuine(&verdict, 2),
@@ -27,15 +27,15 @@ pub(crate) fn is_judged_whole(alloc: Global) -> Result<(), Failure> {
 }
 
 /// Only the movie takes memory: its verdict is never out of it.
-pub(crate) fn is_judged_without_pictures(alloc: Global) -> Result<(), Failure> {
+pub(crate) fn is_judged_without_pictures(alloc: Global) -> Result<(), CallFailure> {
     let movie = movie(alloc)?;
     match verify_one(alloc, &movie, Keep::new(1, 0)?) {
         Ok(verdict) => is_genuine(&verdict, 0),
-        Err(_) => Err(Failure::Wrong),
+        Err(_) => Err(CallFailure::Wrong),
     }
 }
 
-pub(crate) fn is_cut(alloc: Global) -> Result<(), Failure> {
+pub(crate) fn is_cut(alloc: Global) -> Result<(), CallFailure> {
     let movie = movie(alloc)?;
     let cuts = Cuts::every(alloc, &movie, NonZeroU16::MIN)?;
     right(cuts.segments() == 2)
@@ -43,17 +43,17 @@ pub(crate) fn is_cut(alloc: Global) -> Result<(), Failure> {
 
 /// Right for the piece of the first segment. That it is out of memory is seen by the verdict that it
 /// decides.
-fn is_first(alloc: Global, mut pieces: Vec<Piece>, piece: Piece) -> Result<(), Failure> {
+fn is_first(alloc: Global, mut pieces: Vec<Piece>, piece: Piece) -> Result<(), CallFailure> {
     if piece.passed() {
         return right(piece.number() == 0);
     }
     pieces.push(piece)?;
     let _verdict = gather(alloc, pieces, 1)?;
-    Err(Failure::Wrong)
+    Err(CallFailure::Wrong)
 }
 
 /// The first segment, with its picture.
-pub(crate) fn is_replayed(alloc: Global) -> Result<(), Failure> {
+pub(crate) fn is_replayed(alloc: Global) -> Result<(), CallFailure> {
     let movie = movie(alloc)?;
     let cuts = Cuts::new(&movie, vec![in alloc; 1u16]?)?;
     let keep = Keep::new(1, 2)?;
@@ -62,7 +62,12 @@ pub(crate) fn is_replayed(alloc: Global) -> Result<(), Failure> {
 }
 
 /// The pieces of all segments.
-fn replayed(alloc: Global, movie: &Movie, cuts: &Cuts, keep: Keep) -> Result<Vec<Piece>, Failure>
+fn replayed(
+    alloc: Global,
+    movie: &Movie,
+    cuts: &Cuts,
+    keep: Keep,
+) -> Result<Vec<Piece>, CallFailure>
     requires fit { Fits cuts.now movie.now }
 {
     let mut pieces = Vec::with_capacity(alloc, 2)?;
@@ -73,7 +78,7 @@ fn replayed(alloc: Global, movie: &Movie, cuts: &Cuts, keep: Keep) -> Result<Vec
 }
 
 /// Two segments of a frame each, with the pictures of so many frames.
-pub(crate) fn is_gathered(alloc: Global, pictures: u32) -> Result<(), Failure> {
+pub(crate) fn is_gathered(alloc: Global, pictures: u32) -> Result<(), CallFailure> {
     let movie = movie(alloc)?;
     let cuts = Cuts::every(alloc, &movie, NonZeroU16::MIN)?;
     let pieces = replayed(alloc, &movie, &cuts, Keep::new(1, pictures)?)?;
@@ -83,7 +88,7 @@ pub(crate) fn is_gathered(alloc: Global, pictures: u32) -> Result<(), Failure> {
 
 /// Pieces of a movie that is cut at its first checkpoint alone: those of the segments of these
 /// numbers, with the pictures of two frames.
-fn pieces_of(alloc: Global, movie: &Movie, numbers: &[u32]) -> Result<Vec<Piece>, Failure> {
+fn pieces_of(alloc: Global, movie: &Movie, numbers: &[u32]) -> Result<Vec<Piece>, CallFailure> {
     let cuts = Cuts::new(movie, vec![in alloc; 1u16]?)?;
     let keep = Keep::new(1, 2)?;
     let mut pieces = Vec::with_capacity(alloc, numbers.len())?;
@@ -96,7 +101,7 @@ fn pieces_of(alloc: Global, movie: &Movie, numbers: &[u32]) -> Result<Vec<Piece>
 
 /// A movie whose first segment is bad. Where the second one's piece is without memory, the verdict
 /// is still that of the first.
-pub(crate) fn is_gathered_as_wrong(alloc: Global, wrong: WrongMovie) -> Result<(), Failure> {
+pub(crate) fn is_gathered_as_wrong(alloc: Global, wrong: WrongMovie) -> Result<(), CallFailure> {
     let movie = wrong.movie(alloc)?;
     let pieces = pieces_of(alloc, &movie, &[0, 1])?;
     let verdict = gather(alloc, pieces, 2)?;
@@ -105,7 +110,7 @@ pub(crate) fn is_gathered_as_wrong(alloc: Global, wrong: WrongMovie) -> Result<(
 
 /// Two genuine segments, of which the second has two pieces. Where one of the two is without memory,
 /// the other one counts.
-pub(crate) fn is_gathered_of_three(alloc: Global) -> Result<(), Failure> {
+pub(crate) fn is_gathered_of_three(alloc: Global) -> Result<(), CallFailure> {
     let movie = movie(alloc)?;
     let pieces = pieces_of(alloc, &movie, &[0, 1, 1])?;
     let verdict = gather(alloc, pieces, 2)?;

@@ -1,7 +1,7 @@
 //! Verdicts by workers at one desk.
 ghost use Rattle.replay_segments.specs.Cuts.{Fits};
 
-use crate::failure::{Failure, OUT_OF_MEMORY, right};
+use crate::call_failure::{CallFailure, OUT_OF_MEMORY, right};
 use crate::growths::TakesRefused;
 use crate::movies::{make, movie};
 use crate::segments::is_genuine;
@@ -15,7 +15,7 @@ use std::sync::Wait;
 use std::thread::Threads;
 use verify_pool::{Desk, Gate, Hand, NoGate, crew, verify};
 
-pub(crate) fn has_desk(alloc: Global) -> Result<(), Failure> {
+pub(crate) fn has_desk(alloc: Global) -> Result<(), CallFailure> {
     let (desk, mut tickets) = match Desk::new(alloc, 2, 3) {
         Ok(made) => made,
         Err(AllocError) => return Err(OUT_OF_MEMORY),
@@ -23,7 +23,7 @@ pub(crate) fn has_desk(alloc: Global) -> Result<(), Failure> {
     let all = tickets.len() == 3;
     match tickets.pop() {
         Some(mut ticket) => right(all && desk.draw(&mut ticket) == Some(0)),
-        None => Err(Failure::Wrong),
+        None => Err(CallFailure::Wrong),
     }
 }
 
@@ -33,7 +33,7 @@ fn worked<R: Threads + Wait + Sync>(
     alloc: Global,
     movie: &Movie,
     cuts: &Cuts,
-) -> Result<Hand, Failure>
+) -> Result<Hand, CallFailure>
     requires fit { Fits cuts.now movie.now }
 {
     let keep = Keep::new(1, 2)?;
@@ -42,7 +42,7 @@ fn worked<R: Threads + Wait + Sync>(
         Err(AllocError) => return Err(OUT_OF_MEMORY),
     };
     let Some(ticket) = tickets.pop() else {
-        return Err(Failure::Wrong);
+        return Err(CallFailure::Wrong);
     };
     let pieces = Vec::with_capacity(alloc, cuts.segments() as usize)?;
     let mut hands = Vec::with_capacity(alloc, 1)?;
@@ -51,7 +51,7 @@ fn worked<R: Threads + Wait + Sync>(
 }
 
 /// Right for the pieces of two segments, in order, with a picture each.
-fn are_both(alloc: Global, pieces: Vec<Piece>) -> Result<(), Failure> {
+fn are_both(alloc: Global, pieces: Vec<Piece>) -> Result<(), CallFailure> {
     let numbers = pieces.iter().map(|piece| piece.number());
     let in_order = numbers.zip(0..2).all(|(number, wanted)| number == wanted);
     let all = in_order && pieces.len() == 2;
@@ -61,7 +61,10 @@ fn are_both(alloc: Global, pieces: Vec<Piece>) -> Result<(), Failure> {
 }
 
 /// One hand gets the pieces of both segments.
-pub(crate) fn is_worked_on<R: Threads + Wait + Sync>(rt: &R, alloc: Global) -> Result<(), Failure> {
+pub(crate) fn is_worked_on<R: Threads + Wait + Sync>(
+    rt: &R,
+    alloc: Global,
+) -> Result<(), CallFailure> {
     let movie = movie(alloc)?;
     let cuts = Cuts::every(alloc, &movie, NonZeroU16::MIN)?;
     let hand = worked(rt, alloc, &movie, &cuts)?;
@@ -76,10 +79,10 @@ fn judged_with<G: Gate + Sync, R: Threads + Wait + Sync>(
     cuts: &Cuts,
     workers: u8,
     gate: &G,
-) -> Result<(), Failure>
+) -> Result<(), CallFailure>
     requires fit { Fits cuts.now movie.now }
 {
-    let workers = Workers::new(workers).ok_or(Failure::Wrong)?;
+    let workers = Workers::new(workers).ok_or(CallFailure::Wrong)?;
     let keep = Keep::new(1, 600)?;
     let verdict = verify(rt, alloc, movie, cuts, workers, keep, gate)?;
     is_genuine(&verdict, movie.frames() as usize)
@@ -91,7 +94,7 @@ fn judge<R: Threads + Wait + Sync>(
     alloc: Global,
     movie: &Movie,
     workers: u8,
-) -> Result<(), Failure> {
+) -> Result<(), CallFailure> {
     let cuts = Cuts::every(alloc, movie, NonZeroU16::MIN)?;
     judged_with(rt, alloc, movie, &cuts, workers, &NoGate)
 }
@@ -101,17 +104,17 @@ fn judge<R: Threads + Wait + Sync>(
 pub(crate) fn is_entered_before_replay<R: Threads + Wait + Sync>(
     rt: &R,
     alloc: Global,
-) -> Result<(), Failure> {
+) -> Result<(), CallFailure> {
     let gate = TakesRefused::new(alloc);
     let movie = movie(alloc)?;
     let cuts = Cuts::every(alloc, &movie, NonZeroU16::MIN)?;
     let outcome = judged_with(rt, alloc, &movie, &cuts, 1, &gate);
     if !gate.was_entered() {
-        return outcome.and(Err(Failure::Wrong));
+        return outcome.and(Err(CallFailure::Wrong));
     }
     right(outcome.is_ok())?;
     if gate.has_met() {
-        Err(Failure::Fewer)
+        Err(CallFailure::Fewer)
     } else {
         Ok(())
     }
@@ -122,7 +125,7 @@ pub(crate) fn is_judged_by<R: Threads + Wait + Sync>(
     rt: &R,
     alloc: Global,
     workers: u8,
-) -> Result<(), Failure> {
+) -> Result<(), CallFailure> {
     judge(rt, alloc, &movie(alloc)?, workers)
 }
 
@@ -130,7 +133,7 @@ pub(crate) fn is_judged_by<R: Threads + Wait + Sync>(
 pub(crate) fn is_judged_by_eight<R: Threads + Wait + Sync>(
     rt: &R,
     alloc: Global,
-) -> Result<(), Failure> {
+) -> Result<(), CallFailure> {
     judge(rt, alloc, &make(alloc, 19, 2)?, 8)
 }
 
@@ -139,7 +142,7 @@ pub(crate) fn is_judged_by_eight<R: Threads + Wait + Sync>(
 pub(crate) fn is_judged_once<R: Threads + Wait + Sync>(
     rt: &R,
     alloc: Global,
-) -> Result<(), Failure> {
+) -> Result<(), CallFailure> {
     judge(rt, alloc, &make(alloc, 600, 300)?, 2)
 }
 
@@ -147,7 +150,7 @@ pub(crate) fn is_judged_once<R: Threads + Wait + Sync>(
 pub(crate) fn is_judged_once_of_one_cut<R: Threads + Wait + Sync>(
     rt: &R,
     alloc: Global,
-) -> Result<(), Failure> {
+) -> Result<(), CallFailure> {
     let movie = make(alloc, 600, 300)?;
     let cuts = Cuts::new(&movie, vec![in alloc; 1u16]?)?;
     judged_with(rt, alloc, &movie, &cuts, 2, &NoGate)
@@ -159,9 +162,9 @@ pub(crate) fn is_judged_as_wrong<R: Threads + Wait + Sync>(
     alloc: Global,
     wrong: WrongMovie,
     workers: u8,
-) -> Result<(), Failure> {
+) -> Result<(), CallFailure> {
     let movie = wrong.movie(alloc)?;
-    let workers = Workers::new(workers).ok_or(Failure::Wrong)?;
+    let workers = Workers::new(workers).ok_or(CallFailure::Wrong)?;
     let cuts = Cuts::every(alloc, &movie, NonZeroU16::MIN)?;
     let keep = Keep::new(1, 600)?;
     let verdict = verify(rt, alloc, &movie, &cuts, workers, keep, &NoGate)?;

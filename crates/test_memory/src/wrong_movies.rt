@@ -1,6 +1,6 @@
 //! Movies with a false claim or a fault, byte by byte, and their verdicts.
 
-use crate::failure::Failure;
+use crate::call_failure::CallFailure;
 use crate::movies::{ENDLESS_FRAMES, put, put_start};
 use movie_file::{Movie, read_movie};
 use replay_segments::Verdict;
@@ -71,7 +71,7 @@ fn faulty() -> [u8; 2461] {
 
 impl WrongMovie {
     /// The movie.
-    pub(crate) fn movie(self, alloc: Global) -> Result<Movie, Failure> {
+    pub(crate) fn movie(self, alloc: Global) -> Result<Movie, CallFailure> {
         Ok(match self {
             WrongMovie::FalseMemory => read_movie(alloc, &false_memory())?,
             WrongMovie::FalseCounter => read_movie(alloc, &false_counter())?,

@@ -15,11 +15,11 @@ mod devices;
 #[cfg(test)]
 mod expectation;
 #[cfg(test)]
+mod expected_roms;
+#[cfg(test)]
 mod frames;
 #[cfg(test)]
 mod gates;
-#[cfg(test)]
-mod looking;
 #[cfg(test)]
 mod make;
 #[cfg(test)]
@@ -29,9 +29,9 @@ mod pixmaps;
 #[cfg(test)]
 mod progress;
 #[cfg(test)]
-mod roms;
-#[cfg(test)]
 mod segments;
+#[cfg(test)]
+mod some_frames;
 #[cfg(test)]
 mod stages;
 #[cfg(test)]

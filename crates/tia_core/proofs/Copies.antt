@@ -6,7 +6,7 @@ use Rattle.std.proofs.Math.Bool.{or-false}
 use Rattle.std.proofs.lemmas.Bool.{agree_below, agree_below_at, cases_lt, eqb-true}
 use Rattle.tia_core.specs.Bits.{has_bit}
 use Rattle.tia_core.specs.Coverage.{copies_of, distance_of}
-use Rattle.tia_core.specs.declared.shape.TheConstants.{COPIES}
+use Rattle.tia_core.specs.declared.object_masks.TheConstants.{COPIES}
 use Rattle.tia_core.proofs.RoundTheLine.{distance_of-natural}
 use Rattle.tia_core.proofs.WordLemmas.{bit-above, bit-shifted, bit-shifted_low, bit_or-is}
 

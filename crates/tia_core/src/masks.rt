@@ -17,14 +17,14 @@ use crate::bits::has_bit;
 use crate::collision::{number_of, with_pairs};
 use crate::colour::{colour_at, is_dark};
 use crate::fields::TiaFields;
+use crate::least::least;
 use crate::mask::{Mask, first_change};
-use crate::numbers::least;
+use crate::object_masks::{ball_mask, missile_mask, player_mask, playfield_mask};
 use crate::objects::{Objects, is_shown, pairs_of_set, size, value_by_delay};
 use crate::paint::Paint;
 use crate::patterns::{
     Patterns, reshape_ball, reshape_missile0, reshape_missile1, reshape_player0, reshape_player1,
 };
-use crate::shape::{ball_mask, missile_mask, player_mask, playfield_mask};
 use crate::window::{MOST_PIXELS, Window, pixels};
 
 /// The masks of the six objects.

@@ -7,9 +7,9 @@ ghost use Rattle.tia_core.specs.Private.Stretches.{bl, m0, m1, p0, p1, IsPattern
 
 use crate::bits::has_bit;
 use crate::fields::TiaFields;
+use crate::object_masks::{ball_pattern, missile_pattern, player_pattern};
 use crate::objects::{size, value_by_delay};
 use crate::pattern::Pattern;
-use crate::shape::{ball_pattern, missile_pattern, player_pattern};
 
 /// The patterns of the objects that move. Those of missiles are as if these were not locked to their
 /// players.

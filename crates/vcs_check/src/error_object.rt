@@ -5,7 +5,7 @@ ghost use Rattle.vcs_check.specs.ErrorObjects.{GetsErrorObject, IsErrorObject, I
 ghost use Rattle.vcs_check.specs.ErrorObjects.{error_object, file_error_object};
 ghost use Rattle.vcs_check.specs.Failures.{file_error_of};
 
-use crate::answering::takes_file;
+use crate::command_files::takes_file;
 use crate::failure::Failure;
 use command_line::CommandLine;
 use commands::{Notation, notation_of};

@@ -2,7 +2,7 @@
 ghost use Rattle.std.specs.Prelude.{◌≡◌, None};
 ghost use Rattle.vcs_check.specs.Commands.{ReadsFirst, ReadsSecond};
 
-use crate::answering::{reads_first, reads_second};
+use crate::command_files::{reads_first, reads_second};
 use command_line::CommandLine;
 use named_files::Named;
 

@@ -7,14 +7,14 @@
 #![tactic(auto)]
 
 mod advice;
-mod answering;
+mod command_files;
 mod ending;
 mod error_object;
 mod failure;
+mod hints;
 mod kept;
 mod progress;
 mod reasons;
-mod remarks;
 
 ghost use Rattle.vcs_check.specs.Commands.{KeepsQuiet, LeavesPart, ReadsInputs, ReadsTwice, Writes};
 ghost use Rattle.vcs_check.specs.Endings.{Concludes, IsEndingOfWords};
@@ -37,12 +37,13 @@ ghost use Rattle.std.specs.Io.KnownBytes.{Keeps};
 ghost use Rattle.std.specs.Process.{exit_status};
 
 use advice::{advised, help_without_explain};
-use answering::{answer_line, draws, reads_first, reads_second, takes_file};
+use command_files::{answer_line, draws, reads_first, reads_second, takes_file};
 use command_line::{CommandLine, LineFault, parse_line};
 use commands::{Gate, Progress, RunError, Status};
 use ending::{Ending, not_written};
 use error_object::{says_errors, write_error_object};
 use failure::Failure;
+use hints::tell_hints;
 use kept::Kept;
 use named_files::{
     FileError, Limited, Named, Quota, Reason, STANDARD_ERROR, STANDARD_INPUT, STANDARD_OUTPUT,
@@ -50,7 +51,6 @@ use named_files::{
 };
 use progress::ProgressLine;
 use reasons::{has_explain, is_explained, write_reason};
-use remarks::remark;
 use std::alloc::{AllocError, Global};
 use std::env::{self, Env};
 use std::io::{self, BufWriter, Eprint, IsTerminal, Print, Read, Write};
@@ -169,7 +169,7 @@ fn explain<R: Files + AllocGlobal + Eprint, I>(
 {
     if line.explain {
         kept.take_standard(line, input);
-        remark(rt, line, kept, status);
+        tell_hints(rt, line, kept, status);
     }
 }
 

@@ -12,9 +12,9 @@ ghost use Rattle.vcs_machine.specs.Pictures.{Rows};
 
 use crate::console::Console;
 use crate::fault::{FrameError, Halt};
+use crate::frame_loop::run_frame;
 use crate::input::Input;
 use crate::picture::Picture;
-use crate::run::run_frame;
 use crate::state::State;
 use crate::timing::timed_frame;
 use riot_map::Cart;

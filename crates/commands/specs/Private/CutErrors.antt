@@ -4,8 +4,8 @@ use Rattle.movie_file.specs.Making.{counts_fit}
 use Rattle.movie_file.specs.Movie.{MovieData}
 use Rattle.run_cursor.specs.RunFaults.{FaultsWithin}
 use Rattle.commands.specs.Asked.{frames_asked}
-use Rattle.commands.specs.declared.cutting.CutError.{CutError}
-use Rattle.commands.specs.declared.cutting.CutError.TheVariants.{BadCounts, Fault, NoMemory}
+use Rattle.commands.specs.declared.cut_movie.CutError.{CutError}
+use Rattle.commands.specs.declared.cut_movie.CutError.TheVariants.{BadCounts, Fault, NoMemory}
 
 -- The counts are looked at first.
 abbrev pub Explains : MovieData → ℕ → ℕ → ℕ → CutError → Type 0

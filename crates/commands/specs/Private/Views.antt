@@ -5,10 +5,10 @@ use Rattle.movie_file.specs.Run.{run}
 use Rattle.picture_file.specs.PictureBytes.{picture_bytes, pictures_bytes}
 use Rattle.replay_segments.specs.KeptPictures.{picture_after}
 use Rattle.commands.specs.Frames.{frame_line}
-use Rattle.commands.specs.declared.asked.Shown.{Shown}
-use Rattle.commands.specs.declared.asked.Shown.TheVariants as shown
-use Rattle.commands.specs.declared.asked.View.{View}
-use Rattle.commands.specs.declared.asked.View.TheVariants.{Line, Picture}
+use Rattle.commands.specs.declared.asked_frames.Shown.{Shown}
+use Rattle.commands.specs.declared.asked_frames.Shown.TheVariants as shown
+use Rattle.commands.specs.declared.asked_frames.View.{View}
+use Rattle.commands.specs.declared.asked_frames.View.TheVariants.{Line, Picture}
 
 -- The bytes of the picture of frame k + 1.
 abbrev pub picture_of_frame : MovieData → ℕ → List ℕ

@@ -1,0 +1,155 @@
+//! Movies of some frames of a movie.
+ghost use Rattle.std.specs.Prelude.{◌≡◌, ◌≤◌, ◌+◌, ◌/◌, [], length, IfOk, IfErr, OnOk};
+ghost use Rattle.std.specs.Prelude.{IsTrue, vec_capacity};
+ghost use Rattle.std.specs.NonZero.{non_zero_u32_get};
+ghost use Rattle.movie_file.specs.Making.{counts_fit};
+ghost use Rattle.movie_file.specs.Movie.{IsMovie};
+ghost use Rattle.movie_file.specs.ClaimedStates.{Claims};
+ghost use Rattle.run_cursor.specs.RunFaults.{FaultsWithin};
+ghost use Rattle.commands.specs.Cut.{IsCutOf};
+ghost use Rattle.commands.specs.Private.CutErrors.{Explains};
+ghost use Rattle.commands.specs.Asked.{Ends, frames_asked};
+
+use crate::asked_frames::{cursor_in_work, frames_asked};
+use movie_file::{Checkpoint, Movie, Progress, Work, claim, do_counts_fit, movie_of, version_made};
+use riot_map::Cart;
+use run_cursor::{Cursor, RunFault};
+use std::alloc::{AllocError, Global};
+use std::num::NonZeroU32;
+use vcs_machine::FaultKind;
+
+/// Why a movie is not cut.
+#[derive(Clone, Copy)]
+pub(crate) enum CutError {
+    /// No frame is left, or there would be too many checkpoints.
+    BadCounts,
+    /// This frame of the movie, counted from 1, faults.
+    Fault { frame: u32, kind: FaultKind },
+    NoMemory,
+}
+
+impl From<RunFault> for CutError {
+    ghost use Rattle.commands.specs.declared.cut_movie.CutError.TheVariants.{Fault};
+
+    ghost from_gives = { λ fault error. error ≡ Fault fault.frame fault.kind };
+
+    fn from(fault: RunFault) -> CutError {
+        CutError::Fault {
+            frame: fault.frame,
+            kind: fault.kind,
+        }
+    }
+}
+
+impl From<AllocError> for CutError {
+    ghost use Rattle.commands.specs.declared.cut_movie.CutError.TheVariants.{NoMemory};
+
+    ghost from_gives = { λ _ error. error ≡ NoMemory };
+
+    fn from(_refused: AllocError) -> CutError {
+        CutError::NoMemory
+    }
+}
+
+/// A cartridge with the same bytes.
+fn copy_of(alloc: Global, cart: &Cart) -> Result<Cart, AllocError>
+    ensures { IfOk result (λ copy. copy ≡ cart.now) }
+{
+    let bytes = Vec::from_slice(alloc, cart.bytes())?;
+    match Cart::new(bytes) {
+        Ok(copy) => Ok(copy),
+        Err(_) => unreachable!(),
+    }
+}
+
+/// The checkpoints of the frames that follow, put into an empty list that has room for them.
+fn checkpoints_after<P: Progress>(
+    mut checkpoints: Vec<Checkpoint>,
+    cursor: &mut Cursor<'_>,
+    frames: u32,
+    every: u32,
+    progress: &P,
+) -> Result<Vec<Checkpoint>, RunFault>
+    requires empty { checkpoints.items ≡ [] }
+    requires within { cursor.old.frame + frames ≤ length cursor.old.movie.inputs }
+    requires every { 1 ≤ every }
+    requires room { frames / every ≤ vec_capacity checkpoints }
+    ensures ok { IfOk result (λ made. Claims cursor.old.movie cursor.old.frame every frames made.items) }
+    ensures ends { OnOk result (Ends cursor.old.movie (cursor.old.frame + frames)) }
+    ensures err { IfErr result (λ fault.
+        FaultsWithin cursor.old.movie (cursor.old.frame + frames) fault.frame fault.kind) }
+{
+    let from = cursor.frame();
+    for k in 0..frames {
+        match cursor.advance() {
+            Ok(()) => claim(&mut checkpoints, every, k + 1, cursor.state()),
+            Err(kind) => {
+                let frame = from + k + 1;
+                return Err(RunFault { frame, kind });
+            }
+        }
+        progress.advance();
+    }
+    Ok(checkpoints)
+}
+
+/// The movie of `count` frames from `first` on, as many as the movie has, with a checkpoint after
+/// each `every` of them. Each frame up to the last of them is told, as a part of a work that has
+/// begun.
+fn cut_of<P: Progress>(
+    alloc: Global,
+    movie: &Movie,
+    first: NonZeroU32,
+    count: u32,
+    every: u32,
+    progress: &P,
+) -> Result<Movie, CutError>
+    requires { IsTrue (counts_fit (frames_asked movie.now (non_zero_u32_get first) count) every) }
+    ensures lawful { IfOk result (λ cut. IsMovie cut) }
+    ensures cut { IfOk result (λ cut.
+        IsCutOf movie.now (non_zero_u32_get first) count every cut) }
+    ensures refused { IfErr result (Explains movie.now (non_zero_u32_get first) count every) }
+{
+    let from = first.get() - 1;
+    let frames = frames_asked(movie, first, count);
+    let mut cursor = cursor_in_work(movie, from, progress)?;
+    let start = cursor.state().copy();
+    let Ok(checkpoints) = Vec::with_capacity(alloc, (frames / every) as usize) else {
+        return Err(CutError::NoMemory);
+    };
+    let checkpoints = checkpoints_after(checkpoints, &mut cursor, frames, every, progress)?;
+    let asked = &movie.inputs()[from as usize..(from + frames) as usize];
+    let inputs = Vec::from_slice(alloc, asked)?;
+    let cart = copy_of(alloc, movie.cart())?;
+    let version = version_made(&cart, frames as usize);
+    Ok(movie_of(version, cart, start, inputs, checkpoints))
+}
+
+/// The same of any counts. The frames up to the last of the cut are told as one work.
+///
+/// `BadCounts` comes first, before any frame is run. `Fault` names the first of the frames up to
+/// the last one of the cut that faults, with its number in the movie.
+pub(crate) fn cut_movie<P: Progress>(
+    alloc: Global,
+    movie: &Movie,
+    first: NonZeroU32,
+    count: u32,
+    every: u32,
+    progress: &P,
+) -> Result<Movie, CutError>
+    ensures lawful { IfOk result (λ cut. IsMovie cut) }
+    ensures cut { IfOk result (λ cut.
+        IsCutOf movie.now (non_zero_u32_get first) count every cut) }
+    ensures counts { OnOk result (IsTrue
+        (counts_fit (frames_asked movie.now (non_zero_u32_get first) count) every)) }
+    ensures refused { IfErr result (Explains movie.now (non_zero_u32_get first) count every) }
+{
+    let frames = frames_asked(movie, first, count);
+    if !do_counts_fit(frames as usize, every) {
+        return Err(CutError::BadCounts);
+    }
+    progress.begin(Work::Frames(first.get() - 1 + frames));
+    let cut = cut_of(alloc, movie, first, count, every, progress);
+    progress.end();
+    cut
+}

@@ -1,7 +1,0 @@
-use Rattle.std.proofs.Common.{◌≡◌, ◌++◌, drop, string_bytes}
-use Rattle.movie_report.specs.Claims.{claims_text}
-use Rattle.movie_report.proofs.claimed.claims.Given as goal
-
-abbrev pub invariant-loop-index : goal.invariant-loop-index
-invariant-loop-index l =
-    string_bytes l.text ++ claims_text l.notation l.index (drop l.index l.movie.checkpoints) ≡ claims_text l.notation 0 l.movie.checkpoints

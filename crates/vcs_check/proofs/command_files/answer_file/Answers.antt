@@ -1,0 +1,12 @@
+use Rattle.std.proofs.Common.{Ok, Err}
+use Rattle.vcs_check.proofs.InputLemmas.{LeavesPart-weaker, Writes-weaker, part_by_input}
+use Rattle.vcs_check.proofs.command_files.answer_file.Goals as goal
+
+pub returns-in-Ok-clause-ok : goal.returns-in-Ok-clause-ok
+returns-in-Ok-clause-ok g c = Writes-weaker c.args.line.now _ _
+    (λ bytes old new read. ((λ first. absurd (c.requires first)), read.1, λ other others. read.2 others)) _ _ (Ok c.in-Ok.status) c.in-Ok.ensures.ok
+
+pub returns-clause-part : goal.returns-clause-part
+returns-clause-part g c = rw c.by_input.ensures
+    (part_by_input c.args.line.now _ _ _ c.in-Err.failure c.file_error.result (LeavesPart-weaker c.args.line.now _ _
+    (λ bytes old new read. ((λ first. absurd (c.requires first)), read.1, λ other others. read.2 others)) _ _ (Err c.in-Err.failure) c.in-Err.ensures.part))
