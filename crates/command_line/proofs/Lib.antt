@@ -1,8 +1,8 @@
 pub mod Added
 pub mod Addresses
-pub mod Found
-pub mod Getters
-pub mod Known
+pub mod ClapAnswers
+pub mod ClapGetters
+pub mod FoundNumbers
 pub mod Lists
 pub mod Numbers
 pub mod Stops

@@ -23,7 +23,7 @@ use Rattle.command_line.specs.Table.{needed_word, repeated_word, word}
 use Rattle.std.proofs.lemmas.Option.{IfSome_then}
 use Rattle.command_line.specs.Private.Numbers.{HasNumbersOf, IsNumberIn, Suits, SuitsEach}
 use Rattle.command_line.proofs.Lists.{Each, found}
-use Rattle.command_line.proofs.Found.{AreGood, AreOwn, IsFilled, IsGood, by_cases, defaults_good, none_first, none_then, settled_good, walk_good}
+use Rattle.command_line.proofs.FoundNumbers.{AreGood, AreOwn, IsFilled, IsGood, by_cases, defaults_good, none_first, none_then, settled_good, walk_good}
 
 module _ (id : Text) (least most : ℕ) where
   -- ---- the argument is there

@@ -13,7 +13,7 @@ use Rattle.clap.specs.Simple.{argument_words, built, entered, label_of, names_of
 use Rattle.clap.specs.Faults.{other_fault, step_fault, turn_fault, walk_fault, word_fault}
 use Rattle.clap.specs.Kinds.{or_else}
 use Rattle.std.specs.List.{list_any}
-use Rattle.command_line.proofs.Found.{none_first, none_then}
+use Rattle.command_line.proofs.FoundNumbers.{none_first, none_then}
 use Rattle.command_line.proofs.Lists.{Each, found}
 use Rattle.command_line.specs.Meanings.{IsLine, IsLineAt}
 use Rattle.command_line.specs.Private.Names.{IsUnlisted}

@@ -31,7 +31,7 @@ use std::convert::AsStr;
 use std::num::{NonZeroU16, NonZeroU32};
 
 /// The word of an argument, or the empty text.
-#[tactic(auto, using(crate::proofs::Getters::text_or, crate::proofs::Getters::word_read))]
+#[tactic(auto, using(crate::proofs::ClapGetters::text_or, crate::proofs::ClapGetters::word_read))]
 pub(crate) fn text_of(
     alloc: Global,
     matches: &ArgMatches<'_>,
@@ -44,7 +44,7 @@ pub(crate) fn text_of(
 }
 
 /// The word of an option, if it is there.
-#[tactic(auto, using(crate::proofs::Getters::word_read))]
+#[tactic(auto, using(crate::proofs::ClapGetters::word_read))]
 pub(crate) fn word_of(
     alloc: Global,
     matches: &ArgMatches<'_>,
@@ -71,7 +71,7 @@ pub(crate) fn number_at(matches: &ArgMatches<'_>, name: &str) -> u32
 }
 
 /// The number of an argument that is at least 1.
-#[tactic(auto, using(crate::proofs::Getters::ranges))]
+#[tactic(auto, using(crate::proofs::ClapGetters::ranges))]
 pub(crate) fn number_from_one(matches: &ArgMatches<'_>, name: &str) -> NonZeroU32
     requires { IsNumberIn 1 4294967295 (one_of name.now (rows_of (found_of matches.now))) }
     ensures { option_map number_in (one_of name.now (rows_of (found_of matches.now)))
@@ -84,7 +84,7 @@ pub(crate) fn number_from_one(matches: &ArgMatches<'_>, name: &str) -> NonZeroU3
 }
 
 /// The workers that are asked for.
-#[tactic(auto, using(crate::proofs::Getters::ranges))]
+#[tactic(auto, using(crate::proofs::ClapGetters::ranges))]
 pub(crate) fn workers_of(matches: &ArgMatches<'_>) -> Workers
     requires { Suits workers_row.kind (one_of workers_row.name (rows_of (found_of matches.now))) }
     ensures { number_of workers_row (rows_of (found_of matches.now)) ≡ Some result.number }
@@ -96,7 +96,7 @@ pub(crate) fn workers_of(matches: &ArgMatches<'_>) -> Workers
 }
 
 /// Where `verify` cuts the movie.
-#[tactic(auto, using(crate::proofs::Getters::ranges))]
+#[tactic(auto, using(crate::proofs::ClapGetters::ranges))]
 fn cuts_of(matches: &ArgMatches<'_>) -> NonZeroU16
     requires { Suits cuts_row.kind (one_of cuts_row.name (rows_of (found_of matches.now))) }
     ensures { number_of cuts_row (rows_of (found_of matches.now))
@@ -109,7 +109,7 @@ fn cuts_of(matches: &ArgMatches<'_>) -> NonZeroU16
 }
 
 /// The pictures that are kept, which are none if no file takes them.
-#[tactic(auto, using(crate::proofs::Getters::ranges, crate::proofs::Getters::word_read))]
+#[tactic(auto, using(crate::proofs::ClapGetters::ranges, crate::proofs::ClapGetters::word_read))]
 fn keep_of(matches: &ArgMatches<'_>) -> Keep
     requires first { Suits first_row.kind (one_of first_row.name (rows_of (found_of matches.now))) }
     requires count { Suits count_row.kind (one_of count_row.name (rows_of (found_of matches.now))) }

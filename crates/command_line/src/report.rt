@@ -23,7 +23,7 @@ fn told_digest(alloc: Global, word: &str) -> Result<String, AllocError>
 }
 
 /// The digest that the cartridge is expected to have, if one is asked for.
-#[tactic(auto, using(crate::proofs::Getters::word_read))]
+#[tactic(auto, using(crate::proofs::ClapGetters::word_read))]
 fn digest_of(alloc: Global, matches: &ArgMatches<'_>) -> Result<Option<[u8; 32]>, LineFault>
     ensures ok { IfOk result (IsDigest (first_of sha256_row.name (rows_of (found_of matches.now)))) }
     ensures err { IfErr result (IsNoReport (rows_of (found_of matches.now))) }

@@ -14,7 +14,7 @@ use Rattle.movie_file.specs.declared.checkpoint.Checkpoint.{Checkpoint}
 use Rattle.movie_file.proofs.InputLemmas.{AreInputs}
 use Rattle.movie_file.proofs.MakingRuns.{IsMovie-parts, parts}
 use Rattle.commands.specs.Cut.{IsCutOf}
-use Rattle.commands.specs.Asked.{inputs_asked, frames_asked, Ends}
+use Rattle.commands.specs.AskedFrames.{inputs_asked, frames_asked, Ends}
 
 -- the inputs that are asked for are lawful, as all of the movie's are
 asked_lawful : (m : MovieData) (first count : ℕ) → AreInputs m.inputs → AreInputs (inputs_asked m first count)

@@ -21,7 +21,7 @@ use Rattle.commands.specs.Frames.{frame_line, played_line}
 use Rattle.commands.specs.Private.Views.{bytes_shown, picture_of_frame}
 use Rattle.commands.specs.declared.asked_frames.View.{View}
 use Rattle.commands.specs.declared.asked_frames.View.TheVariants.{Line, Picture}
-use Rattle.commands.specs.Asked.{from_frames}
+use Rattle.commands.specs.AskedFrames.{from_frames}
 use Rattle.run_cursor.proofs.CursorLemmas.{none_after}
 
 module _ {X : Type 0} (what : ℕ → List X) (from : ℕ) where

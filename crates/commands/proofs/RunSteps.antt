@@ -13,7 +13,7 @@ use Rattle.movie_file.specs.Run.{run}
 use Rattle.movie_file.proofs.RunLemmas.{run-next, faults-here}
 use Rattle.run_cursor.specs.RunFaults.{FaultsWithin}
 use Rattle.run_cursor.proofs.CursorLemmas.{no_run}
-use Rattle.commands.specs.Asked.{Ends, inputs_asked, frames_asked}
+use Rattle.commands.specs.AskedFrames.{Ends, inputs_asked, frames_asked}
 
 -- it ends, or faults
 pub faults_sooner : (m : MovieData) (n more frame : ℕ) (kind : FaultKind) → n ≤ more → FaultsWithin m n frame kind → FaultsWithin m more frame kind

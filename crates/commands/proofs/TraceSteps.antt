@@ -21,7 +21,7 @@ use Rattle.picture_file.specs.Prefixes.{AppendsPrefix}
 use Rattle.picture_file.proofs.BytesWritten.{appends_kept, appends_then}
 use Rattle.picture_file.proofs.BytesWritten.{prefix_after}
 use Rattle.commands.specs.Private.Tracing.{HasWritten}
-use Rattle.commands.specs.Asked.{from_frames}
+use Rattle.commands.specs.AskedFrames.{from_frames}
 use Rattle.commands.specs.Trace.{lines_of}
 use Rattle.commands.proofs.RunFrames.{frames_begin}
 

@@ -13,7 +13,7 @@ use Rattle.picture_file.specs.Prefixes.{AppendsPrefix}
 use Rattle.picture_file.proofs.BytesWritten.{appends_nothing, appends_then, prefix_after, prefix_longer}
 use Rattle.commands.specs.Private.Stops.{StopsWriting, stop_of}
 use Rattle.run_cursor.specs.RunFaults.{FaultsWithin, FrameFails}
-use Rattle.commands.specs.Asked.{Ends, frames_asked, from_frames, last_asked}
+use Rattle.commands.specs.AskedFrames.{Ends, frames_asked, from_frames, last_asked}
 use Rattle.commands.specs.declared.stop.Stop.TheVariants.{Fault}
 use Rattle.commands.proofs.RunFrames.{EndsAtFault, frames_begin, frames_none}
 use Rattle.commands.proofs.RunSteps.{ends_or_faults, faults_sooner, frames_asked-min}

@@ -19,7 +19,7 @@ use Rattle.commands.specs.declared.line.Line.{Line}
 use Rattle.commands.specs.declared.line.Line.TheVariants as lines
 use Rattle.commands.specs.Pictures.{AppendsPictures, drawn, Draws}
 use Rattle.commands.specs.Private.Views.{picture_of_frame}
-use Rattle.commands.specs.Asked.{frames_asked, from_frames, pictures_after}
+use Rattle.commands.specs.AskedFrames.{frames_asked, from_frames, pictures_after}
 use Rattle.commands.proofs.RunFrames.{frames_flat}
 use Rattle.commands.proofs.WrittenFrames.{asked_ends_or_faults}
 

@@ -9,7 +9,7 @@ use Rattle.movie_file.specs.declared.checkpoint.Checkpoint.{Checkpoint}
 use Rattle.movie_file.specs.declared.error.MovieError.TheVariants.{BadCounts}
 use Rattle.commands.specs.Answers.{AnswerData, line_answer, movie_answer}
 use Rattle.run_cursor.specs.RunFaults.{FaultsWithin}
-use Rattle.commands.specs.Asked.{inputs_asked, frames_asked, Ends}
+use Rattle.commands.specs.AskedFrames.{inputs_asked, frames_asked, Ends}
 use Rattle.commands.specs.declared.line.Line.TheVariants as lines
 
 -- The movie `c` of those frames of `m`. It starts in the state of the run before the first of them,

@@ -18,7 +18,7 @@ use Rattle.movie_file.specs.Movie.{MovieData}
 use Rattle.movie_file.specs.Record.{record_of}
 use Rattle.movie_file.specs.Run.{run}
 use Rattle.movie_file.specs.declared.checkpoint.Checkpoint.{Checkpoint}
-use Rattle.movie_report.specs.Heads.{fault_members}
+use Rattle.movie_report.specs.VerdictHeads.{fault_members}
 use Rattle.picture_file.specs.PictureBytes.{picture_bytes}
 use Rattle.replay_plan.specs.Limits.{first_address}
 use Rattle.replay_plan.specs.declared.notation.Notation.{Notation}
@@ -29,7 +29,7 @@ use Rattle.commands.specs.declared.status.Status.{Status}
 use Rattle.commands.specs.declared.status.Status.TheVariants as statuses
 use Rattle.commands.specs.Lines.{frame_text, line_bytes}
 use Rattle.run_cursor.specs.RunFaults.{FaultsWithin}
-use Rattle.commands.specs.Asked.{frames_asked, from_frames, last_asked, Ends}
+use Rattle.commands.specs.AskedFrames.{frames_asked, from_frames, last_asked, Ends}
 use Rattle.commands.specs.declared.line.Line.TheVariants as lines
 
 -- ---- one frame

@@ -4,7 +4,7 @@ use Rattle.vcs_machine.specs.Inputs.{InputData}
 use Rattle.input_text.specs.Stretches.{IsNumbered, IsPrinted}
 use Rattle.movie_file.specs.Movie.{MovieData}
 use Rattle.commands.specs.Answers.{AnswerData, text_answer}
-use Rattle.commands.specs.Asked.{inputs_asked}
+use Rattle.commands.specs.AskedFrames.{inputs_asked}
 use Rattle.commands.specs.declared.status.Status.TheVariants.{Done}
 
 -- The text of these inputs, of which the first is that of this frame: with the numbers of frames, or

@@ -1,5 +1,5 @@
 pub mod Answers
-pub mod Asked
+pub mod AskedFrames
 pub mod Assembly
 pub mod Cartridge
 pub mod Claims

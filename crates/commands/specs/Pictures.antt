@@ -6,7 +6,7 @@ use Rattle.movie_file.specs.Movie.{MovieData}
 use Rattle.picture_file.specs.PictureBytes.{pictures_bytes}
 use Rattle.commands.specs.Answers.{AnswerData, line_answer}
 use Rattle.run_cursor.specs.RunFaults.{FaultsWithin}
-use Rattle.commands.specs.Asked.{frames_asked, last_asked, Ends, pictures_after}
+use Rattle.commands.specs.AskedFrames.{frames_asked, last_asked, Ends, pictures_after}
 use Rattle.commands.specs.declared.line.Line.{Line}
 use Rattle.commands.specs.declared.line.Line.TheVariants as lines
 

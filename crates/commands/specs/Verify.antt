@@ -10,7 +10,7 @@ use Rattle.replay_plan.specs.declared.notation.Notation.TheVariants.{Lines, Json
 use Rattle.replay_segments.specs.declared.verdict.Verdict.{Verdict}
 use Rattle.replay_segments.specs.declared.verdict.Verdict.TheVariants.{Genuine, FalseCheckpoint}
 use Rattle.replay_segments.specs.declared.verdict.Verdict.TheVariants.{Fault}
-use Rattle.movie_report.specs.Heads.{verdict_head}
+use Rattle.movie_report.specs.VerdictHeads.{verdict_head}
 use Rattle.commands.specs.Answers.{AnswerData}
 use Rattle.commands.specs.Lines.{line_bytes, status_of}
 use Rattle.commands.specs.declared.line.Line.{Line}

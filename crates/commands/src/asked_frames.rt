@@ -8,7 +8,7 @@ ghost use Rattle.picture_file.specs.Prefixes.{AppendsPrefix};
 ghost use Rattle.replay_segments.specs.NextCheckpoint.{IsNext};
 ghost use Rattle.run_cursor.specs.Cursor.{IsAt};
 ghost use Rattle.run_cursor.specs.RunFaults.{FaultsWithin, FrameFails};
-ghost use Rattle.commands.specs.Asked.{Ends, frames_asked, from_frames, last_asked};
+ghost use Rattle.commands.specs.AskedFrames.{Ends, frames_asked, from_frames, last_asked};
 ghost use Rattle.commands.specs.Private.Stops.{StopsWriting};
 ghost use Rattle.commands.specs.Private.Views.{bytes_shown, picture_of_frame, shown_bytes};
 

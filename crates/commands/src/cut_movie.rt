@@ -8,7 +8,7 @@ ghost use Rattle.movie_file.specs.ClaimedStates.{Claims};
 ghost use Rattle.run_cursor.specs.RunFaults.{FaultsWithin};
 ghost use Rattle.commands.specs.Cut.{IsCutOf};
 ghost use Rattle.commands.specs.Private.CutErrors.{Explains};
-ghost use Rattle.commands.specs.Asked.{Ends, frames_asked};
+ghost use Rattle.commands.specs.AskedFrames.{Ends, frames_asked};
 
 use crate::asked_frames::{cursor_in_work, frames_asked};
 use movie_file::{Checkpoint, Movie, Progress, Work, claim, do_counts_fit, movie_of, version_made};

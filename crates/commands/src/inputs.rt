@@ -1,7 +1,7 @@
 //! The inputs of a movie as text.
 ghost use Rattle.std.specs.Prelude.{◌≡◌, IfOk};
 ghost use Rattle.std.specs.NonZero.{non_zero_u32_get};
-ghost use Rattle.commands.specs.Asked.{inputs_asked};
+ghost use Rattle.commands.specs.AskedFrames.{inputs_asked};
 ghost use Rattle.commands.specs.Inputs.{Lists};
 
 use crate::answer::Answer;

@@ -17,7 +17,7 @@ use Rattle.movie_report.specs.CheckpointFacts.{checkpoints_text}
 use Rattle.movie_report.specs.Differences.{differences_text}
 use Rattle.movie_report.specs.Expectations.{agreement_text}
 use Rattle.movie_report.specs.FailureFacts.{HasFailure}
-use Rattle.movie_report.specs.Heads.{verdict_head}
+use Rattle.movie_report.specs.VerdictHeads.{verdict_head}
 use Rattle.movie_report.specs.Notations.{number_fact, word_fact}
 use Rattle.movie_report.specs.Notes.{notes_of, notes_text}
 use Rattle.movie_report.specs.declared.differences.Comparison.TheVariants.{Start}

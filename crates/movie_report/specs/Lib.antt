@@ -6,7 +6,7 @@ pub mod Claims
 pub mod Differences
 pub mod Expectations
 pub mod FailureFacts
-pub mod Heads
+pub mod VerdictHeads
 pub mod Facts
 pub mod Notations
 pub mod Notes

@@ -1,6 +1,6 @@
 //! How an object of JSON about a verdict begins.
 ghost use Rattle.std.specs.Prelude.{◌≡◌, IfOk, string_bytes};
-ghost use Rattle.movie_report.specs.Heads.{verdict_head};
+ghost use Rattle.movie_report.specs.VerdictHeads.{verdict_head};
 
 use replay_segments::Verdict;
 use std::alloc::{AllocError, Global};
@@ -14,7 +14,7 @@ pub struct FaultMembers(pub FaultKind);
 
 impl fmt::Display for FaultMembers {
     ghost use Rattle.std.specs.Prelude.{Some};
-    ghost use Rattle.movie_report.specs.Heads.{fault_members};
+    ghost use Rattle.movie_report.specs.VerdictHeads.{fault_members};
 
     ghost output = { λ fault. Some (fault_members fault.0) };
 

@@ -15,8 +15,8 @@ use Rattle.replay_segments.specs.Gathering.{NamesAll, HasPassed, PassedBelow, Is
 use Rattle.replay_segments.specs.Gathering.{IsFirstMissing, IsFirstRefused, picture_count}
 use Rattle.replay_segments.specs.Pieces.{PieceData, Job, passed, segments_of}
 use Rattle.replay_segments.specs.Verdicts.{IsVerdict}
-use Rattle.replay_segments.proofs.Composition.{IsPrefix, IsPrefix-start, IsPrefix-next}
-use Rattle.replay_segments.proofs.Composition.{IsVerdict-bad}
+use Rattle.replay_segments.proofs.OneUnbrokenRun.{IsPrefix, IsPrefix-start, IsPrefix-next}
+use Rattle.replay_segments.proofs.OneUnbrokenRun.{IsVerdict-bad}
 use Rattle.replay_segments.proofs.FindLemmas.{PassedBelow-found}
 use Rattle.replay_segments.proofs.TakeLemmas.{of_job}
 

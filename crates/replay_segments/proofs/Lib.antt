@@ -1,12 +1,12 @@
 pub mod BadFrames
 pub mod CheckpointLemmas
-pub mod Composition
 pub mod Conversions
 pub mod CutLemmas
 pub mod FindLemmas
 pub mod GatherLemmas
 pub mod KeepLemmas
 pub mod ListLemmas
+pub mod OneUnbrokenRun
 pub mod OneVerdict
 pub mod RunLemmas
 pub mod RunStateLemmas

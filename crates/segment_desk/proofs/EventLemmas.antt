@@ -10,7 +10,7 @@ use Rattle.std.proofs.lemmas.List.Sums.{sum_by-append}
 use Rattle.atomic_table.proofs.Lists.{at_set, at_snoc, set_else}
 use Rattle.segment_desk.specs.Desk.{times, fresh_part, spent_part, with_drawn, at_end, draw_at}
 use Rattle.segment_desk.specs.Desk.{look_at, report_at, with_handed_in}
-use Rattle.segment_desk.specs.Private.Plays.{staying_part, split_of}
+use Rattle.segment_desk.specs.Private.DeskSteps.{staying_part, split_of}
 use Rattle.segment_desk.specs.Kept.{IsWhole, IsKnown}
 use Rattle.segment_desk.proofs.InvariantLemmas.{drawn_of, reported_of, share_of, ended_share}
 use Rattle.segment_desk.proofs.InvariantLemmas.{IsSound, IsLawful}

@@ -6,7 +6,7 @@ use Rattle.std.proofs.Common.{Some, None}
 use Rattle.segment_desk.specs.Desk.{times, with_number, fresh_part, spent_part, with_drawn}
 use Rattle.segment_desk.specs.Desk.{at_end, with_passed, look_at, report_at, smaller_of}
 use Rattle.segment_desk.specs.Desk.{with_handed_in}
-use Rattle.segment_desk.specs.Private.Plays.{staying_part}
+use Rattle.segment_desk.specs.Private.DeskSteps.{staying_part}
 use Rattle.segment_desk.proofs.InvariantLemmas.{ended_share, IsSound}
 use Rattle.segment_desk.specs.declared.part.Part.{Part}
 use Rattle.segment_desk.proofs.ListLemmas.{times-append, times-snoc}

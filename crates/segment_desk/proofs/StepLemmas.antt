@@ -14,8 +14,8 @@ use Rattle.std.proofs.lemmas.Option.{slice_get_within}
 use Rattle.segment_desk.specs.Desk.{times, fresh_part, spent_part, with_drawn, at_end}
 use Rattle.segment_desk.specs.Desk.{draw_at, look_at, report_at, with_handed_in}
 use Rattle.segment_desk.specs.Desk.{Reached, opened, went_on, DeskState, desk_at, StandsIn}
-use Rattle.segment_desk.specs.Private.Plays.{staying_part, split_of, Seat, Drew, Looked, Reported}
-use Rattle.segment_desk.specs.Private.Plays.{Settled}
+use Rattle.segment_desk.specs.Private.DeskSteps.{staying_part, split_of, Seat, Drew, Looked, Reported}
+use Rattle.segment_desk.specs.Private.DeskSteps.{Settled}
 use Rattle.segment_desk.specs.Desk as event
 use Rattle.segment_desk.specs.Kept.{IsKnown}
 use Rattle.segment_desk.proofs.InvariantLemmas.{IsSound, IsLawful}

@@ -1,6 +1,6 @@
 //! The steps on the desk's table, one for each kind of event, and one more load.
-ghost use Rattle.segment_desk.specs.Private.Plays.{staying_part, split_of, Drew, Looked, Reported};
-ghost use Rattle.segment_desk.specs.Private.Plays.{Settled};
+ghost use Rattle.segment_desk.specs.Private.DeskSteps.{staying_part, split_of, Drew, Looked, Reported};
+ghost use Rattle.segment_desk.specs.Private.DeskSteps.{Settled};
 ghost use Rattle.segment_desk.specs.Desk.{with_handed_in, spent_part};
 
 use crate::part::Part;

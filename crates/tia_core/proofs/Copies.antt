@@ -8,7 +8,7 @@ use Rattle.tia_core.specs.Bits.{has_bit}
 use Rattle.tia_core.specs.Coverage.{copies_of, distance_of}
 use Rattle.tia_core.specs.declared.object_masks.TheConstants.{COPIES}
 use Rattle.tia_core.proofs.RoundTheLine.{distance_of-natural}
-use Rattle.tia_core.proofs.WordLemmas.{bit-above, bit-shifted, bit-shifted_low, bit_or-is}
+use Rattle.tia_core.proofs.MaskWordLemmas.{bit-above, bit-shifted, bit-shifted_low, bit_or-is}
 
 -- how far a pixel lies from a copy, by how far it lies from the object
 before-copy : (x position copy : ℕ) → position < 160 → copy ≤ 64 → distance_of x position 0 < copy → 32 ≤ distance_of x position copy

@@ -7,7 +7,7 @@ use Rattle.std.proofs.lemmas.Bool.Decides.{nat_tests}
 use Rattle.std.specs.Fn.{iterate}
 use Rattle.std.specs.Int.Bits.{and_self}
 use Rattle.std.proofs.lemmas.Nat.{and_assoc, or_lt}
-use Rattle.tia_core.proofs.Modulo.{modulo_160-lt}
+use Rattle.tia_core.proofs.LinePlaces.{modulo_160-lt}
 use Rattle.tia_core.proofs.PairLemmas.{pairs_of-lt}
 use Rattle.tia_core.proofs.ClockLemmas.{iterate-clocked-fields}
 use Rattle.tia_core.specs.Bits.{has_bit}

@@ -18,7 +18,7 @@ use Rattle.tia_core.specs.declared.masks.Masks.{Masks}
 use Rattle.tia_core.specs.declared.objects.Objects.{Objects}
 use Rattle.tia_core.specs.declared.write.Changed.{Changed}
 use Rattle.tia_core.specs.declared.write.Changed.TheVariants.{Nothing, Places, Shapes}
-use Rattle.tia_core.proofs.WordLemmas.{bit-zero, meets-is}
+use Rattle.tia_core.proofs.MaskWordLemmas.{bit-zero, meets-is}
 
 -- the masks stay where only the latches, the beam's place and the comb change
 pub fit-placed : (t : TiaFields) (m : Masks) (c h d : ℕ) → MasksFit t m → MasksFit (record t { collisions = c; clock = h; comb = d }) m

@@ -9,7 +9,7 @@ use Rattle.tia_core.specs.Private.Lawful.{IsLawfulTia}
 use Rattle.tia_core.specs.Write.{fields_after}
 use Rattle.tia_core.specs.declared.fields.TiaFields.{TiaFields}
 use Rattle.tia_core.specs.declared.register.Register.TheVariants.{Hmove}
-use Rattle.tia_core.proofs.Modulo.{modulo_160-is}
+use Rattle.tia_core.proofs.LinePlaces.{modulo_160-is}
 
 moved-none : (position : ℕ) → position < 160 → moved_position 0 position ≡ position
 moved-none position h = modulo_160-is (pos position -ℤ pos 0) 0 position (omega (arith, ints)) ∙ omega arith

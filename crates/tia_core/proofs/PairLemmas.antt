@@ -14,7 +14,7 @@ use Rattle.tia_core.specs.Private.Stretches.{has_two, set_number, stretch_pairs,
 use Rattle.tia_core.specs.declared.fields.TiaFields.{TiaFields}
 use Rattle.tia_core.specs.declared.objects.Objects.{Objects}
 use Rattle.tia_core.specs.declared.objects.TheConstants.{PAIRS}
-use Rattle.tia_core.proofs.Shapes.{visible-joined}
+use Rattle.tia_core.proofs.ObjectMaskLemmas.{visible-joined}
 
 -- ---- what a test says of each set of objects is tried at each of the 64
 both : (Bool → Bool) → Bool

@@ -5,9 +5,9 @@ use Rattle.std.proofs.lemmas.Bool.{cases_lt}
 use Rattle.tia_core.specs.Bits.{has_bit}
 use Rattle.tia_core.specs.Coverage.{distance_of}
 use Rattle.tia_core.specs.Mask.{covers}
-use Rattle.tia_core.specs.Private.Words.{word_bit, pixels_in, IsRound}
+use Rattle.tia_core.specs.Private.MaskWords.{word_bit, pixels_in, IsRound}
 use Rattle.tia_core.proofs.RoundTheLine.{distance_of-natural}
-use Rattle.tia_core.proofs.WordLemmas.{bit-above, bit-high, bit-low, bit-shifted, bit-shifted_low, covers-is}
+use Rattle.tia_core.proofs.MaskWordLemmas.{bit-above, bit-high, bit-low, bit-shifted, bit-shifted_low, covers-is}
 
 -- ---- a row in words
 pub word-of-row : (row n j : ℕ) → j < 64 → has_bit (row / 2 ^ n % 2 ^ 64) j ≡ has_bit row (n + j)

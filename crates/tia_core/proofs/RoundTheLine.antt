@@ -4,7 +4,7 @@ use Rattle.std.proofs.Common.{sym, ◌∙◌, arith, pos, ◌-ℤ◌}
 use Rattle.std.specs.List.{list_any}
 use Rattle.std.proofs.lemmas.Int.{ints}
 use Rattle.tia_core.specs.Coverage.{distance_of}
-use Rattle.tia_core.proofs.Modulo.{modulo_160-is}
+use Rattle.tia_core.proofs.LinePlaces.{modulo_160-is}
 
 -- the distance as a remainder of natural numbers, with so many lines added that nothing is below 0
 pub distance_of-natural : (x position copy : ℕ) → position < 160 → distance_of x position copy ≡ (x + (copy + 1) * 160 - position - copy) % 160

@@ -11,15 +11,15 @@ use Rattle.std.proofs.lemmas.Nat.Bits.{bit_at-trailing_zeros}
 use Rattle.tia_core.specs.Bits.{has_bit}
 use Rattle.tia_core.specs.Collision.{number_from, pairs_of}
 use Rattle.tia_core.specs.Objects.{objects_at}
-use Rattle.tia_core.specs.Private.Words.{word_bit}
+use Rattle.tia_core.specs.Private.MaskWords.{word_bit}
 use Rattle.tia_core.specs.Private.Stretches.{AreInWindow, IsWindowOf, has_two, meet_within, one}
 use Rattle.tia_core.specs.declared.fields.TiaFields.{TiaFields}
 use Rattle.tia_core.specs.declared.objects.Objects.{Objects}
 use Rattle.tia_core.specs.declared.window.Window.{Window}
 use Rattle.tia_core.proofs.PairLemmas.{no-two}
-use Rattle.tia_core.proofs.WordLemmas.{any_from-none, any_from-some, bit-high, bit-low}
-use Rattle.tia_core.proofs.WordLemmas.{cat-high, cat-low}
-use Rattle.tia_core.proofs.WordLemmas.{bit-zero, bit_and-is}
+use Rattle.tia_core.proofs.MaskWordLemmas.{any_from-none, any_from-some, bit-high, bit-low}
+use Rattle.tia_core.proofs.MaskWordLemmas.{cat-high, cat-low}
+use Rattle.tia_core.proofs.MaskWordLemmas.{bit-zero, bit_and-is}
 
 pub is-before : (k n : ℕ) → k < n → nat_lt k n ≡ true
 is-before k n h = grind (arith, nat_tests)

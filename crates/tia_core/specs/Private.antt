@@ -1,7 +1,7 @@
 -- Definitions of how things are kept. Only private contracts and proofs cite them: what is promised
 -- can be read without them.
 pub mod Lawful
+pub mod MaskWords
 pub mod Stretches
 pub mod Unchanged
 pub mod Unseen
-pub mod Words

@@ -5,7 +5,7 @@ ghost use Rattle.tia_core.specs.Bits.{has_bit};
 ghost use Rattle.tia_core.specs.Coverage.{distance_of};
 ghost use Rattle.tia_core.specs.Private.Stretches.{has_two};
 ghost use Rattle.tia_core.specs.Mask.{any_from, covers};
-ghost use Rattle.tia_core.specs.Private.Words.{word_bit, pixels_in};
+ghost use Rattle.tia_core.specs.Private.MaskWords.{word_bit, pixels_in};
 
 use std::marker::Model;
 
@@ -17,7 +17,7 @@ pub struct Mask {
 
 impl Model for Mask {
     ghost use Rattle.std.specs.Prelude.{Bool, List};
-    ghost use Rattle.tia_core.specs.Private.Words.{pixels_in};
+    ghost use Rattle.tia_core.specs.Private.MaskWords.{pixels_in};
 
     ghost Value = { List Bool };
 

@@ -17,7 +17,7 @@ pub struct Pattern {
 
 impl Model for Pattern {
     ghost use Rattle.std.specs.Prelude.{Bool, List};
-    ghost use Rattle.tia_core.specs.Private.Words.{IsRound, pixels_in};
+    ghost use Rattle.tia_core.specs.Private.MaskWords.{IsRound, pixels_in};
 
     ghost Value = { List Bool };
 

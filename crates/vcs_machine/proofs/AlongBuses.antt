@@ -6,7 +6,7 @@ use Rattle.mos_cpu.specs.Execution.{Step, step_of}
 use Rattle.mos_cpu.specs.declared.fault.CpuFault.{CpuFault}
 use Rattle.mos_cpu.proofs.AlongMaps.{step_of-along}
 use Rattle.vcs_machine.specs.Frame.{FrameMeaning, Machine, Turn, Faulty, Went, turn, turn_by, stop_of}
-use Rattle.vcs_machine.specs.Private.Along.{Follows, machine_along, stop_along}
+use Rattle.vcs_machine.specs.Private.FollowedBuses.{Follows, machine_along, stop_along}
 use Rattle.vcs_machine.proofs.OneStop.{stop_of-shown, stops-ended, stops-faulty, stops-later, stops-long}
 
 module _ {B C : Type 0} (b : FrameMeaning B) (c : FrameMeaning C) (h : B → C) (follows : Follows b c h) where

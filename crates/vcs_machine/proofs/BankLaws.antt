@@ -14,7 +14,7 @@ use Rattle.vcs_machine.specs.Inputs.{InputData}
 use Rattle.vcs_machine.specs.Outcomes.{frame_of, outcome_of, machine_of, left_by}
 use Rattle.vcs_machine.specs.States.{line_cycle_of}
 use Rattle.vcs_machine.specs.declared.fields.StateFields.{StateFields}
-use Rattle.vcs_machine.proofs.KeptFacts.{turn-kept}
+use Rattle.vcs_machine.proofs.ConsoleInvariants.{turn-kept}
 use Rattle.vcs_machine.proofs.OneStop.{stop_of-keeps}
 
 module _ {S : Type 0} (drawn : S → ℕ → ℕ → ℕ → S) (cartridge : List ℕ) (bank : ℕ) (single : has_banks (length cartridge) ≡ false) where

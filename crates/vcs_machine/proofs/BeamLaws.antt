@@ -22,7 +22,7 @@ use Rattle.vcs_machine.specs.Consoles.{Console, meaning_of, read_at, written_at,
 use Rattle.vcs_machine.specs.Consoles.{frame_meaning_of, wait_cycles}
 use Rattle.vcs_machine.specs.Frame.{Machine, Went, machine_at, turn}
 use Rattle.vcs_machine.specs.Frame.{turns, overlong_cycles, stop_of}
-use Rattle.vcs_machine.proofs.KeptFacts.{turns-kept}
+use Rattle.vcs_machine.proofs.ConsoleInvariants.{turns-kept}
 use Rattle.vcs_machine.proofs.OneStop.{stop_of-keeps, turn-parts}
 
 -- One clock, wherever the beam is.

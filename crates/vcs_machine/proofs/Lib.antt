@@ -1,10 +1,11 @@
 pub mod AlongBuses
 pub mod BankLaws
 pub mod BankLemmas
+pub mod BeamCycleLemmas
 pub mod BeamLaws
+pub mod ConsoleInvariants
 pub mod CycleLaws
 pub mod FrameOutcomes
-pub mod KeptFacts
 pub mod LagLemmas
 pub mod LoggedLemmas
 pub mod OneStop
@@ -15,5 +16,4 @@ pub mod RowLemmas
 pub mod SinkLemmas
 pub mod StateLaws
 pub mod StateLemmas
-pub mod TimedFacts
-pub mod TotalLemmas
+pub mod TimedInvariants

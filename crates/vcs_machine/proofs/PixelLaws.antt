@@ -25,7 +25,7 @@ use Rattle.vcs_machine.proofs.CycleLaws.{read_at-beam, written_at-beam}
 use Rattle.vcs_machine.proofs.FrameOutcomes.{stop-way}
 use Rattle.vcs_machine.proofs.SinkLemmas.{painted-logged}
 use Rattle.vcs_machine.proofs.StateLemmas.{clock-thirds, clock_of}
-use Rattle.vcs_machine.proofs.TimedFacts.{IsTimedInvariant, stop-timed}
+use Rattle.vcs_machine.proofs.TimedInvariants.{IsTimedInvariant, stop-timed}
 
 -- ---- lists
 range-add : (m n a : ℕ) → range_with_len a (m + n) ≡ range_with_len a m ++ range_with_len (a + m) n

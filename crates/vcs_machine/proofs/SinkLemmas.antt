@@ -20,7 +20,7 @@ use Rattle.vcs_machine.specs.Frame.{Machine, Stop, Ended, Overlong, Faulted, mac
 use Rattle.vcs_machine.specs.Consoles.{Console, meaning_of, passed, value_at, peeked_at, read_at}
 use Rattle.vcs_machine.specs.Consoles.{written_at, after_wait, cycles_to_line_start, frame_meaning_of}
 use Rattle.vcs_machine.specs.Consoles.{with_pixel_logged}
-use Rattle.vcs_machine.specs.Private.Along.{Follows, machine_along, stop_along, drawn_on}
+use Rattle.vcs_machine.specs.Private.FollowedBuses.{Follows, machine_along, stop_along, drawn_on}
 
 -- A list takes pixels at its end.
 pub painted-logged : (log ps : List Pixel) → sink_after_pixels with_pixel_logged log ps ≡ log ++ ps

@@ -39,7 +39,7 @@ use Rattle.vcs_machine.specs.Outcomes.{frame_of, left_by, machine_of, outcome_of
 use Rattle.vcs_machine.specs.States.{is_state, line_cycle_of}
 use Rattle.vcs_machine.specs.declared.fields.StateFields.{StateFields}
 use Rattle.vcs_machine.proofs.FrameOutcomes.{stop-way}
-use Rattle.vcs_machine.proofs.KeptFacts.{turn-kept}
+use Rattle.vcs_machine.proofs.ConsoleInvariants.{turn-kept}
 use Rattle.vcs_machine.proofs.OneStop.{stop_of-keeps, turn-parts}
 use Rattle.vcs_machine.proofs.StateLemmas.{parts_of, state_of_parts}
 

@@ -9,7 +9,7 @@ ghost use Rattle.vcs_machine.specs.Consoles.{meaning_of, after_wait, wait_cycles
 ghost use Rattle.vcs_machine.specs.Consoles.{cycles_to_line_start, passed, read_at};
 ghost use Rattle.vcs_machine.specs.Private.Polls.{GoOn, IsPoll};
 ghost use Rattle.vcs_machine.specs.Inputs.{is_input, is_pressed};
-ghost use Rattle.vcs_machine.specs.Private.Totals.{IsInside, beam_cycles};
+ghost use Rattle.vcs_machine.specs.Private.BeamCycles.{IsInside, beam_cycles};
 
 use crate::devices::{Devices, LINE_CYCLES, MOST_LAG};
 use crate::input::Input;

@@ -4,7 +4,7 @@ ghost use Rattle.mos_cpu.specs.Registers.{Registers};
 ghost use Rattle.vcs_machine.specs.Consoles.{frame_meaning_of};
 ghost use Rattle.vcs_machine.specs.Faults.{stop_with};
 ghost use Rattle.vcs_machine.specs.Frame.{Machine, stop_of, Ended, most_frame_cycles};
-ghost use Rattle.vcs_machine.specs.Private.Totals.{IsBegun, beam_cycles, machine_since};
+ghost use Rattle.vcs_machine.specs.Private.BeamCycles.{IsBegun, beam_cycles, machine_since};
 
 use crate::console::Console;
 use crate::fault::{FaultKind, Halt};

@@ -3,7 +3,7 @@ ghost use Rattle.std.specs.Prelude.{◌≡◌, ◌<◌, ℕ, ◌+◌, ◌-◌, �
 ghost use Rattle.std.specs.Prelude.{IfSome};
 ghost use Rattle.riot_map.specs.Cart.{cart_byte, bank_after};
 ghost use Rattle.vcs_machine.specs.Private.Polls.{IsPoll};
-ghost use Rattle.vcs_machine.specs.Private.Mapped.{IsFollowed};
+ghost use Rattle.vcs_machine.specs.Private.NextBytes.{IsFollowed};
 
 use crate::polls::{Branch, Poll};
 use riot_map::{BANK_LENGTH, Cart, Place, place};

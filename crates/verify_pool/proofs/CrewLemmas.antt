@@ -12,7 +12,7 @@ use Rattle.verify_pool.specs.Crew.{IsReady, AreReady, IsWorked, first_room, shar
 use Rattle.segment_desk.specs.Desk.{with_handed_in}
 use Rattle.segment_desk.specs.Kept.{IsKnown}
 use Rattle.segment_desk.specs.Views.{DeskView, IsOf}
-use Rattle.verify_pool.proofs.ExactLemmas.{exact_handed}
+use Rattle.verify_pool.proofs.WorkerPieceLemmas.{exact_handed}
 use Rattle.std.proofs.lemmas.List.Sums.{sum_by-append}
 
 pub shares-append : (hands : List Hand) (hand : Hand) → shares (hands ++ hand ∷ []) ≡ shares hands + hand.ticket.part.share

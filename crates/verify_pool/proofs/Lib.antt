@@ -1,4 +1,4 @@
 pub mod CrewLemmas
-pub mod ExactLemmas
-pub mod Headline
+pub mod NoMissingPieces
 pub mod Sent
+pub mod WorkerPieceLemmas

@@ -3,7 +3,7 @@ use Rattle.std.specs.Prelude.{ℕ, ◌*◌, ◌<◌, ◌≤◌, ◌≡◌, true,
 use Rattle.std.specs.Prelude.{vec_capacity}
 use Rattle.replay_segments.specs.Pieces.{Job}
 use Rattle.verify_pool.specs.declared.hand.Hand.{Hand}
-use Rattle.verify_pool.specs.Exact.{IsExact}
+use Rattle.verify_pool.specs.WorkerPieces.{IsExact}
 use Rattle.segment_desk.specs.Kept.{IsKnown}
 use Rattle.segment_desk.specs.Views.{DeskView, IsOf}
 

@@ -7,7 +7,7 @@ ghost use Rattle.replay_segments.specs.declared.outcome.Outcome.{Outcome};
 ghost use Rattle.verify_pool.specs.Crew.{IsReady, IsWorked};
 ghost use Rattle.segment_desk.specs.Desk.{times};
 ghost use Rattle.verify_pool.specs.Private.Draws.{left_of};
-ghost use Rattle.verify_pool.specs.Exact.{IsExact};
+ghost use Rattle.verify_pool.specs.WorkerPieces.{IsExact};
 ghost use Rattle.verify_pool.specs.Private.Replays.{IsReplayed};
 ghost use Rattle.segment_desk.specs.Kept.{IsKnown};
 ghost use Rattle.segment_desk.specs.Views.{IsOf};

@@ -3,7 +3,7 @@ use Rattle.std.specs.Prelude.{ℕ, ◌+◌, ◌-◌, IsTrue}
 use Rattle.movie_file.specs.Making.{counts_fit}
 use Rattle.movie_file.specs.Movie.{MovieData}
 use Rattle.run_cursor.specs.RunFaults.{FaultsWithin}
-use Rattle.commands.specs.Asked.{frames_asked}
+use Rattle.commands.specs.AskedFrames.{frames_asked}
 use Rattle.commands.specs.declared.cut_movie.CutError.{CutError}
 use Rattle.commands.specs.declared.cut_movie.CutError.TheVariants.{BadCounts, Fault, NoMemory}
 

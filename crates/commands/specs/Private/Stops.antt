@@ -8,7 +8,7 @@ use Rattle.picture_file.specs.Prefixes.{AppendsPrefix}
 use Rattle.commands.specs.declared.run_error.RunError.{RunError}
 use Rattle.commands.specs.declared.run_error.RunError.TheVariants as runs
 use Rattle.run_cursor.specs.RunFaults.{FaultsWithin}
-use Rattle.commands.specs.Asked.{from_frames}
+use Rattle.commands.specs.AskedFrames.{from_frames}
 use Rattle.commands.specs.declared.stop.WriteError.{WriteError}
 use Rattle.commands.specs.declared.stop.WriteError.TheVariants as writes
 use Rattle.commands.specs.declared.stop.Stop.{Stop}

@@ -1,4 +1,4 @@
-use Rattle.command_line.proofs.Getters.{flag_read}
+use Rattle.command_line.proofs.ClapGetters.{flag_read}
 use Rattle.command_line.proofs.line.is_given.Goals as goal
 
 pub returns : goal.returns

@@ -1,5 +1,5 @@
 use Rattle.std.proofs.Common.{arith}
-use Rattle.command_line.proofs.Getters.{nothing_read, number_read, one_read}
+use Rattle.command_line.proofs.ClapGetters.{nothing_read, number_read, one_read}
 use Rattle.command_line.proofs.line.number_at.Goals as goal
 
 pub unreachable-requires : goal.unreachable-requires

@@ -3,7 +3,7 @@ use Rattle.std.proofs.lemmas.Result.{IfErr-weaker, IfOk-weaker}
 use Rattle.clap.specs.Words.{app_of, found_of, matches_of, rows_of}
 use Rattle.command_line.specs.Meanings.{IsGiven, IsLine}
 use Rattle.command_line.specs.Table.{explain_row, program_app}
-use Rattle.command_line.proofs.Known.{asks_after, asks_alone, bad_value, both_of, failing, in_both, meets, meets_before, none_of, refused, taken}
+use Rattle.command_line.proofs.ClapAnswers.{asks_after, asks_alone, bad_value, both_of, failing, in_both, meets, meets_before, none_of, refused, taken}
 use Rattle.command_line.proofs.Numbers.{numbers_met}
 use Rattle.command_line.proofs.Stops.{listed_met, named}
 use Rattle.command_line.proofs.line.parse_line.Goals as goal

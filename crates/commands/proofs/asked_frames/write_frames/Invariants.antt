@@ -2,7 +2,7 @@ use Rattle.std.proofs.Common.{◌+◌}
 use Rattle.std.specs.Io.KnownBytes.{Appends}
 use Rattle.run_cursor.specs.Cursor.{IsAt}
 use Rattle.commands.specs.Private.Views.{bytes_shown}
-use Rattle.commands.specs.Asked.{from_frames}
+use Rattle.commands.specs.AskedFrames.{from_frames}
 use Rattle.replay_segments.specs.NextCheckpoint.{StandBefore}
 use Rattle.commands.proofs.asked_frames.write_frames.Given as goal
 

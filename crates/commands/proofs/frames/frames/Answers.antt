@@ -1,7 +1,7 @@
 use Rattle.std.proofs.Common.{Err, ap, arith, inr, refl}
 use Rattle.std.specs.NonZero.{non_zero_u32_get}
 use Rattle.picture_file.proofs.BytesWritten.{appends_kept, appends_then, prefix_after}
-use Rattle.commands.specs.Asked.{frames_asked}
+use Rattle.commands.specs.AskedFrames.{frames_asked}
 use Rattle.commands.specs.declared.status.Status.TheVariants as statuses
 use Rattle.commands.proofs.WrittenLines.{lines_in_part}
 use Rattle.commands.proofs.WrittenFrames.{the_error}

@@ -1,7 +1,7 @@
 use Rattle.std.proofs.Common.{◌≡◌, ◌≢◌, ◌∙◌, sym, arith, ◌+◌, ◌++◌, List, length, ap, subst}
 use Rattle.std.proofs.Common.{vec_len}
 use Rattle.vcs_machine.specs.Pictures.{Rows}
-use Rattle.replay_segments.proofs.Composition.{IsPrefix, IsPrefix-next, IsVerdict-genuine}
+use Rattle.replay_segments.proofs.OneUnbrokenRun.{IsPrefix, IsPrefix-next, IsVerdict-genuine}
 use Rattle.replay_segments.proofs.joining.all_pictures.Goals as goal
 
 pub take_passed-requires : goal.take_passed-requires

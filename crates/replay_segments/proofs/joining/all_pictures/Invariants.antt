@@ -1,7 +1,7 @@
 use Rattle.std.proofs.Common.{◌≡◌, ◌≤◌, ◌<◌, ◌+◌, ℕ, vec_len, vec_capacity}
 use Rattle.replay_segments.specs.Gathering.{NamesAll, HasPassed, picture_count}
 use Rattle.replay_segments.specs.Pieces.{Job, segments_of}
-use Rattle.replay_segments.proofs.Composition.{IsPrefix}
+use Rattle.replay_segments.proofs.OneUnbrokenRun.{IsPrefix}
 use Rattle.replay_segments.proofs.joining.all_pictures.Given as goal
 
 abbrev pub invariant-loop-number : goal.invariant-loop-number

@@ -1,6 +1,6 @@
 use Rattle.std.proofs.Common.{arith}
 use Rattle.std.proofs.lemmas.Nat.{one_shl}
-use Rattle.tia_core.proofs.WordLemmas.{stretch-word, powers-order}
+use Rattle.tia_core.proofs.MaskWordLemmas.{stretch-word, powers-order}
 use Rattle.tia_core.proofs.mask.ones.Goals as goal
 
 pub overflow_sub-result : goal.overflow_sub-result

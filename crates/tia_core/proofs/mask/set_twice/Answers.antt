@@ -1,4 +1,4 @@
-use Rattle.tia_core.proofs.WordLemmas.{bit_or-is, bit_and-is}
+use Rattle.tia_core.proofs.MaskWordLemmas.{bit_or-is, bit_and-is}
 use Rattle.tia_core.proofs.mask.set_twice.Goals as goal
 
 pub returns : goal.returns

@@ -1,5 +1,5 @@
 use Rattle.std.proofs.Common.{arith}
-use Rattle.tia_core.proofs.Shapes.{left-bit}
+use Rattle.tia_core.proofs.ObjectMaskLemmas.{left-bit}
 use Rattle.tia_core.proofs.object_masks.left_half.Goals as goal
 
 pub returns : goal.returns

@@ -4,7 +4,7 @@ use Rattle.std.proofs.lemmas.List.{take_all}
 use Rattle.std.proofs.lemmas.List.Folds.{list_any_more}
 use Rattle.tia_core.specs.Bits.{has_bit}
 use Rattle.tia_core.specs.Coverage.{distance_of}
-use Rattle.tia_core.proofs.Shapes.{distance_of-moved}
+use Rattle.tia_core.proofs.ObjectMaskLemmas.{distance_of-moved}
 use Rattle.tia_core.proofs.object_masks.mask_of_copies.Goals as goal
 
 pub loop-copy-preserved : goal.loop-copy-preserved

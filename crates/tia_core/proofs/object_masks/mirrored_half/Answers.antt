@@ -1,5 +1,5 @@
 use Rattle.std.proofs.Common.{arith}
-use Rattle.tia_core.proofs.Shapes.{mirrored-bit}
+use Rattle.tia_core.proofs.ObjectMaskLemmas.{mirrored-bit}
 use Rattle.tia_core.proofs.object_masks.mirrored_half.Goals as goal
 
 pub returns : goal.returns

@@ -1,7 +1,7 @@
 use Rattle.std.proofs.Common.{◌∙◌, sym, arith}
 use Rattle.tia_core.specs.Playfield.{playfield_bit, playfield_index}
-use Rattle.tia_core.proofs.Shapes.{byte-shows}
-use Rattle.tia_core.proofs.WordLemmas.{covers-is, five-words}
+use Rattle.tia_core.proofs.ObjectMaskLemmas.{byte-shows}
+use Rattle.tia_core.proofs.MaskWordLemmas.{covers-is, five-words}
 use Rattle.tia_core.proofs.object_masks.playfield_mask.Goals as goal
 
 pub returns : goal.returns

@@ -1,5 +1,5 @@
 use Rattle.std.proofs.Common.{◌/◌, ◌%◌, arith}
-use Rattle.tia_core.proofs.WordLemmas.{powers-order}
+use Rattle.tia_core.proofs.MaskWordLemmas.{powers-order}
 use Rattle.tia_core.proofs.objects.size.Goals as goal
 
 pub returns-clause-range : goal.returns-clause-range

@@ -1,7 +1,7 @@
 use Rattle.std.proofs.Common.{◌∙◌}
 use Rattle.tia_core.specs.Coverage.{distance_of}
 use Rattle.tia_core.proofs.RoundTheLine.{distance_of-inside}
-use Rattle.tia_core.proofs.WordLemmas.{bit-zero}
+use Rattle.tia_core.proofs.MaskWordLemmas.{bit-zero}
 use Rattle.tia_core.proofs.patterns.ball.Goals as goal
 
 pub returns-else-has_bit : goal.returns-else-has_bit

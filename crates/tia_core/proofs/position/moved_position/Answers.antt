@@ -1,5 +1,5 @@
 use Rattle.std.proofs.Common.{◌≡◌, ◌+◌, ◌%◌, arith}
-use Rattle.tia_core.proofs.Modulo.{moved-round}
+use Rattle.tia_core.proofs.LinePlaces.{moved-round}
 use Rattle.tia_core.proofs.position.moved_position.Goals.{then-moved-lt160, else-moved-lt160}
 use Rattle.tia_core.proofs.position.moved_position.Goals as goal
 

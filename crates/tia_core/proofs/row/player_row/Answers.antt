@@ -3,7 +3,7 @@ use Rattle.std.proofs.lemmas.Bool.Decides.{nat_tests}
 use Rattle.tia_core.specs.Bits.{has_bit}
 use Rattle.tia_core.specs.Coverage.{width_of}
 use Rattle.tia_core.proofs.Tables.{row_shows}
-use Rattle.tia_core.proofs.WordLemmas.{bit-above}
+use Rattle.tia_core.proofs.MaskWordLemmas.{bit-above}
 use Rattle.tia_core.proofs.row.player_row.Goals as goal
 
 pub returns-in-5-clause-value : goal.returns-in-5-clause-value

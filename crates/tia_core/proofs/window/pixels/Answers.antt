@@ -1,7 +1,7 @@
 use Rattle.std.proofs.Common.{◌∙◌, arith}
 use Rattle.std.proofs.lemmas.Bool.Decides.{nat_tests}
 use Rattle.std.proofs.lemmas.Nat.{one_shl}
-use Rattle.tia_core.proofs.WordLemmas.{stretch-bit}
+use Rattle.tia_core.proofs.MaskWordLemmas.{stretch-bit}
 use Rattle.tia_core.proofs.window.pixels.Goals as goal
 
 pub returns : goal.returns

@@ -4,9 +4,9 @@ use Rattle.mos_cpu.specs.Accesses.{is_taken}
 use Rattle.mos_cpu.specs.Registers.{Registers}
 use Rattle.vcs_machine.specs.Frame.{overlong_cycles}
 use Rattle.vcs_machine.specs.Private.Polls.{GoOn, operation_of}
-use Rattle.vcs_machine.specs.Private.Totals.{beam_cycles, machine_since}
+use Rattle.vcs_machine.specs.Private.BeamCycles.{beam_cycles, machine_since}
 use Rattle.vcs_machine.proofs.PollLemmas.{IsAtBranch}
-use Rattle.vcs_machine.proofs.TotalLemmas.{passed-later, rounds-since}
+use Rattle.vcs_machine.proofs.BeamCycleLemmas.{passed-later, rounds-since}
 use Rattle.vcs_machine.proofs.frame_loop.pass_rounds.Goals as goal
 use Rattle.vcs_machine.proofs.frame_loop.pass_rounds.Goals.{then-ahead-room, else-ahead-room}
 

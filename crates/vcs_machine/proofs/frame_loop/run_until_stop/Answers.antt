@@ -4,9 +4,9 @@ use Rattle.mos_cpu.specs.declared.fault.CpuFault.TheVariants.{BadOpcode, FetchOu
 use Rattle.vcs_machine.specs.Consoles.{after_wait, frame_meaning_of}
 use Rattle.vcs_machine.specs.Faults.{stop_with, kind_of}
 use Rattle.vcs_machine.specs.Frame.{Machine, Faulted}
-use Rattle.vcs_machine.specs.Private.Totals.{beam_cycles}
+use Rattle.vcs_machine.specs.Private.BeamCycles.{beam_cycles}
 use Rattle.vcs_machine.proofs.OneStop.{stops-long}
-use Rattle.vcs_machine.proofs.TotalLemmas.{early-short, faulty-stop, quiet-on, waited-on}
+use Rattle.vcs_machine.proofs.BeamCycleLemmas.{early-short, faulty-stop, quiet-on, waited-on}
 use Rattle.vcs_machine.proofs.frame_loop.run_until_stop.Goals as goal
 
 -- The stop of a processor's fault.

@@ -1,6 +1,6 @@
 use Rattle.std.proofs.Common.{◌-◌}
-use Rattle.vcs_machine.specs.Private.Totals.{beam_cycles}
-use Rattle.vcs_machine.proofs.TotalLemmas.{IsUnderway}
+use Rattle.vcs_machine.specs.Private.BeamCycles.{beam_cycles}
+use Rattle.vcs_machine.proofs.BeamCycleLemmas.{IsUnderway}
 use Rattle.vcs_machine.proofs.frame_loop.run_until_stop.Given as goal
 
 abbrev pub invariant-loop-fault : goal.invariant-loop-fault

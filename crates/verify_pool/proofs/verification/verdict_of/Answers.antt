@@ -2,7 +2,7 @@ use Rattle.std.proofs.Common.{◌≡◌, sym, subst}
 use Rattle.replay_segments.specs.Gathering.{IsFirstMissing}
 use Rattle.replay_segments.specs.Pieces.{job_of}
 use Rattle.verify_pool.specs.Crew.{IsWorked}
-use Rattle.verify_pool.proofs.Headline.{none_missing}
+use Rattle.verify_pool.proofs.NoMissingPieces.{none_missing}
 use Rattle.verify_pool.proofs.verification.verdict_of.Goals as goal
 
 pub returns-in-Ok-gather-clause-verdict : goal.returns-in-Ok-gather-clause-verdict

@@ -2,7 +2,7 @@ use Rattle.std.proofs.Common.{◌≡◌, ◌<◌, ◌+◌, ◌*◌, ◌%◌, ◌
 use Rattle.std.proofs.lemmas.Bool.Decides.{nat_tests}
 use Rattle.tia_core.specs.Bits.{has_bit}
 use Rattle.std.proofs.lemmas.Bool.{cases_lt}
-use Rattle.tia_core.proofs.WordLemmas.{none-twice}
+use Rattle.tia_core.proofs.MaskWordLemmas.{none-twice}
 use Rattle.tia_core.proofs.mask.Mask.any_two_meet.Goals as goal
 
 pub loop-i-init : goal.loop-i-init

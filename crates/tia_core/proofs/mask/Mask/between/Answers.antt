@@ -1,5 +1,5 @@
 use Rattle.std.proofs.Common.{nat_le, nat_lt, ◌&&◌}
-use Rattle.tia_core.proofs.WordLemmas.{five-words}
+use Rattle.tia_core.proofs.MaskWordLemmas.{five-words}
 use Rattle.tia_core.proofs.mask.Mask.between.Goals as goal
 
 pub returns : goal.returns

@@ -1,6 +1,6 @@
 use Rattle.std.proofs.Common.{◌/◌, ◌%◌, slice_index_or, refl}
 use Rattle.std.proofs.lemmas.Nat.Bits.{shr_and_one}
-use Rattle.tia_core.proofs.WordLemmas.{covers-is}
+use Rattle.tia_core.proofs.MaskWordLemmas.{covers-is}
 use Rattle.tia_core.proofs.mask.Mask.covers.Goals as goal
 
 pub returns : goal.returns

@@ -1,5 +1,5 @@
 use Rattle.std.proofs.Common.{false}
-use Rattle.tia_core.proofs.WordLemmas.{five-words, bit-zero}
+use Rattle.tia_core.proofs.MaskWordLemmas.{five-words, bit-zero}
 use Rattle.tia_core.proofs.mask.Mask.empty.Goals as goal
 
 pub returns : goal.returns

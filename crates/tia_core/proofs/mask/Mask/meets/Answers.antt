@@ -1,6 +1,6 @@
 use Rattle.std.proofs.Common.{◌-◌, ◌&&◌, sym, arith}
 use Rattle.tia_core.specs.Mask.{covers}
-use Rattle.tia_core.proofs.WordLemmas.{meets-is, any_from-none}
+use Rattle.tia_core.proofs.MaskWordLemmas.{meets-is, any_from-none}
 use Rattle.tia_core.proofs.mask.Mask.meets.Goals as goal
 
 pub returns-then-from-to : goal.returns-then-from-to

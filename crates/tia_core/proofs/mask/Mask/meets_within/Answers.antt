@@ -1,6 +1,6 @@
 use Rattle.std.proofs.Common.{◌*◌, inl, inr, arith}
 use Rattle.std.proofs.lemmas.Bool.{cases_lt}
-use Rattle.tia_core.proofs.WordLemmas.{common-some, common-none}
+use Rattle.tia_core.proofs.MaskWordLemmas.{common-some, common-none}
 use Rattle.tia_core.proofs.mask.Mask.meets_within.Goals as goal
 
 pub returns-then-all_overlap-clause-some : goal.returns-then-all_overlap-clause-some

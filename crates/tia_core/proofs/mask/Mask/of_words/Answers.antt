@@ -1,4 +1,4 @@
-use Rattle.tia_core.proofs.WordLemmas.{covers-is}
+use Rattle.tia_core.proofs.MaskWordLemmas.{covers-is}
 use Rattle.tia_core.proofs.mask.Mask.of_words.Goals as goal
 
 pub returns : goal.returns

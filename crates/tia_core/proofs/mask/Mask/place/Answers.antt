@@ -1,5 +1,5 @@
 use Rattle.std.proofs.Common.{◌∙◌}
-use Rattle.tia_core.proofs.WordLemmas.{covers-is, word_bit-placed}
+use Rattle.tia_core.proofs.MaskWordLemmas.{covers-is, word_bit-placed}
 use Rattle.tia_core.proofs.mask.Mask.place.Goals as goal
 
 pub returns : goal.returns

@@ -1,6 +1,6 @@
 use Rattle.std.proofs.Common.{◌∙◌, ◌+◌, arith}
 use Rattle.tia_core.proofs.Windows.{window-bit}
-use Rattle.tia_core.proofs.WordLemmas.{covers-is}
+use Rattle.tia_core.proofs.MaskWordLemmas.{covers-is}
 use Rattle.tia_core.proofs.mask.Mask.window.Goals.{then-word-lt4, else-word-lt4}
 use Rattle.tia_core.proofs.mask.Mask.window.Goals as goal
 

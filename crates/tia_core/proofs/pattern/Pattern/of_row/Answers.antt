@@ -1,6 +1,6 @@
 use Rattle.tia_core.specs.Bits.{has_bit}
 use Rattle.tia_core.proofs.PatternLemmas.{last-word-of-row, ten-round, ten-words, word-of-row}
-use Rattle.tia_core.proofs.WordLemmas.{bit-high, bit-low}
+use Rattle.tia_core.proofs.MaskWordLemmas.{bit-high, bit-low}
 use Rattle.tia_core.proofs.pattern.Pattern.of_row.Goals as goal
 
 pub invariant_of-result : goal.invariant_of-result

@@ -1,6 +1,6 @@
 use Rattle.std.proofs.Common.{◌≡◌, ◌-◌, ◌*◌, arith}
 use Rattle.vcs_machine.specs.Private.Lag.{tia_seen}
-use Rattle.vcs_machine.proofs.TotalLemmas.{lines-few}
+use Rattle.vcs_machine.proofs.BeamCycleLemmas.{lines-few}
 use Rattle.vcs_machine.proofs.console.Console.has_event.Goals as goal
 
 pub returns-clause-early : goal.returns-clause-early

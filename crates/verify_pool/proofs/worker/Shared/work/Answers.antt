@@ -1,6 +1,6 @@
 use Rattle.std.proofs.Common.{rules, ◌≡◌, refl, arith, vec_len}
 use Rattle.replay_segments.specs.Pieces.{job_of}
-use Rattle.verify_pool.proofs.ExactLemmas.{exact_start, left_le, left_pos}
+use Rattle.verify_pool.proofs.WorkerPieceLemmas.{exact_start, left_le, left_pos}
 use Rattle.verify_pool.proofs.worker.Shared.work.Goals as goal
 
 pub returns-clause-few : goal.returns-clause-few

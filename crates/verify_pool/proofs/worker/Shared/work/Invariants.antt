@@ -1,7 +1,7 @@
 use Rattle.std.proofs.Common.{◌≡◌, ◌+◌, ◌≤◌, vec_len, vec_capacity}
 use Rattle.replay_segments.specs.Pieces.{job_of}
 use Rattle.verify_pool.specs.Private.Draws.{left_of}
-use Rattle.verify_pool.specs.Exact.{IsExact}
+use Rattle.verify_pool.specs.WorkerPieces.{IsExact}
 use Rattle.segment_desk.specs.Kept.{IsKnown}
 use Rattle.segment_desk.specs.Views.{IsOf}
 use Rattle.verify_pool.proofs.worker.Shared.work.Given as goal

@@ -1,8 +1,8 @@
 use Rattle.std.proofs.Common.{ap, sym, subst, ◌∙◌, List}
 use Rattle.replay_segments.specs.Pieces.{PieceData, job_of}
 use Rattle.segment_desk.specs.Desk.{look_at}
-use Rattle.verify_pool.specs.Exact.{IsExact}
-use Rattle.verify_pool.proofs.ExactLemmas.{exact_over, exact_more, exact_end}
+use Rattle.verify_pool.specs.WorkerPieces.{IsExact}
+use Rattle.verify_pool.proofs.WorkerPieceLemmas.{exact_over, exact_more, exact_end}
 use Rattle.verify_pool.proofs.worker.Shared.work_once.Goals as goal
 
 pub returns-then-least_bad-number-clause-exact : goal.returns-then-least_bad-number-clause-exact

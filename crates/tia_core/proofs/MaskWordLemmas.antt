@@ -17,7 +17,7 @@ use Rattle.tia_core.specs.Bits.{has_bit}
 use Rattle.tia_core.specs.Coverage.{distance_of}
 use Rattle.tia_core.specs.Private.Stretches.{has_two}
 use Rattle.tia_core.specs.Mask.{any_from, covers}
-use Rattle.tia_core.specs.Private.Words.{word_bit, pixels_in}
+use Rattle.tia_core.specs.Private.MaskWords.{word_bit, pixels_in}
 use Rattle.tia_core.proofs.RoundTheLine.{distance_of-natural}
 
 -- ---- bits as truth values

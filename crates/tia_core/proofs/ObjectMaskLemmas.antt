@@ -14,7 +14,7 @@ use Rattle.tia_core.specs.Playfield.{playfield_bit, playfield_index}
 use Rattle.tia_core.specs.Private.Stretches.{union_of, visible_objects}
 use Rattle.tia_core.specs.declared.fields.TiaFields.{TiaFields}
 use Rattle.tia_core.proofs.RoundTheLine.{distance_of-natural}
-use Rattle.tia_core.proofs.WordLemmas.{bit-low, bit-high, bit-zero, cat-low, cat-high}
+use Rattle.tia_core.proofs.MaskWordLemmas.{bit-low, bit-high, bit-zero, cat-low, cat-high}
 
 -- the distance from a copy is that from its first pixel
 pub distance_of-moved : (x position copy : ℕ) → x < 160 → position < 160 → distance_of x ((position + copy) % 160) 0 ≡ distance_of x position copy

@@ -11,8 +11,8 @@ use Rattle.segment_desk.specs.declared.part.Part.{Part}
 use Rattle.segment_desk.specs.Desk.{times, with_number, with_drawn, at_end, look_at, report_at}
 use Rattle.segment_desk.specs.Desk.{with_handed_in}
 use Rattle.verify_pool.specs.Private.Draws.{to_draw, left_of}
-use Rattle.verify_pool.specs.Exact.{piece_numbers, if_bad, bad_numbers, IsExact}
-use Rattle.verify_pool.specs.Exact.{WantsMemoryForPictures}
+use Rattle.verify_pool.specs.WorkerPieces.{piece_numbers, if_bad, bad_numbers, IsExact}
+use Rattle.verify_pool.specs.WorkerPieces.{WantsMemoryForPictures}
 use Rattle.verify_pool.specs.Private.Replays.{IsReplayed}
 use Rattle.segment_desk.specs.Kept.{IsKnown}
 use Rattle.segment_desk.proofs.PartLemmas.{tested}

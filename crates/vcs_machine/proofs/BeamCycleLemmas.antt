@@ -27,11 +27,11 @@ use Rattle.vcs_machine.specs.Cycles.{beam_place, place_after}
 use Rattle.vcs_machine.specs.Frame.{Ended, Faulted, Machine, Went, overlong_cycles, stop_of, turn}
 use Rattle.vcs_machine.specs.Private.Lag.{is_late}
 use Rattle.vcs_machine.specs.Private.Polls.{GoOn, loaded_at}
-use Rattle.vcs_machine.specs.Private.Totals.{IsBegun, IsInside, beam_cycles, machine_since}
+use Rattle.vcs_machine.specs.Private.BeamCycles.{IsBegun, IsInside, beam_cycles, machine_since}
 use Rattle.vcs_machine.specs.declared.polls.Poll.{Poll}
 use Rattle.vcs_machine.proofs.BeamLaws.{read_at-clock, written_at-clock}
 use Rattle.vcs_machine.proofs.CycleLaws.{turn-place}
-use Rattle.vcs_machine.proofs.KeptFacts.{turn-kept}
+use Rattle.vcs_machine.proofs.ConsoleInvariants.{turn-kept}
 use Rattle.vcs_machine.proofs.OneStop.{stops-ended, stops-faulty, stops-later, turn-least, turn-parts}
 use Rattle.vcs_machine.proofs.PollLemmas.{IsAtBranch, faulty_turn, quiet_turn, rounds, waited_turn}
 

@@ -9,7 +9,7 @@ use Rattle.replay_segments.specs.Pieces.{PieceData, Job, passed}
 use Rattle.verify_pool.specs.declared.hand.Hand.{Hand}
 use Rattle.verify_pool.specs.Crew.{IsWorked}
 use Rattle.segment_desk.specs.Desk.{times}
-use Rattle.verify_pool.specs.Exact.{piece_numbers, if_bad, bad_numbers}
+use Rattle.verify_pool.specs.WorkerPieces.{piece_numbers, if_bad, bad_numbers}
 use Rattle.segment_desk.specs.Views.{DeskView}
 use Rattle.segment_desk.proofs.ListLemmas.{times-append, times-same, times-other}
 
