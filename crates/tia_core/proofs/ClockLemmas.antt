@@ -10,7 +10,7 @@ use Rattle.tia_core.specs.declared.fields.TiaFields.{TiaFields}
 use Rattle.tia_core.specs.TiaState.{TiaState}
 use Rattle.tia_core.specs.Clock.{Pixel, sink_after_pixels, pixels, pixels_of, after_clock}
 use Rattle.tia_core.specs.Beam.{beam_of}
-use Rattle.tia_core.specs.Private.Stretches.{pixel_at}
+use Rattle.tia_core.specs.Private.StretchPixels.{pixel_at}
 use Rattle.tia_core.specs.Private.Unchanged.{after_beam}
 use Rattle.tia_core.specs.Registers.{register_of}
 use Rattle.tia_core.specs.Write.{fields_after, effect_after, effect_of, tia_after_write}

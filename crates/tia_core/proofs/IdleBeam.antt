@@ -7,7 +7,8 @@ use Rattle.std.proofs.lemmas.Bool.Decides.{nat_tests}
 use Rattle.tia_core.specs.Clock.{after_clock, after_pixel, with_next_beam}
 use Rattle.tia_core.specs.Collision.{pairs_of}
 use Rattle.tia_core.specs.Objects.{objects_at}
-use Rattle.tia_core.specs.Private.Stretches.{visible_objects, AreApart, IsIdle}
+use Rattle.tia_core.specs.Private.ObjectSets.{visible_objects}
+use Rattle.tia_core.specs.Private.StretchPairs.{AreApart, IsIdle}
 use Rattle.tia_core.specs.TiaState.{TiaState}
 use Rattle.tia_core.specs.declared.fields.TiaFields.{TiaFields}
 use Rattle.tia_core.proofs.ClockLemmas.{iterate-add}

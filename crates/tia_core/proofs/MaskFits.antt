@@ -7,12 +7,12 @@ use Rattle.tia_core.specs.Bits.{has_bit}
 use Rattle.tia_core.specs.Coverage.{distance_of, missile_covers}
 use Rattle.tia_core.specs.Mask.{covers}
 use Rattle.tia_core.specs.Objects.{objects_at, size_of}
-use Rattle.tia_core.specs.Private.Stretches.{all_but_playfield, bl, m0, m1}
-use Rattle.tia_core.specs.Private.Stretches.{meet_within, numbered, objects_in, p0, p1, pf, placed}
-use Rattle.tia_core.specs.Private.Stretches.{reshaped_by, set_number, touched_by, visible_objects}
-use Rattle.tia_core.specs.Private.Stretches.{with_change, with_objects, with_shapes}
-use Rattle.tia_core.specs.Private.Stretches.{AreApart, AreShown, IsMaskOf, IsPatternOf}
-use Rattle.tia_core.specs.Private.Stretches.{IsWindowOf, MasksFit}
+use Rattle.tia_core.specs.Private.ObjectSets.{all_but_playfield, bl, m0, m1, numbered, p0, p1, pf}
+use Rattle.tia_core.specs.Private.ObjectSets.{set_number, visible_objects, with_objects}
+use Rattle.tia_core.specs.Private.ObjectMasks.{objects_in, placed, AreShown, IsMaskOf, IsPatternOf}
+use Rattle.tia_core.specs.Private.ObjectMasks.{IsWindowOf, MasksFit}
+use Rattle.tia_core.specs.Private.MaskChanges.{reshaped_by, touched_by, with_change, with_shapes}
+use Rattle.tia_core.specs.Private.StretchPairs.{meet_within, AreApart}
 use Rattle.tia_core.specs.declared.fields.TiaFields.{TiaFields}
 use Rattle.tia_core.specs.declared.masks.Masks.{Masks}
 use Rattle.tia_core.specs.declared.objects.Objects.{Objects}

@@ -15,7 +15,7 @@ use Rattle.std.proofs.lemmas.Nat.Bits.{bit_at-trailing_zeros, bit_at_mask_inside
 use Rattle.std.proofs.lemmas.Nat.Bits.{bit_at_mask_above}
 use Rattle.tia_core.specs.Bits.{has_bit}
 use Rattle.tia_core.specs.Coverage.{distance_of}
-use Rattle.tia_core.specs.Private.Stretches.{has_two}
+use Rattle.tia_core.specs.Private.ObjectSets.{has_two}
 use Rattle.tia_core.specs.Mask.{any_from, covers}
 use Rattle.tia_core.specs.Private.MaskWords.{word_bit, pixels_in}
 use Rattle.tia_core.proofs.RoundTheLine.{distance_of-natural}

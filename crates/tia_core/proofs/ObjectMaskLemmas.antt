@@ -11,7 +11,7 @@ use Rattle.tia_core.specs.Coverage.{ball_covers, copies_of, distance_of, is_show
 use Rattle.tia_core.specs.Coverage.{player_covers, width_of}
 use Rattle.tia_core.specs.Objects.{objects_at, size_of, value_by_delay}
 use Rattle.tia_core.specs.Playfield.{playfield_bit, playfield_index}
-use Rattle.tia_core.specs.Private.Stretches.{union_of, visible_objects}
+use Rattle.tia_core.specs.Private.ObjectSets.{union_of, visible_objects}
 use Rattle.tia_core.specs.declared.fields.TiaFields.{TiaFields}
 use Rattle.tia_core.proofs.RoundTheLine.{distance_of-natural}
 use Rattle.tia_core.proofs.MaskWordLemmas.{bit-low, bit-high, bit-zero, cat-low, cat-high}

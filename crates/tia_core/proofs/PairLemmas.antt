@@ -10,7 +10,8 @@ use Rattle.std.proofs.lemmas.Nat.{or_block}
 use Rattle.std.proofs.lemmas.Nat.Bits.{bit_at_or, same_from_bits}
 use Rattle.tia_core.specs.Collision.{collision_byte, met_byte, number_from, pairs_list, pairs_of}
 use Rattle.tia_core.specs.Objects.{objects_at}
-use Rattle.tia_core.specs.Private.Stretches.{has_two, set_number, stretch_pairs, union_of, visible_objects}
+use Rattle.tia_core.specs.Private.ObjectSets.{has_two, set_number, union_of, visible_objects}
+use Rattle.tia_core.specs.Private.StretchPairs.{stretch_pairs}
 use Rattle.tia_core.specs.declared.fields.TiaFields.{TiaFields}
 use Rattle.tia_core.specs.declared.objects.Objects.{Objects}
 use Rattle.tia_core.specs.declared.objects.TheConstants.{PAIRS}

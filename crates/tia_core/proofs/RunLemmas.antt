@@ -13,7 +13,7 @@ use Rattle.tia_core.specs.Objects.{objects_at}
 use Rattle.tia_core.specs.Runs.{run_drawn}
 use Rattle.tia_core.specs.Mask.{covers}
 use Rattle.tia_core.specs.Private.MaskWords.{pixels_in}
-use Rattle.tia_core.specs.Private.Stretches.{pixel_at, stretch_pixels}
+use Rattle.tia_core.specs.Private.StretchPixels.{pixel_at, stretch_pixels}
 use Rattle.tia_core.specs.declared.fields.TiaFields.{TiaFields}
 use Rattle.tia_core.specs.declared.objects.Objects.{Objects}
 use Rattle.tia_core.proofs.ClockLemmas.{painted-append}

@@ -10,7 +10,7 @@ use Rattle.tia_core.specs.Clock.{Pixel, after_clock, pixels, sink_after_pixels}
 use Rattle.tia_core.specs.Collision.{pairs_of}
 use Rattle.tia_core.specs.Colour.{colour_at}
 use Rattle.tia_core.specs.Objects.{objects_at}
-use Rattle.tia_core.specs.Private.Stretches.{pixel_at, stretch_pixels}
+use Rattle.tia_core.specs.Private.StretchPixels.{pixel_at, stretch_pixels}
 use Rattle.tia_core.specs.TiaState.{TiaState}
 use Rattle.tia_core.specs.declared.fields.TiaFields.{TiaFields}
 use Rattle.tia_core.proofs.ClockLemmas.{pixels_of-blank}

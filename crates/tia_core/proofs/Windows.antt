@@ -12,7 +12,9 @@ use Rattle.tia_core.specs.Bits.{has_bit}
 use Rattle.tia_core.specs.Collision.{number_from, pairs_of}
 use Rattle.tia_core.specs.Objects.{objects_at}
 use Rattle.tia_core.specs.Private.MaskWords.{word_bit}
-use Rattle.tia_core.specs.Private.Stretches.{AreInWindow, IsWindowOf, has_two, meet_within, one}
+use Rattle.tia_core.specs.Private.ObjectSets.{has_two, one}
+use Rattle.tia_core.specs.Private.ObjectMasks.{AreInWindow, IsWindowOf}
+use Rattle.tia_core.specs.Private.StretchPairs.{meet_within}
 use Rattle.tia_core.specs.declared.fields.TiaFields.{TiaFields}
 use Rattle.tia_core.specs.declared.objects.Objects.{Objects}
 use Rattle.tia_core.specs.declared.window.Window.{Window}

@@ -1,7 +1,7 @@
 //! Collision bits.
 ghost use Rattle.std.specs.Prelude.{◌≡◌, ◌<◌, ◌≤◌, ◌^◌, bit_or, length};
 ghost use Rattle.tia_core.specs.Collision.{number_from};
-ghost use Rattle.tia_core.specs.Private.Stretches.{one};
+ghost use Rattle.tia_core.specs.Private.ObjectSets.{one};
 
 /// The number with these bits, highest first.
 #[inline]

@@ -3,7 +3,7 @@ ghost use Rattle.std.specs.Prelude.{◌≡◌, ◌<◌, ◌≤◌, ◌||◌, ◌
 ghost use Rattle.std.specs.Prelude.{bit_and, ◌^◌, true, false, min, if◌then◌else◌};
 ghost use Rattle.tia_core.specs.Bits.{has_bit};
 ghost use Rattle.tia_core.specs.Coverage.{distance_of};
-ghost use Rattle.tia_core.specs.Private.Stretches.{has_two};
+ghost use Rattle.tia_core.specs.Private.ObjectSets.{has_two};
 ghost use Rattle.tia_core.specs.Mask.{any_from, covers};
 ghost use Rattle.tia_core.specs.Private.MaskWords.{word_bit, pixels_in};
 

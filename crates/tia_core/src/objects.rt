@@ -3,7 +3,7 @@ ghost use Rattle.std.specs.Prelude.{◌≡◌, ◌<◌, ◌≤◌, ◌&&◌, not
 ghost use Rattle.tia_core.specs.Bits.{has_bit};
 ghost use Rattle.tia_core.specs.Collision.{pairs_of};
 ghost use Rattle.tia_core.specs.Objects.{value_by_delay, size_of};
-ghost use Rattle.tia_core.specs.Private.Stretches.{set_number, union_of, visible_objects};
+ghost use Rattle.tia_core.specs.Private.ObjectSets.{set_number, union_of, visible_objects};
 ghost use Rattle.tia_core.specs.declared.objects.Objects.{Objects};
 
 use crate::bits::has_bit;

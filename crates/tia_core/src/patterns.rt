@@ -3,7 +3,8 @@ ghost use Rattle.std.specs.Prelude.{◌≡◌, ◌<◌, false, ℕ};
 ghost use Rattle.tia_core.specs.Coverage.{distance_of};
 ghost use Rattle.tia_core.specs.Mask.{covers};
 ghost use Rattle.tia_core.specs.Objects.{ball_at, missile_at};
-ghost use Rattle.tia_core.specs.Private.Stretches.{bl, m0, m1, p0, p1, IsPatternOf};
+ghost use Rattle.tia_core.specs.Private.ObjectSets.{bl, m0, m1, p0, p1};
+ghost use Rattle.tia_core.specs.Private.ObjectMasks.{IsPatternOf};
 
 use crate::bits::has_bit;
 use crate::fields::TiaFields;

@@ -1,7 +1,8 @@
 //! Writes that the beam can't tell, but for the colours of its pixels.
 ghost use Rattle.std.specs.Prelude.{◌≡◌, Bool, IsTrue, true, false, ℕ};
 ghost use Rattle.tia_core.specs.Objects.{objects_at};
-ghost use Rattle.tia_core.specs.Private.Stretches.{placed, visible_objects};
+ghost use Rattle.tia_core.specs.Private.ObjectSets.{visible_objects};
+ghost use Rattle.tia_core.specs.Private.ObjectMasks.{placed};
 ghost use Rattle.tia_core.specs.Private.Unseen.{is_unseen};
 ghost use Rattle.tia_core.specs.Registers.{register_of};
 ghost use Rattle.tia_core.specs.Write.{fields_after};

@@ -2,8 +2,10 @@
 ghost use Rattle.std.specs.Prelude.{◌≡◌, ◌<◌, ◌≤◌, ◌-◌, ◌^◌, ℕ, true, false, nat_lt};
 ghost use Rattle.tia_core.specs.Bits.{has_bit};
 ghost use Rattle.tia_core.specs.Collision.{number_from};
-ghost use Rattle.tia_core.specs.Private.Stretches.{has_two, pairs_of_bl, pairs_of_m0, pairs_of_m1, pairs_of_p0};
-ghost use Rattle.tia_core.specs.Private.Stretches.{pairs_of_p1, stretch_pairs, AreInWindow};
+ghost use Rattle.tia_core.specs.Private.ObjectSets.{has_two};
+ghost use Rattle.tia_core.specs.Private.ObjectMasks.{AreInWindow};
+ghost use Rattle.tia_core.specs.Private.StretchPairs.{pairs_of_bl, pairs_of_m0, pairs_of_m1};
+ghost use Rattle.tia_core.specs.Private.StretchPairs.{pairs_of_p0, pairs_of_p1, stretch_pairs};
 
 use crate::collision::bit;
 use crate::fields::TiaFields;

@@ -1,5 +1,5 @@
 use Rattle.std.proofs.Common.{◌∙◌, ap, refl}
-use Rattle.tia_core.specs.Private.Stretches.{set_number, visible_objects}
+use Rattle.tia_core.specs.Private.ObjectSets.{set_number, visible_objects}
 use Rattle.tia_core.specs.declared.masks.Masks.{Masks}
 use Rattle.tia_core.proofs.write.redrawn.Goals as goal
 

@@ -1,6 +1,6 @@
 use Rattle.std.proofs.Common.{◌≡◌, ℕ, ◌<◌, ◌≤◌, ◌*◌, false}
 use Rattle.tia_core.specs.Mask.{covers}
-use Rattle.tia_core.specs.Private.Stretches.{has_two}
+use Rattle.tia_core.specs.Private.ObjectSets.{has_two}
 use Rattle.tia_core.proofs.mask.Mask.any_two_meet.Given as goal
 
 abbrev pub invariant-loop-i : goal.invariant-loop-i

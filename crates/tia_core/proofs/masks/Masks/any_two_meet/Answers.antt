@@ -1,4 +1,4 @@
-use Rattle.tia_core.specs.Private.Stretches.{objects_in}
+use Rattle.tia_core.specs.Private.ObjectMasks.{objects_in}
 use Rattle.tia_core.proofs.PairLemmas.{no-two}
 use Rattle.tia_core.proofs.masks.Masks.any_two_meet.Goals as goal
 

@@ -1,5 +1,5 @@
 use Rattle.std.proofs.lemmas.Bool.{eqb-true}
-use Rattle.tia_core.specs.Private.Stretches.{visible_objects}
+use Rattle.tia_core.specs.Private.ObjectSets.{visible_objects}
 use Rattle.tia_core.proofs.IdleBeam.{idle-latched}
 use Rattle.tia_core.proofs.masks.Masks.are_latched.Goals as goal
 

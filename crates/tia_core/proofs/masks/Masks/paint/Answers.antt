@@ -1,6 +1,6 @@
 use Rattle.std.proofs.Common.{◌-◌, ◌∙◌, sym}
 use Rattle.tia_core.specs.Objects.{objects_at}
-use Rattle.tia_core.specs.Private.Stretches.{stretch_pixels}
+use Rattle.tia_core.specs.Private.StretchPixels.{stretch_pixels}
 use Rattle.tia_core.proofs.RunLemmas.{colour-dark, stretch-one}
 use Rattle.tia_core.proofs.Stretches.{painted-nothing}
 use Rattle.tia_core.proofs.masks.Masks.paint.Goals as goal

@@ -1,6 +1,6 @@
 use Rattle.std.proofs.Common.{◌≡◌, ◌≤◌, ◌-◌}
 use Rattle.tia_core.specs.Clock.{sink_after_pixels}
-use Rattle.tia_core.specs.Private.Stretches.{stretch_pixels}
+use Rattle.tia_core.specs.Private.StretchPixels.{stretch_pixels}
 use Rattle.tia_core.proofs.masks.Masks.paint_fresh.Given as goal
 
 abbrev pub invariant-loop-x : goal.invariant-loop-x

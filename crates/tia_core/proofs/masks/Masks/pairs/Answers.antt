@@ -1,5 +1,5 @@
 use Rattle.std.proofs.Common.{◌∙◌}
-use Rattle.tia_core.specs.Private.Stretches.{p0, p1, m0, m1, bl, pf}
+use Rattle.tia_core.specs.Private.ObjectSets.{p0, p1, m0, m1, bl, pf}
 use Rattle.tia_core.proofs.MaskFits.{met-is}
 use Rattle.tia_core.proofs.masks.Masks.pairs.Goals as goal
 

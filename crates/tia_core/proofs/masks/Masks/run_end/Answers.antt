@@ -1,6 +1,6 @@
 use Rattle.std.proofs.Common.{◌≡◌, ◌<◌, ◌+◌, ◌-◌, ◌%◌, inl, inr, ap, sym, refl, arith}
 use Rattle.std.proofs.Math.Nat.{eq-or-lt_of_le}
-use Rattle.tia_core.specs.Private.Stretches.{objects_in}
+use Rattle.tia_core.specs.Private.ObjectMasks.{objects_in}
 use Rattle.tia_core.proofs.RunLemmas.{or-clear}
 use Rattle.tia_core.proofs.masks.Masks.run_end.Goals as goal
 

@@ -1,6 +1,6 @@
 use Rattle.std.proofs.Common.{inl, inr, sym, ap, ◌∙◌}
 use Rattle.std.proofs.lemmas.Bool.{cases_Bool}
-use Rattle.tia_core.specs.Private.Stretches.{set_number}
+use Rattle.tia_core.specs.Private.ObjectSets.{set_number}
 use Rattle.tia_core.specs.Write.{tia_after_write}
 use Rattle.tia_core.specs.declared.write.Changed.TheVariants.{Nothing}
 use Rattle.tia_core.proofs.FieldLemmas.{fields_after-lawful}

@@ -1,5 +1,6 @@
 use Rattle.std.proofs.Common.{◌-◌}
-use Rattle.tia_core.specs.Private.Stretches.{bl, m0, m1, meet_within, p0, p1, pf}
+use Rattle.tia_core.specs.Private.ObjectSets.{bl, m0, m1, p0, p1, pf}
+use Rattle.tia_core.specs.Private.StretchPairs.{meet_within}
 use Rattle.tia_core.proofs.Windows.{number-by-groups}
 use Rattle.tia_core.proofs.window.Window.pairs.Goals as goal
 

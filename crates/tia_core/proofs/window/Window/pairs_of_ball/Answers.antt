@@ -1,5 +1,5 @@
 use Rattle.std.proofs.Common.{refl}
-use Rattle.tia_core.specs.Private.Stretches.{bl, pf}
+use Rattle.tia_core.specs.Private.ObjectSets.{bl, pf}
 use Rattle.tia_core.proofs.Windows.{window-met}
 use Rattle.tia_core.proofs.window.Window.pairs_of_ball.Goals as goal
 

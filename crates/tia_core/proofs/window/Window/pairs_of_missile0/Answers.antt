@@ -1,5 +1,5 @@
 use Rattle.std.proofs.Common.{refl}
-use Rattle.tia_core.specs.Private.Stretches.{bl, m0, m1, p0, p1, pf}
+use Rattle.tia_core.specs.Private.ObjectSets.{bl, m0, m1, p0, p1, pf}
 use Rattle.tia_core.proofs.Windows.{window-met, window-without}
 use Rattle.tia_core.proofs.window.Window.pairs_of_missile0.Goals as goal
 
