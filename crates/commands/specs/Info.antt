@@ -1,4 +1,4 @@
--- What is told about a movie, which is not replayed. This project's own.
+-- What `info` says about a movie, without a replay. This project's own.
 use Rattle.std.specs.Prelude.{ℕ, List, [], ◌∷◌, ◌++◌, codes, length}
 use Rattle.std.specs.Fmt.{decimal}
 use Rattle.movie_file.specs.Movie.{MovieData}

@@ -70,7 +70,7 @@ other_run_text number =
     else codes ", and only segment " ++ (decimal number
     ++ codes " doesn't lead to its claim: its inputs or the cartridge were changed, or the claims before and after it are of two runs")
 
--- If more do, nothing is told apart. The first segment begins at the start.
+-- If more do, the segments name no cause. The first segment begins at the start.
 abbrev pub first_text : ℕ → List ℕ
 first_text number = if number == 1 then codes "the start state, " else codes ""
 

@@ -72,13 +72,13 @@ IsNeverSynced kind = ⊥
 abbrev pub IsInputStream : FileError → Type 0
 IsInputStream error = IsAbout (codes "standard error") ErrorIsInput error ⊎ IsAbout (codes "standard output") OutputIsInput error
 
--- Nobody is told why a file failed: it is a pipe that nobody reads any more, or standard error would
+-- No message says why a file failed: it is a pipe that nobody reads any more, or standard error would
 -- come into an input.
 abbrev pub IsUntold : Reason → Type 0
 IsUntold ErrorIsInput = Unit {0}
 IsUntold reason = HasKind BrokenPipe reason
 
--- Standard output is told, if it tells of errors: it isn't itself what would come into an input.
+-- Standard output gets the error, if errors go there: it isn't itself what would come into an input.
 abbrev pub IsForOutput : Reason → Type 0
 IsForOutput OutputIsInput = ⊥
 IsForOutput reason = IsUntold reason → ⊥

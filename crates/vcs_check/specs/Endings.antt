@@ -56,7 +56,7 @@ GetsReason line failure old new =
     × ((IsForOutput failure → ⊥) → Keeps old new)
 
 -- How a command line ends that was answered so: with its status, but with 5 if standard output didn't
--- take all of the answer, and nothing more is there; or with 5, and what is told of the failure.
+-- take all of the answer, and nothing more is there; or with 5, and the failure's message.
 abbrev pub Concludes : CommandLine → (old new : Option (List ℕ)) → Result Status Failure → ℕ → Type 0
 Concludes line old new (Ok status) code = ((code ≡ status_code status) ⊎ (code ≡ 5)) × Keeps old new
 Concludes line old new (Err failure) code = (code ≡ exit_code (Failed failure)) × (told : Failure) × IsToldAs failure told × GetsReason line told old new

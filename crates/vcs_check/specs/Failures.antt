@@ -26,11 +26,11 @@ abbrev pub file_error_of : Failure → Option FileError
 file_error_of (Open file_error) = Some file_error
 file_error_of (Run error file_error) = file_error
 
--- Standard output is told of it, if it tells of errors.
+-- Standard output gets the failure, if errors go there.
 abbrev pub IsForOutput : Failure → Type 0
 IsForOutput failure = IfSome (file_error_of failure) (λ file_error. IsFileForOutput file_error.reason)
 
--- What is told is this failure, of which the file may be known by now.
+-- The message is about this failure, of which the file may be known by now.
 abbrev pub IsToldAs : Failure → Failure → Type 0
 IsToldAs (Run error None) told = (file_error : Option FileError) × (told ≡ Run error file_error)
 IsToldAs failure told = told ≡ failure

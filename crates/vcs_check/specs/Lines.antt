@@ -46,12 +46,12 @@ abbrev pub IsMistake : LineFault → Type 0
 IsMistake (Usage text) = Unit {0}
 IsMistake fault = ⊥
 
--- What is told of a fault: a mistake may be told in other words, all else stays as it is.
+-- How a fault is reported: a mistake may be put in other words, all else stays as it is.
 abbrev pub IsAdvised : LineFault → LineFault → Type 0
 IsAdvised (Usage text) told = IsMistake told
 IsAdvised fault told = told ≡ fault
 
--- It is told why these words are no command, or why those are none that are shown in their place.
+-- The fault says why these words are no command, or why those are none that are shown in their place.
 abbrev pub IsFaultOf : List Text → LineFault → Type 0
 IsFaultOf words told =
     (fault : LineFault) × IsAdvised fault told × (IsRefusal words fault ⊎ IsRefusal (map shown_text words) fault)

@@ -16,7 +16,7 @@ abbrev pub of_create_error : CreateError → Failure
 of_create_error (created.Open file_error) = Open file_error
 of_create_error created.NoMemory = Run NoMemory None
 
--- Nobody is told why a file failed.
+-- No message says why a file failed.
 abbrev pub IsUntold : Failure → Type 0
 IsUntold failure = IsSomeAnd (file_error_of failure) (λ file_error. IsFileUntold file_error.reason)
 
