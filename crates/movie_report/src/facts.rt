@@ -14,7 +14,7 @@ use crate::expectations::Agreement;
 use crate::failure_facts::failure_facts;
 use crate::notation::{NumberFact, WordFact};
 use crate::notes::notes;
-use crate::verdict_head::verdict_head;
+use crate::object_head::verdict_head;
 use hex::encode;
 use input_text::is_idle;
 use md5::Md5;

@@ -3,9 +3,9 @@
 
 mod cartridge_differences;
 mod checkpoints;
+mod claim_facts;
 mod claim_place;
 mod claim_signs;
-mod claims;
 mod differences;
 mod expectations;
 mod facts;
@@ -14,11 +14,11 @@ mod later_signs;
 mod notation;
 mod notes;
 mod numbers;
+mod object_head;
 mod reason;
 mod segments;
-mod verdict_head;
 
-pub use claims::claims;
+pub use claim_facts::claims;
 pub use expectations::Agreement;
 pub use facts::report;
-pub use verdict_head::{FaultMembers, verdict_head};
+pub use object_head::{FaultMembers, verdict_head};

@@ -3,7 +3,7 @@ use Rattle.movie_file.specs.Format.{state_length}
 use Rattle.movie_report.specs.Claims.{values_text}
 use Rattle.movie_report.proofs.ClaimLemmas.{rest_text}
 use Rattle.movie_report.proofs.DifferenceLemmas.{bytes_from}
-use Rattle.movie_report.proofs.claims.values.Given as goal
+use Rattle.movie_report.proofs.claim_facts.values.Given as goal
 
 abbrev pub invariant-loop-place : goal.invariant-loop-place
 invariant-loop-place l = record {

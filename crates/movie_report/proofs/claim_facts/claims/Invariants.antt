@@ -1,6 +1,6 @@
 use Rattle.std.proofs.Common.{◌≡◌, ◌++◌, drop, string_bytes}
 use Rattle.movie_report.specs.Claims.{claims_text}
-use Rattle.movie_report.proofs.claims.claims.Given as goal
+use Rattle.movie_report.proofs.claim_facts.claims.Given as goal
 
 abbrev pub invariant-loop-index : goal.invariant-loop-index
 invariant-loop-index l =
