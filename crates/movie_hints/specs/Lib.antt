@@ -1,5 +1,6 @@
 pub mod Looks
 pub mod Places
+pub mod Words
 pub mod Hints
 pub mod Counts
 pub mod HintTexts
