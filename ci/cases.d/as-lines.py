@@ -28,6 +28,10 @@ def lines():
             yield f"{name}: {signs[at:at + 64]}"
     if "reason" in facts:
         yield facts["reason"]
+    if (frame := facts.get("input_left_out")) is not None:
+        yield f"without the input of frame {frame} the run is in claim {facts['checkpoint']} after frame {facts['in_claim_after']}"
+    if (frame := facts.get("input_twice")) is not None:
+        yield f"with the input of frame {frame} twice the run is in claim {facts['checkpoint']} after frame {facts['in_claim_after']}"
     for name in "cartridge", "start", "last_frame":
         if (answer := facts.get(f"{name}_expected")) is not None:
             yield f"{name.replace('_', ' ')} expected: {'yes' if answer else 'no'}"

@@ -38,6 +38,12 @@ def without(frame: int) -> bytes:
     return DEMO[:place] + DEMO[place + 3 : end] + DEMO[end - 3 : end] + DEMO[end:]
 
 
+def with_more(frame: int) -> bytes:
+    """The demo with the input of a frame twice, and without its last input."""
+    place, end = tamper.pressed(frame, 0), tamper.pressed(tamper.FRAMES, 3)
+    return DEMO[:place + 3] + DEMO[place : end - 3] + DEMO[end:]
+
+
 # The demo without its claims but the last.
 ONE_CLAIM = DEMO[:12] + b"\0\1" + DEMO[14 : tamper.CHECKPOINTS] + DEMO[LAST_CLAIM:]
 
@@ -65,6 +71,8 @@ COPIES = {
     "two-mistakes": turned((tamper.memory(5, tamper.SCORE + 1), 0b0001_0000), (tamper.pressed(500, 0), RIGHT)),
     "exchanged-claims": exchanged(4, 5),
     "frame-is-missing": without(301),
+    # Frames 385 to 408 have the same input, and so has one more.
+    "frame-too-many": with_more(400),
     # The cartridge of other-points, in which an alien has other points.
     "other-cartridge": DEMO[: tamper.CARTRIDGE] + OTHER_POINTS[tamper.CARTRIDGE : tamper.CARTRIDGE + tamper.LENGTH] + DEMO[tamper.CARTRIDGE + tamper.LENGTH :],
     # The picture is black and white one frame later, on the other side of a claim.

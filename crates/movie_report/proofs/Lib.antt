@@ -6,6 +6,7 @@ pub mod ClaimSignLemmas
 pub mod DifferenceLemmas
 pub mod FirstSignLemmas
 pub mod FoundSignLemmas
+pub mod InputTrialLemmas
 pub mod ListLemmas
 pub mod NoteLemmas
 pub mod NumberLemmas

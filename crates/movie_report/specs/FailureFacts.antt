@@ -17,6 +17,7 @@ use Rattle.replay_segments.specs.declared.verdict.Verdict.TheVariants.{Fault}
 use Rattle.movie_report.specs.ClaimPlace.{place_text}
 use Rattle.movie_report.specs.ClaimSigns.{claim_signs}
 use Rattle.movie_report.specs.Differences.{differences_text}
+use Rattle.movie_report.specs.InputTrials.{trial_text}
 use Rattle.movie_report.specs.Reasons.{sentence_in, reason_text}
 use Rattle.movie_report.specs.Segments.{AreSigns, signs_text}
 use Rattle.movie_report.specs.declared.differences.Comparison.TheVariants.{Claim}
@@ -50,13 +51,14 @@ left_text notation None = []
 left_text notation (Some left) = registers_text notation left.state.cpu ++ beam_text notation left.scanline (line_cycle_of left.state)
 
 -- What is said after a false checkpoint of this number and frame, where the segments have these signs: what differs, where else
--- the run is in the claimed state, the signs of segments and of claims, and a sentence about them.
+-- the run is in the claimed state, the signs of segments and of claims, a sentence about them, and whether one frame's input more or less
+-- leads to the claim.
 abbrev pub false_text : Notation → MovieData → ℕ → ℕ → List Sign → List ℕ
 false_text notation m number frame signs =
     claim_text notation (slice_get m.checkpoints (number - 1)) (run m m.start 0 frame)
     ++ (place_text notation m (slice_get m.checkpoints (number - 1))
     ++ (signs_text notation (codes "segments") signs ++ (signs_text notation (codes "claims") (claim_signs m)
-    ++ reason_text notation (sentence_in m number signs))))
+    ++ (reason_text notation (sentence_in m number signs) ++ trial_text notation m number frame (slice_get m.checkpoints (number - 1))))))
 
 -- What is said after a fault in this frame: where it is, and the signs.
 abbrev pub halt_text : Notation → MovieData → ℕ → List Sign → List ℕ

@@ -8,6 +8,7 @@ pub mod Expectations
 pub mod FailureFacts
 pub mod VerdictHeads
 pub mod Facts
+pub mod InputTrials
 pub mod Notations
 pub mod Notes
 pub mod Numbers

@@ -1,6 +1,6 @@
 //! After which frame of its run a movie is in a claimed state.
 ghost use Rattle.std.specs.Prelude.{◌≡◌, IfOk, Some, string_bytes};
-ghost use Rattle.movie_report.specs.ClaimPlace.{first_frame_in, frame_fact, place_text};
+ghost use Rattle.movie_report.specs.ClaimPlace.{first_frame_in, frame_fact};
 
 use crate::notation::NumberFact;
 use movie_file::{Movie, Progress, Work, write_state};
@@ -29,7 +29,11 @@ fn first_frame_in<P: Progress>(movie: &Movie, state: &State, progress: &P) -> Op
 }
 
 /// The fact, if there is such a frame.
-fn frame_fact(alloc: Global, notation: Notation, frame: Option<u32>) -> Result<String, AllocError>
+pub(crate) fn frame_fact(
+    alloc: Global,
+    notation: Notation,
+    frame: Option<u32>,
+) -> Result<String, AllocError>
     ensures { IfOk result (λ text. string_bytes text ≡ frame_fact notation frame) }
 {
     let Some(frame) = frame else {
@@ -42,17 +46,11 @@ fn frame_fact(alloc: Global, notation: Notation, frame: Option<u32>) -> Result<S
 
 /// After which frame of its run a movie is in this state, which it claims. The movie is replayed for
 /// that, on the calling thread, as a work of its own.
-pub(crate) fn place_facts<P: Progress>(
-    alloc: Global,
-    notation: Notation,
-    movie: &Movie,
-    claimed: &State,
-    progress: &P,
-) -> Result<String, AllocError>
-    ensures { IfOk result (λ text. string_bytes text ≡ frame_fact notation (first_frame_in movie.now claimed.now)) }
+pub(crate) fn claim_place<P: Progress>(movie: &Movie, claimed: &State, progress: &P) -> Option<u32>
+    ensures { result ≡ first_frame_in movie.now claimed.now }
 {
     progress.begin(Work::Frames(movie.frames()));
     let frame = first_frame_in(movie, claimed, progress);
     progress.end();
-    frame_fact(alloc, notation, frame)
+    frame
 }

@@ -198,11 +198,12 @@ fn notes_and_facts(
 /// reach their claims: the verdict says it of the first that doesn't and of those before it, and the
 /// others are replayed. Of a false checkpoint also comes after which other frame the run has the
 /// claimed state, for which the run is replayed, and in which claims the run is, for which it goes on
-/// to the last; and a sentence. Then comes whether the movie is as expected, where anything is, and in
-/// which bytes its cartridge differs from the ROM that is, if one is given; then notes, and the facts:
-/// the cartridge's length, digests and bank scheme, whether the start
-/// state is that of power-on, where checkpoints stand, and what the movie is. The numbers of a start
-/// that isn't power-on are the last.
+/// to the last; a sentence; and a frame of the segment before it whose input, left out or played twice,
+/// leads to the claim, for which runs of that segment are played. Then comes whether the movie is as
+/// expected, where anything is, and in which bytes its cartridge differs from the ROM that is, if one
+/// is given; then notes, and the facts: the cartridge's length, digests and bank scheme, whether the
+/// start state is that of power-on, where checkpoints stand, and what the movie is. The numbers of a
+/// start that isn't power-on are the last.
 ///
 /// As many workers replay the segments, one on the calling thread and each other one in a thread of
 /// its own, which is joined. Where the start of a thread is refused, the calling thread does its

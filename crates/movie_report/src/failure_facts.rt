@@ -11,9 +11,10 @@ ghost use Rattle.movie_report.specs.FailureFacts.{beam_text, left_text, register
 ghost use Rattle.movie_report.specs.FailureFacts.{HasFailure};
 ghost use Rattle.movie_report.specs.Reasons.{reason_text, sentence_in};
 
-use crate::claim_place::place_facts;
+use crate::claim_place::{claim_place, frame_fact};
 use crate::claim_signs::claim_signs;
 use crate::differences::{Comparison, differences};
+use crate::input_trials::{first_trial, trial_fact};
 use crate::reason::{reason, sentence};
 use crate::segments::{Sign, sign_facts, signs_of};
 use mos_cpu::Cpu;
@@ -121,14 +122,17 @@ fn false_facts<R: Threads + Sync, P: Progress + Sync>(
     let found = found_state(movie, number, frame, progress);
     let claimed = &movie.checkpoint(number).state;
     let claim = claim_facts(alloc, notation, claimed, &found)?;
-    let place = place_facts(alloc, notation, movie, claimed, progress)?;
+    let frame_in = claim_place(movie, claimed, progress);
+    let place = frame_fact(alloc, notation, frame_in)?;
     let before = u32::from(number) - 1;
     let signs = signs_of(rt, alloc, movie, before, Sign::Differs, workers, progress)?;
     let segments = sign_facts(alloc, notation, "segments", &signs)?;
     let found = claim_signs(alloc, movie, number, frame, &found, progress)?;
     let claims = sign_facts(alloc, notation, "claims", &found)?;
     let reason = reason_facts(alloc, notation, movie, number, &signs, &found)?;
-    format!(in alloc; "{claim}{place}{segments}{claims}{reason}")
+    let trial = first_trial(movie, number, frame, claimed, frame_in, progress);
+    let trial = trial_fact(alloc, notation, number, trial)?;
+    format!(in alloc; "{claim}{place}{segments}{claims}{reason}{trial}")
 }
 
 /// What is said after a fault.

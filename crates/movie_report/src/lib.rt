@@ -10,6 +10,7 @@ mod differences;
 mod expectations;
 mod facts;
 mod failure_facts;
+mod input_trials;
 mod later_signs;
 mod notation;
 mod notes;

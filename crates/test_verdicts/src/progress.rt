@@ -228,11 +228,11 @@ fn works_end_at_a_failed_write(rt: HostRuntime) -> Result<(), Fail> {
 }
 
 /// Of three segments the first is replayed for the verdict, its frame for the state that was found,
-/// all three frames for the claimed state, the other segments for their signs, and the second frame
-/// for the sentence.
+/// all three frames for the claimed state, the other segments for their signs, the second frame for
+/// the sentence, and the first for a run without its input or with it twice.
 #[test]
 fn signs_are_a_work_of_their_own(rt: HostRuntime) -> Result<(), Fail> {
     let bytes = first_of_two_false(rt.alloc())?;
-    expect_equal(&rt, told(&rt, &report(), &bytes), [5, 5, 0, 8, 5, 5]);
+    expect_equal(&rt, told(&rt, &report(), &bytes), [5, 6, 0, 9, 6, 6]);
     Ok(())
 }

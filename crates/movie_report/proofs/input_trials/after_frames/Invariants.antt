@@ -1,0 +1,6 @@
+use Rattle.std.proofs.Common.{◌≡◌, ◌-◌, Some}
+use Rattle.movie_file.specs.Run.{run}
+use Rattle.movie_report.proofs.input_trials.after_frames.Given as goal
+
+abbrev pub invariant-loop-before : goal.invariant-loop-before
+invariant-loop-before l = run l.movie l.start l.from (l.before - l.from) ≡ Some l.state
