@@ -224,17 +224,6 @@ abbrev pub IsListed : Listed → Command → Type 0
 IsListed listed command =
     (shape_of command ≡ shape_for listed) × ((out-Command command).has_globals ≡ false)
 
--- Arguments are those of rows, and commands are those of the table, one by one.
-abbrev pub AreRows : List Argument → List Arg → Type 0
-AreRows [] [] = Unit {0}
-AreRows (row ∷ rows) (argument ∷ arguments) = IsRow row argument × AreRows rows arguments
-AreRows rows arguments = ⊥
-
-abbrev pub AreListed : List Listed → List Command → Type 0
-AreListed [] [] = Unit {0}
-AreListed (listed ∷ more) (command ∷ rest) = IsListed listed command × AreListed more rest
-AreListed listed others = ⊥
-
 -- A program with more commands of the table.
 abbrev pub with_listed : App → List Listed → App
 with_listed app [] = app

@@ -98,6 +98,35 @@ pub enum Command {
     },
 }
 
+/// How the answer of a command is written.
+#[derive(Clone, Copy, Debug, PartialEq, Eq)]
+pub enum Writing {
+    /// What the file gets, if it gets anything, and then the text, once both are known.
+    FileFirst,
+    /// The text, and then the pictures that the file gets, once both are known.
+    TextFirst,
+    /// The text, while a run goes on.
+    GradualText,
+    /// The pictures that the file gets, while a run goes on, and then the text.
+    GradualPictures,
+}
+
+impl Command {
+    ghost use Rattle.command_line.specs.Writing.{writing_of};
+
+    /// How its answer is written.
+    pub fn writing(&self) -> Writing
+        ensures { result ≡ writing_of self.now }
+    {
+        match self {
+            Command::Verify { .. } => Writing::TextFirst,
+            Command::Frames { .. } | Command::Trace { .. } => Writing::GradualText,
+            Command::Pictures { .. } => Writing::GradualPictures,
+            _ => Writing::FileFirst,
+        }
+    }
+}
+
 /// A command, and the files that it is about.
 #[derive(Debug, Drop)]
 pub struct CommandLine {

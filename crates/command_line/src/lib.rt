@@ -7,8 +7,9 @@ mod frames;
 mod line;
 mod parser;
 mod report;
+mod table;
 mod version;
 
-pub use command::{Command, CommandLine, LineFault, Making};
+pub use command::{Command, CommandLine, LineFault, Making, Writing};
 pub use line::parse_line;
 pub use version::program_name;

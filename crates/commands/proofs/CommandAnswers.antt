@@ -3,7 +3,9 @@ use Rattle.std.proofs.Common.{◌≡◌, List, ℕ, [], Option, None, Ok, Err, i
 use Rattle.std.specs.Io.KnownBytes.{Keeps}
 use Rattle.command_line.specs.Program.{program_name}
 use Rattle.command_line.specs.declared.command.Command.{Command}
-use Rattle.command_line.specs.declared.command.Command.TheVariants.{Make, Verify}
+use Rattle.command_line.specs.declared.command.Command.TheVariants.{Make}
+use Rattle.command_line.specs.declared.command.Writing.{Writing}
+use Rattle.command_line.specs.declared.command.Writing.TheVariants.{TextFirst}
 use Rattle.movie_file.specs.Movie.{MovieData}
 use Rattle.movie_file.specs.Reading.{movie_at}
 use Rattle.movie_file.specs.declared.error.MovieError.{MovieError}
@@ -42,8 +44,8 @@ module _ (command : Command) (bytes : List ℕ) (a b : Option (List ℕ)) (statu
   of_refusal error found keeps told = rw same (about_bytes command _ None about (rw found (keeps, refl)) (rw found (whole (notation_of command) error answer told)))
 
 -- A text that is not all written, of an answer without a file.
-pub text_in_part : (command : Command) (a b c : Option (List ℕ)) (text : List ℕ) → AppendsPrefix a b text → WritesSome command a b text c c []
-text_in_part (Verify plan notation) a b c text part = inl (part, keeps_same c)
+pub text_in_part : (writing : Writing) (a b c : Option (List ℕ)) (text : List ℕ) → AppendsPrefix a b text → WritesSome writing a b text c c []
+text_in_part TextFirst a b c text part = inl (part, keeps_same c)
 text_in_part other a b c text part = inr (appends_nothing c, part)
 
 -- The error of an input that is too long.

@@ -6,6 +6,8 @@ use Rattle.command_line.specs.Program.{program_name}
 use Rattle.command_line.specs.declared.command.Command.{Command}
 use Rattle.command_line.specs.declared.command.Command.TheVariants.{Verify, Report, Make, Info, Claims, Inputs, Cartridge, Convert}
 use Rattle.command_line.specs.declared.command.Command.TheVariants.{Frames, Pictures, Cut, Trace}
+use Rattle.command_line.specs.declared.command.Writing.{Writing}
+use Rattle.command_line.specs.declared.command.Writing.TheVariants.{GradualText, TextFirst}
 use Rattle.movie_file.specs.Movie.{MovieData}
 use Rattle.movie_file.specs.Reading.{movie_at}
 use Rattle.movie_file.specs.declared.error.MovieError.{MovieError}
@@ -80,16 +82,14 @@ AnswersBytes command bytes old new answer =
 abbrev pub IsAnswered : Command → List ℕ → (old new : Option (List ℕ)) → Status → (text file : List ℕ) → Type 0
 IsAnswered command bytes old new status text file = AnswersBytes command bytes old new (record { status = status; text = text; file = file })
 
--- After a failed write one of the two has got a part of its own, and the other all or nothing: the
--- text is written first by `verify`, and else the file.
-abbrev pub WritesSome : Command → (old new : Option (List ℕ)) → List ℕ → (file_old file_new : Option (List ℕ)) → List ℕ → Type 0
-WritesSome (Verify plan notation) old new text file_old file_new file = WritesPart old new text file_old file_new file
+-- After a failed write one of the two has got a part of its own, and the other all or nothing.
+abbrev pub WritesSome : Writing → (old new : Option (List ℕ)) → List ℕ → (file_old file_new : Option (List ℕ)) → List ℕ → Type 0
+WritesSome TextFirst old new text file_old file_new file = WritesPart old new text file_old file_new file
 WritesSome other old new text file_old file_new file = WritesPart file_old file_new file old new text
 
 -- Its text is written while a run goes on.
-abbrev pub IsGradual : Command → Type 0
-IsGradual (Frames first count details notation) = Unit {0}
-IsGradual (Trace frame) = Unit {0}
+abbrev pub IsGradual : Writing → Type 0
+IsGradual GradualText = Unit {0}
 IsGradual other = ⊥
 
 -- What is written of a movie when memory runs out: whole lines or pictures of the commands that write

@@ -2,6 +2,7 @@
 ghost use Rattle.std.specs.Prelude.{◌≡◌, ◌≢◌, ◌⊎◌, List, ℕ, IfOk, OnErr};
 ghost use Rattle.std.specs.Option.{option_copied, option_map};
 ghost use Rattle.std.specs.Io.KnownBytes.{Appends, Keeps};
+ghost use Rattle.command_line.specs.Writing.{writing_of};
 ghost use Rattle.movie_file.specs.Movie.{MovieData};
 ghost use Rattle.movie_file.specs.Reading.{movie_at};
 ghost use Rattle.commands.specs.Answers.{AnswerData};
@@ -60,7 +61,8 @@ fn answer<T: Threads + Wait + Sync + AllocGlobal, G: Gate + Progress + Sync>(
     movie: Movie,
     gate: &G,
 ) -> Result<Answer, JudgeError>
-    requires { IsAtOnce command.now }
+    requires about { IsAboutMovies command.now }
+    requires at_once { IsAtOnce (writing_of command.now) }
     ensures answer { IfOk result (Answers command.now bytes.now (option_copied rom.entry) movie) }
     ensures no_thread { result ≡ Err JudgeError.NoThread → StartsThreads command.now }
 {
@@ -121,7 +123,7 @@ fn answer_movie<
     ensures ok { IfOk result (λ status. (answer : AnswerData) × Answers command.now bytes.now (option_copied rom.entry) movie answer × (status ≡ answer.status)
         × Appends (W.contents text.old) (W.contents text.new) answer.text × Appends (P.contents file.old) (P.contents file.new) answer.file) }
     ensures write_fault { result ≡ Err RunError.WriteFault → (answer : AnswerData) × Answers command.now bytes.now (option_copied rom.entry) movie answer
-        × WritesSome command.now (W.contents text.old) (W.contents text.new) answer.text (P.contents file.old) (P.contents file.new) answer.file }
+        × WritesSome (writing_of command.now) (W.contents text.old) (W.contents text.new) answer.text (P.contents file.old) (P.contents file.new) answer.file }
     ensures quiet { OnErr result (result ≢ Err RunError.WriteFault → result ≢ Err RunError.NoMemory
         → Keeps (W.contents text.old) (W.contents text.new) × Keeps (P.contents file.old) (P.contents file.new)) }
     ensures memory { result ≡ Err RunError.NoMemory → (Keeps (W.contents text.old) (W.contents text.new) × Keeps (P.contents file.old) (P.contents file.new))
@@ -201,7 +203,7 @@ pub fn run_command<
     ensures write_fault { result ≡ Err RunError.WriteFault → (bytes : List ℕ) × (status : Status) × (told : List ℕ) × (made : List ℕ)
         × ReadsAll (R.remaining input.old) (R.remaining input.new) bytes
         × IsAnswered command.now bytes (S.remaining inputs.old) (S.remaining inputs.new) status told made
-        × WritesSome command.now (W.contents text.old) (W.contents text.new) told (P.contents file.old) (P.contents file.new) made }
+        × WritesSome (writing_of command.now) (W.contents text.old) (W.contents text.new) told (P.contents file.old) (P.contents file.new) made }
 
     // What was written after the other errors.
     ensures quiet { OnErr result (result ≢ Err RunError.WriteFault → result ≢ Err RunError.NoMemory

@@ -3,8 +3,11 @@
 use Rattle.std.specs.Prelude.{◌≡◌, ◌⊎◌, ℕ, List, Option, Some, None, Result, Ok, IfOk, IfErr, codes, option_map, string_bytes}
 use Rattle.std.specs.Io.KnownBytes.{Appends, Keeps}
 use Rattle.command_line.specs.declared.command.Command.{Command}
-use Rattle.command_line.specs.declared.command.Command.TheVariants.{Make, Pictures, Report, Verify}
+use Rattle.command_line.specs.declared.command.Command.TheVariants.{Make, Report}
+use Rattle.command_line.specs.Writing.{writing_of}
 use Rattle.command_line.specs.declared.command.CommandLine.{CommandLine}
+use Rattle.command_line.specs.declared.command.Writing.{Writing}
+use Rattle.command_line.specs.declared.command.Writing.TheVariants.{GradualPictures, TextFirst}
 use Rattle.commands.specs.Commands.{HasBegun, IsAnswered as Answers, IsGradual}
 use Rattle.commands.specs.Streams.{ReadsAll}
 use Rattle.commands.specs.declared.status.Status.{Status}
@@ -21,9 +24,9 @@ second_name (Report workers notation rom expectations) = option_map (λ name. st
 second_name other = None
 
 -- What a command writes to a file is pictures.
-abbrev pub WritesPictures : Command → Type 0
-WritesPictures (Verify plan notation) = Unit {0}
-WritesPictures (Pictures first count) = Unit {0}
+abbrev pub WritesPictures : Writing → Type 0
+WritesPictures TextFirst = Unit {0}
+WritesPictures GradualPictures = Unit {0}
 WritesPictures other = ⊥
 
 -- The first input is standard input,
@@ -76,7 +79,7 @@ Writes line Reads old new result = IfOk result (λ status. (written : List ℕ) 
 -- writes while a run goes on, what came before.
 abbrev pub KeepsQuiet : CommandLine → (old new : Option (List ℕ)) → Result Status Failure → Type 0
 KeepsQuiet line old new result =
-    IfErr result (λ failure. (IsWriteFault failure → ⊥) → (IsNoMemory failure → IsGradual line.command ⊎ TakesFile line → ⊥) → Keeps old new)
+    IfErr result (λ failure. (IsWriteFault failure → ⊥) → (IsNoMemory failure → IsGradual (writing_of line.command) ⊎ TakesFile line → ⊥) → Keeps old new)
 
 -- What came before: whole lines or pictures.
 abbrev pub Begins : CommandLine → Inputs → (old new : Option (List ℕ)) → Type 0

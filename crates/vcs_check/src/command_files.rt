@@ -2,6 +2,7 @@
 ghost use Rattle.std.specs.Prelude.{◌≡◌, ◌≢◌, ◌⊎◌, ◌↔◌, List, ℕ, Option, Ok, true, Err, IfErr, IfOk, OnErr};
 ghost use Rattle.std.specs.Prelude.{IsSome, None, codes, is_some, option_copied, option_map, string_bytes};
 ghost use Rattle.std.specs.Io.KnownBytes.{Appends, Keeps};
+ghost use Rattle.command_line.specs.Writing.{writing_of};
 ghost use Rattle.commands.specs.Commands.{HasBegun, IsGradual, StartsThreads};
 ghost use Rattle.commands.specs.Streams.{ReadsAll};
 ghost use Rattle.movie_file.specs.Movie.{MovieData};
@@ -16,7 +17,7 @@ ghost use Rattle.vcs_check.specs.Private.Inputs.{ReadsBoth, ReadsFirstly, ReadsW
 
 use crate::failure::Failure;
 use crate::kept::Kept;
-use command_line::{Command, CommandLine};
+use command_line::{Command, CommandLine, Writing};
 use commands::{Gate, Progress, RunError, Status, run_command};
 use named_files::{
     FileError, Identity, Named, Whole, check_standard_output, check_streams, create, open,
@@ -53,15 +54,18 @@ fn flush<W: Write>(writer: &mut W) -> Result<(), RunError>
 
 /// Whether pictures are what a command writes to a file.
 pub(crate) fn draws(command: &Command) -> bool
-    ensures { (result ≡ true) ↔ WritesPictures command.now }
+    ensures { (result ≡ true) ↔ WritesPictures (writing_of command.now) }
 {
-    matches!(command, Command::Verify { .. } | Command::Pictures { .. })
+    matches!(
+        command.writing(),
+        Writing::TextFirst | Writing::GradualPictures
+    )
 }
 
 /// When the file is whole that a command writes: pictures come one by one, a movie at once.
 fn whole(command: &Command) -> Whole
-    ensures pictures { WritesPictures command.now → result ≡ Flushed }
-    ensures other { (WritesPictures command.now → ⊥) → result ≡ Written }
+    ensures pictures { WritesPictures (writing_of command.now) → result ≡ Flushed }
+    ensures other { (WritesPictures (writing_of command.now) → ⊥) → result ≡ Written }
 {
     if draws(command) {
         Whole::Flushed
@@ -96,7 +100,7 @@ fn run<
     ensures memory { result ≡ Err RunError.NoMemory → Keeps (W.contents text.old) (W.contents text.new)
         ⊎ ((bytes : List ℕ) × (m : MovieData) × ReadsAll (M.remaining input.old) (M.remaining input.new) bytes × (movie_at bytes ≡ Ok m)
         × (file_old file_new : Option (List ℕ)) × HasBegun command.now m (W.contents text.old) (W.contents text.new) file_old file_new) }
-    ensures quiet { OnErr result (result ≢ Err RunError.WriteFault → (result ≡ Err RunError.NoMemory → IsGradual command.now → ⊥)
+    ensures quiet { OnErr result (result ≢ Err RunError.WriteFault → (result ≡ Err RunError.NoMemory → IsGradual (writing_of command.now) → ⊥)
         → Keeps (W.contents text.old) (W.contents text.new)) }
     ensures no_thread { result ≡ Err RunError.NoThread → StartsThreads command.now }
 {
@@ -162,7 +166,7 @@ fn write<
     ensures memory { result ≡ Err RunError.NoMemory → Keeps (W.contents text.old) (W.contents text.new)
         ⊎ ((bytes : List ℕ) × (m : MovieData) × ReadsAll (M.remaining input.old) (M.remaining input.new) bytes × (movie_at bytes ≡ Ok m)
         × (file_old file_new : Option (List ℕ)) × HasBegun command.now m (W.contents text.old) (W.contents text.new) file_old file_new) }
-    ensures quiet { OnErr result (result ≢ Err RunError.WriteFault → (result ≡ Err RunError.NoMemory → IsGradual command.now → ⊥)
+    ensures quiet { OnErr result (result ≢ Err RunError.WriteFault → (result ≡ Err RunError.NoMemory → IsGradual (writing_of command.now) → ⊥)
         → Keeps (W.contents text.old) (W.contents text.new)) }
     ensures no_thread { result ≡ Err RunError.NoThread → StartsThreads command.now }
 {

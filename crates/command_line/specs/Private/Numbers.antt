@@ -33,3 +33,13 @@ abbrev pub HasNumbersOf : Text → List Row → Type 0
 HasNumbersOf name rows =
     IfSome (find (λ (listed : Listed). bytes_eq listed.name name) commands)
     (λ listed. HasNumbers listed rows)
+
+-- The numbers that an argument takes begin with the least of them.
+abbrev pub IsOrdered : Kind → Type 0
+IsOrdered (number least most default) = least ≤ most
+IsOrdered (needed_number least most) = least ≤ most
+IsOrdered other = Unit {0}
+
+abbrev pub AreOrdered : List Argument → Type 0
+AreOrdered [] = Unit {0}
+AreOrdered (argument ∷ more) = IsOrdered argument.kind × AreOrdered more

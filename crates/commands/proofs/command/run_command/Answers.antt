@@ -1,5 +1,6 @@
 use Rattle.std.proofs.Common.{◌≡◌, Ok, Err, ap, inl, inr, refl, rules, sym}
 use Rattle.std.proofs.lemmas.Result.{IfOk-weaker}
+use Rattle.command_line.specs.Writing.{writing_of}
 use Rattle.movie_file.specs.Reading.{movie_at}
 use Rattle.picture_file.proofs.BytesWritten.{appends_nothing, keeps_same}
 use Rattle.commands.specs.Private.Groups.{IsAboutMovies}
@@ -57,7 +58,7 @@ returns-in_err-write_text-in-Err-clause-write_fault g c = λ is.
       _,
       c.in_ok-bytes.ensures.all,
       of_refusal _ bytes _ _ _ answer about refl _ read (keeps_same _) told,
-      text_in_part c.args.command.now _ _ _ _ c.in_err-write_text-in-Err.ensures.fault,
+      text_in_part (writing_of c.args.command.now) _ _ _ _ c.in_err-write_text-in-Err.ensures.fault,
     )
 
 pub returns-clause-ok : goal.returns-clause-ok
