@@ -9,7 +9,7 @@
 # installed that this one hasn't is taken away: PREFIX/share/votmeshaw/files names the files of the version that is there.
 # With DESTDIR in the environment all goes below $DESTDIR$PREFIX, and nothing else is written or run: that is for packages.
 #
-#   --program FILE   the program to copy
+#   --program FILE   the program to copy, which has to say by --version that it is vcs_check
 #   --magic FILE     tells file(1) the type too: adds a block to FILE, which is /etc/magic for everyone, ~/.magic for oneself
 #   --uninstall      takes away the files, the block, and the folders that were made for them and are empty now
 #
@@ -108,6 +108,7 @@ folder() {
 
 # copy MODE FROM TO: replaces a file, also one that is running. The new one is made beside it, under a name that nobody foresees.
 copy() {
+    at=$root/$3
     folder "${3%/*}"
     beside=$(mktemp "$root/${3%/*}/.votmeshaw.XXXXXX")
     case $1 in
@@ -116,8 +117,13 @@ copy() {
     *) cat "$2" >"$beside" ;;
     esac
     case $1 in link) ;; 755) chmod 755 "$beside" ;; *) chmod 644 "$beside" ;; esac
-    mv -fT "$beside" "$root/$3"
-    beside=
+    mv -fT "$beside" "$at"
+    beside='' at=
+}
+
+# look MODE FROM TO: notes that a file is there.
+look() {
+    if [ -e "$root/$3" ] || [ -L "$root/$3" ]; then found=uninstalled; fi
 }
 
 # take_away MODE FROM TO: removes a file.
@@ -144,11 +150,12 @@ $name
 
 # write_list: names $files in the list.
 write_list() {
+    at=$root/$list
     beside=$(mktemp "$root/share/votmeshaw/.votmeshaw.XXXXXX")
     printf %s "$files" >"$beside"
     chmod 644 "$beside"
-    mv -fT "$beside" "$root/$list"
-    beside=
+    mv -fT "$beside" "$at"
+    beside='' at=
 }
 
 # remove_empty FOLDERS: removes those that hold nothing, the deepest first.
@@ -190,6 +197,7 @@ write_magic() {
     # (each beginning with an end after it, so that nothing else is taken out)
     marks=$([ ! -f "$magic" ] || sed -n 's/^# Votmeshaw \(begins\|ends\).*/\1/p' "$magic" | tr '\n' ' ')
     case $marks in '' | 'begins ends ') ;; *) stop "$magic has half a block of ours" ;; esac
+    at=$magic
     beside=$(mktemp "${magic%/*}/.votmeshaw.XXXXXX")
     if [ -f "$magic" ]; then
         cp -p "$magic" "$beside"
@@ -201,7 +209,7 @@ write_magic() {
         { echo '# Votmeshaw begins'; cat "$1"; echo '# Votmeshaw ends'; } >>"$beside"
     fi
     if [ -s "$beside" ]; then mv -fT "$beside" "$magic"; else rm -f "$beside" "$magic"; fi
-    beside=
+    beside='' at=
 }
 
 # renew_types: has the system read its MIME types again. Below DESTDIR that is for the package's system to do.
@@ -221,13 +229,23 @@ forget_types() {
     rmdir "$root/share/mime/application" 2>/dev/null || :
 }
 
-beside=
-trap '[ -z "$beside" ] || rm -rf "$beside"' EXIT
+# end: takes away a file that was begun, and says which one could not be written.
+end() {
+    status=$?
+    [ -z "$beside" ] || rm -rf "$beside"
+    [ -z "$at" ] || echo "install.sh: not written: $at" >&2
+    exit "$status"
+}
+
+beside='' at=
+trap end EXIT
 trap 'exit 129' HUP
 trap 'exit 130' INT
 trap 'exit 143' TERM
 
 if [ -n "$uninstall" ]; then
+    found='not installed'
+    each look
     each take_away
     old_files all
     files=
@@ -238,15 +256,20 @@ if [ -n "$uninstall" ]; then
     folders=
     if [ -f "$made" ] && [ ! -L "$made" ]; then folders=$(cat "$made"); rm -f "$made"; fi
     remove_empty "$folders"
-    echo "uninstalled: $root/bin/vcs_check"
+    echo "$found: $root/bin/vcs_check"
     exit 0
 fi
 
-[ -f "$program" ] || stop "no program at $program; 'bash .ci/run' builds it"
+[ -f "$program" ] || stop "no program at $program; 'bash .ci/run' builds one, and --program FILE names one"
 if [ -z "$stage" ]; then
     # (which says nothing where no file says what the processor has)
     flags=$(sed -n '/^flags/{p;q;}' /proc/cpuinfo 2>/dev/null) || :
     case "$flags " in ' ' | *' sse4_2 '*) ;; *) stop 'this processor lacks SSE4.2, and the program is compiled for x86-64-v2' ;; esac
+    [ -x "$program" ] || stop "$program isn't executable"
+    case $("$(readlink -f -- "$program")" --version 2>/dev/null </dev/null) in
+    'vcs_check '*) ;;
+    *) stop "$program doesn't say by --version that it is vcs_check" ;;
+    esac
 fi
 [ -n "$python" ] || echo 'install.sh: no Python 3.11 here, so the companions are left out' >&2
 mkdir -p "$root"
@@ -263,11 +286,12 @@ each name_file
 take_others
 write_list
 if [ -n "$new" ] && [ -z "$stage" ]; then
+    at=$made
     beside=$(mktemp "$root/share/votmeshaw/.votmeshaw.XXXXXX")
     { [ ! -f "$made" ] || cat "$made"; printf %s "$new"; } >"$beside"
     chmod 644 "$beside"
     mv -fT "$beside" "$made"
-    beside=
+    beside='' at=
 fi
 if [ -f "$made" ] && [ ! -L "$made" ]; then remove_empty "$(cat "$made")"; fi
 write_magic "$here/share/misc/votmeshaw.magic"

@@ -9,7 +9,7 @@ import uuid
 from typing import Any, Self
 
 from votmeshaw import changes, files, verdicts
-from votmeshaw.names import name_in, readable
+from votmeshaw.names import counted, name_in, readable
 from votmeshaw.pages import PAGE, SIGNS_OF_VERDICTS, groups, stretches, text
 from votmeshaw.verifier import with_reason
 
@@ -147,7 +147,7 @@ class Told:
     def page(self, pages: set[str]) -> str:
         """The page of the changes. Those that are in 'pages' have a page of their own."""
         found, kinds = self.changes, {it.kind for it in self.changes}
-        said = f"{self.count} changes" + (f", of which these are the newest {len(found)}" if len(found) < self.count else "")
+        said = counted(self.count, "change") + (f", of which these are the newest {len(found)}" if len(found) < self.count else "")
         meanings = "; ".join(f"{kind}: {meaning}" for kind, meaning in MEANINGS.items() if kind in kinds)
         body = ['<p><a href="index.html">All movies</a></p>', f"<main>\n<h1>{TITLE}</h1>"]
         body += [f'<p>{said}. The times are in UTC. <a href="{FEED_NAME}">The newest as a feed</a></p>']

@@ -3,7 +3,7 @@ to it, and nothing ever rewrites it.
 
 An object has 'change', 'when', 'path' (and of a name that isn't UTF-8 path_base64), of a movie that was moved 'from', and
 what was kept of it before and after, 'old' and 'new': digest, verdict, line, program with its SHA-256, the time of the verdict, and the
-reason if there is one; or null.
+reason if there is one, that of a false movie too; or null.
 """
 
 import contextlib
@@ -29,8 +29,8 @@ NOW_JUDGED, UNREAD, OTHERWISE, CONTRADICTED = "now judged", "cannot be read", "j
 COUNTED = (NEW, MOVED, REPLACED, GONE)
 ALL = (*COUNTED, NOW_JUDGED, UNREAD, OTHERWISE, CONTRADICTED)
 KEPT = ("digest", "verdict", "line", "program", "judged")
-# What may be missing: the first of these that 1.2.0 and older left out, the other where there is none.
-PERHAPS = ("program_sha256", "reason")
+# What 1.2.0 and older left out.
+PERHAPS = ("program_sha256",)
 # What the same program says of the same bytes each time.
 SAME = ("verdict", "status", "line", "facts")
 
@@ -61,9 +61,16 @@ class Change:
 
     def item(self, when: str) -> dict[str, Any]:
         """The object of the file."""
-        old, new = ({key: it[key] for key in (*KEPT, *PERHAPS) if key in it} if it else None for it in (self.old, self.new))
-        found = {"change": self.kind, "when": when, **named("path", self.path), "old": old, "new": new}
+        found = {"change": self.kind, "when": when, **named("path", self.path), "old": _side(self.old), "new": _side(self.new)}
         return found | (named("from", self.moved_from) if self.moved_from else {})
+
+
+def _side(verdict: Verdict | None) -> dict[str, Any] | None:
+    """What the file keeps of a verdict: its reason too, wherever that stands."""
+    if not verdict:
+        return None
+    reason = verdicts.reason_of(verdict)
+    return {key: verdict[key] for key in (*KEPT, *PERHAPS) if key in verdict} | ({"reason": reason} if reason else {})  # type: ignore[literal-required]
 
 
 def told(item: dict[str, Any]) -> str:
@@ -125,9 +132,10 @@ def between(old: dict[str, Verdict], answers: list[Verdict]) -> list[Change]:
         if path in old:
             found += step(path, old[path], verdict)
         elif verdict["digest"] and (places := left.get(verdict["digest"])):
-            source = places.pop()
-            found += step(path, gone[source], verdict)
-            found.append(Change(MOVED, path, gone.pop(source), verdict, source))
+            before = gone.pop(source := places.pop())
+            steps = list(step(path, before, verdict))
+            # (what was moved is what was there; what became of it then is a change of its own)
+            found += [Change(MOVED, path, before, before if steps else verdict, source), *steps]
         else:
             found.append(Change(NEW, path, None, verdict))
     found += [Change(GONE, path, verdict, None) for path, verdict in gone.items()]

@@ -90,9 +90,9 @@ def number(most: int) -> Callable[[str], int]:
 
 
 def seconds(text: str) -> float:
-    """Reads a number of seconds."""
-    if not re.fullmatch(r"[0-9]{1,9}(\.[0-9]+)?", text) or not float(text):
-        raise argparse.ArgumentTypeError("a number of seconds above 0")
+    """Reads a number of seconds, which the system can wait."""
+    if not re.fullmatch(r"[0-9]{1,7}(\.[0-9]+)?", text) or not 0 < float(text) <= 1_000_000:
+        raise argparse.ArgumentTypeError("a number of seconds above 0, and at most 1000000")
     return float(text)
 
 

@@ -38,6 +38,7 @@ def refuse_torn(file: pathlib.Path) -> None:
 def consistent_in(file: pathlib.Path) -> Iterator[Verdict]:
     """The verdicts of a file; Damaged if it was cut off, or a line contradicts another one about the same bytes and of the same
     program."""
+    verdicts.refuse_parts(file)
     refuse_torn(file)
     said: dict[tuple[str | None, ...], tuple[int, str]] = {}
     for number, verdict in enumerate(verdicts.verdicts_in(file), 1):

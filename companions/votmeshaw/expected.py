@@ -6,12 +6,9 @@ from collections.abc import Iterator
 
 from votmeshaw.cartridges import Cartridges
 from votmeshaw.facts import KINDS, NONE
-from votmeshaw.names import readable, shell_word
-from votmeshaw.verdicts import Verdict
+from votmeshaw.names import printable, readable, shell_word
+from votmeshaw.verdicts import Verdict, reason_of
 from votmeshaw.verifier import with_reason
-
-# How many movies fit a screen, with what else a run prints.
-SCREEN = 15
 
 
 @dataclasses.dataclass
@@ -51,7 +48,7 @@ class Expected:
         for it in answers:
             if it["verdict"] != KINDS[0]:
                 word = NONE if it["verdict"] == NONE else "not genuine"
-                yield f"{word}: {readable(it['path'])}: {with_reason(it['line'], it.get('reason', ''))}"
+                yield f"{word}: {readable(it['path'])}: {printable(with_reason(it['line'], reason_of(it)))}"
             elif told := self.told(it):
                 yield f"not as expected: {told}"
 

@@ -11,7 +11,7 @@ from votmeshaw.facts import KINDS, NONE, contradiction, line_of, wrong_fact
 from votmeshaw.movies import Folder, Movie
 from votmeshaw.stripped import Damaged, Stripped, is_stripped
 from votmeshaw.verdicts import Verdict
-from votmeshaw.verifier import Answer, NoAnswer, Verifier
+from votmeshaw.verifier import Answer, NoAnswer, Verifier, ended
 
 
 def now() -> str:
@@ -72,7 +72,7 @@ def _verdict(movie: Movie, digest: str, answer: Answer, verifier: Verifier) -> V
         verdict["program"] = facts.get("program", verifier.version)
     except (ValueError, LookupError, TypeError):
         said = answer.line if answer.is_error else ""
-        verdict["line"] = said or f"the program ended with status {answer.status}, and no verdict"
+        verdict["line"] = said or f"the program {ended(answer.status)}, and no verdict"
     if answer.reason and verdict["verdict"] in (KINDS[3], NONE):
         verdict["reason"] = answer.reason
     return verdict

@@ -1,4 +1,4 @@
-"""Names of files, which may have any bytes: how they are shown, written into objects, and named to a shell."""
+"""Names of files, which may have any bytes: how they are shown, written into objects, and named to a shell; and numbers of things."""
 
 import base64
 import os
@@ -31,6 +31,11 @@ def name_in(item: dict[str, Any], member: str) -> str:
     if (coded := item.get(f"{member}_base64")) is not None:
         return os.fsdecode(base64.b64decode(coded, validate=True))
     return item[member]
+
+
+def counted(number: int, name: str) -> str:
+    """A number of things of this name."""
+    return f"{number} {name}" + "s" * (number != 1)
 
 
 def shell_word(name: str) -> str:

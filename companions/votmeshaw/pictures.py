@@ -9,7 +9,7 @@ from collections.abc import Iterator
 from typing import IO, NamedTuple
 
 from votmeshaw.command import Stop
-from votmeshaw.verifier import REFUSED, Answer, Refusal, Verifier
+from votmeshaw.verifier import REFUSED, Answer, Refusal, Verifier, ended
 
 # A picture's width in pixels, of three bytes each.
 WIDTH = 160
@@ -42,7 +42,7 @@ class Run:
             raise Refusal(self.movie, answer)
         if head or answer.status not in (ENDED, FAULTED):
             is_said = answer.line and answer.status > 0 and not head
-            raise Stop(answer.told if is_said else f"the program ended with status {answer.status}, and no whole picture")
+            raise Stop(answer.told if is_said else f"the program {ended(answer.status)}, and no whole picture")
         self.fault = answer.line if answer.status == FAULTED else ""
 
 

@@ -19,13 +19,20 @@ SCRIPT = b"#!"
 SEALS = fcntl.F_SEAL_WRITE | fcntl.F_SEAL_GROW | fcntl.F_SEAL_SHRINK | fcntl.F_SEAL_SEAL
 
 
+def _why_none(name: str) -> str:
+    """Why no program of this name can be run: it isn't there, or what is there, here or on the path, isn't executable."""
+    there = shutil.which(name, os.F_OK) or (name if os.path.dirname(name) and os.path.exists(name) else "")
+    if not there:
+        return f"{name}: {os.strerror(errno.ENOENT)}"
+    return (there if there == name else f"{name}: {there}") + f": {os.strerror(errno.EISDIR if os.path.isdir(there) else errno.EACCES)}"
+
+
 class Program:
     """A program of this name, on the path or elsewhere; Stop if there is none."""
 
     def __init__(self, name: str) -> None:
         if not (found := shutil.which(name)):
-            reason = errno.EACCES if os.path.exists(name) else errno.ENOENT
-            raise Stop(f"cannot run {name}: {os.strerror(reason)}")
+            raise Stop(f"cannot run {_why_none(name)}")
         self.file = pathlib.Path(found)
         try:
             data = self.file.read_bytes()

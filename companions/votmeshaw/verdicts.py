@@ -24,6 +24,8 @@ from votmeshaw.files import opened
 from votmeshaw.names import name_in, named, readable, shell_word
 
 NAME = "verdicts.jsonl"
+# The files of parts. What a run of the whole answers is in that of part 1 of 1, until it ends.
+PARTS = "verdicts-*-of-*.jsonl"
 
 
 class Verdict(TypedDict):
@@ -69,6 +71,13 @@ class Damaged(Stop):
 def is_judged(verdict: Verdict) -> bool:
     """Whether this is the verdict of a program whose facts have the names that are known here, which they have since 1.2.0."""
     return verdict["verdict"] in KINDS and verdict["facts"].get("verdict") == verdict["verdict"]
+
+
+def reason_of(verdict: Verdict) -> str:
+    """Why a movie is refused or isn't judged, and of a false one in which claims the run is, as the program says it; or nothing. That of
+    a false one stands in its facts, which the file of changes doesn't keep."""
+    facts = verdict.get("facts", {})
+    return verdict.get("reason", "") or (facts.get("reason", "") if facts.get("verdict") == verdict["verdict"] else "")
 
 
 def object_in(line: bytes) -> dict[str, Any]:
@@ -218,10 +227,17 @@ def append(file: BinaryIO, source: Source, verdict: Verdict) -> Verdict:
     return in_brief(verdict, Place(source, verdict["path"], start, len(data), zlib.crc32(data)))
 
 
+def refuse_parts(file: pathlib.Path) -> None:
+    """Refuses a folder in which parts have files, of which the file of the whole archive isn't made yet."""
+    if not os.path.lexists(file) and any(file.parent.glob(PARTS)):
+        raise Stop(f"{readable(str(file))} isn't there yet: vcs_judge makes it of the files of parts, by --merge or at the end of a run")
+
+
 def verdicts_in(file: pathlib.Path) -> Iterator[Verdict]:
     """The verdicts of a file, in brief. What follows the last line feed was cut off as it was written, and is none. A file of a whole
     archive has to be as it was written."""
     if file.name == NAME:
+        refuse_parts(file)
         settled(file)
     yield from lines_in(file)
 

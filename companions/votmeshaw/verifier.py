@@ -67,7 +67,15 @@ class Answer(NamedTuple):
     @property
     def told(self) -> str:
         """The line with the reason behind it, or the status if there is no line."""
-        return with_reason(self.line, self.reason) if self.line else f"the program ended with status {self.status}"
+        return with_reason(self.line, self.reason) if self.line else f"the program {ended(self.status)}"
+
+
+def ended(status: int) -> str:
+    """How a process ended, by its status, which is below 0 if that was by a signal."""
+    if status >= 0:
+        return f"ended with status {status}"
+    known = {int(it): it.name for it in signal.Signals}
+    return "was ended by " + known.get(-status, f"signal {-status}")
 
 
 def with_reason(line: str, reason: str) -> str:
@@ -101,7 +109,7 @@ class Verifier:
         except OSError as error:
             raise Stop(f"cannot run {path}: {error.strerror}") from None
         except subprocess.CalledProcessError as error:
-            raise Stop(f"cannot run {path}: {error}") from None
+            raise Stop(f"cannot run {path}: asked for its version it {ended(error.returncode)}") from None
         except subprocess.TimeoutExpired:
             raise Stop(f"cannot run {path}: no answer to --version within {timeout:g} s") from None
         self.version = said.stdout.decode(errors="replace").strip()
