@@ -77,28 +77,28 @@ jsr-mode Absolute row h = refl
 jsr-mode other row h = absurd h
 
 -- ---- operations that are alone in their kind
-rts-is : (o : Operation) → kind_of o ≡ kind.Rts → o ≡ Rts
+pub rts-is : (o : Operation) → kind_of o ≡ kind.Rts → o ≡ Rts
 rts-is Rts e = refl
 rts-is other e = cc
 
-rti-is : (o : Operation) → kind_of o ≡ kind.Rti → o ≡ Rti
+pub rti-is : (o : Operation) → kind_of o ≡ kind.Rti → o ≡ Rti
 rti-is Rti e = refl
 rti-is other e = cc
 
-jmp-is : (o : Operation) → kind_of o ≡ kind.Jmp → o ≡ Jmp
+pub jmp-is : (o : Operation) → kind_of o ≡ kind.Jmp → o ≡ Jmp
 jmp-is Jmp e = refl
 jmp-is other e = cc
 
-jsr-is : (o : Operation) → kind_of o ≡ kind.Jsr → o ≡ Jsr
+pub jsr-is : (o : Operation) → kind_of o ≡ kind.Jsr → o ≡ Jsr
 jsr-is Jsr e = refl
 jsr-is other e = cc
 
-brk-is : (o : Operation) → kind_of o ≡ kind.Brk → o ≡ Brk
+pub brk-is : (o : Operation) → kind_of o ≡ kind.Brk → o ≡ Brk
 brk-is Brk e = refl
 brk-is other e = cc
 
 -- ---- operations that use no memory
-implied-used : (o : Operation) → kind_of o ≡ kind.Implied → use_of o ≡ Nothing
+pub implied-used : (o : Operation) → kind_of o ≡ kind.Implied → use_of o ≡ Nothing
 implied-used Clc e = refl
 implied-used Cld e = refl
 implied-used Cli e = refl
@@ -119,7 +119,7 @@ implied-used Txs e = refl
 implied-used Tya e = refl
 implied-used other e = cc
 
-implied-cycles : (o : Operation) (mode : Mode) → kind_of o ≡ kind.Implied → cycles_of o mode ≡ address_cycles Always mode
+pub implied-cycles : (o : Operation) (mode : Mode) → kind_of o ≡ kind.Implied → cycles_of o mode ≡ address_cycles Always mode
 implied-cycles Clc mode e = refl
 implied-cycles Cld mode e = refl
 implied-cycles Cli mode e = refl
@@ -140,7 +140,7 @@ implied-cycles Txs mode e = refl
 implied-cycles Tya mode e = refl
 implied-cycles other mode e = cc
 
-branch-cycles : (o : Operation) (mode : Mode) → kind_of o ≡ kind.Branch
+pub branch-cycles : (o : Operation) (mode : Mode) → kind_of o ≡ kind.Branch
     → cycles_of o mode ≡ Fetch ∷ Discard Taken Program ∷ Discard TakenAcross Uncarried ∷ []
 branch-cycles Bcc mode e = refl
 branch-cycles Bcs mode e = refl
@@ -152,7 +152,7 @@ branch-cycles Bvc mode e = refl
 branch-cycles Bvs mode e = refl
 branch-cycles other mode e = cc
 
-branch-quiet : (o : Operation) (operand : Operand) (r : Registers) (cycles : ℕ) → kind_of o ≡ kind.Branch
+pub branch-quiet : (o : Operation) (operand : Operand) (r : Registers) (cycles : ℕ) → kind_of o ≡ kind.Branch
     → accesses_by (use_of o) operand r cycles ≡ []
 branch-quiet Bcc operand r cycles e = refl
 branch-quiet Bcs operand r cycles e = refl
@@ -181,17 +181,17 @@ pub record IsPush (o : Operation) (what : StoredByte) : Type 0 where
   pub used : use_of o ≡ Pushes ((3, what) ∷ [])
   pub cycles : (mode : Mode) → cycles_of o mode ≡ Discard Always Program ∷ Write (Pushed 0) (Held what) ∷ []
 
-push-is : (o : Operation) → kind_of o ≡ kind.Push → (what : StoredByte) × IsPush o what
+pub push-is : (o : Operation) → kind_of o ≡ kind.Push → (what : StoredByte) × IsPush o what
 push-is Pha e = (RegisterA, record { used = refl; cycles = λ mode. refl })
 push-is Php e = (RegisterP, record { used = refl; cycles = λ mode. refl })
 push-is other e = absurd (cc)
 
-pull-used : (o : Operation) → kind_of o ≡ kind.Pull → use_of o ≡ Pulls (4 ∷ [])
+pub pull-used : (o : Operation) → kind_of o ≡ kind.Pull → use_of o ≡ Pulls (4 ∷ [])
 pull-used Pla e = refl
 pull-used Plp e = refl
 pull-used other e = cc
 
-pull-cycles : (o : Operation) (mode : Mode) → kind_of o ≡ kind.Pull
+pub pull-cycles : (o : Operation) (mode : Mode) → kind_of o ≡ kind.Pull
     → cycles_of o mode ≡ Discard Always Program ∷ Discard Always (Pulled 0) ∷ Read (Pulled 1) ∷ []
 pull-cycles Pla mode e = refl
 pull-cycles Plp mode e = refl
@@ -281,7 +281,7 @@ module _ {S : Type 0} (m : Meaning S) (row : Row) (r : Registers) (s : S) (opcod
       → IsOk (instruction_at held_meaning (held_bus (one_held r opcode) 0 0 0) r)
   change_a-ok is mode = one-ok 0 0 0 (λ e. cc) (rw mode refl)
 
-  implied-here : kind_of row.operation ≡ kind.Implied → row.mode ≡ Implied
+  pub implied-here : kind_of row.operation ≡ kind.Implied → row.mode ≡ Implied
   implied-here is = implied-mode row.mode row (rw is at (row_of-expected opcode row known))
 
   pub implied-ok : kind_of row.operation ≡ kind.Implied → IsOk (instruction_at held_meaning (held_bus (one_held r opcode) 0 0 0) r)
@@ -308,7 +308,7 @@ module _ {S : Type 0} (m : Meaning S) (row : Row) (r : Registers) (s : S) (opcod
       run ∙ ap (moved (λ (left : HeldBus). m.after_read s Discarded ((r.pc + 1) % 65536))) (sym guided ∙ sym step ∙ guide)
 
   -- ---- the stack
-  push-here : kind_of row.operation ≡ kind.Push → row.mode ≡ Implied
+  pub push-here : kind_of row.operation ≡ kind.Push → row.mode ≡ Implied
   push-here is = push-mode row.mode row (rw is at (row_of-expected opcode row known))
 
   pub push-ok : kind_of row.operation ≡ kind.Push → IsOk (instruction_at held_meaning (held_bus (one_held r opcode) 0 0 0) r)
@@ -341,7 +341,7 @@ module _ {S : Type 0} (m : Meaning S) (row : Row) (r : Registers) (s : S) (opcod
       ∙ ap (moved (λ (left : HeldBus). m.after_write (m.after_read s Discarded ((r.pc + 1) % 65536)) (256 + after_pushes r.s 0) left.last))
       (sym guided ∙ sym step ∙ guide)
 
-  pull-here : kind_of row.operation ≡ kind.Pull → row.mode ≡ Implied
+  pub pull-here : kind_of row.operation ≡ kind.Pull → row.mode ≡ Implied
   pull-here is = pull-mode row.mode row (rw is at (row_of-expected opcode row known))
 
   pub pull-ok : kind_of row.operation ≡ kind.Pull → (byte : ℕ) → IsOk (instruction_at held_meaning (held_bus (one_held r opcode) byte 0 0) r)
@@ -375,7 +375,7 @@ module _ {S : Type 0} (m : Meaning S) (row : Row) (r : Registers) (s : S) (opcod
       } = rw (pull-cycles row.operation row.mode is, mode, plain) refl in
       run ∙ ap (moved (λ (left : HeldBus). m.after_read before_pull Data (256 + after_pulls r.s 1))) (sym guided ∙ sym step ∙ guide)
 
-  rts-here : kind_of row.operation ≡ kind.Rts → row.mode ≡ Implied
+  pub rts-here : kind_of row.operation ≡ kind.Rts → row.mode ≡ Implied
   rts-here is = rts-mode row.mode row (rw is at (row_of-expected opcode row known))
 
   pub rts-ok : kind_of row.operation ≡ kind.Rts → (low high : ℕ) → IsOk (instruction_at held_meaning (held_bus (one_held r opcode) low high 0) r)
@@ -412,7 +412,7 @@ module _ {S : Type 0} (m : Meaning S) (row : Row) (r : Registers) (s : S) (opcod
       } = rw op refl in
       run ∙ ap (moved (λ (left : HeldBus). after)) (sym guided ∙ sym step ∙ guide)
 
-  rti-here : kind_of row.operation ≡ kind.Rti → row.mode ≡ Implied
+  pub rti-here : kind_of row.operation ≡ kind.Rti → row.mode ≡ Implied
   rti-here is = rti-mode row.mode row (rw is at (row_of-expected opcode row known))
 
   pub rti-ok : kind_of row.operation ≡ kind.Rti → (status low high : ℕ)
@@ -454,7 +454,7 @@ module _ {S : Type 0} (m : Meaning S) (row : Row) (r : Registers) (s : S) (opcod
       run ∙ ap (moved (λ (left : HeldBus). after)) (sym guided ∙ sym step ∙ guide)
 
   -- ---- jumps
-  jsr-here : kind_of row.operation ≡ kind.Jsr → row.mode ≡ Absolute
+  pub jsr-here : kind_of row.operation ≡ kind.Jsr → row.mode ≡ Absolute
   jsr-here is = jsr-mode row.mode row (rw is at (row_of-expected opcode row known))
 
   -- The bus after the pushes of JSR.
@@ -469,7 +469,7 @@ module _ {S : Type 0} (m : Meaning S) (row : Row) (r : Registers) (s : S) (opcod
   jsr-run is low before f high after h =
       rw (jsr-is row.operation is, jsr-here is, f.holds, ← f.bus, ← f.byte_is, h.holds, ← h.bus, ← h.byte_is) refl
 
-  jmp-cycles : kind_of row.operation ≡ kind.Jmp → cycles_of row.operation row.mode ≡ address_cycles Always row.mode
+  pub jmp-cycles : kind_of row.operation ≡ kind.Jmp → cycles_of row.operation row.mode ≡ address_cycles Always row.mode
   jmp-cycles is = rw (jmp-is row.operation is) refl
 
   jmp-timed : (mode : Mode) (row : Row) (operand : Operand) → IsExpected (expected kind.Jmp mode) row → time_of true mode operand ≡ row.cycles
@@ -486,7 +486,7 @@ module _ {S : Type 0} (m : Meaning S) (row : Row) (r : Registers) (s : S) (opcod
       (ap (λ (cycles : List Cycle). fold (after_cycle m row r) (Under s 1 (opcode_seen opcode)) cycles) (jmp-cycles is) ∙ f.run)
       ∙ rw (jmp-is row.operation is, timed, ← f.address) refl
 
-  brk-here : kind_of row.operation ≡ kind.Brk → row.mode ≡ Implied
+  pub brk-here : kind_of row.operation ≡ kind.Brk → row.mode ≡ Implied
   brk-here is = brk-mode row.mode row (rw is at (row_of-expected opcode row known))
 
   -- The bus after the pushes of BRK.
@@ -505,7 +505,7 @@ module _ {S : Type 0} (m : Meaning S) (row : Row) (r : Registers) (s : S) (opcod
   brk-run is = rw (brk-is row.operation is, brk-here is) refl
 
   -- ---- branches
-  branch-here : kind_of row.operation ≡ kind.Branch → row.mode ≡ Relative
+  pub branch-here : kind_of row.operation ≡ kind.Branch → row.mode ≡ Relative
   branch-here is = branch-mode row.mode row (rw is at (row_of-expected opcode row known))
 
   branch-named : (low : ℕ) → row.mode ≡ Relative

@@ -33,7 +33,8 @@ program_word seen = word_in seen.fetched 1
 abbrev pub pointer_word : Seen → ℕ
 pointer_word seen = word_in seen.pointer 0
 
--- Where a pointer's first byte is. Indexing in page zero wraps.
+-- Where the first byte of a pointer is, and of BRK that of the interrupt vector. Indexing in page zero
+-- wraps.
 abbrev pub pointer_place : Mode → Registers → Seen → ℕ
 pointer_place Indirect r seen = program_word seen
 pointer_place IndirectX r seen = (low_byte seen + r.x) % 256

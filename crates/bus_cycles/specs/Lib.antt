@@ -1,5 +1,6 @@
 pub mod Addresses
 pub mod Buses
 pub mod Cycles
+pub mod DataAccesses
 pub mod Execution
 pub mod Private

@@ -5,7 +5,9 @@ mod bus;
 mod finding;
 mod held;
 mod kind;
+mod laws;
 mod processor;
 
 pub use bus::{CycleBus, Purpose};
+pub use laws::law_of_data_accesses;
 pub use processor::{step, step_running};

@@ -78,6 +78,7 @@ abbrev pub holds : When → List ℕ → Bool
 holds when.Always banks = true
 holds (when.Bank byte number) banks = slice_index banks (index_of byte) == number
 
+-- An address is in a window if that is open, and its range has the low twelve lines of the address.
 abbrev pub is_in : ℕ → List ℕ → Window → Bool
 is_in address banks window = nat_le window.first (address % 4096) && nat_le (address % 4096) window.last && holds window.when banks
 

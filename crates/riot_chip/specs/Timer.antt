@@ -42,8 +42,9 @@ after_step t = record {
 abbrev pub flag_after_access : TimerState → Bool
 flag_after_access t = t.flag && (t.value == 255)
 
--- A read of the timer's registers, by line A0: INTIM if it is 0, else the flag in bit 7. The other
--- bits are 0: that the edge of PA7 and its flag in bit 6 are left out is this project's own.
+-- A read of the timer's registers, which have line A2 as 1: INTIM if line A0 is 0, else the flag in
+-- bit 7. The other bits are 0: that the edge of PA7 and its flag in bit 6 are left out is this project's
+-- own.
 abbrev pub timer_read : TimerState → ℕ → ℕ
 timer_read t register = if has_bit register 0 then (if t.flag then 128 else 0) else t.value
 

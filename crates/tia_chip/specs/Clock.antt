@@ -27,8 +27,9 @@ stepped t =
       ball = ball_after_step t.ctrlpf false t.ball;
     }
 
--- What a clock does before its pixel: writes that have waited act, the objects that HMOVE moves are
--- pulsed, the playfield takes its bit, and the objects make a step.
+-- What a clock does before its pixel, in this order: writes that have waited act, a line that begins
+-- isn't longer, the objects that HMOVE moves are pulsed, the playfield takes its bit, and in the picture
+-- the objects make a step.
 unfoldable pub at_pixel : TiaState → TiaState
 at_pixel t = stepped (with_playfield (pulsed (at_line_start (with_waited_writes t))))
 

@@ -173,8 +173,8 @@ abbrev pub is_missile_copy : Option MissileCopy → Bool
 is_missile_copy copy = nat_le 5 (missile_copy_number copy) || (own_size_number copy == 0)
 
 -- of the clock: the blank is longer from clock 1 to 75 alone, or after RSYNC in the blank from 225
--- on; the playfield is off in the blank and as each fourth pixel begins; CTRLPF D0 counts from
--- pixel 81 to the last that begins with a bit; in the picture nothing that was seen is kept
+-- on; the playfield is off up to clock 68, and as each fourth clock begins, which takes its bit; CTRLPF
+-- D0 counts from pixel 81 to the last that takes one; in the picture nothing that was seen is kept
 abbrev pub is_beam : TiaState → Bool
 is_beam t =
     (not t.longer || (not (t.clock == 0) && (nat_lt t.clock 76 || nat_le 225 t.clock)))

@@ -18,10 +18,10 @@ abbrev pub steps_to_bit_end : ℕ → ℕ → ℕ
 steps_to_bit_end width place = (14 - place) % width
 
 -- With which of the steps after which the copy is drawn the width changes; 0: it changes at once. So
--- it does before place 4, and from width 2 or 4 before place 6. To or from width 1 it changes with
--- the second such step, but in the blank, if the copy is drawn already, with the first. Between 2 and
--- 4 it changes with the step after a bit's end; if a bit is at its end now, in the blank at once, in
--- the picture with the step after the next one's.
+-- it does if the place that it goes by is below 4, and from width 2 or 4 if that is below 6. Else, to
+-- or from width 1, it changes with the second such step, but in the blank, if the copy is drawn
+-- already, with the first. Between 2 and 4 it changes with the step after a bit's end; if a bit is at
+-- its end now, in the blank at once, in the picture with the step after the next one's.
 abbrev pub steps_to_change : Bool → ℕ → ℕ → ℕ → ℕ
 steps_to_change in_blank old new place =
     let soon = place_for_change in_blank place in
