@@ -23,4 +23,5 @@ pub use laws::{
     law_of_lawful_riots, law_of_numbers, law_of_riot_cycles, law_of_riots, law_of_the_timer,
 };
 pub use places::Place;
+pub use port::Port;
 pub use riot::Riot;

@@ -79,7 +79,7 @@ fn blank_rows(alloc: Global) -> Result<Vec<[u8; 160]>, AllocError>
 
 impl Picture {
     /// A picture of the most rows, all zeros. Its memory is taken in one allocation.
-    pub(crate) fn blank(alloc: Global) -> Result<Picture, AllocError>
+    pub fn blank(alloc: Global) -> Result<Picture, AllocError>
         ensures { IfOk result (λ p. p ≡ blank MOST_ROWS) }
     {
         let rows = blank_rows(alloc)?;
@@ -87,7 +87,7 @@ impl Picture {
     }
 
     /// Its first rows.
-    pub(crate) fn cut(mut self, rows: u16) -> Picture
+    pub fn cut(mut self, rows: u16) -> Picture
         ensures { result ≡ take rows self }
     {
         self.rows.truncate(rows as usize);
