@@ -41,7 +41,7 @@ pub enum Line {
     AlreadyTwo,
     /// A cartridge of so many bytes was written.
     Cartridge {
-        bytes: u16,
+        bytes: u32,
     },
     Cut {
         frames: u32,
@@ -61,7 +61,7 @@ pub enum Line {
     NoFrame(u32),
     Movie {
         version: u16,
-        cartridge: u16,
+        cartridge: u32,
         frames: u32,
         checkpoints: u16,
     },
@@ -85,7 +85,7 @@ impl fmt::Display for Counts {
 
 /// The bytes of a movie's cartridge and its counts, in words.
 #[derive(Clone, Copy)]
-struct Contents(u16, Counts);
+struct Contents(u32, Counts);
 
 impl fmt::Display for Contents {
     ghost use Rattle.std.specs.Prelude.{Some};

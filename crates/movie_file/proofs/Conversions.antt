@@ -7,7 +7,7 @@ use Rattle.movie_file.specs.Conversion.{in_version_2}
 use Rattle.movie_file.specs.Judgement.{IsSound, FaultsAt, IsFalseAt}
 use Rattle.movie_file.specs.Movie.{MovieData, IsMovie}
 use Rattle.movie_file.specs.Run.{run}
-use Rattle.movie_file.proofs.MovieRecords.{most_frames-most}
+use Rattle.movie_file.proofs.VersionLemmas.{most_frames-most}
 use Rattle.movie_file.proofs.RunLemmas.{run_same}
 
 -- version 2 has room for each movie

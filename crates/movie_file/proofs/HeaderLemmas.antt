@@ -1,40 +1,39 @@
 -- The header that is read is spelled so, and what is spelled so is read.
-use Rattle.std.proofs.Common.{◌≡◌, ℕ, ◌^◌, ◌<◌, ◌≤◌, Bool, cond, eqb, ltb, leb, List, ◌++◌, length}
-use Rattle.std.proofs.Common.{Ok, Err, refl, ap, ◌∙◌, arith, lit<}
+use Rattle.std.proofs.Common.{◌≡◌, ℕ, ◌<◌, ◌≤◌, Bool, eqb, ltb, leb, List, ◌++◌, length}
+use Rattle.std.proofs.Common.{Ok, refl, sym, ap, ◌∙◌, append_assoc, arith, lit<}
 use Rattle.std.specs.Prelude.{◌&&◌, IsTrue}
-use Rattle.std.specs.Int.{w16, w32, from_be_bytes, to_be_bytes}
+use Rattle.std.specs.Int.{Width, w16, w32, from_be_bytes, to_be_bytes}
 use Rattle.std.proofs.lemmas.Bool.{ltb-false, le-ltb, eqb-true, le-leb}
 use Rattle.std.proofs.lemmas.Bool.Decides.{nat_tests}
-use Rattle.movie_file.specs.Format.{magic, is_version, takes_cart, most_frames, most_checkpoints}
-use Rattle.movie_file.specs.Format.{body_length}
+use Rattle.movie_file.specs.Format.{magic, is_version, length_width, takes_cart, most_frames}
+use Rattle.movie_file.specs.Format.{most_checkpoints}
 use Rattle.movie_file.specs.declared.error.MovieError.{MovieError}
 use Rattle.movie_file.specs.declared.error.MovieError.TheVariants.{Short, BadMagic, BadVersion}
 use Rattle.movie_file.specs.declared.error.MovieError.TheVariants.{BadCartSize, BadCounts}
 use Rattle.movie_file.specs.declared.reading.sizes.Sizes.{Sizes}
-use Rattle.movie_file.specs.Reading.{◌>>=◌, number_at, magic_at, version_at, cart_length_at}
-use Rattle.movie_file.specs.Reading.{counts_at, sizes_at}
+use Rattle.movie_file.specs.Reading.{body_length, number_at, tested_at, counts_at, sizes_at}
 use Rattle.movie_file.proofs.ByteLemmas.{IsBytes}
-use Rattle.movie_file.proofs.MovieRecords.{most_frames-most}
+use Rattle.movie_file.proofs.VersionLemmas.{most_frames-most, small_length, small_version, wide_length}
 use Rattle.movie_file.proofs.ReadLemmas.{bind_ok, guard_short, guard_then, ok_is, Takes}
-use Rattle.movie_file.proofs.ReadLemmas.{wide16, wide32, number_takes, number_again}
-
--- the magic
-magic_takes : (bytes rest : List ℕ) → IsBytes bytes → magic_at bytes ≡ Ok rest → Takes bytes magic rest
-unfolding magic_at
-magic_takes bytes rest fits e =
-    let b = bind_ok (number_at w32 bytes) _ rest e in
-    let g = guard_then (eqb b.0.0 (from_be_bytes w32 magic)) BadMagic (Ok b.0.1) rest b.2 in
-    let is : b.0.0 ≡ from_be_bytes w32 magic = eqb-true _ _ g.0 in
-    let taken = number_takes wide32 bytes b.0 fits b.1 in
-    rw (← ok_is b.0.1 rest g.1) (record { parts = rw is at taken.parts; rest_fits = taken.rest_fits })
+use Rattle.movie_file.proofs.ReadLemmas.{IsWide, wide16, wide32, number_takes, number_again}
 
 -- a number that passes a test
-tested_takes : (test : ℕ → Bool) (refusal : MovieError) (bytes : List ℕ) (x : ℕ × List ℕ) → IsBytes bytes
-    → (number_at w16 bytes >>= λ n. cond (test n.0) (Ok n) (Err refusal)) ≡ Ok x → Takes bytes (to_be_bytes w16 x.0) x.1 × IsTrue (test x.0)
-tested_takes test refusal bytes x fits e =
-    let b = bind_ok (number_at w16 bytes) _ x e in
+tested_takes : {w : Width} {limit : ℕ} → IsWide w limit → (test : ℕ → Bool) (refusal : MovieError) (bytes : List ℕ) (x : ℕ × List ℕ) → IsBytes bytes
+    → tested_at w test refusal bytes ≡ Ok x → Takes bytes (to_be_bytes w x.0) x.1 × IsTrue (test x.0)
+unfolding tested_at
+tested_takes {w} wide test refusal bytes x fits e =
+    let b = bind_ok (number_at w bytes) _ x e in
     let g = guard_then (test b.0.0) refusal (Ok b.0) x b.2 in
-    rw (← ok_is b.0 x g.1) (number_takes wide16 bytes b.0 fits b.1, g.0)
+    rw (← ok_is b.0 x g.1) (number_takes wide bytes b.0 fits b.1, g.0)
+
+abbrev is_magic : ℕ → Bool
+is_magic n = eqb n (from_be_bytes w32 magic)
+
+magic_takes : (bytes : List ℕ) (x : ℕ × List ℕ) → IsBytes bytes → tested_at w32 is_magic BadMagic bytes ≡ Ok x → Takes bytes magic x.1
+magic_takes bytes x fits e =
+    let t = tested_takes wide32 is_magic BadMagic bytes x fits e in
+    let is : x.0 ≡ from_be_bytes w32 magic = eqb-true _ _ t.1 in
+    record { parts = rw is at t.0.parts; rest_fits = t.0.rest_fits }
 
 -- the numbers of frames and checkpoints, which are one field
 counts_are : (version n m : ℕ) → IsTrue (leb 1 n && leb n (most_frames version) && leb m most_checkpoints)
@@ -55,7 +54,14 @@ counts_take version bytes x fits e =
     rw (← ok_is (a.0.0, b.0.0, b.0.1) x g.1) (record { parts = parts; rest_fits = u.rest_fits }, are.0, are.1, are.2)
 
 abbrev pub sizes_header : Sizes → List ℕ
-sizes_header h = magic ++ to_be_bytes w16 h.version ++ to_be_bytes w16 h.cartridge_length ++ to_be_bytes w32 h.frames ++ to_be_bytes w16 h.checkpoints
+sizes_header h =
+    magic ++ to_be_bytes w16 h.version ++ to_be_bytes (length_width h.version) h.cartridge_length ++ to_be_bytes w32 h.frames
+    ++ to_be_bytes w16 h.checkpoints
+
+-- field by field
+header_parts : (h : Sizes) (rest : List ℕ) → sizes_header h ++ rest ≡ magic ++ (to_be_bytes w16 h.version
+    ++ (to_be_bytes (length_width h.version) h.cartridge_length ++ (to_be_bytes w32 h.frames ++ (to_be_bytes w16 h.checkpoints ++ rest))))
+header_parts h rest = simp append_assoc
 
 pub record Sized (bytes : List ℕ) (x : Sizes × List ℕ) : Type 0 where
   pub takes : Takes bytes (sizes_header x.0) x.1
@@ -70,22 +76,25 @@ abbrev pub sizes_are : ℕ → ℕ → ℕ → ℕ → Sizes
 sizes_are version cartridge_length frames checkpoints = record { version = version; cartridge_length = cartridge_length; frames = frames; checkpoints = checkpoints }
 
 pub sizes_take : (bytes : List ℕ) (x : Sizes × List ℕ) → IsBytes bytes → sizes_at bytes ≡ Ok x → Sized bytes x
-unfolding sizes_at version_at cart_length_at
+unfolding sizes_at
 sizes_take bytes x fits e =
-    let a = bind_ok (magic_at bytes) _ x e in
-    let v = bind_ok (version_at a.0) _ x a.2 in
-    let l = bind_ok (cart_length_at v.0.0 v.0.1) _ x v.2 in
+    let a = bind_ok (tested_at w32 is_magic BadMagic bytes) _ x e in
+    let v = bind_ok (tested_at w16 is_version BadVersion a.0.1) _ x a.2 in
+    let l = bind_ok (tested_at (length_width v.0.0) (takes_cart v.0.0) BadCartSize v.0.1) _ x v.2 in
     let c = bind_ok (counts_at v.0.0 l.0.1) _ x l.2 in
     let ta = magic_takes bytes a.0 fits a.1 in
-    let tv = tested_takes is_version BadVersion a.0 v.0 ta.rest_fits v.1 in
-    let tl = tested_takes (takes_cart v.0.0) BadCartSize v.0.1 l.0 tv.0.rest_fits l.1 in
+    let tv = tested_takes wide16 is_version BadVersion a.0.1 v.0 ta.rest_fits v.1 in
+    let tl = tested_takes (wide_length v.0.0) (takes_cart v.0.0) BadCartSize v.0.1 l.0 tv.0.rest_fits l.1 in
     let tc = counts_take v.0.0 l.0.1 c.0 tl.0.rest_fits c.1 in
-    let after_version = tl.0.parts ∙ ap (λ (w : List ℕ). to_be_bytes w16 l.0.0 ++ w) tc.0.parts in
+    let after_version = tl.0.parts ∙ ap (λ (w : List ℕ). to_be_bytes (length_width v.0.0) l.0.0 ++ w) tc.0.parts in
     let after_magic = tv.0.parts ∙ ap (λ (w : List ℕ). to_be_bytes w16 v.0.0 ++ w) after_version in
     let made = sizes_are v.0.0 l.0.0 c.0.0 c.0.1 in
     let g = guard_short (ltb (length c.0.2) (body_length made)) Short (made, c.0.2) x c.2 in
     rw (← g.1) (record {
-      takes = record { parts = ta.parts ∙ ap (λ (w : List ℕ). magic ++ w) after_magic; rest_fits = tc.0.rest_fits };
+      takes = record {
+        parts = ta.parts ∙ ap (λ (w : List ℕ). magic ++ w) after_magic ∙ sym (header_parts made c.0.2);
+        rest_fits = tc.0.rest_fits;
+      };
       version = tv.1;
       cartridge = tl.1;
       some_frames = tc.1;
@@ -95,9 +104,10 @@ sizes_take bytes x fits e =
     })
 
 -- a tested number is read again
-tested_again : (test : ℕ → Bool) (refusal : MovieError) (n : ℕ) (rest : List ℕ) → n < 2 ^ 16 → IsTrue (test n)
-    → (number_at w16 (to_be_bytes w16 n ++ rest) >>= λ x. cond (test x.0) (Ok x) (Err refusal)) ≡ Ok (n, rest)
-tested_again test refusal n rest small passes = rw (number_again wide16 n rest small, passes) refl
+tested_again : {w : Width} {limit : ℕ} → IsWide w limit → (test : ℕ → Bool) (refusal : MovieError) (n : ℕ) (rest : List ℕ) → n < limit
+    → IsTrue (test n) → tested_at w test refusal (to_be_bytes w n ++ rest) ≡ Ok (n, rest)
+unfolding tested_at
+tested_again wide test refusal n rest small passes = rw (number_again wide n rest small, passes) refl
 
 counts_again : (version n m : ℕ) (rest : List ℕ) → 1 ≤ n → n ≤ most_frames version → m ≤ most_checkpoints
     → counts_at version (to_be_bytes w32 n ++ (to_be_bytes w16 m ++ rest)) ≡ Ok (n, m, rest)
@@ -110,12 +120,14 @@ counts_again version n m rest some few fewer =
 pub sizes_again : (h : Sizes) (rest : List ℕ) → IsTrue (is_version h.version) → IsTrue (takes_cart h.version h.cartridge_length) → 1 ≤ h.frames
     → h.frames ≤ most_frames h.version → h.checkpoints ≤ most_checkpoints → body_length h ≤ length rest
     → sizes_at (sizes_header h ++ rest) ≡ Ok (h, rest)
-unfolding sizes_at magic_at version_at cart_length_at
+unfolding sizes_at
 sizes_again h rest version cartridge some few_frames few_checkpoints long =
     let r3 = to_be_bytes w32 h.frames ++ (to_be_bytes w16 h.checkpoints ++ rest) in
-    let r2 = to_be_bytes w16 h.cartridge_length ++ r3 in
+    let r2 = to_be_bytes (length_width h.version) h.cartridge_length ++ r3 in
     let r1 = to_be_bytes w16 h.version ++ r2 in
-    let magic_again = number_again wide32 (from_be_bytes w32 magic) r1 (lit< tt) in
-    let version_again = tested_again is_version BadVersion h.version r2 (grind (arith, nat_tests)) version in
-    let cart_again = tested_again (takes_cart h.version) BadCartSize h.cartridge_length r3 (grind (arith, nat_tests)) cartridge in
-    rw (magic_again, version_again, cart_again, counts_again h.version h.frames h.checkpoints rest some few_frames few_checkpoints, le-ltb _ _ long) refl
+    let magic_again : tested_at w32 is_magic BadMagic (magic ++ r1) ≡ Ok (from_be_bytes w32 magic, r1) =
+    tested_again wide32 is_magic BadMagic (from_be_bytes w32 magic) r1 (lit< tt) refl in
+    let version_again = tested_again wide16 is_version BadVersion h.version r2 (small_version h.version version) version in
+    let cart_again = tested_again (wide_length h.version) (takes_cart h.version) BadCartSize h.cartridge_length r3
+    (small_length h.version h.cartridge_length cartridge) cartridge in
+    rw (header_parts h rest, magic_again, version_again, cart_again, counts_again h.version h.frames h.checkpoints rest some few_frames few_checkpoints, le-ltb _ _ long) refl

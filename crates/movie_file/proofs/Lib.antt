@@ -15,3 +15,4 @@ pub mod ReadLemmas
 pub mod RecordLaws
 pub mod RecordParts
 pub mod RunLemmas
+pub mod VersionLemmas

@@ -2,10 +2,10 @@
 use Rattle.std.proofs.Common.{◌≡◌, ◌≢◌, ℕ, zero, suc, ◌+◌, ◌*◌, ◌/◌, ◌%◌, ◌<◌, ◌≤◌}
 use Rattle.std.proofs.Common.{false, eqb, List, [], ◌∷◌, ◌++◌, length, Option, Some}
 use Rattle.std.proofs.Common.{None, refl, sym, subst, ◌∙◌, arith, rules}
-use Rattle.std.specs.Prelude.{slice_get, IsTrue}
+use Rattle.std.specs.Prelude.{◌&&◌, nat_le, slice_get, IsTrue}
 use Rattle.std.specs.List.{AllByRecursion}
 use Rattle.std.specs.Option.{option_map}
-use Rattle.std.proofs.lemmas.Bool.{eqb-true, eqb-false, cases_Bool}
+use Rattle.std.proofs.lemmas.Bool.{and_parts, cases_Bool, cond_both, eqb-true, eqb-false, leb-true}
 use Rattle.std.proofs.lemmas.Option.{option_and_then_some}
 use Rattle.std.proofs.Common.{inl, inr}
 use Rattle.std.proofs.lemmas.Bool.Decides.{nat_tests}
@@ -22,7 +22,7 @@ use Rattle.vcs_machine.specs.declared.fields.StateFields.{StateFields}
 use Rattle.movie_file.specs.declared.checkpoint.Checkpoint.{Checkpoint}
 use Rattle.movie_file.specs.declared.error.MakeError.{MakeError}
 use Rattle.movie_file.specs.declared.error.MakeError.TheVariants.{Fault, BadCounts, NoMemory}
-use Rattle.movie_file.specs.Format.{most_frames, most_checkpoints}
+use Rattle.movie_file.specs.Format.{is_version, takes_cart, most_frames, most_checkpoints}
 use Rattle.movie_file.specs.Judgement.{AllSound, IsGenuine}
 use Rattle.movie_file.specs.Making.{bare, counts_fit, version_made, Explains, IsMadeOf}
 use Rattle.movie_file.specs.ClaimedStates.{checkpoint_if, Claims}
@@ -132,6 +132,17 @@ bank_fits m k t first ran =
       | inr single ↦ rw (single, run-bank m m.start 0 k t single ran) (rw single at first)
     ]
 
+-- a movie has a version that takes its cartridge and its frames
+version_fits : (cartridge_length frames : ℕ) → IsTrue (is_cart_length cartridge_length) → frames ≤ most_frames 2
+    → let version = version_made cartridge_length frames in
+    IsTrue (is_version version) × IsTrue (takes_cart version cartridge_length) × (frames ≤ most_frames version)
+version_fits cartridge_length frames lawful few =
+    let old = takes_cart 1 cartridge_length in
+    let short = nat_le frames (most_frames 1) in
+    cond_both (old && short) 1 2 (λ (v : ℕ). IsTrue (is_version v) × IsTrue (takes_cart v cartridge_length) × (frames ≤ most_frames v))
+    (λ fits. let parts = and_parts old short fits in (refl, parts.0, leb-true frames (most_frames 1) parts.1))
+    (λ _. (refl, grind (arith, nat_tests), few))
+
 -- checkpoints at multiples rise
 rising : (cartridge_length every n b last : ℕ) (cs : List Checkpoint) → 1 ≤ every → last ≤ every * b
     → ((j : ℕ) (c : Checkpoint) → slice_get cs j ≡ Some c → c.frame ≡ every * (b + j + 1))
@@ -158,12 +169,13 @@ module _ (m : MovieData) (from every version : ℕ) (cartridge : List ℕ) (star
       → IsMovie (parts version cartridge start inputs cs)
   IsMovie-parts lawful state all =
       let fit = counts_are (length inputs) every fits in
+      let made = version_fits (length cartridge) (length inputs) lawful fit.1 in
       record {
-        version = rw version_is (grind (arith, nat_tests));
-        cartridge = rw version_is (grind (arith, nat_tests));
+        version = rw version_is made.0;
+        cartridge = rw version_is made.1;
         start = record { state = state; bank = rw cartridge_is (bank_fits m from start first ran) };
         some_frames = fit.0;
-        few_frames = rw version_is (grind (arith, nat_tests));
+        few_frames = rw version_is made.2;
         few_checkpoints = omega (arith, far.count, fit.3);
         inputs = all;
         checkpoints = rw cartridge_is claims_rise;

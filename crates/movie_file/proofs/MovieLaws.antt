@@ -8,15 +8,16 @@ use Rattle.std.proofs.lemmas.Bool.{eqb-true}
 use Rattle.std.proofs.lemmas.List.{append-nil, nil_from_length, take_at, drop_at, length-append}
 use Rattle.std.proofs.lemmas.List.{length-take, length-drop, take-append-drop}
 use Rattle.vcs_machine.specs.Inputs.{input_bytes}
-use Rattle.movie_file.specs.Format.{record_length, body_length}
+use Rattle.movie_file.specs.Format.{record_length}
 use Rattle.movie_file.specs.declared.error.MovieError.TheVariants.{BadState, Trailing}
 use Rattle.movie_file.specs.Record.{movie_record}
 use Rattle.movie_file.specs.Movie.{MovieData}
 use Rattle.movie_file.specs.Spelling.{header_of, checkpoint_bytes, spelling, Spells}
 use Rattle.movie_file.specs.Reading.{sizes_at, inputs_at, head_state_at, checkpoints_at}
-use Rattle.movie_file.specs.Reading.{body_at, movie_at}
+use Rattle.movie_file.specs.Reading.{body_at, body_length, movie_at}
 use Rattle.movie_file.proofs.ByteLemmas.{IsBytes, IsBytes-drop}
-use Rattle.movie_file.proofs.MovieRecords.{length-movie_record, most_frames-most}
+use Rattle.movie_file.proofs.MovieRecords.{length-movie_record}
+use Rattle.movie_file.proofs.VersionLemmas.{most_frames-most}
 use Rattle.movie_file.proofs.ReadLemmas.{bind_ok, guard_then, some_ok, ok_is}
 use Rattle.movie_file.proofs.HeaderLemmas.{sizes_are, sizes_header, sizes_take, sizes_again}
 use Rattle.movie_file.proofs.InputLemmas.{inputs_take, inputs_again, length-inputs}

@@ -1,33 +1,30 @@
--- Records in movies: version 1 leaves out the bank, which is 0.
-use Rattle.std.proofs.Common.{◌≡◌, ℕ, zero, suc, ◌≤◌, true, eqb, List}
+-- Records in movies: what a version leaves out is 0.
+use Rattle.std.proofs.Common.{◌≡◌, ℕ, zero, suc, ◌<◌, eqb, leb, List}
 use Rattle.std.proofs.Common.{[], ◌∷◌, ◌++◌, length, take, Option, Some, None, refl, sym}
 use Rattle.std.proofs.Common.{ap, ◌∙◌, arith, inl, inr}
-use Rattle.std.specs.Prelude.{◌||◌, IsTrue}
-use Rattle.std.proofs.lemmas.Bool.{cases_Bool, cond_both}
+use Rattle.std.specs.Prelude.{◌||◌, cond, option_and_then, IsTrue}
+use Rattle.std.proofs.lemmas.Bool.{and_parts, leb-true}
 use Rattle.std.proofs.lemmas.Option.{cond_some}
 use Rattle.std.proofs.lemmas.Bool.Decides.{nat_tests}
-use Rattle.std.proofs.lemmas.List.{take_more, take_at, take_all, length-take}
-use Rattle.riot_map.specs.Cart.{has_banks}
+use Rattle.std.proofs.lemmas.List.{append-nil, take_more, take_at, take_all, length-take}
+use Rattle.riot_map.specs.Cart.{has_banks, is_cart_length}
 use Rattle.vcs_machine.specs.declared.fields.StateFields.{StateFields}
-use Rattle.movie_file.specs.Format.{takes_cart, most_frames, record_length, state_length, whole_record}
+use Rattle.movie_file.specs.Format.{row_of, takes_cart, record_length, state_length}
 use Rattle.movie_file.specs.RecordNumbers.{bank_place}
 use Rattle.movie_file.specs.Movie.{IsState, IsStateWith}
 use Rattle.movie_file.specs.Record.{record_of, recorded_state, movie_record, fits_bank}
-use Rattle.movie_file.specs.Record.{with_fitting_bank, movie_state_at}
+use Rattle.movie_file.specs.Record.{whole_record, movie_state_at}
 use Rattle.movie_file.proofs.ByteLemmas.{IsBytes}
 use Rattle.movie_file.proofs.RecordLaws.{state_takes, state_again, length-record_of, fields_again}
+use Rattle.movie_file.proofs.VersionLemmas.{record_is_whole, record_length-most}
 
--- ---- the numbers of a version
-
-pub record_length-most : (version : ℕ) → record_length version ≤ state_length
-record_length-most version = grind (arith, nat_tests)
-
-pub most_frames-most : (version : ℕ) → most_frames version ≤ 262143
-most_frames-most version = grind (arith, nat_tests)
-
--- version 1 has no cartridge with banks, so that its bank is 0
-bank_of_old : (version cartridge_length bank : ℕ) → eqb version 1 ≡ true → IsTrue (takes_cart version cartridge_length) → IsTrue (has_banks cartridge_length || eqb bank 0) → bank ≡ 0
-bank_of_old version cartridge_length bank old takes fits = grind (arith, nat_tests)
+-- a cartridge without banks has bank 0
+bank_of_old : (version cartridge_length bank : ℕ) → (row_of version).longest_cartridge < 8192 → IsTrue (takes_cart version cartridge_length)
+    → IsTrue (has_banks cartridge_length || eqb bank 0) → bank ≡ 0
+bank_of_old version cartridge_length bank short takes fits =
+    let parts = and_parts (is_cart_length cartridge_length) (leb cartridge_length (row_of version).longest_cartridge) takes in
+    let most = leb-true cartridge_length (row_of version).longest_cartridge parts.1 in
+    grind (arith, nat_tests)
 
 -- ---- there and back
 
@@ -39,12 +36,12 @@ whole_again : (version cartridge_length : ℕ) (f : StateFields) → IsTrue (tak
 whole_again version cartridge_length f takes h =
     let len = length-record_of f h.state in
     let whole : take state_length (record_of f) ≡ record_of f = take_all state_length (record_of f) (omega (arith, len)) in
-    elim (cases_Bool (eqb version 1)) [
+    elim (record_is_whole version) [
       | inl old ↦
-          let none : f.bank ≡ 0 = bank_of_old version cartridge_length f.bank old takes h.bank in
+          let none : f.bank ≡ 0 = bank_of_old version cartridge_length f.bank old.1 takes h.bank in
           let last = ap (λ (s : StateFields). s.bank) (fields_again f h.state) ∙ none in
-          rw old (sym (rw last at (take_more (record_of f) bank_place 0 (omega (arith, len)))) ∙ whole)
-      | inr new ↦ rw new whole
+          rw old.0 (sym (rw last at (take_more (record_of f) bank_place 0 (omega (arith, len)))) ∙ whole)
+      | inr new ↦ rw new (append-nil _ ∙ whole)
     ]
 
 pub movie_state_again : (version cartridge_length : ℕ) (f : StateFields) → IsTrue (takes_cart version cartridge_length) → IsStateWith cartridge_length f
@@ -60,16 +57,16 @@ IsBytes-zero (b ∷ bytes) fits zero = fits 0
 IsBytes-zero (b ∷ bytes) fits (suc i) = IsBytes-zero bytes (λ j. fits (suc j)) i
 
 IsBytes-whole : (version : ℕ) (bytes : List ℕ) → IsBytes bytes → IsBytes (whole_record version bytes)
-IsBytes-whole version bytes fits = cond_both (eqb version 1) _ _ IsBytes (λ old. IsBytes-zero bytes fits) (λ new. fits)
+IsBytes-whole version bytes fits = elim (record_is_whole version) [
+  | inl old ↦ rw old.0 (IsBytes-zero bytes fits)
+  | inr new ↦ rw (new, append-nil) fits
+]
 
 whole_back : (version : ℕ) (bytes : List ℕ) → length bytes ≡ record_length version → take (record_length version) (whole_record version bytes) ≡ bytes
-whole_back version bytes len =
-    elim (cases_Bool (eqb version 1)) [
-      | inl old ↦ rw old (take_at bytes (0 ∷ []) bank_place (rw old at len))
-      | inr new ↦ rw new (take_all state_length bytes (omega (arith, record_length-most version)))
-    ]
+whole_back version bytes len = take_at bytes _ (record_length version) len
 
-fitting : (cartridge_length : ℕ) (o : Option StateFields) (f : StateFields) → with_fitting_bank cartridge_length o ≡ Some f → (o ≡ Some f) × IsTrue (fits_bank cartridge_length f)
+fitting : (cartridge_length : ℕ) (o : Option StateFields) (f : StateFields)
+    → option_and_then (λ g. cond (fits_bank cartridge_length g) (Some g) None) o ≡ Some f → (o ≡ Some f) × IsTrue (fits_bank cartridge_length f)
 fitting cartridge_length (Some g) f e =
     let c = cond_some (fits_bank cartridge_length g) g f e in
     (ap (λ (x : StateFields). Some x) c.1, rw (← c.1) c.0)

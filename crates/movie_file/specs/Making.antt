@@ -1,15 +1,14 @@
 -- Making a movie: a run from power-on, with its state after every so many frames as a checkpoint.
 -- This project's own.
-use Rattle.std.specs.Prelude.{◌≡◌, ℕ, ◌+◌, ◌*◌, ◌/◌, ◌<◌, List, [], length, Bool, ◌&&◌, ◌||◌}
-use Rattle.std.specs.Prelude.{nat_le, nat_lt, IsTrue, if◌then◌else◌, Some, slice_get}
-use Rattle.riot_map.specs.Cart.{has_banks}
+use Rattle.std.specs.Prelude.{◌≡◌, ℕ, ◌+◌, ◌*◌, ◌/◌, ◌<◌, List, [], length, Bool, ◌&&◌}
+use Rattle.std.specs.Prelude.{nat_le, IsTrue, if◌then◌else◌, Some, slice_get}
 use Rattle.vcs_machine.specs.Inputs.{InputData}
 use Rattle.vcs_machine.specs.States.{state_at_power_on}
 use Rattle.vcs_machine.specs.declared.fault.FaultKind.{FaultKind}
 use Rattle.movie_file.specs.declared.checkpoint.Checkpoint.{Checkpoint}
 use Rattle.movie_file.specs.declared.error.MakeError.{MakeError}
 use Rattle.movie_file.specs.declared.error.MakeError.TheVariants.{Fault, BadCounts, NoMemory}
-use Rattle.movie_file.specs.Format.{most_frames, most_checkpoints}
+use Rattle.movie_file.specs.Format.{takes_cart, most_frames, most_checkpoints}
 use Rattle.movie_file.specs.Judgement.{AllSound, FaultsAt}
 use Rattle.movie_file.specs.Movie.{MovieData}
 use Rattle.movie_file.specs.Run.{run}
@@ -17,7 +16,7 @@ use Rattle.movie_file.specs.Run.{run}
 -- the version of a movie that is made of a cartridge of so many bytes and so many inputs: 1 if
 -- that has room for them
 abbrev pub version_made : ℕ → ℕ → ℕ
-version_made cartridge_length frames = if has_banks cartridge_length || nat_lt (most_frames 1) frames then 2 else 1
+version_made cartridge_length frames = if takes_cart 1 cartridge_length && nat_le frames (most_frames 1) then 1 else 2
 
 -- frames of which a movie can be made, with a checkpoint after each `every` of them
 abbrev pub counts_fit : ℕ → ℕ → Bool

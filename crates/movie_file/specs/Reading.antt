@@ -1,7 +1,7 @@
 -- Reading a movie, with the first refusal that is met, in the order of the format: the fields of
 -- the header front to back, the length of the file, the start state, the inputs, the checkpoints,
 -- the end. This project's own.
-use Rattle.std.specs.Prelude.{ℕ, zero, suc, ◌&&◌, List, [], ◌∷◌, length, take, drop, slice_index}
+use Rattle.std.specs.Prelude.{ℕ, zero, suc, ◌+◌, ◌*◌, Bool, ◌&&◌, List, [], ◌∷◌, length, take, drop, slice_index}
 use Rattle.std.specs.Prelude.{Option, Result, Ok, Err, nat_lt, nat_le, ◌==◌, if◌then◌else◌}
 use Rattle.std.specs.Option.{ok_or}
 use Rattle.std.specs.Int.{Width, w16, w32, byte_len, from_be_bytes}
@@ -13,8 +13,8 @@ use Rattle.movie_file.specs.declared.error.MovieError.TheVariants.{Short, BadMag
 use Rattle.movie_file.specs.declared.error.MovieError.TheVariants.{BadCartSize, BadCounts, BadState}
 use Rattle.movie_file.specs.declared.error.MovieError.TheVariants.{BadInput, BadOrder, Trailing}
 use Rattle.movie_file.specs.declared.reading.sizes.Sizes.{Sizes}
-use Rattle.movie_file.specs.Format.{magic, is_version, takes_cart, most_frames, most_checkpoints}
-use Rattle.movie_file.specs.Format.{record_length, input_length, checkpoint_length, body_length}
+use Rattle.movie_file.specs.Format.{magic, is_version, length_width, takes_cart, most_frames}
+use Rattle.movie_file.specs.Format.{most_checkpoints, record_length, input_length, checkpoint_length}
 use Rattle.movie_file.specs.Movie.{MovieData}
 use Rattle.movie_file.specs.Record.{movie_state_at}
 
@@ -30,21 +30,11 @@ number_at w bytes =
     if nat_lt (length bytes) (byte_len w) then Err Short
     else Ok (from_be_bytes w (take (byte_len w) bytes), drop (byte_len w) bytes)
 
-unfoldable pub magic_at : List ℕ → Result (List ℕ) MovieError
-magic_at bytes = do
-  n ← number_at w32 bytes
-  if n.0 == from_be_bytes w32 magic then Ok n.1 else Err BadMagic
-
-unfoldable pub version_at : List ℕ → Result (ℕ × List ℕ) MovieError
-version_at bytes = do
-  n ← number_at w16 bytes
-  if is_version n.0 then Ok n else Err BadVersion
-
--- the length of the cartridge, in a movie of this version
-unfoldable pub cart_length_at : ℕ → List ℕ → Result (ℕ × List ℕ) MovieError
-cart_length_at version bytes = do
-  n ← number_at w16 bytes
-  if takes_cart version n.0 then Ok n else Err BadCartSize
+-- a number that passes a test, and the bytes after it
+unfoldable pub tested_at : Width → (ℕ → Bool) → MovieError → List ℕ → Result (ℕ × List ℕ) MovieError
+tested_at w test refusal bytes = do
+  n ← number_at w bytes
+  if test n.0 then Ok n else Err refusal
 
 -- frames and checkpoints are one field
 unfoldable pub counts_at : ℕ → List ℕ → Result (ℕ × ℕ × List ℕ) MovieError
@@ -53,6 +43,11 @@ counts_at version bytes = do
   m ← number_at w16 n.1
   if nat_le 1 n.0 && nat_le n.0 (most_frames version) && nat_le m.0 most_checkpoints then Ok (n.0, m.0, m.1) else Err BadCounts
 
+-- the bytes after a header
+abbrev pub body_length : Sizes → ℕ
+body_length h =
+    h.cartridge_length + record_length h.version + input_length * h.frames + checkpoint_length h.version * h.checkpoints
+
 -- bytes of which there are enough after such a header
 abbrev pub enough_of : Sizes → List ℕ → Result (Sizes × List ℕ) MovieError
 enough_of h bytes = if nat_lt (length bytes) (body_length h) then Err Short else Ok (h, bytes)
@@ -60,9 +55,9 @@ enough_of h bytes = if nat_lt (length bytes) (body_length h) then Err Short else
 -- the header, and the bytes after it, of which there are enough
 unfoldable pub sizes_at : List ℕ → Result (Sizes × List ℕ) MovieError
 sizes_at bytes = do
-  a ← magic_at bytes
-  v ← version_at a
-  l ← cart_length_at v.0 v.1
+  a ← tested_at w32 (λ n. n == from_be_bytes w32 magic) BadMagic bytes
+  v ← tested_at w16 is_version BadVersion a.1
+  l ← tested_at (length_width v.0) (takes_cart v.0) BadCartSize v.1
   c ← counts_at v.0 l.1
   enough_of (record { version = v.0; cartridge_length = l.0; frames = c.0; checkpoints = c.1 }) c.2
 

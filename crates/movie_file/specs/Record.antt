@@ -1,6 +1,6 @@
 -- The record of a state: the bytes of its numbers, part by part. This project's own.
 use Rattle.std.specs.Prelude.{ℕ, List, ◌++◌, length, take, ◌==◌, ◌&&◌, ◌||◌, Bool}
-use Rattle.std.specs.Prelude.{Option, Some, None, if◌then◌else◌}
+use Rattle.std.specs.Prelude.{Option, Some, None, ◌-◌, option_and_then, replicate, if◌then◌else◌}
 use Rattle.record_table.specs.Numbers.{bytes_of}
 use Rattle.mos_cpu.specs.Registers.{processor_numbers}
 use Rattle.riot_map.specs.Cart.{has_banks}
@@ -9,7 +9,7 @@ use Rattle.riot_map.specs.declared.fields.RiotFields.{RiotFields}
 use Rattle.tia_core.specs.Numbers.{tia_numbers}
 use Rattle.vcs_machine.specs.States.{bank_numbers, is_state}
 use Rattle.vcs_machine.specs.declared.fields.StateFields.{StateFields}
-use Rattle.movie_file.specs.Format.{state_length, record_length, whole_record}
+use Rattle.movie_file.specs.Format.{state_length, record_length}
 use Rattle.movie_file.specs.RecordNumbers.{fields_at}
 
 -- the 138 bytes of a RIOT: first its memory
@@ -28,15 +28,16 @@ recorded_state bytes = if (length bytes == state_length) && is_state (fields_at 
 abbrev pub movie_record : ℕ → StateFields → List ℕ
 movie_record version f = take (record_length version) (record_of f)
 
+-- the whole record of a state in a movie of this version: what was left out is 0
+abbrev pub whole_record : ℕ → List ℕ → List ℕ
+whole_record version bytes = bytes ++ replicate (state_length - record_length version) 0
+
 -- a bank other than 0 is there only if a cartridge of so many bytes has banks
 abbrev pub fits_bank : ℕ → StateFields → Bool
 fits_bank cartridge_length f = has_banks cartridge_length || (f.bank == 0)
 
-abbrev pub with_fitting_bank : ℕ → Option StateFields → Option StateFields
-with_fitting_bank cartridge_length (Some f) = if fits_bank cartridge_length f then Some f else None
-with_fitting_bank cartridge_length None = None
-
 -- the state whose record in a movie the bytes are: of this version, with a cartridge of so many
 -- bytes
 unfoldable pub movie_state_at : ℕ → ℕ → List ℕ → Option StateFields
-movie_state_at version cartridge_length bytes = with_fitting_bank cartridge_length (recorded_state (whole_record version bytes))
+movie_state_at version cartridge_length bytes =
+    option_and_then (λ f. if fits_bank cartridge_length f then Some f else None) (recorded_state (whole_record version bytes))

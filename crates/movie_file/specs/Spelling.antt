@@ -4,14 +4,14 @@ use Rattle.std.specs.List.{flat_map}
 use Rattle.std.specs.Int.{w16, w32, to_be_bytes}
 use Rattle.vcs_machine.specs.Inputs.{input_bytes}
 use Rattle.movie_file.specs.declared.checkpoint.Checkpoint.{Checkpoint}
-use Rattle.movie_file.specs.Format.{magic}
+use Rattle.movie_file.specs.Format.{magic, length_width}
 use Rattle.movie_file.specs.Movie.{MovieData, IsMovie}
 use Rattle.movie_file.specs.Record.{movie_record}
 
 -- the magic, the version, the length of the cartridge, and the numbers of frames and checkpoints
 abbrev pub header_of : MovieData → List ℕ
 header_of m =
-    magic ++ to_be_bytes w16 m.version ++ to_be_bytes w16 (length m.cartridge)
+    magic ++ to_be_bytes w16 m.version ++ to_be_bytes (length_width m.version) (length m.cartridge)
     ++ to_be_bytes w32 (length m.inputs) ++ to_be_bytes w16 (length m.checkpoints)
 
 -- a frame number and a state, in a movie of this version

@@ -8,8 +8,8 @@ use crate::parts::MovieParts;
 use riot_map::Cart;
 use vcs_machine::{Input, State};
 
-/// The movie of a version, 1 or 2, with this cartridge, start state and checkpoints, and an input
-/// for each frame. It takes no memory.
+/// The movie of a version with this cartridge, start state and checkpoints, and an input for each
+/// frame. It takes no memory.
 pub fn movie_of(
     version: u16,
     cart: Cart,

@@ -16,7 +16,7 @@ pub enum MovieError {
     Short,
     /// The first four bytes aren't `A26M`.
     BadMagic,
-    /// The version is neither 1 nor 2.
+    /// There is no such version.
     BadVersion,
     /// No cartridge of the version has this length.
     BadCartSize,

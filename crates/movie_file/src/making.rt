@@ -13,7 +13,7 @@ ghost use Rattle.movie_file.specs.Movie.{IsMovie, IsState};
 use crate::assembling::movie_of;
 use crate::checkpoint::Checkpoint;
 use crate::error::MakeError;
-use crate::format::{MOST_CHECKPOINTS, MOST_FRAMES, MOST_FRAMES_OF_VERSION_1};
+use crate::format::{MOST_CHECKPOINTS, MOST_FRAMES, most_frames, takes_cart};
 use crate::movie::Movie;
 use crate::progress::{NoProgress, Progress, Work};
 use riot_map::Cart;
@@ -35,10 +35,10 @@ pub fn version_made(cart: &Cart, frames: usize) -> u16
     ensures value { result ≡ version_made (length cart.now) frames }
     ensures lawful { IsTrue (is_cart_length (length cart.now)) }
 {
-    if cart.has_banks() || frames > MOST_FRAMES_OF_VERSION_1 as usize {
-        2
-    } else {
+    if takes_cart(1, u32::from(cart.len())) && frames <= most_frames(1) as usize {
         1
+    } else {
+        2
     }
 }
 

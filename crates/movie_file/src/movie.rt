@@ -66,7 +66,7 @@ impl Movie {
         }
     }
 
-    /// The version of its format, 1 or 2.
+    /// The version of its format.
     pub fn version(&self) -> u16
         ensures value { result ≡ self.now.version }
         ensures lawful { IsMovie self.now }
@@ -88,7 +88,7 @@ impl Movie {
         &self.start
     }
 
-    /// The number of its frames: 1 to 65,535 in version 1, 1 to 262,143 in version 2.
+    /// The number of its frames, 1 to the most of its version.
     pub fn frames(&self) -> u32
         ensures value { result ≡ length self.now.inputs }
         ensures most { result ≤ MOST_FRAMES }

@@ -1,11 +1,11 @@
 //! Reading movies.
 ghost use Rattle.std.specs.Prelude.{◌≡◌, ◌≢◌, ◌≤◌, [], length, take, IfErr, IfOk, IsOk, IsTrue, Ok};
 ghost use Rattle.std.specs.Prelude.{vec_capacity};
-ghost use Rattle.movie_file.specs.Format.{takes_cart, most_frames, most_checkpoints, body_length};
+ghost use Rattle.movie_file.specs.Format.{takes_cart, most_frames, most_checkpoints};
 ghost use Rattle.movie_file.specs.Movie.{MovieData};
 ghost use Rattle.movie_file.specs.MovieError.{Gives};
 ghost use Rattle.movie_file.specs.Private.MovieParts.{data_of};
-ghost use Rattle.movie_file.specs.Reading.{body_at, movie_at, sizes_at};
+ghost use Rattle.movie_file.specs.Reading.{body_at, body_length, movie_at, sizes_at};
 ghost use Rattle.movie_file.specs.Spelling.{Spells};
 
 mod header;

@@ -2,15 +2,15 @@
 ghost use Rattle.std.specs.Prelude.{◌≡◌, length, IfSome, Some};
 ghost use Rattle.vcs_machine.specs.declared.fields.StateFields.{StateFields};
 ghost use Rattle.movie_file.specs.Movie.{IsState};
-ghost use Rattle.movie_file.specs.Format.{record_length, whole_record};
-ghost use Rattle.movie_file.specs.Record.{record_of, recorded_state, movie_state_at};
+ghost use Rattle.movie_file.specs.Format.{record_length};
+ghost use Rattle.movie_file.specs.Record.{record_of, recorded_state, movie_state_at, whole_record};
 
 mod cpu;
 mod number;
 mod riot;
 mod tia;
 
-use crate::format::STATE_LENGTH;
+use crate::format::{STATE_LENGTH, record_length};
 use crate::reading::Sizes;
 pub use cpu::PROCESSOR_NUMBERS;
 use cpu::{PROCESSOR_LENGTH, cpu_bytes, cpu_in};
@@ -56,16 +56,13 @@ pub fn read_state(bytes: &[u8]) -> Option<State>
     })
 }
 
-/// The state whose whole record the bytes are, but for a bank that version 1 leaves out.
+/// The state whose whole record the bytes are, but for what the version leaves out.
 fn whole_state_in(version: u16, bytes: &[u8]) -> Option<State>
     requires { length bytes.now ≡ record_length version }
     ensures { result ≡ recorded_state (whole_record version bytes.now) }
 {
-    if version != 1 {
-        return read_state(bytes);
-    }
     let mut record = [0; STATE_LENGTH];
-    record[..STATE_LENGTH - 1].copy_from_slice(bytes);
+    record[..record_length(version)].copy_from_slice(bytes);
     read_state(&record)
 }
 

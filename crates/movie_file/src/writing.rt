@@ -1,37 +1,54 @@
 //! Writing movies.
-ghost use Rattle.std.specs.Prelude.{◌≡◌, ◌++◌, OnOk, OnErr};
+ghost use Rattle.std.specs.Prelude.{◌≡◌, ◌++◌, length, OnOk, OnErr};
+ghost use Rattle.std.specs.Int.{w16, w32, to_be_bytes};
 ghost use Rattle.std.specs.Io.{StartsWith};
 ghost use Rattle.std.specs.List.{flat_map};
 ghost use Rattle.vcs_machine.specs.Inputs.{input_bytes};
+ghost use Rattle.movie_file.specs.Format.{length_width, magic};
 ghost use Rattle.movie_file.specs.Movie.{IsMovie};
 ghost use Rattle.movie_file.specs.Spelling.{header_of, checkpoint_bytes, spelling};
 ghost use Rattle.movie_file.specs.Record.{movie_record};
 
 use crate::checkpoint::Checkpoint;
-use crate::format::{HEADER_LENGTH, MAGIC, record_length};
+use crate::format::{HEADER_LENGTH, MAGIC, Version, record_length};
 use crate::movie::Movie;
 use crate::record::write_state;
+use riot_map::Cart;
 use std::alloc::AllocError;
 use vcs_machine::{Input, State};
 
-/// The header of a movie.
-fn header(movie: &Movie) -> [u8; HEADER_LENGTH]
-    ensures { result ≡ header_of movie.now }
+/// Appends the length of a cartridge, in a movie of a version.
+fn put_length(out: &mut Vec<u8>, version: u16, cart: &Cart) -> Result<(), AllocError>
+    ensures ok { OnOk result
+        (out.new.items ≡ out.old.items ++ to_be_bytes (length_width version) (length cart.now)) }
+    ensures prefix { StartsWith out.new.items out.old.items }
+{
+    if Version::of(version).has_wide_length {
+        out.extend_from_slice(&u32::from(cart.len()).to_be_bytes())
+    } else {
+        out.extend_from_slice(&cart.len().to_be_bytes())
+    }
+}
+
+/// The magic and the version of a movie.
+fn first_fields(movie: &Movie) -> [u8; 6]
+    ensures { result ≡ magic ++ to_be_bytes w16 movie.now.version }
 {
     let magic = MAGIC.to_be_bytes();
     let version = movie.version().to_be_bytes();
-    let cart = movie.cart().len().to_be_bytes();
+    [
+        magic[0], magic[1], magic[2], magic[3], version[0], version[1],
+    ]
+}
+
+/// The numbers of frames and checkpoints of a movie.
+fn counts(movie: &Movie) -> [u8; 6]
+    ensures { result ≡ to_be_bytes w32 (length movie.now.inputs)
+        ++ to_be_bytes w16 (length movie.now.checkpoints) }
+{
     let frames = movie.frames().to_be_bytes();
     let checkpoints = movie.checkpoints().to_be_bytes();
     [
-        magic[0],
-        magic[1],
-        magic[2],
-        magic[3],
-        version[0],
-        version[1],
-        cart[0],
-        cart[1],
         frames[0],
         frames[1],
         frames[2],
@@ -39,6 +56,19 @@ fn header(movie: &Movie) -> [u8; HEADER_LENGTH]
         checkpoints[0],
         checkpoints[1],
     ]
+}
+
+/// Appends the header of a movie. Its memory is taken first.
+#[tactic(auto, using(crate::proofs::PrefixLemmas::prefix_then))]
+fn put_header(out: &mut Vec<u8>, movie: &Movie) -> Result<(), AllocError>
+    ensures ok { OnOk result (out.new.items ≡ out.old.items ++ header_of movie.now) }
+    ensures prefix { StartsWith out.new.items out.old.items }
+{
+    out.reserve(HEADER_LENGTH)?;
+    out.extend_from_slice(&first_fields(movie))?;
+    put_length(out, movie.version(), movie.cart())?;
+    out.extend_from_slice(&counts(movie))?;
+    Ok(())
 }
 
 /// Appends inputs.
@@ -100,7 +130,7 @@ fn put_movie(out: &mut Vec<u8>, movie: &Movie) -> Result<(), AllocError>
     ensures lawful { IsMovie movie.now }
 {
     let version = movie.version();
-    out.extend_from_slice(&header(movie))?;
+    put_header(out, movie)?;
     out.extend_from_slice(movie.cart().bytes())?;
     put_state(out, version, movie.start())?;
     put_inputs(out, movie.inputs())?;

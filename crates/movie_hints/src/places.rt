@@ -43,7 +43,7 @@ pub(crate) fn four_at(bytes: &[u8], at: usize) -> u32
 #[derive(Clone, Copy)]
 pub(crate) struct Places {
     pub(crate) version: u16,
-    pub(crate) cartridge: u16,
+    pub(crate) cartridge: u32,
     pub(crate) frames: u32,
     pub(crate) checkpoints: u16,
 }
@@ -57,7 +57,7 @@ impl Places {
     {
         Places {
             version: two_at(bytes, 4),
-            cartridge: two_at(bytes, 6),
+            cartridge: u32::from(two_at(bytes, 6)),
             frames: four_at(bytes, 8),
             checkpoints: two_at(bytes, 12),
         }
@@ -67,7 +67,7 @@ impl Places {
     pub(crate) fn start(self) -> usize
         ensures { result ≡ HEADER_LENGTH + self.cartridge }
     {
-        HEADER_LENGTH + usize::from(self.cartridge)
+        HEADER_LENGTH + self.cartridge as usize
     }
 
     /// Where the input of a frame is, counted from 0.

@@ -7,7 +7,7 @@ use crate::mismatch::{Expected, Field, Found};
 use crate::places::{Places, byte_at, two_at};
 use movie_file::{
     BANK_NUMBERS, BANK_NUMBERS_AT, PROCESSOR_NUMBERS, RIOT_NUMBERS, RIOT_NUMBERS_AT, RecordNumber,
-    TIA_NUMBERS, TIA_NUMBERS_AT,
+    TIA_NUMBERS, TIA_NUMBERS_AT, record_length,
 };
 use riot_map::Cart;
 
@@ -33,6 +33,11 @@ fn broken_in(numbers: &[RecordNumber], bytes: &[u8], at: usize) -> Option<Hint>
     None
 }
 
+/// Whether the records of a version have the bank.
+fn has_bank(version: u16) -> bool {
+    record_length(version) > BANK_NUMBERS_AT
+}
+
 /// What a number says that breaks a condition of its own, in the record at this place of a file.
 fn broken_alone(bytes: &[u8], at: usize, version: u16) -> Option<Hint>
     ensures { IfSome result (TellsState bytes.now) }
@@ -46,7 +51,7 @@ fn broken_alone(bytes: &[u8], at: usize, version: u16) -> Option<Hint>
     if let Some(hint) = broken_in(&TIA_NUMBERS, bytes, at.saturating_add(TIA_NUMBERS_AT)) {
         return Some(hint);
     }
-    if version == 1 {
+    if !has_bank(version) {
         return None;
     }
     broken_in(&BANK_NUMBERS, bytes, at.saturating_add(BANK_NUMBERS_AT))
@@ -97,13 +102,13 @@ fn broken_latches(bytes: &[u8], at: usize) -> Option<Hint>
     }
 }
 
-/// What the bank of a cartridge without banks says if it isn't 0. Version 1 has none.
+/// What the bank of a cartridge without banks says if it isn't 0 and the record has it.
 fn broken_bank(bytes: &[u8], at: usize, places: Places) -> Option<Hint>
     ensures { IfSome result (TellsState bytes.now) }
 {
     let at = at.saturating_add(BANK_NUMBERS_AT);
     let found = byte_at(bytes, at);
-    if found != 0 && places.version != 1 && !Cart::is_banked(usize::from(places.cartridge)) {
+    if found != 0 && has_bank(places.version) && !Cart::is_banked(places.cartridge as usize) {
         let field = Field::Named("bank");
         Some(Hint::of_field(field, at, Expected::OneBank, Found::Byte(found)))
     } else {

@@ -1,16 +1,17 @@
 //! Reading the header.
-ghost use Rattle.std.specs.Prelude.{◌≡◌, ◌≢◌, ◌≤◌, IfErr, IfOk, IsTrue, length};
-ghost use Rattle.std.specs.Int.{w16, w32};
-ghost use Rattle.movie_file.specs.Format.{takes_cart, is_version, most_frames, most_checkpoints};
-ghost use Rattle.movie_file.specs.Format.{body_length};
+ghost use Rattle.std.specs.Prelude.{◌≡◌, ◌≢◌, ◌≤◌, ◌==◌, IfErr, IfOk, IsTrue, length};
+ghost use Rattle.std.specs.Int.{from_be_bytes, w16, w32};
+ghost use Rattle.movie_file.specs.declared.error.MovieError.TheVariants as errors;
+ghost use Rattle.movie_file.specs.Format.{is_version, length_width, magic};
+ghost use Rattle.movie_file.specs.Format.{most_checkpoints, most_frames, takes_cart};
 ghost use Rattle.movie_file.specs.MovieError.{Gives};
-ghost use Rattle.movie_file.specs.Reading.{number_at, magic_at, version_at, cart_length_at};
-ghost use Rattle.movie_file.specs.Reading.{counts_at, sizes_at};
+ghost use Rattle.movie_file.specs.Reading.{body_length, counts_at, number_at, sizes_at, tested_at};
 
 use super::sizes::Sizes;
 use crate::error::MovieError;
 use crate::format::{
-    INPUT_LENGTH, MAGIC, MOST_CHECKPOINTS, is_version, most_frames, record_length, takes_cart,
+    INPUT_LENGTH, MAGIC, MOST_CHECKPOINTS, Version, is_version, most_frames, record_length,
+    takes_cart,
 };
 
 /// A number of two bytes, and what follows it.
@@ -38,23 +39,25 @@ fn u32_at(bytes: &[u8]) -> Result<(u32, &[u8]), MovieError>
     Ok((number, rest))
 }
 
-/// What follows the magic.
-#[tactic(auto, unfolding(crate::specs::Reading::magic_at))]
-fn magic_in(bytes: &[u8]) -> Result<&[u8], MovieError>
-    ensures gives { Gives (λ x. x.now) result (magic_at bytes.now) }
+/// The magic, and what follows it.
+#[tactic(auto, unfolding(crate::specs::Reading::tested_at))]
+fn magic_in(bytes: &[u8]) -> Result<(u32, &[u8]), MovieError>
+    ensures gives { Gives (λ x. (x.0, x.1.now)) result
+        (tested_at w32 (λ n. n == from_be_bytes w32 magic) errors.BadMagic bytes.now) }
     ensures never { IfErr result (λ e. e ≢ MovieError.NoMemory) }
 {
     let (magic, rest) = u32_at(bytes)?;
     if magic != MAGIC {
         return Err(MovieError::BadMagic);
     }
-    Ok(rest)
+    Ok((magic, rest))
 }
 
 /// The version, and what follows it.
-#[tactic(auto, unfolding(crate::specs::Reading::version_at))]
+#[tactic(auto, unfolding(crate::specs::Reading::tested_at))]
 fn version_in(bytes: &[u8]) -> Result<(u16, &[u8]), MovieError>
-    ensures gives { Gives (λ x. (x.0, x.1.now)) result (version_at bytes.now) }
+    ensures gives { Gives (λ x. (x.0, x.1.now)) result
+        (tested_at w16 is_version errors.BadVersion bytes.now) }
     ensures never { IfErr result (λ e. e ≢ MovieError.NoMemory) }
     ensures version { IfOk result (λ x. IsTrue (is_version x.0)) }
 {
@@ -65,14 +68,29 @@ fn version_in(bytes: &[u8]) -> Result<(u16, &[u8]), MovieError>
     Ok((version, rest))
 }
 
+/// A number of as many bytes as the length of the cartridge has, and what follows it, in a movie of a
+/// version.
+fn length_at(version: u16, bytes: &[u8]) -> Result<(u32, &[u8]), MovieError>
+    ensures gives { Gives (λ x. (x.0, x.1.now)) result
+        (number_at (length_width version) bytes.now) }
+    ensures never { IfErr result (λ e. e ≢ MovieError.NoMemory) }
+{
+    if Version::of(version).has_wide_length {
+        return u32_at(bytes);
+    }
+    let (length, rest) = u16_at(bytes)?;
+    Ok((u32::from(length), rest))
+}
+
 /// The length of the cartridge, and what follows it, in a movie of a version.
-#[tactic(auto, unfolding(crate::specs::Reading::cart_length_at))]
-fn cart_length_in(version: u16, bytes: &[u8]) -> Result<(u16, &[u8]), MovieError>
-    ensures gives { Gives (λ x. (x.0, x.1.now)) result (cart_length_at version bytes.now) }
+#[tactic(auto, unfolding(crate::specs::Reading::tested_at))]
+fn cart_length_in(version: u16, bytes: &[u8]) -> Result<(u32, &[u8]), MovieError>
+    ensures gives { Gives (λ x. (x.0, x.1.now)) result
+        (tested_at (length_width version) (takes_cart version) errors.BadCartSize bytes.now) }
     ensures never { IfErr result (λ e. e ≢ MovieError.NoMemory) }
     ensures length { IfOk result (λ x. IsTrue (takes_cart version x.0)) }
 {
-    let (length, rest) = u16_at(bytes)?;
+    let (length, rest) = length_at(version, bytes)?;
     if !takes_cart(version, length) {
         return Err(MovieError::BadCartSize);
     }
@@ -119,7 +137,7 @@ pub(super) fn sizes_in(bytes: &[u8]) -> Result<(Sizes, &[u8]), MovieError>
     ensures few { IfOk result (λ x.
         (x.0.frames ≤ most_frames x.0.version) × (x.0.checkpoints ≤ most_checkpoints)) }
 {
-    let rest = magic_in(bytes)?;
+    let (_, rest) = magic_in(bytes)?;
     let (version, rest) = version_in(rest)?;
     let (cartridge_length, rest) = cart_length_in(version, rest)?;
     let (frames, checkpoints, rest) = counts_in(version, rest)?;

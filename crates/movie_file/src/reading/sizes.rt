@@ -5,7 +5,7 @@
 pub(crate) struct Sizes {
     pub version: u16,
     /// The bytes of the cartridge.
-    pub cartridge_length: u16,
+    pub cartridge_length: u32,
     pub frames: u32,
     pub checkpoints: u16,
 }

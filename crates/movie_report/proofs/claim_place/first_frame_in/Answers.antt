@@ -1,6 +1,6 @@
-use Rattle.std.proofs.Common.{◌+◌, ◌<◌, length, arith}
+use Rattle.std.proofs.Common.{◌≡◌, ◌+◌, ◌<◌, length, arith}
 use Rattle.run_cursor.specs.Cursor.{IsAt}
-use Rattle.movie_report.proofs.ClaimPlaceLemmas.{next_frame, none_later}
+use Rattle.movie_report.proofs.ClaimPlaceLemmas.{at_the_end, next_frame, none_later}
 use Rattle.movie_report.proofs.claim_place.first_frame_in.Goals as goal
 
 pub returns-in-Err : goal.returns-in-Err
@@ -9,6 +9,13 @@ returns-in-Err g c =
     let later = c.loop-before.invariant.later in
     let fault = rw (at.movie_is, at.frame_is) at c.in-Err.ensures.err in
     let none = none_later c.args.movie.now c.args.state.now c.loop-before.before _ fault in
+    cc
+
+pub returns : goal.returns
+returns g c =
+    let ended : c.loop-before.before ≡ length c.args.movie.now.inputs = omega (arith, c.loop-before-test.false, c.loop-before.auto.before-end, c.frames-before-end.ensures.value) in
+    let later = c.loop-before.invariant.later in
+    let none = rw (← ended) at (at_the_end c.args.movie.now c.args.state.now) in
     cc
 
 pub returns-then-eq : goal.returns-then-eq

@@ -1,5 +1,5 @@
 use Rattle.std.proofs.Common.{arith}
-use Rattle.movie_file.proofs.MovieRecords.{most_frames-most}
+use Rattle.movie_file.proofs.VersionLemmas.{most_frames-most}
 use Rattle.movie_file.proofs.movie.Movie.frames.Goals as goal
 
 pub returns-clause-most : goal.returns-clause-most
