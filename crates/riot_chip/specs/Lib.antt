@@ -1,1 +1,2 @@
+pub mod Riot
 pub mod Timer

@@ -3,7 +3,7 @@
 -- timer). What happens after zero was measured in Stella 6.7.
 use Rattle.std.specs.Prelude.{ℕ, ◌≡◌, ◌<◌, ◌≤◌, ◌-◌, ◌%◌, Bool, true, false, ◌&&◌, ◌||◌, ◌==◌, nat_le, if◌then◌else◌}
 use Rattle.record_table.specs.Bits.{has_bit}
-use Rattle.riot_map.specs.Timer.{is_interval, interval_of}
+use Rattle.riot_map.specs.Timer.{is_interval, interval_of, interval_code}
 use Rattle.riot_chip.specs.declared.timer.TimerFields.{TimerFields}
 
 pub record TimerState : Type 0 where
@@ -70,3 +70,6 @@ is_timer f = nat_le f.interval 3 && nat_le 1 f.part && nat_le f.part (interval_o
 
 abbrev pub timer_of : TimerFields → TimerState
 timer_of f = record { value = f.value; part = f.part; interval = interval_of f.interval; flag = f.flag == 1 }
+
+abbrev pub numbers_of : TimerState → TimerFields
+numbers_of t = record { value = t.value; part = t.part; interval = interval_code t.interval; flag = (if t.flag then 1 else 0) }

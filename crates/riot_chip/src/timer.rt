@@ -3,7 +3,7 @@ ghost use Rattle.std.specs.Prelude.{◌≡◌, ◌<◌, IsTrue, if◌then◌else
 ghost use Rattle.std.specs.Fn.{iterate};
 ghost use Rattle.riot_map.specs.Timer.{interval_of, is_interval};
 ghost use Rattle.riot_chip.specs.Timer.{TimerState, after_step, after_read, after_write, timer_read};
-ghost use Rattle.riot_chip.specs.Timer.{timer_at_power_on, is_timer, timer_of};
+ghost use Rattle.riot_chip.specs.Timer.{timer_at_power_on, is_timer, timer_of, numbers_of};
 
 use std::marker::Model;
 
@@ -21,6 +21,18 @@ pub struct TimerFields {
     pub interval: u8,
     /// Whether zero is behind: 0 or 1.
     pub flag: u8,
+}
+
+impl TimerFields {
+    /// Whether there is a timer of these numbers.
+    pub fn is_lawful(&self) -> bool
+        ensures { result ≡ is_timer self.now }
+    {
+        self.interval <= 3
+            && 1 <= self.part
+            && self.part <= interval_of(self.interval)
+            && self.flag <= 1
+    }
 }
 
 /// A timer, which contracts see as its value, its part, its interval in cycles, and its flag.
@@ -68,17 +80,13 @@ impl Timer {
     pub fn from_fields(fields: TimerFields) -> Option<Timer>
         ensures { result ≡ (if is_timer fields then Some (timer_of fields) else None) }
     {
-        if fields.interval > 3 || fields.flag > 1 {
-            return None;
-        }
-        let interval = interval_of(fields.interval);
-        if fields.part < 1 || fields.part > interval {
+        if !fields.is_lawful() {
             return None;
         }
         Some(Timer {
             value: fields.value,
             part: fields.part,
-            interval,
+            interval: interval_of(fields.interval),
             flag: fields.flag == 1,
         })
     }
@@ -86,6 +94,7 @@ impl Timer {
     /// Its numbers.
     pub fn fields(&self) -> TimerFields
         ensures value { timer_of result ≡ self.now }
+        ensures numbers { result ≡ numbers_of self.now }
         ensures lawful { IsTrue (is_timer result) }
     {
         TimerFields {

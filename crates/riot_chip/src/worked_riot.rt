@@ -1,0 +1,35 @@
+//! Worked ports of a RIOT: each bit by hand, from the Stella Programmer's Guide.
+
+use crate::riot::Riot;
+
+/// A RIOT with the pins 3C and C5, F0 in SWACNT, 50 in SWCHA, 0F in SWBCNT and 0A in SWCHB. Lines
+/// A4 and A3 of the addresses don't count.
+fn riot() -> Riot {
+    let mut riot = Riot::power_on();
+    riot.set_pins(0x3C, 0xC5);
+    riot.write(0x01, 0xF0);
+    riot.write(0x18, 0x50);
+    riot.write(0x13, 0x0F);
+    riot.write(0x0A, 0x0A);
+    riot
+}
+
+#[test]
+fn ports_have_their_own_pins_latches_and_directions(rt: HostRuntime) {
+    let mut riot = riot();
+    // SWCHA: an output of 0 is 0, and elsewhere the pin counts. SWCHB: an output hides its pin.
+    assert!(rt; riot.read(0x00) == 0x1C);
+    assert!(rt; riot.read(0x09) == 0xF0);
+    assert!(rt; riot.read(0x12) == 0xCA);
+    assert!(rt; riot.read(0x1B) == 0x0F);
+}
+
+#[test]
+fn the_timer_has_line_a2(rt: HostRuntime) {
+    let mut riot = riot();
+    // TIM1T, which falls with the next cycle.
+    riot.write(0x14, 5);
+    riot.step();
+    assert!(rt; riot.read(0x04) == 4);
+    assert!(rt; riot.read(0x00) == 0x1C);
+}
