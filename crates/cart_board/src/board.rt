@@ -1,5 +1,5 @@
 //! A board: how the bytes of a cartridge are wired.
-ghost use Rattle.std.specs.Prelude.{◌≡◌, ◌==◌, IfSome, bytes_eq, find, map, option_map, slice_get};
+ghost use Rattle.std.specs.Prelude.{◌≡◌, ◌==◌, IfSome, bytes_eq, find, length, map, option_map, slice_get, take};
 ghost use Rattle.cart_board.specs.Board.{row_of, index_of, has_length, last_bank};
 ghost use Rattle.cart_board.specs.Access.{banks_selected, banks_of_byte, is_at, is_in};
 ghost use Rattle.cart_board.specs.Boards.{boards, IsBoard};
@@ -91,6 +91,13 @@ impl Board {
             self.bank_in(spelled, 1),
             self.bank_in(spelled, 2),
         ]
+    }
+
+    /// Those of three bank bytes that the board has.
+    pub fn bank_bytes<'a>(&self, banks: &'a [u8; 3]) -> &'a [u8]
+        ensures { result.now ≡ take (length (row_of self.now).banks) banks.now }
+    {
+        &banks[..self.banks.len().min(3)]
     }
 
     /// The last bank that a bank byte can select, of a cartridge of so many bytes; 0 of a bank byte

@@ -1,5 +1,5 @@
 //! A cartridge in a console.
-ghost use Rattle.std.specs.Prelude.{◌≡◌, ◌↔◌, ◌<◌, length, IsTrue, IsOk, IfOk, slice_set};
+ghost use Rattle.std.specs.Prelude.{◌≡◌, ◌↔◌, ◌<◌, length, replicate, IsTrue, IsOk, IfOk, OnErr, slice_set};
 ghost use Rattle.cart_board.specs.Board.{has_length};
 ghost use Rattle.cart_board.specs.Boards.{IsBoard};
 ghost use Rattle.cart_board.specs.CartState.{CartState, are_banks, fits, is_bank, cart_at_power_on, cart_target};
@@ -10,6 +10,18 @@ use crate::cart::Cart;
 use crate::window::{Kind, Target};
 use std::alloc::{AllocError, Global};
 use std::marker::Model;
+
+/// A RAM of zeros. AllocError comes only if its allocation was refused; no bytes need none.
+fn blank_ram(alloc: Global, length: u16) -> Result<Vec<u8>, AllocError>
+    ensures value { IfOk result (λ ram. ram.items ≡ replicate length 0) }
+    ensures memory { OnErr result (0 < length) }
+{
+    if length == 0 {
+        Ok(Vec::new(alloc))
+    } else {
+        vec![in alloc; 0; length as usize]
+    }
+}
 
 /// A bank byte is above the last bank, or the RAM isn't as long as the board's.
 #[derive(Clone, Copy, Debug, PartialEq, Eq)]
@@ -58,28 +70,38 @@ impl<'a> MappedCart<'a> {
         }
     }
 
+    /// Whether a cartridge can have these bank bytes and this RAM.
+    pub fn fits(cart: &Cart, banks: &[u8; 3], ram: &[u8]) -> bool
+        ensures { result ≡ fits cart.now banks.now ram.now }
+    {
+        MappedCart::is_bank(cart, banks, BankByte::First)
+            && MappedCart::is_bank(cart, banks, BankByte::Second)
+            && MappedCart::is_bank(cart, banks, BankByte::Third)
+            && ram.len() == cart.board().ram as usize
+    }
+
     /// A cartridge with these bank bytes and this RAM. Takes no memory.
     pub fn new(cart: &'a Cart, banks: [u8; 3], ram: Vec<u8>) -> Result<MappedCart<'a>, BadCartState>
         ensures lawful { IsOk result ↔ IsTrue (fits cart.now banks ram.items) }
         ensures value { IfOk result (λ c. c ≡ record { cartridge = cart.now; banks = banks; ram = ram.items }) }
     {
-        if MappedCart::is_bank(cart, &banks, BankByte::First)
-            && MappedCart::is_bank(cart, &banks, BankByte::Second)
-            && MappedCart::is_bank(cart, &banks, BankByte::Third)
-            && ram.len() == cart.board().ram as usize
-        {
+        if MappedCart::fits(cart, &banks, &ram) {
             Ok(MappedCart::with(cart, banks, ram))
         } else {
             Err(BadCartState)
         }
     }
 
-    /// A cartridge as a console is switched on. Takes memory for its RAM.
+    /// A cartridge as a console is switched on.
+    ///
+    /// AllocError comes only if the allocation of its RAM was refused. A board without RAM takes no
+    /// memory.
     pub fn power_on(alloc: Global, cart: &'a Cart) -> Result<MappedCart<'a>, AllocError>
-        ensures { IfOk result (λ c. c ≡ cart_at_power_on cart.now) }
+        ensures value { IfOk result (λ c. c ≡ cart_at_power_on cart.now) }
+        ensures memory { OnErr result (0 < cart.now.row.ram) }
     {
         let board = cart.board();
-        let ram = vec![in alloc; 0; board.ram as usize]?;
+        let ram = blank_ram(alloc, board.ram)?;
         Ok(MappedCart::with(cart, board.banks_at_power_on(), ram))
     }
 
@@ -96,6 +118,21 @@ impl<'a> MappedCart<'a> {
         ensures { result.now ≡ self.now.ram }
     {
         &self.ram
+    }
+
+    /// The bank bytes and the RAM that it leaves.
+    pub fn into_parts(self) -> ([u8; 3], Vec<u8>)
+        ensures banks { result.0 ≡ self.entry.banks }
+        ensures ram { result.1.items ≡ self.entry.ram }
+        ensures lawful { IsTrue (fits self.entry.cartridge self.entry.banks self.entry.ram) }
+    {
+        let MappedCart {
+            cart: _,
+            banks,
+            ram,
+            rest: _,
+        } = self;
+        (banks, ram)
     }
 
     /// Selects what an access to an address, of the cartridge or not, selects before its byte is
@@ -149,6 +186,19 @@ impl<'a> MappedCart<'a> {
         ensures write_port { result.kind ≡ Kind.WritePort → result.offset < length self.now.ram }
     {
         self.found(address)
+    }
+
+    /// What a read from an address of the cartridge would give, while this is the last byte on the
+    /// bus.
+    pub fn peek(&self, address: u16, bus: u8) -> u8
+        ensures { result ≡ cart_read self.now address bus }
+    {
+        let Target { kind, offset } = self.target(address);
+        match kind {
+            Kind::Rom => self.cart.bytes()[offset],
+            Kind::ReadPort => self.ram[offset],
+            Kind::WritePort => bus,
+        }
     }
 
     /// Reads from an address of the cartridge, while this is the last byte on the bus. A read where

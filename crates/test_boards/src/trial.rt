@@ -37,9 +37,17 @@ impl<'a> Trial<'a> {
             Step::Banks(banks) => self.mapped.banks() == banks,
             Step::Ram(offset, value) => self.mapped.ram().get(offset) == Some(&value),
             Step::Lawful(banks, is_lawful) => self.takes(banks)? == is_lawful,
-            Step::Record(length) => self.board.record_length() == length,
+            Step::Record(length) => self.has_record(length),
         };
         Ok(is_met)
+    }
+
+    /// Whether so many bytes spell the bank bytes that the board has, and its RAM.
+    fn has_record(&self, length: usize) -> bool {
+        let banks = self.mapped.banks();
+        let spelled = self.board.bank_bytes(&banks).len();
+        self.board.record_length() == length
+            && spelled.saturating_add(self.mapped.ram().len()) == length
     }
 
     /// Whether the cartridge can have these bank bytes.
@@ -48,18 +56,21 @@ impl<'a> Trial<'a> {
         Ok(MappedCart::new(self.cart, banks, ram).is_ok())
     }
 
-    /// Reads an address. Whether the cartridge gives this byte; where the address isn't its own, the
-    /// chip there does.
+    /// Reads an address. Whether the cartridge gives this byte, also to a look before; where the
+    /// address isn't its own, the chip there does.
     fn read(&mut self, address: u16, value: u8) -> bool {
         self.mapped.select(address, None);
-        let found = if address / 4096 % 2 == 1 {
-            self.mapped.read(address, self.bus)
+        let (seen, found) = if address / 4096 % 2 == 1 {
+            (
+                self.mapped.peek(address, self.bus),
+                self.mapped.read(address, self.bus),
+            )
         } else {
-            value
+            (value, value)
         };
         self.mapped.select_by_byte(address, found);
         self.bus = found;
-        found == value
+        seen == value && found == value
     }
 
     fn write(&mut self, address: u16, value: u8) {
