@@ -2,7 +2,7 @@
 
 use crate::row::Row;
 use crate::step::Step;
-use tia_chip::Tia;
+use tia_chip::{Tia, TiaState};
 
 /// The clocks of the twenty lines that a case may go on.
 const MOST_CLOCKS: u16 = 4560;
@@ -41,6 +41,7 @@ impl Console {
             Step::Beam(line, clock) => return self.is_at(*line, *clock),
             Step::Row(line, row) => return self.draws(*line, row),
             Step::Fire(first, second) => self.tia.set_fire(*first, *second),
+            Step::Record(is_whole) => return self.goes_on() == *is_whole,
         }
         true
     }
@@ -64,8 +65,24 @@ impl Console {
 
     /// Whether a clock of a line comes next.
     fn is_at(&self, line: u16, clock: u8) -> bool {
-        let state = self.tia.state();
-        state.line == line && state.clock == clock
+        self.tia.line() == line && self.tia.line_clock() == clock
+    }
+
+    /// Goes on as the TIA of what a record says of this one: on line 0, with no button pressed.
+    /// Whether there is one.
+    fn goes_on(&mut self) -> bool {
+        let state = TiaState {
+            line: 0,
+            fire0: false,
+            fire1: false,
+            ..self.tia.state()
+        };
+        let Some(tia) = Tia::from_state(state) else {
+            return false;
+        };
+        self.tia = tia;
+        self.line = 0;
+        true
     }
 
     /// Goes to a clock of a line. Whether it comes.

@@ -22,6 +22,8 @@ pub(crate) enum Step {
     Row(u16, Row),
     /// Each button is pressed or not.
     Fire(bool, bool),
+    /// A record says all of the TIA, or it doesn't.
+    Record(bool),
 }
 
 impl Step {
@@ -52,13 +54,17 @@ impl Step {
                 Some(Step::Row(count(line)?, parse_row(pixels)?))
             }
             "fire" => fire(rest),
+            "record" => record(rest),
             _ => None,
         }
     }
 
     /// Whether the step can find something else than it says.
     pub(crate) fn is_check(&self) -> bool {
-        matches!(self, Step::Read(..) | Step::Beam(..) | Step::Row(..))
+        matches!(
+            self,
+            Step::Read(..) | Step::Beam(..) | Step::Row(..) | Step::Record(..)
+        )
     }
 }
 
@@ -99,6 +105,14 @@ fn fire(text: &str) -> Option<Step> {
         "0" => Some(Step::Fire(true, false)),
         "1" => Some(Step::Fire(false, true)),
         "both" => Some(Step::Fire(true, true)),
+        _ => None,
+    }
+}
+
+fn record(text: &str) -> Option<Step> {
+    match text {
+        "whole" => Some(Step::Record(true)),
+        "lacking" => Some(Step::Record(false)),
         _ => None,
     }
 }

@@ -2,7 +2,7 @@
 -- it keeps. A record is of a TIA on which no write is on its way. The ranges, and their order, are
 -- this project's own.
 use Rattle.std.specs.Prelude.{ℕ, ◌+◌, ◌/◌, ◌%◌, ◌==◌, ◌&&◌, ◌||◌, not, nat_le, nat_lt, Bool}
-use Rattle.std.specs.Prelude.{if◌then◌else◌, List, [], ◌∷◌, ◌++◌, codes, Option, Some, None}
+use Rattle.std.specs.Prelude.{if◌then◌else◌, List, [], ◌∷◌, ◌++◌, codes, Option, Some, None, is_none}
 use Rattle.record_table.specs.Numbers.{Number, byte, word, anything, below, are_lawful}
 use Rattle.tia_chip.specs.Bits.{has_bit}
 use Rattle.tia_chip.specs.Blank.{is_in_blank}
@@ -10,6 +10,7 @@ use Rattle.tia_chip.specs.Collision.{number_from}
 use Rattle.tia_chip.specs.Motion.{any_moves}
 use Rattle.tia_chip.specs.Player.{width_of}
 use Rattle.tia_chip.specs.Registers.{fits_register}
+use Rattle.tia_chip.specs.declared.ball.Ball.{Ball}
 use Rattle.tia_chip.specs.declared.missile.MissileCopy.{MissileCopy}
 use Rattle.tia_chip.specs.declared.player.Player.{Player}
 use Rattle.tia_chip.specs.declared.player.PlayerCopy.{PlayerCopy}
@@ -172,6 +173,10 @@ is_player p =
 abbrev pub is_missile_copy : Option MissileCopy → Bool
 is_missile_copy copy = nat_le 5 (missile_copy_number copy) || (own_size_number copy == 0)
 
+-- of the ball: its own size is one of the five
+abbrev pub is_ball : Ball → Bool
+is_ball b = nat_lt (size_number b.own_size) 4 || (b.own_size == 0)
+
 -- of the clock: the blank is longer from clock 1 to 75 alone, or after RSYNC in the blank from 225
 -- on; the playfield is off up to clock 68, and as each fourth clock begins, which takes its bit; CTRLPF
 -- D0 counts from pixel 81 to the last that takes one; in the picture nothing that was seen is kept
@@ -188,6 +193,15 @@ is_tia t =
     are_lawful tia_numbers t
     && is_player t.player0 && is_player t.player1
     && is_missile_copy t.missile0.copy && is_missile_copy t.missile1.copy
+    && is_ball t.ball
     && is_beam t
     && (any_moves t || (t.pulses == 0))
     && (has_bit t.vblank 6 || (t.latches == 0))
+
+-- Between two cycles of the processor a record says all of a TIA where no write is on its way, none
+-- has changed an object since the last clock, pixels are put where the line's clock is, and the line
+-- and the buttons are as a console is switched on. The line and the buttons are a frame's.
+abbrev pub is_settled : TiaState → Bool
+is_settled t =
+    is_none t.waiting && is_none t.hmove && not t.changed && (t.beam == t.clock)
+    && (t.line == 0) && not t.fire0 && not t.fire1

@@ -9,7 +9,7 @@ use crate::objects::Objects;
 use crate::state::TiaState;
 
 /// The number with these bits, highest first.
-fn number_of(bits: &[bool]) -> u16
+pub fn number_of(bits: &[bool]) -> u16
     requires { length bits.now ≤ 15 }
     ensures value { result ≡ number_from 0 bits.now }
     ensures range { result < 2 ^ length bits.now }

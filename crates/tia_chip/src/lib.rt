@@ -9,9 +9,11 @@ mod collision;
 mod colour;
 mod counter;
 mod effect;
+mod lawful;
 mod laws;
 mod missile;
 mod motion;
+mod numbers;
 mod objects;
 mod pixel;
 mod player;
@@ -27,6 +29,10 @@ pub use ball::Ball;
 pub use effect::Effect;
 pub use laws::law_of_records;
 pub use missile::{Missile, MissileCopy};
+pub use numbers::{
+    ball_copy_number, bit_number, missile_copy_number, moves_number, own_size_number,
+    player_copy_number, seen_number, size_number,
+};
 pub use pixel::Pixel;
 pub use player::{Player, PlayerCopy};
 pub use register::{Register, WSYNC};

@@ -1,9 +1,10 @@
 //! The TIA: colour clocks pass, and its registers are written and read.
-ghost use Rattle.std.specs.Prelude.{◌≡◌, ◌<◌, ◌≤◌, ◌&&◌, not, if◌then◌else◌};
+ghost use Rattle.std.specs.Prelude.{◌≡◌, ◌<◌, ◌≤◌, ◌&&◌, not, if◌then◌else◌, Some, None};
 ghost use Rattle.tia_chip.specs.Clock.{after_clock, at_line_start, at_next_clock, at_next_line};
 ghost use Rattle.tia_chip.specs.Clock.{at_pixel, looked_at, stepped, with_next_clock, without_rest};
 ghost use Rattle.tia_chip.specs.Clock.{without_seen};
 ghost use Rattle.tia_chip.specs.Colour.{pixel_of};
+ghost use Rattle.tia_chip.specs.Numbers.{is_settled, is_tia};
 ghost use Rattle.tia_chip.specs.PowerOn.{at_frame_start, tia_at_power_on, with_fire};
 ghost use Rattle.tia_chip.specs.Private.Ranges.{IsInRange};
 ghost use Rattle.tia_chip.specs.Read.{tia_after_read, tia_read};
@@ -244,6 +245,33 @@ impl Tia {
         ensures { result ≡ tia_at_power_on }
     {
         Tia { state: POWER_ON }
+    }
+
+    /// The TIA of a state. None if its numbers aren't lawful, or if a record doesn't say all of it.
+    #[tactic(auto, using(crate::proofs::RangeLemmas::in_range))]
+    pub fn from_state(state: TiaState) -> Option<Self>
+        ensures { result ≡ (if is_tia state && is_settled state then Some state else None) }
+    {
+        if state.is_lawful() && state.is_settled() {
+            Some(Tia { state })
+        } else {
+            None
+        }
+    }
+
+    /// The clock of the line that comes next, 0 to 227.
+    pub fn line_clock(&self) -> u8
+        ensures value { result ≡ self.now.clock }
+        ensures range { result < 228 }
+    {
+        self.state.clock
+    }
+
+    /// The line, from 0 at a frame's start, modulo 65,536.
+    pub fn line(&self) -> u16
+        ensures { result ≡ self.now.line }
+    {
+        self.state().line
     }
 
     /// Its state.
