@@ -79,8 +79,8 @@ none_of f g (Some b) first second = cc
 
 pub refused : (words : List Text) (kind : ErrorKind) (fault : LineFault) → (kind ≡ OutOfMemory) ⊎ IsAmong kind (fault_of program_app words)
     → IsAnswerTo kind fault → IsRefusal words fault
-refused words kind (Usage text) (inl memory) answer = absurd (answer.0 memory)
-refused words kind (Usage text) (inr among) answer = inl (kind, among, answer)
+refused words kind (Usage told text) (inl memory) answer = absurd (answer.1 memory)
+refused words kind (Usage told text) (inr among) answer = inl (kind, among, answer)
 refused words kind (Help text) (inl memory) (inl help) =
     let bad : OutOfMemory ≡ DisplayHelp = sym memory ∙ help in
     cc
@@ -92,7 +92,7 @@ refused words kind Memory found answer = tt
 
 pub bad_value : (words : List Text) (name : Text) (rows : List Row) (fault : LineFault) → subcommand_of program_app words ≡ Some (name, rows)
     → HasBadValue name rows fault → IsRefusal words fault
-bad_value words name rows (Usage text) met bad = inr (rw met bad)
+bad_value words name rows (Usage kind text) met bad = inr (rw met bad)
 bad_value words name rows (Help text) met bad = inr (rw met bad)
 bad_value words name rows Memory met bad = tt
 

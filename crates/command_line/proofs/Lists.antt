@@ -1,5 +1,7 @@
 -- What holds of each element of a list, and so of what is found in it.
-use Rattle.std.proofs.Common.{◌≡◌, ◌++◌, Bool, true, false, List, [], ◌∷◌, Some, if◌then◌else◌, refl, subst}
+use Rattle.std.proofs.Common.{◌≡◌, ◌++◌, Bool, true, false, List, [], ◌∷◌, Some, ap, if◌then◌else◌, map, refl, subst}
+use Rattle.std.specs.List.{list_any}
+use Rattle.std.specs.Prelude.{◌||◌}
 use Rattle.std.specs.Prelude.{find}
 
 abbrev pub Each : {X : Type 0} → (X → Type 0) → List X → Type 0
@@ -20,3 +22,8 @@ found P p (y ∷ ys) x each is = go (p y) refl (λ later. found P p ys x each.1 
         let same : y ≡ x = cc in
         subst (λ z. P z × (p z ≡ true)) same (each.0, e)
     go false e more later = more later
+
+-- Some element passes a test of what it stands for.
+pub any_mapped : {X Y : Type 0} (f : X → Y) (p : Y → Bool) (xs : List X) → list_any (λ x. p (f x)) xs ≡ list_any p (map f xs)
+any_mapped f p [] = refl
+any_mapped f p (x ∷ xs) = ap (λ b. p (f x) || b) (any_mapped f p xs)

@@ -5,7 +5,7 @@ use Rattle.std.specs.Fmt.{decimal}
 use Rattle.clap.specs.Words.{IsAmong, Row, Text, fault_of, first_of, subcommand_of}
 use Rattle.clap.specs.declared.error.kind.ErrorKind.{ErrorKind}
 use Rattle.clap.specs.declared.error.kind.ErrorKind.TheVariants.{DisplayHelp, DisplayVersion}
-use Rattle.clap.specs.declared.error.kind.ErrorKind.TheVariants.{OutOfMemory}
+use Rattle.clap.specs.declared.error.kind.ErrorKind.TheVariants.{OutOfMemory, ValueValidation}
 use Rattle.hex.specs.Hex.{decode_sized}
 use Rattle.hex.specs.declared.error.FromHexError.{FromHexError}
 use Rattle.replay_plan.specs.Limits.{first_address}
@@ -15,10 +15,10 @@ use Rattle.command_line.specs.declared.command.LineFault.{LineFault}
 use Rattle.command_line.specs.declared.command.LineFault.TheVariants.{Usage, Help, Memory}
 
 -- The answer to an error of this kind: help and the version are what was asked for, a refused
--- allocation is no mistake, and each other kind is one.
+-- allocation is no mistake, and each other kind is one of that kind.
 abbrev pub IsAnswerTo : ErrorKind → LineFault → Type 0
-IsAnswerTo kind (Usage text) =
-    (kind ≢ OutOfMemory) × (kind ≢ DisplayHelp) × (kind ≢ DisplayVersion)
+IsAnswerTo kind (Usage told text) =
+    (told ≡ kind) × (kind ≢ OutOfMemory) × (kind ≢ DisplayHelp) × (kind ≢ DisplayVersion)
 IsAnswerTo kind (Help text) = (kind ≡ DisplayHelp) ⊎ (kind ≡ DisplayVersion)
 IsAnswerTo kind Memory = Unit {0}
 
@@ -44,7 +44,8 @@ watch_mistake words = no_address_text (first_no_address words) (length words)
 -- The answer to the values of `frames` of which a word writes no address, or there are too many
 -- addresses.
 abbrev pub IsNoFrames : List Row → LineFault → Type 0
-IsNoFrames rows (Usage text) = (HasAddresses rows → ⊥) × (string_bytes text ≡ watch_mistake (words_of watch_row rows))
+IsNoFrames rows (Usage kind text) =
+    (HasAddresses rows → ⊥) × (kind ≡ ValueValidation) × (string_bytes text ≡ watch_mistake (words_of watch_row rows))
 IsNoFrames rows (Help text) = ⊥
 IsNoFrames rows Memory = Unit {0}
 
@@ -55,8 +56,9 @@ digest_mistake word =
 
 -- The answer to the values of `report` of which the digest is none.
 abbrev pub IsNoReport : List Row → LineFault → Type 0
-IsNoReport rows (Usage text) =
-    IsSomeAnd (first_of sha256_row.name rows) (λ word. IsErr (decode_sized word 32) × (string_bytes text ≡ digest_mistake word))
+IsNoReport rows (Usage kind text) =
+    (kind ≡ ValueValidation)
+    × IsSomeAnd (first_of sha256_row.name rows) (λ word. IsErr (decode_sized word 32) × (string_bytes text ≡ digest_mistake word))
 IsNoReport rows (Help text) = ⊥
 IsNoReport rows Memory = Unit {0}
 

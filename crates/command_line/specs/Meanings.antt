@@ -12,9 +12,10 @@ use Rattle.replay_plan.specs.declared.expectations.Expectations.{Expectations}
 use Rattle.replay_plan.specs.declared.input_form.InputForm.TheVariants as forms
 use Rattle.replay_plan.specs.declared.notation.Notation.{Notation}
 use Rattle.replay_plan.specs.declared.notation.Notation.TheVariants.{Json, Lines}
-use Rattle.replay_plan.specs.declared.plan.Plan.{Plan}
+use Rattle.replay_plan.specs.declared.keep.Keep.{Keep}
 use Rattle.replay_plan.specs.declared.watches.Address.{Address}
 use Rattle.replay_plan.specs.declared.watches.Details.{Details}
+use Rattle.replay_plan.specs.declared.workers.Workers.{Workers}
 use Rattle.command_line.specs.Table.{Argument, asked_row, checkpoints_row}
 use Rattle.command_line.specs.Table.{count_row}
 use Rattle.command_line.specs.Table.{cuts_row, digests_row, explain_row, file_row, first_row, frame_row}
@@ -41,13 +42,11 @@ number_of argument rows = option_map number_in (one_of argument.name rows)
 abbrev pub word_of : Argument → List Row → Text
 word_of argument rows = unwrap_or (first_of argument.name rows) (codes "")
 
--- The plan of `verify`. If no file takes pictures none is kept.
-pub record IsPlan (rows : List Row) (plan : Plan) : Type 0 where
-  pub workers : number_of workers_row rows ≡ Some plan.workers.number
-  pub every : number_of cuts_row rows ≡ Some (non_zero_u16_get plan.every)
-  pub first : number_of first_row rows ≡ Some plan.keep.first
-  pub count : is_some (first_of pictures_row.name rows) ≡ true → number_of count_row rows ≡ Some plan.keep.count
-  pub none : is_some (first_of pictures_row.name rows) ≡ false → plan.keep.count ≡ 0
+-- The pictures that `verify` keeps. If no file takes them none is kept.
+pub record IsKept (rows : List Row) (keep : Keep) : Type 0 where
+  pub first : number_of first_row rows ≡ Some keep.first
+  pub count : is_some (first_of pictures_row.name rows) ≡ true → number_of count_row rows ≡ Some keep.count
+  pub none : is_some (first_of pictures_row.name rows) ≡ false → keep.count ≡ 0
 
 -- The words of an argument that may be there more than once, in order.
 abbrev pub words_of : Argument → List Row → List Text
@@ -98,71 +97,77 @@ pub record IsMaking (rows : List Row) (making : Making) : Type 0 where
   pub to_the_end : (making.to_the_end ≡ true) ↔ IsGiven to_the_end_row rows
   pub to_the_fault : (making.to_the_fault ≡ true) ↔ IsGiven to_the_fault_row rows
 
--- The command of this name, of which `clap` found these values.
-abbrev pub IsCommandAt : Text → List Row → Command → Type 0
-IsCommandAt name rows (Verify plan notation) = (name ≡ codes "verify") × IsPlan rows plan × IsNotation rows notation
-IsCommandAt name rows (Report workers notation rom expectations) =
-    (name ≡ codes "report") × (number_of workers_row rows ≡ Some workers.number) × IsNotation rows notation
-    × (option_map string_bytes rom ≡ first_of expected_rom_row.name rows) × AreExpectations rows expectations
-IsCommandAt name rows (Make inputs form making) =
-    (name ≡ codes "make") × (string_bytes inputs ≡ word_of inputs_row rows)
-    × ((form ≡ forms.Text) ↔ IsGiven text_row rows) × IsMaking rows making
-IsCommandAt name rows (Info notation) = (name ≡ codes "info") × IsNotation rows notation
-IsCommandAt name rows (Claims notation) = (name ≡ codes "claims") × IsNotation rows notation
-IsCommandAt name rows (Inputs first count numbers) =
-    (name ≡ codes "inputs") × (number_of first_row rows ≡ Some (non_zero_u32_get first))
-    × (number_of asked_row rows ≡ Some count)
-    × ((numbers ≡ true) ↔ IsGiven numbers_row rows)
-IsCommandAt name rows Cartridge = name ≡ codes "cartridge"
-IsCommandAt name rows Convert = name ≡ codes "convert"
-IsCommandAt name rows (Frames first count details notation) =
-    (name ≡ codes "frames") × (number_of first_row rows ≡ Some (non_zero_u32_get first))
-    × (number_of asked_row rows ≡ Some count) × AreDetails rows details × IsNotation rows notation
-IsCommandAt name rows (Pictures first count) =
-    (name ≡ codes "pictures") × (number_of first_row rows ≡ Some (non_zero_u32_get first))
-    × (number_of asked_row rows ≡ Some count)
-IsCommandAt name rows (Cut first count every) =
-    (name ≡ codes "cut") × (number_of first_row rows ≡ Some (non_zero_u32_get first))
-    × (number_of asked_row rows ≡ Some count)
-    × (number_of checkpoints_row rows ≡ Some (non_zero_u32_get every))
-IsCommandAt name rows (Trace frame) =
-    (name ≡ codes "trace") × (number_of frame_row rows ≡ Some (non_zero_u32_get frame))
+-- The files that a command line names: its input, a second input, and what takes what it writes.
+pub record Files : Type 0 where
+  pub input : Text
+  pub second : Option Text
+  pub output : Option Text
 
--- The argument that names the file that a command is about,
-abbrev pub input_row : Command → Argument
-input_row (Make inputs form making) = rom_row
-input_row Convert = old_row
-input_row other = file_row
+abbrev pub files_of : CommandLine → Files
+files_of line = record { input = string_bytes line.input; second = option_map string_bytes line.second; output = option_map string_bytes line.output }
 
--- and the word that names the file that it writes, if it writes one.
-abbrev pub output_word : Command → List Row → Option Text
-output_word (Verify plan notation) rows = first_of pictures_row.name rows
-output_word (Make inputs form making) rows = Some (word_of out_row rows)
-output_word Convert rows = Some (word_of new_row rows)
-output_word Cartridge rows = Some (word_of out_row rows)
-output_word (Pictures first count) rows = Some (word_of out_row rows)
-output_word (Cut first count every) rows = Some (word_of out_row rows)
-output_word other rows = None
+-- A movie, and this output.
+abbrev pub of_movie : List Row → Option Text → Files
+of_movie rows output = record { input = word_of file_row rows; second = None; output = output }
 
--- The command with its files.
+-- It writes lines, and by one worker: there are no options for that.
+abbrev pub IsPlain : Notation → Workers → Type 0
+IsPlain notation workers = (notation ≡ Lines) × (workers.number ≡ 1)
+
+-- The frames that are asked for: the first, and how many.
+abbrev pub AreFrames : List Row → ℕ → ℕ → Type 0
+AreFrames rows first count = (number_of first_row rows ≡ Some first) × (number_of asked_row rows ≡ Some count)
+
+-- The command of this name, of which `clap` found these values, with its files, in which notation it writes,
+-- and by how many workers.
+abbrev pub IsCommandAt : Text → List Row → Command → Files → Notation → Workers → Type 0
+IsCommandAt name rows (Verify every keep) files notation workers =
+    (name ≡ codes "verify") × (number_of cuts_row rows ≡ Some (non_zero_u16_get every)) × IsKept rows keep
+    × (files ≡ of_movie rows (first_of pictures_row.name rows)) × IsNotation rows notation × (number_of workers_row rows ≡ Some workers.number)
+IsCommandAt name rows (Report expectations) files notation workers =
+    (name ≡ codes "report") × AreExpectations rows expectations
+    × (files ≡ record (of_movie rows None) { second = first_of expected_rom_row.name rows })
+    × IsNotation rows notation × (number_of workers_row rows ≡ Some workers.number)
+IsCommandAt name rows (Make form making) files notation workers =
+    (name ≡ codes "make") × ((form ≡ forms.Text) ↔ IsGiven text_row rows) × IsMaking rows making
+    × (files ≡ record { input = word_of rom_row rows; second = Some (word_of inputs_row rows); output = Some (word_of out_row rows) })
+    × IsPlain notation workers
+IsCommandAt name rows Info files notation workers =
+    (name ≡ codes "info") × (files ≡ of_movie rows None) × IsNotation rows notation × (workers.number ≡ 1)
+IsCommandAt name rows Claims files notation workers =
+    (name ≡ codes "claims") × (files ≡ of_movie rows None) × IsNotation rows notation × (workers.number ≡ 1)
+IsCommandAt name rows (Inputs first count numbers) files notation workers =
+    (name ≡ codes "inputs") × AreFrames rows (non_zero_u32_get first) count × ((numbers ≡ true) ↔ IsGiven numbers_row rows)
+    × (files ≡ of_movie rows None) × IsPlain notation workers
+IsCommandAt name rows Cartridge files notation workers =
+    (name ≡ codes "cartridge") × (files ≡ of_movie rows (Some (word_of out_row rows))) × IsPlain notation workers
+IsCommandAt name rows Convert files notation workers =
+    (name ≡ codes "convert") × (files ≡ record { input = word_of old_row rows; second = None; output = Some (word_of new_row rows) })
+    × IsPlain notation workers
+IsCommandAt name rows (Frames first count details) files notation workers =
+    (name ≡ codes "frames") × AreFrames rows (non_zero_u32_get first) count × AreDetails rows details
+    × (files ≡ of_movie rows None) × IsNotation rows notation × (workers.number ≡ 1)
+IsCommandAt name rows (Pictures first count) files notation workers =
+    (name ≡ codes "pictures") × AreFrames rows (non_zero_u32_get first) count × (files ≡ of_movie rows (Some (word_of out_row rows))) × IsPlain notation workers
+IsCommandAt name rows (Cut first count every) files notation workers =
+    (name ≡ codes "cut") × AreFrames rows (non_zero_u32_get first) count × (number_of checkpoints_row rows ≡ Some (non_zero_u32_get every))
+    × (files ≡ of_movie rows (Some (word_of out_row rows))) × IsPlain notation workers
+IsCommandAt name rows (Trace frame) files notation workers =
+    (name ≡ codes "trace") × (number_of frame_row rows ≡ Some (non_zero_u32_get frame)) × (files ≡ of_movie rows None) × IsPlain notation workers
+
 abbrev pub IsLineAt : Text → List Row → CommandLine → Type 0
-IsLineAt name rows line =
-    IsCommandAt name rows line.command
-    × (string_bytes line.input ≡ word_of (input_row line.command) rows)
-    × (option_map string_bytes line.output ≡ output_word line.command rows)
+IsLineAt name rows line = IsCommandAt name rows line.command (files_of line) line.notation line.workers
 
--- `verify` by one worker, cut at every checkpoint, which keeps no picture and writes a line.
+-- `verify` of a movie that is cut at every checkpoint, which keeps no picture.
 abbrev pub IsPlainVerify : Command → Type 0
-IsPlainVerify (Verify plan notation) =
-    (notation ≡ Lines) × (plan.workers.number ≡ 1) × (non_zero_u16_get plan.every ≡ 1)
-    × (plan.keep.first ≡ 1) × (plan.keep.count ≡ 0)
+IsPlainVerify (Verify every keep) = (non_zero_u16_get every ≡ 1) × (keep.first ≡ 1) × (keep.count ≡ 0)
 IsPlainVerify other = ⊥
 
 -- The command of the words at which `clap` met this command's name, with the values that it found
 -- there. Without a name it is `verify -`.
 abbrev pub IsLine : Option (Text × List Row) → CommandLine → Type 0
 IsLine None line =
-    IsPlainVerify line.command × (string_bytes line.input ≡ codes "-") × (line.output ≡ None)
+    IsPlainVerify line.command × (files_of line ≡ record { input = codes "-"; second = None; output = None }) × IsPlain line.notation line.workers
 IsLine (Some met) line = IsLineAt met.0 met.1 line
 
 -- The reasons are asked for: before the command's name, or after it.

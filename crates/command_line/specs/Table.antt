@@ -1,6 +1,8 @@
 -- The commands of the program and their arguments, a row an argument, as the page COMMANDS has
 -- them. This project's own.
-use Rattle.std.specs.Prelude.{◌≡◌, ℕ, List, [], ◌∷◌, ◌++◌, Some, codes, map, pos, true, false}
+use Rattle.std.specs.Prelude.{◌≡◌, ℕ, Bool, List, [], ◌∷◌, ◌++◌, Some, codes, map, pos, true, false}
+use Rattle.std.specs.List.{list_any}
+use Rattle.std.specs.Str.{bytes_eq}
 use Rattle.clap.specs.Words.{App, Rule, Shape, Text, app_of, new_rule, rule_of, shape_of, with_subcommand}
 use Rattle.clap.specs.Simple.{new_shape}
 use Rattle.clap.specs.declared.builder.Arg.{Arg}
@@ -180,6 +182,10 @@ commands =
     verify_listed ∷ report_listed
     ∷ make_listed ∷ info_listed ∷ claims_listed ∷ inputs_listed ∷ cartridge_listed ∷ convert_listed
     ∷ frames_listed ∷ pictures_listed ∷ cut_listed ∷ trace_listed ∷ []
+
+-- One of them has this name.
+abbrev pub is_command : Text → Bool
+is_command name = list_any (λ listed. bytes_eq listed.name name) commands
 
 -- ---- the same as `clap` reads it
 

@@ -7,8 +7,8 @@ use Rattle.command_line.specs.declared.command.Writing.TheVariants.{FileFirst, G
 -- A verdict is written before its pictures. Lines about frames and instructions, and the pictures of
 -- frames, are written while a run goes on.
 abbrev pub writing_of : Command → Writing
-writing_of (Verify plan notation) = TextFirst
-writing_of (Frames first count details notation) = GradualText
+writing_of (Verify every keep) = TextFirst
+writing_of (Frames first count details) = GradualText
 writing_of (Pictures first count) = GradualPictures
 writing_of (Trace frame) = GradualText
 writing_of other = FileFirst

@@ -2,9 +2,10 @@
 ghost use Rattle.std.specs.Prelude.{◌≡◌};
 ghost use Rattle.command_line.specs.declared.command.LineFault.TheVariants.{Memory};
 
-use replay_plan::{Details, Expectations, InputForm, Notation, Plan, Workers};
+use clap::error::ErrorKind;
+use replay_plan::{Details, Expectations, InputForm, Keep, Notation, Workers};
 use std::alloc::AllocError;
-use std::num::NonZeroU32;
+use std::num::{NonZeroU16, NonZeroU32};
 
 /// Of which frames a movie that is made claims the state, and whether it may end with a fault.
 #[derive(Clone, Copy, Debug, PartialEq, Eq)]
@@ -22,36 +23,26 @@ pub struct Making {
 pub enum Command {
     /// Judge it, and write the pictures of the frames that are kept.
     Verify {
-        /// If no file takes pictures it keeps none.
-        plan: Plan,
-        notation: Notation,
+        /// It is cut at every so many checkpoints.
+        every: NonZeroU16,
+        /// If no file takes pictures none is kept.
+        keep: Keep,
     },
     /// Judge it, say facts about it, and whether it is what is expected.
     Report {
-        /// How many threads replay it.
-        workers: Workers,
-        notation: Notation,
-        /// The file of the cartridge that is expected, if one is named.
-        rom: Option<String>,
-        /// What is expected beside that.
+        /// What is expected beside a cartridge.
         expectations: Expectations,
     },
     /// Make a movie of a cartridge and the inputs of its frames.
     Make {
-        /// The file of the inputs.
-        inputs: String,
         /// The form of the inputs.
         form: InputForm,
         making: Making,
     },
     /// Say what it holds.
-    Info {
-        notation: Notation,
-    },
+    Info,
     /// Print the states that it claims.
-    Claims {
-        notation: Notation,
-    },
+    Claims,
     /// Print the inputs of some of its frames as text.
     Inputs {
         /// The first of the frames, counted from 1.
@@ -73,7 +64,6 @@ pub enum Command {
         count: u32,
         /// What else the line about each says.
         details: Details,
-        notation: Notation,
     },
     /// Write the pictures of some of its frames.
     Pictures {
@@ -133,19 +123,58 @@ pub struct CommandLine {
     pub command: Command,
     /// The movie; of `make` the cartridge.
     pub input: String,
+    /// The inputs of `make`; the cartridge that a report expects, if one is named.
+    pub second: Option<String>,
     /// The file that takes a movie that is made, a cartridge, or pictures.
     pub output: Option<String>,
+    pub notation: Notation,
+    /// How many threads judge the movie.
+    pub workers: Workers,
     /// Whether reasons are written whatever standard error is. Else a terminal alone gets them.
     pub explain: bool,
+}
+
+impl CommandLine {
+    ghost use Rattle.std.specs.Prelude.{None, false};
+    ghost use Rattle.replay_plan.specs.declared.notation.Notation.TheVariants.{Lines};
+
+    /// The command with this input alone. It writes lines, by one worker, and no reasons unasked.
+    pub fn of(command: Command, input: String) -> CommandLine
+        ensures command { result.command ≡ command }
+        ensures input { result.input ≡ input }
+        ensures second { result.second ≡ None }
+        ensures output { result.output ≡ None }
+        ensures notation { result.notation ≡ Lines }
+        ensures workers { result.workers.number ≡ 1 }
+        ensures explain { result.explain ≡ false }
+    {
+        CommandLine {
+            command,
+            input,
+            second: None,
+            output: None,
+            notation: Notation::Lines,
+            workers: Workers::ONE,
+            explain: false,
+        }
+    }
 }
 
 /// Why there is no command.
 #[derive(Debug, Drop)]
 pub enum LineFault {
-    /// The words are no command; the text says why.
-    Usage { text: String },
+    /// The words are no command.
+    Usage {
+        /// The kind of mistake; `ValueValidation` where an address or a digest is none, or addresses are
+        /// too many.
+        kind: ErrorKind,
+        /// Why they are none.
+        text: String,
+    },
     /// The words ask for help, or for the version; the text is that.
-    Help { text: String },
+    Help {
+        text: String,
+    },
     /// An allocation was refused.
     Memory,
 }

@@ -7,13 +7,14 @@ ghost use Rattle.replay_plan.specs.declared.watches.Address.{Address};
 ghost use Rattle.command_line.specs.Faults.{IsNoFrames, first_no_address, is_in_memory};
 ghost use Rattle.command_line.specs.Faults.{watch_mistake};
 ghost use Rattle.command_line.specs.Private.Numbers.{HasNumbers};
-ghost use Rattle.command_line.specs.Meanings.{AreAddresses, IsCommandAt, byte_in};
+ghost use Rattle.command_line.specs.Meanings.{AreAddresses, IsLineAt, byte_in};
 ghost use Rattle.command_line.specs.Meanings.{without_dollar, words_of};
 ghost use Rattle.command_line.specs.Table.{frames_listed, watch_row};
 
-use crate::command::{Command, LineFault};
-use crate::line::{is_given, notation_of, number_at, number_from_one};
+use crate::command::{Command, CommandLine, LineFault};
+use crate::line::{is_given, line_of_facts, number_at, number_from_one};
 use clap::ArgMatches;
+use clap::error::ErrorKind;
 use hex::FromHex;
 use replay_plan::{Address, Details, Watches};
 use std::alloc::{AllocError, Global};
@@ -89,21 +90,22 @@ fn watches_of(alloc: Global, matches: &ArgMatches<'_>) -> Result<Watches, LineFa
     match addresses_in(words) {
         Some(watches) => Ok(watches),
         None => Err(LineFault::Usage {
+            kind: ErrorKind::ValueValidation,
             text: told_words(alloc, words)?,
         }),
     }
 }
 
-/// The command `frames`.
-pub(crate) fn frames_of(alloc: Global, matches: &ArgMatches<'_>) -> Result<Command, LineFault>
+/// `frames`.
+pub(crate) fn frames_of(alloc: Global, matches: &ArgMatches<'_>) -> Result<CommandLine, LineFault>
     requires { HasNumbers frames_listed (rows_of (found_of matches.now)) }
-    ensures ok { IfOk result (IsCommandAt (codes "frames") (rows_of (found_of matches.now))) }
+    ensures ok { IfOk result (IsLineAt (codes "frames") (rows_of (found_of matches.now))) }
     ensures err { IfErr result (IsNoFrames (rows_of (found_of matches.now))) }
 {
     let watches = watches_of(alloc, matches)?;
     let memory = is_given(matches, "memory");
     let digests = is_given(matches, "digests");
-    Ok(Command::Frames {
+    let command = Command::Frames {
         first: number_from_one(matches, "first"),
         count: number_at(matches, "count"),
         details: Details {
@@ -111,6 +113,6 @@ pub(crate) fn frames_of(alloc: Global, matches: &ArgMatches<'_>) -> Result<Comma
             memory,
             digests,
         },
-        notation: notation_of(matches),
-    })
+    };
+    Ok(line_of_facts(alloc, matches, command)?)
 }

@@ -12,4 +12,5 @@ mod version;
 
 pub use command::{Command, CommandLine, LineFault, Making, Writing};
 pub use line::parse_line;
+pub use table::is_command;
 pub use version::program_name;

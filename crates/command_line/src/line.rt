@@ -1,12 +1,12 @@
 //! From arguments to a command.
-ghost use Rattle.std.specs.Prelude.{◌≡◌, ◌⊎◌, ◌↔◌, false, true, [], map, codes, is_some, option_map, unwrap_or};
+ghost use Rattle.std.specs.Prelude.{◌≡◌, ◌⊎◌, ◌↔◌, None, Some, false, true, [], map, codes, is_some, option_map, unwrap_or};
 ghost use Rattle.std.specs.Prelude.{IfErr, IfOk, IfNone, IfSome, string_bytes};
 ghost use Rattle.std.specs.NonZero.{non_zero_u16_get, non_zero_u32_get};
 ghost use Rattle.clap.specs.Words.{fault_of as faults_at, found_of, kind_of, matches_of, rows_of, subcommand_of};
 ghost use Rattle.clap.specs.Words.{first_of, one_of};
 ghost use Rattle.command_line.specs.Faults.{HasBadValue, IsAnswerTo, IsRefusal};
-ghost use Rattle.command_line.specs.Meanings.{AsksForReasons, IsCommandAt, IsGiven, IsLine, IsLineAt, IsMaking, input_row};
-ghost use Rattle.command_line.specs.Meanings.{number_in, number_of, output_word, word_of};
+ghost use Rattle.command_line.specs.Meanings.{AsksForReasons, IsGiven, IsLine, IsLineAt, IsMaking, IsNotation, IsPlain};
+ghost use Rattle.command_line.specs.Meanings.{files_of, number_in, number_of, of_movie, word_of};
 ghost use Rattle.command_line.specs.Private.Names.{IsUnlisted};
 ghost use Rattle.command_line.specs.Private.Numbers.{HasNumbers, HasNumbersOf, IsNumberIn};
 ghost use Rattle.command_line.specs.Private.Numbers.{Suits};
@@ -15,9 +15,8 @@ ghost use Rattle.command_line.specs.Table.{commands, program_app, verify_listed}
 ghost use Rattle.command_line.specs.Table.{inputs_listed, make_listed};
 ghost use Rattle.command_line.specs.Table.{workers_row, cuts_row, first_row, count_row};
 ghost use Rattle.command_line.specs.Table.{asked_row, checkpoints_row, cut_listed, pictures_listed};
-ghost use Rattle.command_line.specs.Table.{explain_row, frame_row, json_row, pictures_row, text_row, trace_listed};
+ghost use Rattle.command_line.specs.Table.{explain_row, out_row, pictures_row, text_row, trace_listed};
 ghost use Rattle.replay_plan.specs.declared.input_form.InputForm.TheVariants.{Text};
-ghost use Rattle.replay_plan.specs.declared.notation.Notation.TheVariants.{Json};
 
 use crate::command::{Command, CommandLine, LineFault, Making};
 use crate::frames::frames_of;
@@ -25,7 +24,7 @@ use crate::parser::program;
 use crate::report::report_of;
 use clap::ArgMatches;
 use clap::error::ErrorKind;
-use replay_plan::{InputForm, Keep, Notation, Plan, Workers};
+use replay_plan::{InputForm, Keep, Notation, Workers};
 use std::alloc::{AllocError, Global};
 use std::convert::AsStr;
 use std::num::{NonZeroU16, NonZeroU32};
@@ -131,22 +130,6 @@ fn keep_of(matches: &ArgMatches<'_>) -> Keep
     }
 }
 
-/// The command `verify`, which keeps pictures only if a file takes them.
-fn verify_of(matches: &ArgMatches<'_>) -> Command
-    requires { HasNumbers verify_listed (rows_of (found_of matches.now)) }
-    ensures { IsCommandAt (codes "verify") (rows_of (found_of matches.now)) result }
-{
-    let plan = Plan {
-        workers: workers_of(matches),
-        every: cuts_of(matches),
-        keep: keep_of(matches),
-    };
-    Command::Verify {
-        plan,
-        notation: notation_of(matches),
-    }
-}
-
 /// Whether an option without a word is there.
 pub(crate) fn is_given(matches: &ArgMatches<'_>, name: &str) -> bool
     ensures { (result ≡ true) ↔ (one_of name.now (rows_of (found_of matches.now)) ≡ Some (codes "true")) }
@@ -156,8 +139,7 @@ pub(crate) fn is_given(matches: &ArgMatches<'_>, name: &str) -> bool
 
 /// How facts are written: as JSON if that is asked for, and else as lines.
 pub(crate) fn notation_of(matches: &ArgMatches<'_>) -> Notation
-    ensures { (result ≡ Json)
-        ↔ (one_of json_row.name (rows_of (found_of matches.now)) ≡ Some (codes "true")) }
+    ensures { IsNotation (rows_of (found_of matches.now)) result }
 {
     if is_given(matches, "json") {
         Notation::Json
@@ -190,62 +172,165 @@ fn making_of(matches: &ArgMatches<'_>) -> Making
     }
 }
 
-/// The command `make`.
-fn make_of(alloc: Global, matches: &ArgMatches<'_>) -> Result<Command, AllocError>
-    requires { HasNumbers make_listed (rows_of (found_of matches.now)) }
-    ensures { IfOk result (IsCommandAt (codes "make") (rows_of (found_of matches.now))) }
+/// The line of a command about a movie, which writes lines, and no file, by one worker.
+fn line_of_movie(
+    alloc: Global,
+    matches: &ArgMatches<'_>,
+    command: Command,
+) -> Result<CommandLine, AllocError>
+    ensures command { IfOk result (λ line. line.command ≡ command) }
+    ensures files { IfOk result (λ line. files_of line ≡ of_movie (rows_of (found_of matches.now)) None) }
+    ensures plain { IfOk result (λ line. IsPlain line.notation line.workers) }
 {
-    let inputs = text_of(alloc, matches, "inputs")?;
-    Ok(Command::Make {
-        inputs,
-        form: form_of(matches),
-        making: making_of(matches),
+    let movie = text_of(alloc, matches, "file")?;
+    Ok(CommandLine::of(command, movie))
+}
+
+/// The same of a command that may write JSON.
+pub(crate) fn line_of_facts(
+    alloc: Global,
+    matches: &ArgMatches<'_>,
+    command: Command,
+) -> Result<CommandLine, AllocError>
+    ensures command { IfOk result (λ line. line.command ≡ command) }
+    ensures files { IfOk result (λ line. files_of line ≡ of_movie (rows_of (found_of matches.now)) None) }
+    ensures notation { IfOk result (λ line. IsNotation (rows_of (found_of matches.now)) line.notation) }
+    ensures one { IfOk result (λ line. line.workers.number ≡ 1) }
+{
+    Ok(CommandLine {
+        notation: notation_of(matches),
+        ..line_of_movie(alloc, matches, command)?
     })
 }
 
-/// The command `inputs`.
-fn inputs_of(matches: &ArgMatches<'_>) -> Command
-    requires { HasNumbers inputs_listed (rows_of (found_of matches.now)) }
-    ensures { IsCommandAt (codes "inputs") (rows_of (found_of matches.now)) result }
+/// The same of a command that writes a file.
+fn line_with_file(
+    alloc: Global,
+    matches: &ArgMatches<'_>,
+    command: Command,
+) -> Result<CommandLine, AllocError>
+    ensures command { IfOk result (λ line. line.command ≡ command) }
+    ensures files { IfOk result (λ line. files_of line ≡ of_movie (rows_of (found_of matches.now)) (Some (word_of out_row (rows_of (found_of matches.now))))) }
+    ensures plain { IfOk result (λ line. IsPlain line.notation line.workers) }
 {
-    Command::Inputs {
+    Ok(CommandLine {
+        output: Some(text_of(alloc, matches, "out")?),
+        ..line_of_movie(alloc, matches, command)?
+    })
+}
+
+/// `verify`, which keeps pictures only if a file takes them.
+fn verify_of(alloc: Global, matches: &ArgMatches<'_>) -> Result<CommandLine, AllocError>
+    requires { HasNumbers verify_listed (rows_of (found_of matches.now)) }
+    ensures { IfOk result (IsLineAt (codes "verify") (rows_of (found_of matches.now))) }
+{
+    let command = Command::Verify {
+        every: cuts_of(matches),
+        keep: keep_of(matches),
+    };
+    Ok(CommandLine {
+        output: word_of(alloc, matches, "pictures")?,
+        workers: workers_of(matches),
+        ..line_of_facts(alloc, matches, command)?
+    })
+}
+
+/// `make`, whose files are three.
+fn make_of(alloc: Global, matches: &ArgMatches<'_>) -> Result<CommandLine, AllocError>
+    requires { HasNumbers make_listed (rows_of (found_of matches.now)) }
+    ensures { IfOk result (IsLineAt (codes "make") (rows_of (found_of matches.now))) }
+{
+    let command = Command::Make {
+        form: form_of(matches),
+        making: making_of(matches),
+    };
+    let rom = text_of(alloc, matches, "rom")?;
+    Ok(CommandLine {
+        second: Some(text_of(alloc, matches, "inputs")?),
+        output: Some(text_of(alloc, matches, "out")?),
+        ..CommandLine::of(command, rom)
+    })
+}
+
+/// `info`.
+fn info_of(alloc: Global, matches: &ArgMatches<'_>) -> Result<CommandLine, AllocError>
+    ensures { IfOk result (IsLineAt (codes "info") (rows_of (found_of matches.now))) }
+{
+    Ok(line_of_facts(alloc, matches, Command::Info)?)
+}
+
+/// `claims`.
+fn claims_of(alloc: Global, matches: &ArgMatches<'_>) -> Result<CommandLine, AllocError>
+    ensures { IfOk result (IsLineAt (codes "claims") (rows_of (found_of matches.now))) }
+{
+    Ok(line_of_facts(alloc, matches, Command::Claims)?)
+}
+
+/// `inputs`.
+fn inputs_of(alloc: Global, matches: &ArgMatches<'_>) -> Result<CommandLine, AllocError>
+    requires { HasNumbers inputs_listed (rows_of (found_of matches.now)) }
+    ensures { IfOk result (IsLineAt (codes "inputs") (rows_of (found_of matches.now))) }
+{
+    let command = Command::Inputs {
         first: number_from_one(matches, "first"),
         count: number_at(matches, "count"),
         numbers: is_given(matches, "numbers"),
-    }
+    };
+    Ok(line_of_movie(alloc, matches, command)?)
 }
 
-/// The command `pictures`.
-fn pictures_of(matches: &ArgMatches<'_>) -> Command
-    requires { HasNumbers pictures_listed (rows_of (found_of matches.now)) }
-    ensures { IsCommandAt (codes "pictures") (rows_of (found_of matches.now)) result }
+/// `cartridge`.
+fn cartridge_of(alloc: Global, matches: &ArgMatches<'_>) -> Result<CommandLine, AllocError>
+    ensures { IfOk result (IsLineAt (codes "cartridge") (rows_of (found_of matches.now))) }
 {
-    Command::Pictures {
+    Ok(line_with_file(alloc, matches, Command::Cartridge)?)
+}
+
+/// `convert`.
+fn convert_of(alloc: Global, matches: &ArgMatches<'_>) -> Result<CommandLine, AllocError>
+    ensures { IfOk result (IsLineAt (codes "convert") (rows_of (found_of matches.now))) }
+{
+    let old = text_of(alloc, matches, "old")?;
+    Ok(CommandLine {
+        output: Some(text_of(alloc, matches, "new")?),
+        ..CommandLine::of(Command::Convert, old)
+    })
+}
+
+/// `pictures`.
+fn pictures_of(alloc: Global, matches: &ArgMatches<'_>) -> Result<CommandLine, AllocError>
+    requires { HasNumbers pictures_listed (rows_of (found_of matches.now)) }
+    ensures { IfOk result (IsLineAt (codes "pictures") (rows_of (found_of matches.now))) }
+{
+    let command = Command::Pictures {
         first: number_from_one(matches, "first"),
         count: number_at(matches, "count"),
-    }
+    };
+    Ok(line_with_file(alloc, matches, command)?)
 }
 
-/// The command `cut`.
-fn cut_of(matches: &ArgMatches<'_>) -> Command
+/// `cut`.
+fn cut_of(alloc: Global, matches: &ArgMatches<'_>) -> Result<CommandLine, AllocError>
     requires { HasNumbers cut_listed (rows_of (found_of matches.now)) }
-    ensures { IsCommandAt (codes "cut") (rows_of (found_of matches.now)) result }
+    ensures { IfOk result (IsLineAt (codes "cut") (rows_of (found_of matches.now))) }
 {
-    Command::Cut {
+    let command = Command::Cut {
         first: number_from_one(matches, "first"),
         count: number_at(matches, "count"),
         every: number_from_one(matches, "every"),
-    }
+    };
+    Ok(line_with_file(alloc, matches, command)?)
 }
 
-/// The command `trace`.
-fn trace_of(matches: &ArgMatches<'_>) -> Command
+/// `trace`.
+fn trace_of(alloc: Global, matches: &ArgMatches<'_>) -> Result<CommandLine, AllocError>
     requires { HasNumbers trace_listed (rows_of (found_of matches.now)) }
-    ensures { IsCommandAt (codes "trace") (rows_of (found_of matches.now)) result }
+    ensures { IfOk result (IsLineAt (codes "trace") (rows_of (found_of matches.now))) }
 {
-    Command::Trace {
+    let command = Command::Trace {
         frame: number_from_one(matches, "frame"),
-    }
+    };
+    Ok(line_of_movie(alloc, matches, command)?)
 }
 
 /// What `clap` says of arguments that are no command, or that ask for help.
@@ -256,79 +341,41 @@ fn fault_of(alloc: Global, error: &clap::Error) -> LineFault
         return LineFault::Memory;
     }
     match error.to_string(alloc) {
-        Ok(text) if error.use_stderr() => LineFault::Usage { text },
+        Ok(text) if error.use_stderr() => LineFault::Usage {
+            kind: error.kind(),
+            text,
+        },
         Ok(text) => LineFault::Help { text },
         Err(_) => LineFault::Memory,
     }
 }
 
-/// The command of this name of the table, of which `clap` found some values, each number in its
-/// range.
-fn command_of(alloc: Global, name: &str, matches: &ArgMatches<'_>) -> Result<Command, LineFault>
+/// The line of the command of this name of the table, of which `clap` found some values, each number in
+/// its range.
+fn line_at(alloc: Global, name: &str, matches: &ArgMatches<'_>) -> Result<CommandLine, LineFault>
     requires numbers { HasNumbersOf name.now (rows_of (found_of matches.now)) }
     requires listed { IsUnlisted name.now commands → ⊥ }
-    ensures ok { IfOk result (IsCommandAt name.now (rows_of (found_of matches.now))) }
+    ensures ok { IfOk result (IsLineAt name.now (rows_of (found_of matches.now))) }
     ensures err { IfErr result (HasBadValue name.now (rows_of (found_of matches.now))) }
 {
     match name {
-        "verify" => Ok(verify_of(matches)),
+        "verify" => Ok(verify_of(alloc, matches)?),
         "report" => report_of(alloc, matches),
         "make" => Ok(make_of(alloc, matches)?),
-        "info" => Ok(Command::Info {
-            notation: notation_of(matches),
-        }),
-        "claims" => Ok(Command::Claims {
-            notation: notation_of(matches),
-        }),
-        "inputs" => Ok(inputs_of(matches)),
-        "cartridge" => Ok(Command::Cartridge),
-        "convert" => Ok(Command::Convert),
+        "info" => Ok(info_of(alloc, matches)?),
+        "claims" => Ok(claims_of(alloc, matches)?),
+        "inputs" => Ok(inputs_of(alloc, matches)?),
+        "cartridge" => Ok(cartridge_of(alloc, matches)?),
+        "convert" => Ok(convert_of(alloc, matches)?),
         "frames" => frames_of(alloc, matches),
-        "pictures" => Ok(pictures_of(matches)),
-        "cut" => Ok(cut_of(matches)),
-        "trace" => Ok(trace_of(matches)),
+        "pictures" => Ok(pictures_of(alloc, matches)?),
+        "cut" => Ok(cut_of(alloc, matches)?),
+        "trace" => Ok(trace_of(alloc, matches)?),
         _ => unreachable!(),
     }
 }
 
-/// The file that a command is about.
-fn input_of(
-    alloc: Global,
-    command: &Command,
-    matches: &ArgMatches<'_>,
-) -> Result<String, AllocError>
-    ensures { IfOk result (λ input. string_bytes input
-        ≡ word_of (input_row command.now) (rows_of (found_of matches.now))) }
-{
-    match command {
-        Command::Make { .. } => text_of(alloc, matches, "rom"),
-        Command::Convert => text_of(alloc, matches, "old"),
-        _ => text_of(alloc, matches, "file"),
-    }
-}
-
-/// The file that a command writes, if it writes one.
-fn output_of(
-    alloc: Global,
-    command: &Command,
-    matches: &ArgMatches<'_>,
-) -> Result<Option<String>, AllocError>
-    ensures { IfOk result (λ output. option_map string_bytes output
-        ≡ output_word command.now (rows_of (found_of matches.now))) }
-{
-    match command {
-        Command::Verify { .. } => word_of(alloc, matches, "pictures"),
-        Command::Make { .. }
-        | Command::Cartridge
-        | Command::Pictures { .. }
-        | Command::Cut { .. } => Ok(Some(text_of(alloc, matches, "out")?)),
-        Command::Convert => Ok(Some(text_of(alloc, matches, "new")?)),
-        _ => Ok(None),
-    }
-}
-
-/// The command of this name, as `command_of` has it, with its files, and whether the reasons are
-/// asked for before it or after it.
+/// The same, with whether the reasons are asked for before the command's name or after it.
 fn line_of(
     alloc: Global,
     name: &str,
@@ -342,14 +389,9 @@ fn line_of(
         ↔ ((explain ≡ true) ⊎ IsGiven explain_row (rows_of (found_of matches.now)))) }
     ensures err { IfErr result (HasBadValue name.now (rows_of (found_of matches.now))) }
 {
-    let command = command_of(alloc, name, matches)?;
-    let input = input_of(alloc, &command, matches)?;
-    let output = output_of(alloc, &command, matches)?;
     Ok(CommandLine {
-        command,
-        input,
-        output,
         explain: explain || is_given(matches, "explain"),
+        ..line_at(alloc, name, matches)?
     })
 }
 
@@ -359,15 +401,14 @@ fn line_of_no_words(alloc: Global, explain: bool) -> Result<CommandLine, LineFau
     ensures explain { IfOk result (λ line. line.explain ≡ explain) }
     ensures err { IfErr result (λ fault. fault ≡ Memory) }
 {
-    let plan = Plan::without_pictures(Workers::ONE);
+    let command = Command::Verify {
+        every: NonZeroU16::MIN,
+        keep: Keep::NONE,
+    };
+    let input = String::from_str(alloc, "-")?;
     Ok(CommandLine {
-        command: Command::Verify {
-            plan,
-            notation: Notation::Lines,
-        },
-        input: String::from_str(alloc, "-")?,
-        output: None,
         explain,
+        ..CommandLine::of(command, input)
     })
 }
 

@@ -2,13 +2,14 @@
 ghost use Rattle.std.specs.Prelude.{◌≡◌, codes, string_bytes, Err, IfErr, IfOk};
 ghost use Rattle.clap.specs.Words.{first_of, found_of, rows_of};
 ghost use Rattle.command_line.specs.Faults.{IsNoReport, digest_mistake};
-ghost use Rattle.command_line.specs.Meanings.{AreExpectations, IsCommandAt, IsDigest};
+ghost use Rattle.command_line.specs.Meanings.{AreExpectations, IsDigest, IsLineAt};
 ghost use Rattle.command_line.specs.Private.Numbers.{HasNumbers};
 ghost use Rattle.command_line.specs.Table.{report_listed, sha256_row};
 
-use crate::command::{Command, LineFault};
-use crate::line::{is_given, notation_of, word_of, workers_of};
+use crate::command::{Command, CommandLine, LineFault};
+use crate::line::{is_given, line_of_facts, word_of, workers_of};
 use clap::ArgMatches;
+use clap::error::ErrorKind;
 use hex::FromHex;
 use replay_plan::Expectations;
 use std::alloc::{AllocError, Global};
@@ -34,6 +35,7 @@ fn digest_of(alloc: Global, matches: &ArgMatches<'_>) -> Result<Option<[u8; 32]>
     match <[u8; 32] as FromHex>::from_hex(word) {
         Ok(digest) => Ok(Some(digest)),
         Err(_) => Err(LineFault::Usage {
+            kind: ErrorKind::ValueValidation,
             text: told_digest(alloc, word)?,
         }),
     }
@@ -51,17 +53,18 @@ fn expectations_of(alloc: Global, matches: &ArgMatches<'_>) -> Result<Expectatio
     })
 }
 
-/// The command `report`.
-pub(crate) fn report_of(alloc: Global, matches: &ArgMatches<'_>) -> Result<Command, LineFault>
+/// `report`.
+pub(crate) fn report_of(alloc: Global, matches: &ArgMatches<'_>) -> Result<CommandLine, LineFault>
     requires { HasNumbers report_listed (rows_of (found_of matches.now)) }
-    ensures ok { IfOk result (IsCommandAt (codes "report") (rows_of (found_of matches.now))) }
+    ensures ok { IfOk result (IsLineAt (codes "report") (rows_of (found_of matches.now))) }
     ensures err { IfErr result (IsNoReport (rows_of (found_of matches.now))) }
 {
-    let expectations = expectations_of(alloc, matches)?;
-    Ok(Command::Report {
+    let command = Command::Report {
+        expectations: expectations_of(alloc, matches)?,
+    };
+    Ok(CommandLine {
+        second: word_of(alloc, matches, "rom")?,
         workers: workers_of(matches),
-        notation: notation_of(matches),
-        rom: word_of(alloc, matches, "rom")?,
-        expectations,
+        ..line_of_facts(alloc, matches, command)?
     })
 }

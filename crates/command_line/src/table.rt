@@ -2,7 +2,7 @@
 //! `ci/command-table` prints help, completions and pages.
 ghost use Rattle.std.specs.Prelude.{◌≡◌, map};
 ghost use Rattle.command_line.specs.Rows.{listed_of};
-ghost use Rattle.command_line.specs.Table.{commands};
+ghost use Rattle.command_line.specs.Table.{commands, is_command};
 
 use replay_plan::{MOST_KEPT, MOST_WORKERS};
 
@@ -424,4 +424,11 @@ impl Listed {
     {
         &COMMANDS
     }
+}
+
+/// Whether the table has a command of this name. `help` isn't one of them.
+pub fn is_command(name: &str) -> bool
+    ensures { result ≡ is_command name.now }
+{
+    Listed::all().iter().any(|listed| listed.name == name)
 }

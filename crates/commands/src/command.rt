@@ -1,14 +1,14 @@
 //! From a command to its answer.
-ghost use Rattle.std.specs.Prelude.{◌≡◌, ◌≢◌, ◌⊎◌, List, ℕ, IfOk, OnErr};
+ghost use Rattle.std.specs.Prelude.{◌≡◌, ◌≢◌, ◌⊎◌, List, ℕ, IfOk, IsSome, OnErr};
 ghost use Rattle.std.specs.Option.{option_copied, option_map};
 ghost use Rattle.std.specs.Io.KnownBytes.{Appends, Keeps};
 ghost use Rattle.command_line.specs.Writing.{writing_of};
 ghost use Rattle.movie_file.specs.Movie.{MovieData};
 ghost use Rattle.movie_file.specs.Reading.{movie_at};
 ghost use Rattle.commands.specs.Answers.{AnswerData};
-ghost use Rattle.commands.specs.Commands.{Answers, HasBegun, IsAnswered, ReadsInputs, ReadsRom};
-ghost use Rattle.commands.specs.Commands.{StartsThreads, WritesSome, notation_of};
-ghost use Rattle.commands.specs.Private.Groups.{IsAboutMovies, IsAtOnce};
+ghost use Rattle.commands.specs.Commands.{Answers, HasBegun, IsAboutMovies, IsAnswered, ReadsInputs, ReadsNamed};
+ghost use Rattle.commands.specs.Commands.{StartsThreads, WritesSome};
+ghost use Rattle.commands.specs.Private.Groups.{IsAtOnce};
 ghost use Rattle.commands.specs.Streams.{IsTooLong, ReadsAll};
 
 use crate::answer::Answer;
@@ -28,65 +28,54 @@ use crate::status::Status;
 use crate::streams::{read_all, read_input};
 use crate::trace::trace;
 use crate::verify::verify;
-use command_line::Command;
+use command_line::{Command, CommandLine};
 use movie_file::{Movie, Progress};
-use replay_plan::Notation;
+use replay_plan::Plan;
 use std::alloc::Global;
 use std::io::{Read, Write};
 use std::sync::Wait;
 use std::thread::Threads;
 use verify_pool::Gate;
 
-/// In which notation a command says that bytes are no movie.
-pub fn notation_of(command: &Command) -> Notation
-    ensures { result ≡ notation_of command.now }
-{
-    match command {
-        Command::Verify { notation, .. } => *notation,
-        Command::Report { notation, .. } => *notation,
-        Command::Info { notation } => *notation,
-        Command::Claims { notation } => *notation,
-        Command::Frames { notation, .. } => *notation,
-        _ => Notation::Lines,
-    }
-}
-
 /// The answer about a movie, which these bytes are, of a command that writes nothing before its
 /// answer is whole, where this ROM was read or none.
 fn answer<T: Threads + Wait + Sync + AllocGlobal, G: Gate + Progress + Sync>(
     rt: &T,
-    command: &Command,
+    line: &CommandLine,
     bytes: &[u8],
     rom: Option<&[u8]>,
     movie: Movie,
     gate: &G,
 ) -> Result<Answer, JudgeError>
-    requires about { IsAboutMovies command.now }
-    requires at_once { IsAtOnce (writing_of command.now) }
-    ensures answer { IfOk result (Answers command.now bytes.now (option_copied rom.entry) movie) }
-    ensures no_thread { result ≡ Err JudgeError.NoThread → StartsThreads command.now }
+    requires about { IsAboutMovies line.now.command }
+    requires at_once { IsAtOnce (writing_of line.now.command) }
+    ensures answer { IfOk result (Answers line.now.command line.now.notation bytes.now (option_copied rom.entry) movie) }
+    ensures no_thread { result ≡ Err JudgeError.NoThread → StartsThreads line.now }
 {
     let alloc = rt.alloc();
-    match command {
-        Command::Verify { plan, notation } => verify(rt, alloc, &movie, plan, *notation, gate),
-        Command::Report {
-            workers,
-            notation,
-            expectations,
-            ..
-        } => report(
+    let notation = line.notation;
+    match &line.command {
+        Command::Verify { every, keep } => {
+            let plan = Plan {
+                workers: line.workers,
+                every: *every,
+                keep: *keep,
+            };
+            verify(rt, alloc, &movie, &plan, notation, gate)
+        }
+        Command::Report { expectations } => report(
             rt,
             alloc,
             bytes,
             &movie,
-            *workers,
-            *notation,
+            line.workers,
+            notation,
             rom,
             expectations,
             gate,
         ),
-        Command::Info { notation } => Ok(info(alloc, *notation, &movie)?),
-        Command::Claims { notation } => Ok(claims(alloc, *notation, &movie)?),
+        Command::Info => Ok(info(alloc, notation, &movie)?),
+        Command::Claims => Ok(claims(alloc, notation, &movie)?),
         Command::Inputs {
             first,
             count,
@@ -111,7 +100,7 @@ fn answer_movie<
     G: Gate + Progress + Sync,
 >(
     rt: &T,
-    command: &Command,
+    line: &CommandLine,
     bytes: &[u8],
     rom: Option<&[u8]>,
     movie: Movie,
@@ -119,58 +108,64 @@ fn answer_movie<
     file: &mut P,
     gate: &G,
 ) -> Result<Status, RunError>
-    requires { IsAboutMovies command.now }
-    ensures ok { IfOk result (λ status. (answer : AnswerData) × Answers command.now bytes.now (option_copied rom.entry) movie answer × (status ≡ answer.status)
+    requires { IsAboutMovies line.now.command }
+    ensures ok { IfOk result (λ status. (answer : AnswerData) × Answers line.now.command line.now.notation bytes.now (option_copied rom.entry) movie answer × (status ≡ answer.status)
         × Appends (W.contents text.old) (W.contents text.new) answer.text × Appends (P.contents file.old) (P.contents file.new) answer.file) }
-    ensures write_fault { result ≡ Err RunError.WriteFault → (answer : AnswerData) × Answers command.now bytes.now (option_copied rom.entry) movie answer
-        × WritesSome (writing_of command.now) (W.contents text.old) (W.contents text.new) answer.text (P.contents file.old) (P.contents file.new) answer.file }
+    ensures write_fault { result ≡ Err RunError.WriteFault → (answer : AnswerData) × Answers line.now.command line.now.notation bytes.now (option_copied rom.entry) movie answer
+        × WritesSome (writing_of line.now.command) (W.contents text.old) (W.contents text.new) answer.text (P.contents file.old) (P.contents file.new) answer.file }
     ensures quiet { OnErr result (result ≢ Err RunError.WriteFault → result ≢ Err RunError.NoMemory
         → Keeps (W.contents text.old) (W.contents text.new) × Keeps (P.contents file.old) (P.contents file.new)) }
     ensures memory { result ≡ Err RunError.NoMemory → (Keeps (W.contents text.old) (W.contents text.new) × Keeps (P.contents file.old) (P.contents file.new))
-        ⊎ HasBegun command.now movie (W.contents text.old) (W.contents text.new) (P.contents file.old) (P.contents file.new) }
+        ⊎ HasBegun line.now.command line.now.notation movie (W.contents text.old) (W.contents text.new) (P.contents file.old) (P.contents file.new) }
     ensures read { result ≢ Err RunError.TooLong }
-    ensures no_thread { result ≡ Err RunError.NoThread → StartsThreads command.now }
+    ensures no_thread { result ≡ Err RunError.NoThread → StartsThreads line.now }
 {
     let alloc = rt.alloc();
-    match command {
+    match &line.command {
         Command::Frames {
             first,
             count,
             details,
-            notation,
         } => Ok(frames(
-            alloc, &movie, *notation, details, *first, *count, text, gate,
+            alloc,
+            &movie,
+            line.notation,
+            details,
+            *first,
+            *count,
+            text,
+            gate,
         )?),
         Command::Pictures { first, count } => {
             Ok(pictures(alloc, &movie, *first, *count, file, text, gate)?)
         }
         Command::Trace { frame } => Ok(trace(alloc, &movie, *frame, text, gate)?),
         Command::Verify { .. } => {
-            Ok(answer(rt, command, bytes, rom, movie, gate)?.write_text_first(text, file)?)
+            Ok(answer(rt, line, bytes, rom, movie, gate)?.write_text_first(text, file)?)
         }
-        _ => Ok(answer(rt, command, bytes, rom, movie, gate)?.write_file_first(file, text)?),
+        _ => Ok(answer(rt, line, bytes, rom, movie, gate)?.write_file_first(file, text)?),
     }
 }
 
-/// The ROM with which a report compares the movie's cartridge, if it names one.
-fn read_rom<S: Read>(
+/// The bytes of the second input of a command about a movie, if it names one.
+fn read_second<S: Read>(
     alloc: Global,
-    command: &Command,
+    line: &CommandLine,
     inputs: &mut S,
 ) -> Result<Option<Vec<u8>>, ReadError>
-    ensures reads { IfOk result (λ rom. ReadsRom command.now (S.remaining inputs.old) (S.remaining inputs.new) (option_map (λ bytes. bytes.items) rom)) }
-    ensures reads_inputs { result ≡ Err ReadError.TooLong → ReadsInputs command.now }
+    ensures reads { IfOk result (λ bytes. ReadsNamed line.now.second (S.remaining inputs.old) (S.remaining inputs.new) (option_map (λ bytes. bytes.items) bytes)) }
+    ensures named { result ≡ Err ReadError.TooLong → IsSome line.now.second }
     ensures too_long { result ≡ Err ReadError.TooLong → IsTooLong (S.remaining inputs.old) }
 {
-    if let Command::Report { rom: Some(_), .. } = command {
-        return Ok(Some(read_all(alloc, inputs)?));
+    match line.second {
+        Some(_) => Ok(Some(read_all(alloc, inputs)?)),
+        None => Ok(None),
     }
-    Ok(None)
 }
 
-/// Does what a command asks for: reads its input, which is a movie, or of `make` a cartridge and
+/// Does what a command line asks for: reads its input, which is a movie, or of `make` a cartridge and
 /// then `inputs`, and writes a text, which ends with a line feed, and a file. A report that names a
-/// ROM reads that from `inputs`, unless its input is no movie.
+/// ROM reads that from `inputs`, unless its input is no movie. The files' names aren't used.
 ///
 /// Input that is refused is a line and `Status::Refused`. After ReadFault, TooLong and NoThread
 /// nothing was written. After NoMemory nothing was written either, or by `frames`, `pictures` and
@@ -189,7 +184,7 @@ pub fn run_command<
     G: Gate + Progress + Sync,
 >(
     rt: &T,
-    command: &Command,
+    line: &CommandLine,
     input: &mut R,
     inputs: &mut S,
     text: &mut W,
@@ -198,24 +193,24 @@ pub fn run_command<
 ) -> Result<Status, RunError>
     // The output is that of the bytes read, and nothing else.
     ensures ok { IfOk result (λ status. (bytes : List ℕ) × (told : List ℕ) × (made : List ℕ) × ReadsAll (R.remaining input.old) (R.remaining input.new) bytes
-        × IsAnswered command.now bytes (S.remaining inputs.old) (S.remaining inputs.new) status told made
+        × IsAnswered line.now bytes (S.remaining inputs.old) (S.remaining inputs.new) status told made
         × Appends (W.contents text.old) (W.contents text.new) told × Appends (P.contents file.old) (P.contents file.new) made) }
     ensures write_fault { result ≡ Err RunError.WriteFault → (bytes : List ℕ) × (status : Status) × (told : List ℕ) × (made : List ℕ)
         × ReadsAll (R.remaining input.old) (R.remaining input.new) bytes
-        × IsAnswered command.now bytes (S.remaining inputs.old) (S.remaining inputs.new) status told made
-        × WritesSome (writing_of command.now) (W.contents text.old) (W.contents text.new) told (P.contents file.old) (P.contents file.new) made }
+        × IsAnswered line.now bytes (S.remaining inputs.old) (S.remaining inputs.new) status told made
+        × WritesSome (writing_of line.now.command) (W.contents text.old) (W.contents text.new) told (P.contents file.old) (P.contents file.new) made }
 
     // What was written after the other errors.
     ensures quiet { OnErr result (result ≢ Err RunError.WriteFault → result ≢ Err RunError.NoMemory
         → Keeps (W.contents text.old) (W.contents text.new) × Keeps (P.contents file.old) (P.contents file.new)) }
     ensures memory { result ≡ Err RunError.NoMemory → (Keeps (W.contents text.old) (W.contents text.new) × Keeps (P.contents file.old) (P.contents file.new))
         ⊎ ((bytes : List ℕ) × (m : MovieData) × ReadsAll (R.remaining input.old) (R.remaining input.new) bytes × (movie_at bytes ≡ Ok m)
-        × HasBegun command.now m (W.contents text.old) (W.contents text.new) (P.contents file.old) (P.contents file.new)) }
-    ensures too_long { result ≡ Err RunError.TooLong → IsTooLong (R.remaining input.old) ⊎ (ReadsInputs command.now × IsTooLong (S.remaining inputs.old)) }
-    ensures no_thread { result ≡ Err RunError.NoThread → StartsThreads command.now }
+        × HasBegun line.now.command line.now.notation m (W.contents text.old) (W.contents text.new) (P.contents file.old) (P.contents file.new)) }
+    ensures too_long { result ≡ Err RunError.TooLong → IsTooLong (R.remaining input.old) ⊎ (ReadsInputs line.now × IsTooLong (S.remaining inputs.old)) }
+    ensures no_thread { result ≡ Err RunError.NoThread → StartsThreads line.now }
 {
     let alloc = rt.alloc();
-    if let Command::Make { form, making, .. } = command {
+    if let Command::Make { form, making } = &line.command {
         let rom = read_all(alloc, input)?;
         let answer = make(
             alloc,
@@ -232,10 +227,10 @@ pub fn run_command<
     let (bytes, found) = read_input(alloc, input)?;
     match found {
         Ok(movie) => {
-            let expected = read_rom(alloc, command, inputs)?;
+            let expected = read_second(alloc, line, inputs)?;
             answer_movie(
                 rt,
-                command,
+                line,
                 &bytes,
                 expected.as_deref(),
                 movie,
@@ -245,7 +240,7 @@ pub fn run_command<
             )
         }
         Err(error) => {
-            let answer = refusal(alloc, notation_of(command), &bytes, error)?;
+            let answer = refusal(alloc, line.notation, &bytes, error)?;
             Ok(answer.write_text(text)?)
         }
     }

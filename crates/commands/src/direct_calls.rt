@@ -48,10 +48,10 @@ pub fn run<T: Threads + Wait + Sync, R: Read, W: Write, P: Write, G: Gate + Prog
 ) -> Result<Status, RunError>
     // The output is that of the bytes read, and nothing else.
     ensures ok { IfOk result (λ status. (input : List ℕ) × (answer : AnswerData) × ReadsAll (R.remaining movie.old) (R.remaining movie.new) input
-        × AnswersFound (Verify plan.now Lines) input None (movie_at input) answer × (status ≡ answer.status)
+        × AnswersFound (Verify plan.now.every plan.now.keep) Lines input None (movie_at input) answer × (status ≡ answer.status)
         × Appends (W.contents verdict.old) (W.contents verdict.new) answer.text × Appends (P.contents pictures.old) (P.contents pictures.new) answer.file) }
     ensures write_fault { result ≡ Err RunError.WriteFault → (input : List ℕ) × (answer : AnswerData)
-        × ReadsAll (R.remaining movie.old) (R.remaining movie.new) input × AnswersFound (Verify plan.now Lines) input None (movie_at input) answer
+        × ReadsAll (R.remaining movie.old) (R.remaining movie.new) input × AnswersFound (Verify plan.now.every plan.now.keep) Lines input None (movie_at input) answer
         × WritesPart (W.contents verdict.old) (W.contents verdict.new) answer.text (P.contents pictures.old) (P.contents pictures.new) answer.file }
 
     // What was written after the other errors.
@@ -119,10 +119,10 @@ pub fn run_convert<R: Read, W: Write, L: Write>(
 ) -> Result<Status, RunError>
     // The output is that of the bytes read, and nothing else.
     ensures ok { IfOk result (λ status. (input : List ℕ) × (answer : AnswerData) × ReadsAll (R.remaining movie.old) (R.remaining movie.new) input
-        × AnswersFound Convert input None (movie_at input) answer × (status ≡ answer.status)
+        × AnswersFound Convert Lines input None (movie_at input) answer × (status ≡ answer.status)
         × Appends (W.contents new.old) (W.contents new.new) answer.file × Appends (L.contents line.old) (L.contents line.new) answer.text) }
     ensures write_fault { result ≡ Err RunError.WriteFault → (input : List ℕ) × (answer : AnswerData)
-        × ReadsAll (R.remaining movie.old) (R.remaining movie.new) input × AnswersFound Convert input None (movie_at input) answer
+        × ReadsAll (R.remaining movie.old) (R.remaining movie.new) input × AnswersFound Convert Lines input None (movie_at input) answer
         × WritesPart (W.contents new.old) (W.contents new.new) answer.file (L.contents line.old) (L.contents line.new) answer.text }
 
     // What was written after the other errors.
@@ -152,10 +152,10 @@ pub fn run_info<R: Read, W: Write>(
 ) -> Result<Status, RunError>
     // The output is that of the bytes read, and nothing else.
     ensures ok { IfOk result (λ status. (input : List ℕ) × (answer : AnswerData) × ReadsAll (R.remaining movie.old) (R.remaining movie.new) input
-        × AnswersFound (Info Lines) input None (movie_at input) answer × (status ≡ answer.status)
+        × AnswersFound Info Lines input None (movie_at input) answer × (status ≡ answer.status)
         × Appends (W.contents line.old) (W.contents line.new) answer.text) }
     ensures write_fault { result ≡ Err RunError.WriteFault → (input : List ℕ) × (answer : AnswerData)
-        × ReadsAll (R.remaining movie.old) (R.remaining movie.new) input × AnswersFound (Info Lines) input None (movie_at input) answer
+        × ReadsAll (R.remaining movie.old) (R.remaining movie.new) input × AnswersFound Info Lines input None (movie_at input) answer
         × AppendsPrefix (W.contents line.old) (W.contents line.new) answer.text }
 
     // What was written after the other errors.

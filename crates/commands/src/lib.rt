@@ -35,7 +35,7 @@ mod trace_line;
 mod verdict_text;
 mod verify;
 
-pub use command::{notation_of, run_command};
+pub use command::run_command;
 pub use direct_calls::{run, run_convert, run_info, run_make};
 pub use laws::law_of_cuts;
 pub use line::Line;

@@ -44,7 +44,7 @@ fn line_of(alloc: Global, words: &str) -> Result<CommandLine, LineFault> {
 /// What is said of words that are no command, or ask for help.
 fn answer_of_fault(alloc: Global, fault: LineFault) -> Result<Answer, AllocError> {
     let (status, text) = match fault {
-        LineFault::Usage { text } => (NO_COMMAND, text),
+        LineFault::Usage { text, .. } => (NO_COMMAND, text),
         LineFault::Help { text } => (Status::Done.code(), text),
         LineFault::Memory => return Err(AllocError),
     };
@@ -83,7 +83,7 @@ fn answer_to_line<R: Threads + Wait + Sync + AllocGlobal>(
     let mut file = Vec::new(alloc);
     let status = run_command(
         rt,
-        &line.command,
+        line,
         &mut case.first.as_slice(),
         &mut case.second.as_slice(),
         &mut text,

@@ -59,7 +59,7 @@ pub(crate) fn reason_of(
     first: &[u8],
     second: &[u8],
 ) -> Result<String, AllocError> {
-    let Command::Make { form, making, .. } = command else {
+    let Command::Make { form, making } = command else {
         return reason_of_movie(alloc, first);
     };
     if !Cart::is_length(first.len()) {

@@ -3,8 +3,9 @@
 use crate::call_failure::{CallFailure, right};
 use crate::gate::Counting;
 use arrayvec::ArrayVec;
-use command_line::Command;
+use command_line::{Command, CommandLine};
 use commands::{RunError, Status, run_command};
+use std::alloc::Global;
 use std::io::{self, Read};
 use std::sync::Wait;
 use std::thread::Threads;
@@ -25,26 +26,31 @@ pub(crate) struct Answer {
     pub has_ended: bool,
 }
 
-/// The answer to a command over this input. Its second input is empty.
-pub(crate) fn answer_to<T: Threads + Wait + Sync + AllocGlobal, R: Read>(
-    rt: &T,
-    command: &Command,
-    input: &mut R,
-) -> Answer {
-    answer_with(rt, command, input, &mut io::empty())
+/// The command line of a command, whose input's name isn't used. It takes no memory.
+pub(crate) fn line_of(alloc: Global, command: Command) -> CommandLine {
+    CommandLine::of(command, String::new(alloc))
 }
 
-/// The answer to a command over both inputs.
+/// The answer to a command line over this input. Its second input is empty.
+pub(crate) fn answer_to<T: Threads + Wait + Sync + AllocGlobal, R: Read>(
+    rt: &T,
+    line: &CommandLine,
+    input: &mut R,
+) -> Answer {
+    answer_with(rt, line, input, &mut io::empty())
+}
+
+/// The answer to a command line over both inputs.
 pub(crate) fn answer_with<T: Threads + Wait + Sync + AllocGlobal, R: Read, S: Read>(
     rt: &T,
-    command: &Command,
+    line: &CommandLine,
     input: &mut R,
     inputs: &mut S,
 ) -> Answer {
     let mut text = Text::new();
     let mut file = File::new();
     let gate = Counting::new();
-    let status = run_command(rt, command, input, inputs, &mut text, &mut file, &gate);
+    let status = run_command(rt, line, input, inputs, &mut text, &mut file, &gate);
     Answer {
         status,
         text,

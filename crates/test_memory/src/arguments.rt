@@ -11,11 +11,11 @@ pub(crate) fn are_command(alloc: Global) -> Result<(), CallFailure> {
     match parse_line(alloc, &["vcs_check", "verify", "m", "--pictures", "p"]) {
         Ok(
             CommandLine {
-                command: Command::Verify { plan, .. },
+                command: Command::Verify { keep, .. },
                 output: Some(_),
                 ..
             },
-        ) => right(Keep::new(1, 600) == Ok(plan.keep)),
+        ) => right(Keep::new(1, 600) == Ok(keep)),
         Err(LineFault::Memory) => Err(OUT_OF_MEMORY),
         _ => Err(CallFailure::Wrong),
     }
@@ -51,7 +51,7 @@ fn command_of(alloc: Global, line: &str) -> Result<CommandLine, LineFault> {
 /// What the answer is where there is no command.
 fn name_of(fault: &LineFault) -> &'static str {
     match fault {
-        LineFault::Usage { text } if text.starts_with("error") => "usage",
+        LineFault::Usage { text, .. } if text.starts_with("error") => "usage",
         LineFault::Usage { .. } => "usage that names no error",
         LineFault::Help { .. } => "help",
         LineFault::Memory => "out of memory",

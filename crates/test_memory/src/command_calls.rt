@@ -1,17 +1,17 @@
 //! What the program's commands do, over bytes in place of files.
 
-use crate::answer::{Answer, File, Text, answer_to, answer_with};
+use crate::answer::{Answer, File, Text, answer_to, answer_with, line_of};
 use crate::call_failure::CallFailure;
 use crate::gate::Counting;
 use crate::movies::{
     conversion, put, two_frames, two_frames_to_the_end, two_frames_with_a_false_claim,
 };
-use command_line::{Command, program_name};
+use command_line::{Command, CommandLine, program_name};
 use commands::{InputForm, Notation, Status, run, run_convert, run_info, run_make};
 use replay_plan::{Expectations, Keep, Plan, Workers};
 use std::alloc::Global;
 use std::io::{self, Read};
-use std::num::NonZeroU32;
+use std::num::{NonZeroU16, NonZeroU32};
 use std::sync::Wait;
 use std::thread::Threads;
 
@@ -107,8 +107,9 @@ pub(crate) fn is_told(alloc: Global) -> Result<(), CallFailure> {
 pub(crate) fn is_told_as_json<R: Threads + Wait + Sync + AllocGlobal>(
     rt: &R,
 ) -> Result<(), CallFailure> {
-    let info = Command::Info {
+    let info = CommandLine {
         notation: Notation::Json,
+        ..line_of(rt.alloc(), Command::Info)
     };
     let wanted = b"{\"version\":1,\"cartridge\":2048,\"frames\":2,\"checkpoints\":1}\n";
     answer_to(rt, &info, &mut two_frames().as_slice()).is(Status::Done, wanted, &[])
@@ -132,7 +133,8 @@ pub(crate) fn is_converted(alloc: Global) -> Result<(), CallFailure> {
 /// The cartridge of the movie of two frames.
 pub(crate) fn is_taken<R: Threads + Wait + Sync + AllocGlobal>(rt: &R) -> Result<(), CallFailure> {
     let wanted = b"cartridge: 2048 bytes\n";
-    answer_to(rt, &Command::Cartridge, &mut two_frames().as_slice()).is(
+    let line = line_of(rt.alloc(), Command::Cartridge);
+    answer_to(rt, &line, &mut two_frames().as_slice()).is(
         Status::Done,
         wanted,
         &two_frames()[14..2062],
@@ -143,9 +145,7 @@ pub(crate) fn is_taken<R: Threads + Wait + Sync + AllocGlobal>(rt: &R) -> Result
 pub(crate) fn is_claimed<R: Threads + Wait + Sync + AllocGlobal>(
     rt: &R,
 ) -> Result<(), CallFailure> {
-    let claims = Command::Claims {
-        notation: Notation::Lines,
-    };
+    let claims = line_of(rt.alloc(), Command::Claims);
     let answer = answer_to(rt, &claims, &mut two_frames().as_slice());
     let text = answer.text.as_slice();
     let begins = text.starts_with(
@@ -170,7 +170,12 @@ pub(crate) fn is_listed<R: Threads + Wait + Sync + AllocGlobal>(
     } else {
         b"2\n"
     };
-    answer_to(rt, &inputs, &mut two_frames().as_slice()).is(Status::Done, wanted, &[])
+    answer_to(
+        rt,
+        &line_of(rt.alloc(), inputs),
+        &mut two_frames().as_slice(),
+    )
+    .is(Status::Done, wanted, &[])
 }
 
 /// The length of the report of two frames without the name of the program: a line of the verdict, a
@@ -195,16 +200,31 @@ const REPORT: usize = 33
     + 17
     + 10;
 
+/// A verdict by one worker, without pictures.
+fn verify(alloc: Global) -> CommandLine {
+    let command = Command::Verify {
+        every: NonZeroU16::MIN,
+        keep: Keep::NONE,
+    };
+    line_of(alloc, command)
+}
+
+/// A report by one worker, of which nothing is expected.
+fn report(alloc: Global) -> CommandLine {
+    let command = Command::Report {
+        expectations: Expectations::NONE,
+    };
+    line_of(alloc, command)
+}
+
 /// Two frames judged by so many workers, and their report.
 pub(crate) fn is_reported<R: Threads + Wait + Sync + AllocGlobal>(
     rt: &R,
     workers: u8,
 ) -> Result<(), CallFailure> {
-    let report = Command::Report {
+    let report = CommandLine {
         workers: Workers::new(workers).ok_or(CallFailure::Wrong)?,
-        notation: Notation::Lines,
-        rom: None,
-        expectations: Expectations::NONE,
+        ..report(rt.alloc())
     };
     let answer = answer_to(rt, &report, &mut two_frames().as_slice());
     let text = answer.text.as_slice();
@@ -224,11 +244,10 @@ pub(crate) fn is_reported_false<R: Threads + Wait + Sync + AllocGlobal>(
     rt: &R,
     workers: u8,
 ) -> Result<(), CallFailure> {
-    let report = Command::Report {
+    let report = CommandLine {
         workers: Workers::new(workers).ok_or(CallFailure::Wrong)?,
         notation: Notation::Json,
-        rom: None,
-        expectations: Expectations::NONE,
+        ..report(rt.alloc())
     };
     let answer = answer_to(rt, &report, &mut two_frames_with_a_false_claim().as_slice());
     let text = answer.text.as_slice();
@@ -242,9 +261,9 @@ pub(crate) fn is_reported_false<R: Threads + Wait + Sync + AllocGlobal>(
 pub(crate) fn is_judged_as_json<R: Threads + Wait + Sync + AllocGlobal>(
     rt: &R,
 ) -> Result<(), CallFailure> {
-    let verify = Command::Verify {
-        plan: Plan::without_pictures(Workers::ONE),
+    let verify = CommandLine {
         notation: Notation::Json,
+        ..verify(rt.alloc())
     };
     let wanted = b"{\"verdict\":\"genuine\",\"frames\":2,\"checkpoints\":1}\n";
     answer_to(rt, &verify, &mut two_frames().as_slice()).is(Status::Done, wanted, &[])
@@ -254,9 +273,9 @@ pub(crate) fn is_judged_as_json<R: Threads + Wait + Sync + AllocGlobal>(
 pub(crate) fn is_refused_as_json<R: Threads + Wait + Sync + AllocGlobal>(
     rt: &R,
 ) -> Result<(), CallFailure> {
-    let verify = Command::Verify {
-        plan: Plan::without_pictures(Workers::ONE),
+    let verify = CommandLine {
         notation: Notation::Json,
+        ..verify(rt.alloc())
     };
     let mut movie = two_frames();
     movie[3] = b'N';
@@ -272,11 +291,9 @@ pub(crate) fn is_refused_as_json<R: Threads + Wait + Sync + AllocGlobal>(
 pub(crate) fn is_compared<R: Threads + Wait + Sync + AllocGlobal>(
     rt: &R,
 ) -> Result<(), CallFailure> {
-    let report = Command::Report {
-        workers: Workers::ONE,
-        notation: Notation::Lines,
-        rom: Some(String::new(rt.alloc())),
-        expectations: Expectations::NONE,
+    let report = CommandLine {
+        second: Some(String::new(rt.alloc())),
+        ..report(rt.alloc())
     };
     let movie = two_frames();
     let mut rom = &movie[14..2062];
@@ -292,11 +309,7 @@ pub(crate) fn is_compared<R: Threads + Wait + Sync + AllocGlobal>(
 pub(crate) fn is_refused<R: Threads + Wait + Sync + AllocGlobal>(
     rt: &R,
 ) -> Result<(), CallFailure> {
-    let verify = Command::Verify {
-        plan: Plan::without_pictures(Workers::ONE),
-        notation: Notation::Lines,
-    };
-    answer_to(rt, &verify, &mut io::repeat(0).take(9_000_000)).is(
+    answer_to(rt, &verify(rt.alloc()), &mut io::repeat(0).take(9_000_000)).is(
         Status::Refused,
         b"refused: BadMagic\n",
         &[],
@@ -309,7 +322,11 @@ pub(crate) fn is_drawn<R: Threads + Wait + Sync + AllocGlobal>(rt: &R) -> Result
         first: NonZeroU32::MIN,
         count: 3,
     };
-    let answer = answer_to(rt, &pictures, &mut two_frames().as_slice());
+    let answer = answer_to(
+        rt,
+        &line_of(rt.alloc(), pictures),
+        &mut two_frames().as_slice(),
+    );
     let (text, file) = (answer.text.as_slice(), answer.file.as_slice());
     answer.judged(
         Status::Done,
@@ -327,7 +344,7 @@ pub(crate) fn is_cut_out<R: Threads + Wait + Sync + AllocGlobal>(
         count: 3,
         every: NonZeroU32::MIN.saturating_add(1),
     };
-    answer_to(rt, &cut, &mut two_frames().as_slice()).is(
+    answer_to(rt, &line_of(rt.alloc(), cut), &mut two_frames().as_slice()).is(
         Status::Done,
         b"cut: 2 frames, 1 checkpoints\n",
         &two_frames_to_the_end(),

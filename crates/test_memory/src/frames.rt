@@ -1,9 +1,9 @@
 //! What the program tells of frames and of instructions, over bytes in place of files.
 
-use crate::answer::answer_to;
+use crate::answer::{answer_to, line_of};
 use crate::call_failure::CallFailure;
 use crate::movies::two_frames;
-use command_line::Command;
+use command_line::{Command, CommandLine};
 use commands::Status;
 use replay_plan::{Address, Details, Notation, Watches};
 use std::num::NonZeroU32;
@@ -40,12 +40,13 @@ pub(crate) fn are_told<R: Threads + Wait + Sync + AllocGlobal>(
             memory: false,
             digests,
         },
-        notation: Notation::Lines,
     };
-    answer_to(rt, &frames, &mut two_frames().as_slice()).is_in_lines(
-        Status::Done,
-        wanted.as_bytes(),
+    answer_to(
+        rt,
+        &line_of(rt.alloc(), frames),
+        &mut two_frames().as_slice(),
     )
+    .is_in_lines(Status::Done, wanted.as_bytes())
 }
 
 /// The objects about the two frames.
@@ -66,12 +67,12 @@ pub(crate) fn are_told_as_json<R: Threads + Wait + Sync + AllocGlobal>(
             memory: false,
             digests: false,
         },
-        notation: Notation::Json,
     };
-    answer_to(rt, &frames, &mut two_frames().as_slice()).is_in_lines(
-        Status::Done,
-        OBJECTS.as_bytes(),
-    )
+    let line = CommandLine {
+        notation: Notation::Json,
+        ..line_of(rt.alloc(), frames)
+    };
+    answer_to(rt, &line, &mut two_frames().as_slice()).is_in_lines(Status::Done, OBJECTS.as_bytes())
 }
 
 /// How the first line with the memory begins.
@@ -98,9 +99,12 @@ pub(crate) fn are_told_with_memory<R: Threads + Wait + Sync + AllocGlobal>(
             memory: true,
             digests: false,
         },
-        notation: Notation::Lines,
     };
-    let answer = answer_to(rt, &frames, &mut two_frames().as_slice());
+    let answer = answer_to(
+        rt,
+        &line_of(rt.alloc(), frames),
+        &mut two_frames().as_slice(),
+    );
     let (text, file) = (answer.text.as_slice(), answer.file.as_slice());
     answer.judged(
         Status::Done,
@@ -123,5 +127,10 @@ pub(crate) fn is_traced<R: Threads + Wait + Sync + AllocGlobal>(rt: &R) -> Resul
     let trace = Command::Trace {
         frame: NonZeroU32::MIN,
     };
-    answer_to(rt, &trace, &mut two_frames().as_slice()).is_in_lines(Status::Done, TRACE.as_bytes())
+    answer_to(
+        rt,
+        &line_of(rt.alloc(), trace),
+        &mut two_frames().as_slice(),
+    )
+    .is_in_lines(Status::Done, TRACE.as_bytes())
 }

@@ -1,7 +1,7 @@
 //! What is refused for another reason where memory is there: a call takes its room before it looks
 //! at what it may refuse, so a refused growth is the answer whatever is wrong behind it.
 
-use crate::answer::answer_to;
+use crate::answer::{answer_to, line_of};
 use crate::call_failure::{CallFailure, OUT_OF_MEMORY};
 use crate::movies::{LENGTH, cartridge, two_frames};
 use command_line::Command;
@@ -79,5 +79,10 @@ pub(crate) fn is_faulty_cut<R: Threads + Wait + Sync + AllocGlobal>(
         every: NonZeroU32::MIN,
     };
     let wanted = b"fault at frame 1: bad opcode 02 at F000\n";
-    answer_to(rt, &cut, &mut without_opcode().as_slice()).is(Status::Fault, wanted, &[])
+    answer_to(
+        rt,
+        &line_of(rt.alloc(), cut),
+        &mut without_opcode().as_slice(),
+    )
+    .is(Status::Fault, wanted, &[])
 }

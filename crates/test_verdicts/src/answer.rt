@@ -2,8 +2,9 @@
 
 use crate::devices::FailingWriter;
 use crate::expectation::expect_equal;
-use command_line::Command;
+use command_line::{Command, CommandLine};
 use commands::{NoGate, RunError, Status, run_command};
+use std::alloc::Global;
 use std::io::{self, Read};
 use std::process::Abort;
 use std::sync::Wait;
@@ -17,11 +18,16 @@ pub(crate) struct Answer {
     pub file: Vec<u8>,
 }
 
+/// The command line of a command, whose input's name isn't used.
+pub(crate) fn line_of(alloc: Global, command: Command) -> CommandLine {
+    CommandLine::of(command, String::new(alloc))
+}
+
 /// The answer to a command with a second input, whose text's writer and whose file's writer take so
 /// many bytes each.
 fn answer_over<T: Threads + Wait + Sync + AllocGlobal, R: Read, S: Read>(
     rt: &T,
-    command: &Command,
+    line: &CommandLine,
     input: &mut R,
     inputs: &mut S,
     text: usize,
@@ -29,7 +35,7 @@ fn answer_over<T: Threads + Wait + Sync + AllocGlobal, R: Read, S: Read>(
 ) -> Answer {
     let mut text = FailingWriter::new(rt.alloc(), text);
     let mut file = FailingWriter::new(rt.alloc(), file);
-    let status = run_command(rt, command, input, inputs, &mut text, &mut file, &NoGate);
+    let status = run_command(rt, line, input, inputs, &mut text, &mut file, &NoGate);
     Answer {
         status,
         text: text.taken,
@@ -41,31 +47,31 @@ fn answer_over<T: Threads + Wait + Sync + AllocGlobal, R: Read, S: Read>(
 /// second input is empty.
 pub(crate) fn answer_into<T: Threads + Wait + Sync + AllocGlobal, R: Read>(
     rt: &T,
-    command: &Command,
+    line: &CommandLine,
     input: &mut R,
     text: usize,
     file: usize,
 ) -> Answer {
-    answer_over(rt, command, input, &mut io::empty(), text, file)
+    answer_over(rt, line, input, &mut io::empty(), text, file)
 }
 
 /// The answer to a command with a second input whose writers take all.
 pub(crate) fn answer_with<T: Threads + Wait + Sync + AllocGlobal, R: Read, S: Read>(
     rt: &T,
-    command: &Command,
+    line: &CommandLine,
     input: &mut R,
     inputs: &mut S,
 ) -> Answer {
-    answer_over(rt, command, input, inputs, usize::MAX, usize::MAX)
+    answer_over(rt, line, input, inputs, usize::MAX, usize::MAX)
 }
 
 /// The answer to a command whose writers take all.
 pub(crate) fn answer_to<T: Threads + Wait + Sync + AllocGlobal, R: Read>(
     rt: &T,
-    command: &Command,
+    line: &CommandLine,
     input: &mut R,
 ) -> Answer {
-    answer_into(rt, command, input, usize::MAX, usize::MAX)
+    answer_into(rt, line, input, usize::MAX, usize::MAX)
 }
 
 /// Ends the test unless the command failed with this error before it wrote anything.

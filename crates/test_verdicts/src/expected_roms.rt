@@ -1,12 +1,12 @@
 //! Reports that compare a movie's cartridge with a ROM, over readers that fail.
 
-use crate::answer::{Answer, answer_with, expect_nothing};
+use crate::answer::{Answer, answer_with, expect_nothing, line_of};
 use crate::devices::{FailingReader, Zeros};
 use crate::expectation::expect_equal;
 use crate::movies::{ENDLESS_FRAMES, rom, two_frames};
-use command_line::Command;
-use commands::{Notation, RunError, Status};
-use replay_plan::{Expectations, Workers};
+use command_line::{Command, CommandLine};
+use commands::{RunError, Status};
+use replay_plan::Expectations;
 use std::io::Read;
 use std::sync::Wait;
 use std::test::Fail;
@@ -18,11 +18,12 @@ fn compare<T: Threads + Wait + Sync + AllocGlobal, R: Read, S: Read>(
     movie: &mut R,
     rom: &mut S,
 ) -> Answer {
-    let report = Command::Report {
-        workers: Workers::ONE,
-        notation: Notation::Lines,
-        rom: Some(String::new(rt.alloc())),
+    let command = Command::Report {
         expectations: Expectations::NONE,
+    };
+    let report = CommandLine {
+        second: Some(String::new(rt.alloc())),
+        ..line_of(rt.alloc(), command)
     };
     answer_with(rt, &report, movie, rom)
 }

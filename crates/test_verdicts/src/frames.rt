@@ -1,9 +1,9 @@
 //! The lines about frames.
 
-use crate::answer::{answer_into, expect_beginning};
+use crate::answer::{answer_into, expect_beginning, line_of};
 use crate::movies::first_of_two_false;
 use command_line::Command;
-use replay_plan::{Address, Details, Notation, Watches};
+use replay_plan::{Address, Details, Watches};
 use std::num::NonZeroU32;
 use std::test::Fail;
 
@@ -28,16 +28,15 @@ fn byte_80_twice(count: u32) -> Command {
             memory: false,
             digests: false,
         },
-        notation: Notation::Lines,
     }
 }
 
 #[test]
 fn failed_write_leaves_the_lines_before(rt: HostRuntime) -> Result<(), Fail> {
     let bytes = first_of_two_false(rt.alloc())?;
-    let command = byte_80_twice(3);
+    let line = line_of(rt.alloc(), byte_80_twice(3));
     for left in [0, 1, 79, 80, 100, LINES.len() - 1] {
-        let answer = answer_into(&rt, &command, &mut bytes.as_slice(), left, 0);
+        let answer = answer_into(&rt, &line, &mut bytes.as_slice(), left, 0);
         expect_beginning(&rt, answer.status, &answer.text, LINES.as_bytes(), left);
     }
     Ok(())

@@ -1,12 +1,12 @@
 //! Making movies and telling what they hold, over devices that fail. What else is written is
 //! compared by `ci/cases`.
 
-use crate::answer::{Answer, answer_into, expect_beginning, expect_nothing};
+use crate::answer::{Answer, answer_into, expect_beginning, expect_nothing, line_of};
 use crate::devices::{FailingReader, FailingWriter, Zeros};
 use crate::expectation::expect_equal;
 use crate::movies::{ENDLESS_FRAMES, rom, two_frames_with_a_last_checkpoint};
 use command_line::Command;
-use commands::{InputForm, Notation, RunError, Status, run_make};
+use commands::{InputForm, RunError, Status, run_make};
 use std::alloc::Global;
 use std::io::Read;
 use std::test::Fail;
@@ -113,9 +113,7 @@ fn failed_write_leaves_the_movie_and_a_prefix_of_its_line(rt: HostRuntime) -> Re
 #[test]
 fn failed_write_leaves_a_prefix_of_the_information(rt: HostRuntime) -> Result<(), Fail> {
     let movie = two_frames_with_a_last_checkpoint(rt.alloc())?;
-    let info = Command::Info {
-        notation: Notation::Lines,
-    };
+    let info = line_of(rt.alloc(), Command::Info);
     let answer = answer_into(&rt, &info, &mut movie.as_slice(), 29, 0);
     let wanted = b"movie: version 1, cartridge 2048, 2 frames, 1 checkpoints\n";
     expect_beginning(&rt, answer.status, &answer.text, wanted, 29);

@@ -1,16 +1,17 @@
 //! How the progress of each command is told. Each count is worked out from the movie: its segments,
 //! its frames, those of them that are done, and the works that begin and end.
 
+use crate::answer::line_of;
 use crate::devices::FailingWriter;
 use crate::expectation::expect_equal;
 use crate::gates::Counting;
 use crate::movies::{
     ENDLESS_FRAMES, SEVEN_FRAMES, first_of_two_false, movie, power_on, rom, run_of, two,
 };
-use command_line::{Command, Making};
-use commands::{InputForm, Notation, run_command};
+use command_line::{Command, CommandLine, Making};
+use commands::{InputForm, run_command};
 use movie_file::write_movie;
-use replay_plan::{Details, Expectations, Keep, Plan, Watches, Workers};
+use replay_plan::{Details, Expectations, Keep, Watches, Workers};
 use replay_segments::{Cuts, replay_with_progress};
 use std::alloc::Global;
 use std::num::{NonZeroU16, NonZeroU32};
@@ -22,7 +23,7 @@ use verify_pool::{verify, verify_with_progress};
 /// What a gate counts while a command is done whose text's writer takes so many bytes.
 fn told_over<T: Threads + Wait + Sync + AllocGlobal>(
     rt: &T,
-    command: &Command,
+    line: &CommandLine,
     input: &[u8],
     inputs: &[u8],
     text: usize,
@@ -34,7 +35,7 @@ fn told_over<T: Threads + Wait + Sync + AllocGlobal>(
     let gate = Counting::new();
     let _status = run_command(
         rt,
-        command,
+        line,
         &mut input,
         &mut inputs,
         &mut text,
@@ -47,42 +48,44 @@ fn told_over<T: Threads + Wait + Sync + AllocGlobal>(
 /// What it counts while a command about a movie is done, whose writers take all.
 fn told<T: Threads + Wait + Sync + AllocGlobal>(
     rt: &T,
-    command: &Command,
+    line: &CommandLine,
     input: &[u8],
 ) -> [u64; 6] {
-    told_over(rt, command, input, &[], usize::MAX)
+    told_over(rt, line, input, &[], usize::MAX)
 }
 
 /// The lines of so many frames from one on.
-fn frames(first: NonZeroU32, count: u32) -> Command {
-    Command::Frames {
+fn frames(alloc: Global, first: NonZeroU32, count: u32) -> CommandLine {
+    let details = Details {
+        watches: Watches::none(),
+        memory: false,
+        digests: false,
+    };
+    let command = Command::Frames {
         first,
         count,
-        details: Details {
-            watches: Watches::none(),
-            memory: false,
-            digests: false,
-        },
-        notation: Notation::Lines,
-    }
+        details,
+    };
+    line_of(alloc, command)
 }
 
 /// A report by one worker.
-fn report() -> Command {
-    Command::Report {
-        workers: Workers::ONE,
-        notation: Notation::Lines,
-        rom: None,
+fn report(alloc: Global) -> CommandLine {
+    let command = Command::Report {
         expectations: Expectations::NONE,
-    }
+    };
+    line_of(alloc, command)
 }
 
 /// A verdict by two workers, of a movie that is cut at every so many checkpoints.
-fn verdict(every: NonZeroU16) -> Command {
-    let plan = Plan::without_pictures(Workers::new(2).unwrap());
-    Command::Verify {
-        plan: Plan { every, ..plan },
-        notation: Notation::Lines,
+fn verdict(alloc: Global, every: NonZeroU16) -> CommandLine {
+    let command = Command::Verify {
+        every,
+        keep: Keep::NONE,
+    };
+    CommandLine {
+        workers: Workers::new(2).unwrap(),
+        ..line_of(alloc, command)
     }
 }
 
@@ -103,7 +106,7 @@ fn seven_frames(alloc: Global) -> Result<Vec<u8>, Fail> {
 #[test]
 fn frames_of_one_segment_are_told(rt: HostRuntime) -> Result<(), Fail> {
     let alloc = rt.alloc();
-    let uncut = verdict(NonZeroU16::MIN.saturating_add(5));
+    let uncut = verdict(alloc, NonZeroU16::MIN.saturating_add(5));
     let without = movie(alloc, &ENDLESS_FRAMES, &power_on(), 5, 1, &[])?;
     expect_equal(&rt, told(&rt, &uncut, &without), [0, 5, 0, 5, 1, 1]);
     let five = five_frames(alloc)?;
@@ -154,34 +157,41 @@ fn verdict_is_told_where_that_is_asked_for(rt: HostRuntime) -> Result<(), Fail> 
 /// Frames 3 and 4 of five.
 #[test]
 fn frames_are_told_up_to_the_last_one(rt: HostRuntime) -> Result<(), Fail> {
-    let bytes = five_frames(rt.alloc())?;
+    let alloc = rt.alloc();
+    let bytes = five_frames(alloc)?;
     let first = NonZeroU32::MIN.saturating_add(2);
     let count = 2;
     let every = NonZeroU32::MIN;
-    for (command, wanted) in [
-        (frames(first, count), [0, 2, 2, 4, 2, 2]),
-        (Command::Pictures { first, count }, [0, 4, 0, 4, 2, 2]),
+    let cut = Command::Cut {
+        first,
+        count,
+        every,
+    };
+    for (line, wanted) in [
+        (frames(alloc, first, count), [0, 2, 2, 4, 2, 2]),
         (
-            Command::Cut {
-                first,
-                count,
-                every,
-            },
-            [0, 4, 0, 4, 1, 1],
+            line_of(alloc, Command::Pictures { first, count }),
+            [0, 4, 0, 4, 2, 2],
         ),
-        (Command::Trace { frame: first }, [0, 2, 0, 2, 1, 1]),
-        (Command::Trace { frame: every }, [0, 0, 0, 0, 0, 0]),
-        (report(), [6, 0, 0, 6, 1, 1]),
+        (line_of(alloc, cut), [0, 4, 0, 4, 1, 1]),
+        (
+            line_of(alloc, Command::Trace { frame: first }),
+            [0, 2, 0, 2, 1, 1],
+        ),
+        (
+            line_of(alloc, Command::Trace { frame: every }),
+            [0, 0, 0, 0, 0, 0],
+        ),
+        (report(alloc), [6, 0, 0, 6, 1, 1]),
     ] {
-        expect_equal(&rt, told(&rt, &command, &bytes), wanted);
+        expect_equal(&rt, told(&rt, &line, &bytes), wanted);
     }
     Ok(())
 }
 
 #[test]
 fn frames_of_a_movie_that_is_made_are_told(rt: HostRuntime) {
-    let make = Command::Make {
-        inputs: String::new(rt.alloc()),
+    let command = Command::Make {
         form: InputForm::Bytes,
         making: Making {
             every: NonZeroU32::MIN,
@@ -190,6 +200,7 @@ fn frames_of_a_movie_that_is_made_are_told(rt: HostRuntime) {
         },
     };
     let inputs = [0xFF, 0x3F, 0, 0xFF, 0x3F, 0];
+    let make = line_of(rt.alloc(), command);
     let told = told_over(&rt, &make, &rom(&ENDLESS_FRAMES), &inputs, usize::MAX);
     expect_equal(&rt, told, [0, 2, 0, 2, 1, 1]);
 }
@@ -197,22 +208,21 @@ fn frames_of_a_movie_that_is_made_are_told(rt: HostRuntime) {
 /// A fault in frame 7, in a verdict, among the frames that are asked for and before them.
 #[test]
 fn works_end_at_a_fault(rt: HostRuntime) -> Result<(), Fail> {
-    let bytes = seven_frames(rt.alloc())?;
+    let alloc = rt.alloc();
+    let bytes = seven_frames(alloc)?;
     let seventh = NonZeroU32::MIN.saturating_add(6);
-    for (command, wanted) in [
-        (frames(NonZeroU32::MIN, 7), [0, 0, 7, 6, 1, 1]),
-        (
-            Command::Cut {
-                first: seventh,
-                count: 1,
-                every: seventh,
-            },
-            [0, 7, 0, 6, 1, 1],
-        ),
-        (verdict(NonZeroU16::MIN), [0, 7, 0, 6, 1, 1]),
-        (report(), [0, 13, 0, 12, 2, 2]),
+    let cut = Command::Cut {
+        first: seventh,
+        count: 1,
+        every: seventh,
+    };
+    for (line, wanted) in [
+        (frames(alloc, NonZeroU32::MIN, 7), [0, 0, 7, 6, 1, 1]),
+        (line_of(alloc, cut), [0, 7, 0, 6, 1, 1]),
+        (verdict(alloc, NonZeroU16::MIN), [0, 7, 0, 6, 1, 1]),
+        (report(alloc), [0, 13, 0, 12, 2, 2]),
     ] {
-        expect_equal(&rt, told(&rt, &command, &bytes), wanted);
+        expect_equal(&rt, told(&rt, &line, &bytes), wanted);
     }
     Ok(())
 }
@@ -221,8 +231,8 @@ fn works_end_at_a_fault(rt: HostRuntime) -> Result<(), Fail> {
 #[test]
 fn works_end_at_a_failed_write(rt: HostRuntime) -> Result<(), Fail> {
     let bytes = five_frames(rt.alloc())?;
-    let command = frames(NonZeroU32::MIN, 5);
-    let told = told_over(&rt, &command, &bytes, &[], 50);
+    let line = frames(rt.alloc(), NonZeroU32::MIN, 5);
+    let told = told_over(&rt, &line, &bytes, &[], 50);
     expect_equal(&rt, told, [0, 0, 5, 1, 1, 1]);
     Ok(())
 }
@@ -233,6 +243,10 @@ fn works_end_at_a_failed_write(rt: HostRuntime) -> Result<(), Fail> {
 #[test]
 fn signs_are_a_work_of_their_own(rt: HostRuntime) -> Result<(), Fail> {
     let bytes = first_of_two_false(rt.alloc())?;
-    expect_equal(&rt, told(&rt, &report(), &bytes), [5, 6, 0, 9, 6, 6]);
+    expect_equal(
+        &rt,
+        told(&rt, &report(rt.alloc()), &bytes),
+        [5, 6, 0, 9, 6, 6],
+    );
     Ok(())
 }

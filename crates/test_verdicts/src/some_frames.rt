@@ -1,13 +1,14 @@
 //! What is written of some frames, and of a movie that can't be read.
 
-use crate::answer::{answer_into, answer_to, expect_beginning, expect_nothing};
+use crate::answer::{answer_into, answer_to, expect_beginning, expect_nothing, line_of};
 use crate::devices::FailingReader;
 use crate::expectation::expect_equal;
 use crate::movies::{two_frames, two_frames_with_a_last_checkpoint};
 use crate::pixmaps::two_black_pictures;
-use command_line::Command;
+use command_line::{Command, CommandLine};
 use commands::RunError;
-use replay_plan::{Details, Notation, Watches};
+use replay_plan::{Details, Watches};
+use std::alloc::Global;
 use std::num::NonZeroU32;
 use std::test::Fail;
 
@@ -15,18 +16,22 @@ use std::test::Fail;
 const PICTURE: usize = 13 + 480;
 
 /// The command that writes the pictures of two frames.
-const PICTURES: Command = Command::Pictures {
-    first: NonZeroU32::MIN,
-    count: 2,
-};
+fn pictures(alloc: Global) -> CommandLine {
+    let command = Command::Pictures {
+        first: NonZeroU32::MIN,
+        count: 2,
+    };
+    line_of(alloc, command)
+}
 
 /// The command that makes a movie of two frames with a checkpoint after the second.
-fn cut() -> Command {
-    Command::Cut {
+fn cut(alloc: Global) -> CommandLine {
+    let command = Command::Cut {
         first: NonZeroU32::MIN,
         count: 2,
         every: NonZeroU32::MIN.saturating_add(1),
-    }
+    };
+    line_of(alloc, command)
 }
 
 #[test]
@@ -34,7 +39,13 @@ fn line_of_a_cut_comes_after_the_movie(rt: HostRuntime) -> Result<(), Fail> {
     let bytes = two_frames(rt.alloc())?;
     let wanted = two_frames_with_a_last_checkpoint(rt.alloc())?;
     for left in [0, 2445] {
-        let answer = answer_into(&rt, &cut(), &mut bytes.as_slice(), usize::MAX, left);
+        let answer = answer_into(
+            &rt,
+            &cut(rt.alloc()),
+            &mut bytes.as_slice(),
+            usize::MAX,
+            left,
+        );
         expect_beginning(&rt, answer.status, &answer.file, &wanted, left);
         assert!(rt; answer.text.is_empty());
     }
@@ -46,7 +57,13 @@ fn line_of_pictures_comes_after_them(rt: HostRuntime) -> Result<(), Fail> {
     let bytes = two_frames(rt.alloc())?;
     let wanted = two_black_pictures(rt.alloc())?;
     for left in [0, PICTURE, PICTURE + 13, 2 * PICTURE - 1] {
-        let answer = answer_into(&rt, &PICTURES, &mut bytes.as_slice(), usize::MAX, left);
+        let answer = answer_into(
+            &rt,
+            &pictures(rt.alloc()),
+            &mut bytes.as_slice(),
+            usize::MAX,
+            left,
+        );
         expect_beginning(&rt, answer.status, &answer.file, &wanted, left);
         assert!(rt; answer.text.is_empty());
     }
@@ -56,7 +73,13 @@ fn line_of_pictures_comes_after_them(rt: HostRuntime) -> Result<(), Fail> {
 #[test]
 fn line_that_fails_leaves_the_pictures(rt: HostRuntime) -> Result<(), Fail> {
     let bytes = two_frames(rt.alloc())?;
-    let answer = answer_into(&rt, &PICTURES, &mut bytes.as_slice(), 9, usize::MAX);
+    let answer = answer_into(
+        &rt,
+        &pictures(rt.alloc()),
+        &mut bytes.as_slice(),
+        9,
+        usize::MAX,
+    );
     expect_beginning(&rt, answer.status, &answer.text, b"pictures: 2 frames\n", 9);
     expect_equal(&rt, answer.file.len(), 2 * PICTURE);
     Ok(())
@@ -79,16 +102,21 @@ fn failed_read_writes_nothing(rt: HostRuntime) -> Result<(), Fail> {
         first,
         count: 2,
         details: no_details(),
-        notation: Notation::Lines,
     };
     let trace = Command::Trace { frame: first };
-    for command in [frames, PICTURES, cut(), trace] {
+    let alloc = rt.alloc();
+    for line in [
+        line_of(alloc, frames),
+        pictures(alloc),
+        cut(alloc),
+        line_of(alloc, trace),
+    ] {
         for left in [0, 3] {
             let mut reader = FailingReader {
                 bytes: &bytes,
                 left,
             };
-            let answer = answer_to(&rt, &command, &mut reader);
+            let answer = answer_to(&rt, &line, &mut reader);
             expect_nothing(&rt, &answer, RunError::ReadFault);
         }
     }

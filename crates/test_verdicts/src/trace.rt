@@ -1,6 +1,6 @@
 //! What is printed of instructions.
 
-use crate::answer::{answer_into, expect_beginning};
+use crate::answer::{answer_into, expect_beginning, line_of};
 use crate::movies::two_frames;
 use command_line::Command;
 use std::num::NonZeroU32;
@@ -26,8 +26,9 @@ fn second() -> Command {
 #[test]
 fn failed_write_leaves_the_instructions_before(rt: HostRuntime) -> Result<(), Fail> {
     let bytes = two_frames(rt.alloc())?;
+    let line = line_of(rt.alloc(), second());
     for left in [0, 1, 61, 62, 200, LINES.len() - 1] {
-        let answer = answer_into(&rt, &second(), &mut bytes.as_slice(), left, 0);
+        let answer = answer_into(&rt, &line, &mut bytes.as_slice(), left, 0);
         expect_beginning(&rt, answer.status, &answer.text, LINES.as_bytes(), left);
     }
     Ok(())

@@ -1,15 +1,16 @@
 //! Judging, over devices that fail. Verdicts are compared by `ci/cases`.
 
-use crate::answer::{answer_into, answer_to, expect_beginning, expect_nothing};
+use crate::answer::{answer_into, answer_to, expect_beginning, expect_nothing, line_of};
 use crate::devices::{FailingReader, Zeros};
 use crate::expectation::expect_equal;
 use crate::gates::Counting;
 use crate::movies::{ENDLESS_FRAMES, run_of, two_frames};
 use crate::pixmaps::two_black_pictures;
-use command_line::Command;
-use commands::{Notation, RunError, Status, run};
+use command_line::{Command, CommandLine};
+use commands::{RunError, Status, run};
 use movie_file::write_movie;
 use replay_plan::{Keep, Plan, Workers};
+use std::alloc::Global;
 use std::io;
 use std::num::NonZeroU16;
 use std::sync::Wait;
@@ -26,10 +27,15 @@ fn plan() -> Plan {
 }
 
 /// The command of that plan.
-fn verify() -> Command {
-    Command::Verify {
-        plan: plan(),
-        notation: Notation::Lines,
+fn verify(alloc: Global) -> CommandLine {
+    let plan = plan();
+    let command = Command::Verify {
+        every: plan.every,
+        keep: plan.keep,
+    };
+    CommandLine {
+        workers: plan.workers,
+        ..line_of(alloc, command)
     }
 }
 
@@ -39,7 +45,7 @@ const GENUINE: &[u8] = b"genuine: 2 frames, 1 checkpoints\n";
 #[test]
 fn longest_input_is_read(rt: HostRuntime) {
     let mut zeros = Zeros::new(16_777_216);
-    let answer = answer_to(&rt, &verify(), &mut zeros);
+    let answer = answer_to(&rt, &verify(rt.alloc()), &mut zeros);
     expect_equal(&rt, zeros.reads, 4097);
     expect_equal(&rt, answer.status, Ok(Status::Refused));
     assert!(rt; answer.status != Ok(Status::Done));
@@ -49,7 +55,7 @@ fn longest_input_is_read(rt: HostRuntime) {
 #[test]
 fn endless_input_is_too_long(rt: HostRuntime) {
     let mut zeros = Zeros::new(u64::MAX);
-    let answer = answer_to(&rt, &verify(), &mut zeros);
+    let answer = answer_to(&rt, &verify(rt.alloc()), &mut zeros);
     expect_nothing(&rt, &answer, RunError::TooLong);
     assert!(rt; answer.status != Err(RunError::NoMemory));
     expect_equal(&rt, zeros.reads, 4097);
@@ -63,7 +69,7 @@ fn failed_read_writes_nothing(rt: HostRuntime) -> Result<(), Fail> {
             bytes: &bytes,
             left,
         };
-        let answer = answer_to(&rt, &verify(), &mut reader);
+        let answer = answer_to(&rt, &verify(rt.alloc()), &mut reader);
         if left == 6 {
             expect_equal(&rt, answer.status, Ok(Status::Done));
         } else {
@@ -77,7 +83,13 @@ fn failed_read_writes_nothing(rt: HostRuntime) -> Result<(), Fail> {
 fn failed_write_leaves_a_prefix_of_the_line(rt: HostRuntime) -> Result<(), Fail> {
     let bytes = two_frames(rt.alloc())?;
     for left in 0..33usize {
-        let answer = answer_into(&rt, &verify(), &mut bytes.as_slice(), left, usize::MAX);
+        let answer = answer_into(
+            &rt,
+            &verify(rt.alloc()),
+            &mut bytes.as_slice(),
+            left,
+            usize::MAX,
+        );
         expect_beginning(&rt, answer.status, &answer.text, GENUINE, left);
         assert!(rt; answer.file.is_empty());
     }
@@ -89,7 +101,13 @@ fn failed_write_leaves_the_line_and_a_prefix_of_the_pictures(rt: HostRuntime) ->
     let bytes = two_frames(rt.alloc())?;
     let wanted = two_black_pictures(rt.alloc())?;
     for left in 0..986usize {
-        let answer = answer_into(&rt, &verify(), &mut bytes.as_slice(), usize::MAX, left);
+        let answer = answer_into(
+            &rt,
+            &verify(rt.alloc()),
+            &mut bytes.as_slice(),
+            usize::MAX,
+            left,
+        );
         expect_beginning(&rt, answer.status, &answer.file, &wanted, left);
         assert!(rt; answer.text.as_slice() == GENUINE);
     }

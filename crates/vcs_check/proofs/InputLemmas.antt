@@ -60,9 +60,9 @@ part_by_output line R old new failure one p = ((λ is. p.0 (write_fault_was_too 
 -- What is left of a file by a run that failed.
 pub part_of_run : (line : CommandLine) (a b c d old new : Option (List ℕ)) (error : RunError)
     → (error ≡ WriteFault → (bytes : List ℕ) × (status : Status) × (made : List ℕ) × ReadsAll a b bytes
-    × IsFile line.command bytes c d status made × AppendsPrefix old new made)
+    × IsFile line bytes c d status made × AppendsPrefix old new made)
     → (error ≡ NoMemory → Keeps old new ⊎ ((bytes : List ℕ) × (m : MovieData) × ReadsAll a b bytes × (movie_at bytes ≡ Ok m)
-    × (text_old text_new : Option (List ℕ)) × HasBegun line.command m text_old text_new old new))
+    × (text_old text_new : Option (List ℕ)) × HasBegun line.command line.notation m text_old text_new old new))
     → TakesFile line → LeavesPart line (ReadsBoth a b c d) old new (Err (Run error None))
 part_of_run line a b c d old new WriteFault written memory takes = (
   (λ is. let h = written refl in (h.1, h.2, (h.0, c, d, (h.3, refl, refl), (λ file. h.4), λ other. absurd (other takes)), h.5)),
@@ -80,9 +80,9 @@ part_of_run line a b c d old new other written memory takes = ((λ is. absurd is
 -- The same of a text.
 pub part_of_text : (line : CommandLine) (a b c d old new : Option (List ℕ)) (error : RunError)
     → (error ≡ WriteFault → (bytes : List ℕ) × (status : Status) × (told : List ℕ) × ReadsAll a b bytes
-    × IsText line.command bytes c d status told × AppendsPrefix old new told)
+    × IsText line bytes c d status told × AppendsPrefix old new told)
     → (error ≡ NoMemory → Keeps old new ⊎ ((bytes : List ℕ) × (m : MovieData) × ReadsAll a b bytes × (movie_at bytes ≡ Ok m)
-    × (file_old file_new : Option (List ℕ)) × HasBegun line.command m old new file_old file_new))
+    × (file_old file_new : Option (List ℕ)) × HasBegun line.command line.notation m old new file_old file_new))
     → (TakesFile line → ⊥) → LeavesPart line (ReadsBoth a b c d) old new (Err (Run error None))
 part_of_text line a b c d old new WriteFault written memory other = (
   (λ is. let h = written refl in (h.1, h.2, (h.0, c, d, (h.3, refl, refl), (λ takes. absurd (other takes)), λ text. h.4), h.5)),
@@ -99,7 +99,7 @@ part_of_text line a b c d old new error written memory other = ((λ is. absurd i
 
 -- All of a text is a part of it, where a file fails after it.
 pub part_of_whole : (line : CommandLine) (a b c d old new : Option (List ℕ)) (status : Status) (file_error : Option FileError)
-    → ((bytes : List ℕ) × (told : List ℕ) × ReadsAll a b bytes × IsText line.command bytes c d status told × Appends old new told)
+    → ((bytes : List ℕ) × (told : List ℕ) × ReadsAll a b bytes × IsText line bytes c d status told × Appends old new told)
     → (TakesFile line → ⊥) → LeavesPart line (ReadsBoth a b c d) old new (Err (Run WriteFault file_error))
 part_of_whole line a b c d old new status file_error h other = (
   (λ is. (status, h.1, (h.0, c, d, (h.2, refl, refl), (λ takes. absurd (other takes)), λ text. h.3), prefix_all old new h.1 h.4)),

@@ -5,6 +5,7 @@ use Rattle.std.specs.Str.{bytes_eq}
 use Rattle.std.proofs.lemmas.List.{map_push, take_more}
 use Rattle.std.proofs.lemmas.List.Elements.{filter-append}
 use Rattle.clap.specs.Words.{Text, matches_of, subcommand_of}
+use Rattle.clap.specs.declared.error.kind.ErrorKind.{ErrorKind}
 use Rattle.command_line.specs.Meanings.{AsksForReasons, IsLine}
 use Rattle.command_line.specs.Table.{program_app}
 use Rattle.command_line.specs.declared.command.CommandLine.{CommandLine}
@@ -60,5 +61,5 @@ line_for_both words (Ok line) one two = (one, two)
 line_for_both words (Err fault) one two = tt
 
 -- A mistake stays one.
-pub mistake_advised : (fault told : LineFault) (text : String Global) → fault ≡ Usage text → IsMistake told → IsAdvised fault told
-mistake_advised fault told text is mistake = let P : LineFault → Type 0 = λ x. IsAdvised x told in subst P (sym is) mistake
+pub mistake_advised : (fault told : LineFault) (kind : ErrorKind) (text : String Global) → fault ≡ Usage kind text → IsMistake told → IsAdvised fault told
+mistake_advised fault told kind text is mistake = let P : LineFault → Type 0 = λ x. IsAdvised x told in subst P (sym is) mistake

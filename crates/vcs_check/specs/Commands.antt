@@ -1,9 +1,7 @@
 -- What a command line reads of standard input and writes to standard output, and its status. This
 -- project's own.
-use Rattle.std.specs.Prelude.{◌≡◌, ◌⊎◌, ℕ, List, Option, Some, None, Result, Ok, IfOk, IfErr, codes, option_map, string_bytes}
+use Rattle.std.specs.Prelude.{◌≡◌, ◌⊎◌, ℕ, List, Option, Some, Result, Ok, IfOk, IfErr, codes, option_map, string_bytes}
 use Rattle.std.specs.Io.KnownBytes.{Appends, Keeps}
-use Rattle.command_line.specs.declared.command.Command.{Command}
-use Rattle.command_line.specs.declared.command.Command.TheVariants.{Make, Report}
 use Rattle.command_line.specs.Writing.{writing_of}
 use Rattle.command_line.specs.declared.command.CommandLine.{CommandLine}
 use Rattle.command_line.specs.declared.command.Writing.{Writing}
@@ -17,12 +15,6 @@ use Rattle.picture_file.specs.Prefixes.{AppendsPrefix}
 use Rattle.vcs_check.specs.Failures.{IsNoMemory, IsWriteFault}
 use Rattle.vcs_check.specs.declared.failure.Failure.{Failure}
 
--- The name of a command's second input, if it has one.
-abbrev pub second_name : Command → Option (List ℕ)
-second_name (Make inputs form making) = Some (string_bytes inputs)
-second_name (Report workers notation rom expectations) = option_map (λ name. string_bytes name) rom
-second_name other = None
-
 -- What a command writes to a file is pictures.
 abbrev pub WritesPictures : Writing → Type 0
 WritesPictures TextFirst = Unit {0}
@@ -35,7 +27,7 @@ ReadsFirst line = string_bytes line.input ≡ codes "-"
 
 -- the second one is,
 abbrev pub ReadsSecond : CommandLine → Type 0
-ReadsSecond line = second_name line.command ≡ Some (codes "-")
+ReadsSecond line = option_map (λ name. string_bytes name) line.second ≡ Some (codes "-")
 
 -- both are, which is no command.
 abbrev pub ReadsTwice : CommandLine → Type 0
@@ -58,18 +50,18 @@ ReadsInputs line old new bytes second_old second_new =
     × ((ReadsFirst line → ⊥) → (ReadsSecond line → ⊥) → Keeps old new)
 
 -- Of the answer about these inputs this is the text, or what the output gets.
-abbrev pub IsText : Command → List ℕ → (old new : Option (List ℕ)) → Status → List ℕ → Type 0
-IsText command bytes old new status text = (file : List ℕ) × Answers command bytes old new status text file
+abbrev pub IsText : CommandLine → List ℕ → (old new : Option (List ℕ)) → Status → List ℕ → Type 0
+IsText line bytes old new status text = (file : List ℕ) × Answers line bytes old new status text file
 
-abbrev pub IsFile : Command → List ℕ → (old new : Option (List ℕ)) → Status → List ℕ → Type 0
-IsFile command bytes old new status file = (text : List ℕ) × Answers command bytes old new status text file
+abbrev pub IsFile : CommandLine → List ℕ → (old new : Option (List ℕ)) → Status → List ℕ → Type 0
+IsFile line bytes old new status file = (text : List ℕ) × Answers line bytes old new status text file
 
 -- What standard output gets of the answer of a command line whose inputs were read so.
 abbrev pub Says : CommandLine → Inputs → Status → List ℕ → Type 0
 Says line Reads status written =
     (bytes : List ℕ) × (old new : Option (List ℕ)) × Reads bytes old new
-    × (TakesFile line → IsFile line.command bytes old new status written)
-    × ((TakesFile line → ⊥) → IsText line.command bytes old new status written)
+    × (TakesFile line → IsFile line bytes old new status written)
+    × ((TakesFile line → ⊥) → IsText line bytes old new status written)
 
 -- With a status it gets that, and nothing else.
 abbrev pub Writes : CommandLine → Inputs → (old new : Option (List ℕ)) → Result Status Failure → Type 0
@@ -85,8 +77,8 @@ KeepsQuiet line old new result =
 abbrev pub Begins : CommandLine → Inputs → (old new : Option (List ℕ)) → Type 0
 Begins line Reads old new =
     (bytes : List ℕ) × (second_old second_new : Option (List ℕ)) × (m : MovieData) × Reads bytes second_old second_new × (movie_at bytes ≡ Ok m)
-    × (TakesFile line → (text_old text_new : Option (List ℕ)) × HasBegun line.command m text_old text_new old new)
-    × ((TakesFile line → ⊥) → (file_old file_new : Option (List ℕ)) × HasBegun line.command m old new file_old file_new)
+    × (TakesFile line → (text_old text_new : Option (List ℕ)) × HasBegun line.command line.notation m text_old text_new old new)
+    × ((TakesFile line → ⊥) → (file_old file_new : Option (List ℕ)) × HasBegun line.command line.notation m old new file_old file_new)
 
 -- What it has got of the answer after an error: after a failed write, its own or one of a file, a part,
 -- and if memory ran out nothing or what came before.

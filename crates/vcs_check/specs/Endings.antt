@@ -38,7 +38,7 @@ of_kind _ = NotUtf8
 -- The arguments are no command.
 abbrev pub of_fault : LineFault → Ending
 of_fault (faults.Help text) = Help text
-of_fault (faults.Usage text) = Usage text
+of_fault (faults.Usage kind text) = Usage text
 of_fault faults.Memory = Failed (Run NoMemory None)
 
 -- It is how the program ends of which these are the words: for a fault, or since both inputs of their

@@ -2,7 +2,6 @@
 use Rattle.std.specs.Prelude.{◌≡◌, List, ℕ, ◌++◌, Option, Some, None, codes}
 use Rattle.json.specs.Print.{quoted}
 use Rattle.command_line.specs.declared.command.CommandLine.{CommandLine}
-use Rattle.commands.specs.Commands.{notation_of}
 use Rattle.named_files.specs.declared.file_error.FileError.{FileError}
 use Rattle.picture_file.specs.Prefixes.{AppendsPrefix}
 use Rattle.replay_plan.specs.declared.notation.Notation.TheVariants.{Json}
@@ -12,7 +11,7 @@ use Rattle.vcs_check.specs.declared.failure.Failure.{Failure}
 
 -- Standard output gets the errors of a command: it answers in JSON, and there.
 abbrev pub SaysErrors : CommandLine → Type 0
-SaysErrors line = (notation_of line.command ≡ Json) × (TakesFile line → ⊥)
+SaysErrors line = (line.notation ≡ Json) × (TakesFile line → ⊥)
 
 -- The object of an error about no file,
 abbrev pub error_object : List ℕ → List ℕ

@@ -43,12 +43,12 @@ IsLineOfWords words line = (read : List Text) × AreRead words read × IsLineOf 
 
 -- The words are a mistake.
 abbrev pub IsMistake : LineFault → Type 0
-IsMistake (Usage text) = Unit {0}
+IsMistake (Usage kind text) = Unit {0}
 IsMistake fault = ⊥
 
 -- How a fault is reported: a mistake may be put in other words, all else stays as it is.
 abbrev pub IsAdvised : LineFault → LineFault → Type 0
-IsAdvised (Usage text) told = IsMistake told
+IsAdvised (Usage kind text) told = IsMistake told
 IsAdvised fault told = told ≡ fault
 
 -- The fault says why these words are no command, or why those are none that are shown in their place.

@@ -60,7 +60,7 @@ fn ask_for_help(alloc: Global, words: &[&str]) -> Result<bool, AllocError> {
 fn text_of(alloc: Global, words: &[&str]) -> Result<Option<String>, AllocError> {
     match parse_line(alloc, words) {
         Err(LineFault::Memory) => Err(AllocError),
-        Err(LineFault::Usage { text }) => Ok(Some(text)),
+        Err(LineFault::Usage { text, .. }) => Ok(Some(text)),
         _ => Ok(None),
     }
 }
@@ -325,7 +325,7 @@ pub(crate) fn advised(alloc: Global, words: &[String], text: String) -> Result<S
     let others = without_explain(alloc, words)?;
     match parse_line(alloc, &others) {
         Err(LineFault::Memory) => Err(AllocError),
-        Err(LineFault::Usage { text }) => with_good_advice(alloc, &others, text),
+        Err(LineFault::Usage { text, .. }) => with_good_advice(alloc, &others, text),
         _ => with_good_advice(alloc, words, text),
     }
 }

@@ -9,7 +9,7 @@ ghost use Rattle.movie_file.specs.Movie.{MovieData};
 ghost use Rattle.movie_file.specs.Reading.{movie_at};
 ghost use Rattle.picture_file.specs.Prefixes.{AppendsPrefix};
 ghost use Rattle.vcs_check.specs.Commands.{IsFile, IsText, KeepsQuiet, LeavesPart, ReadsFirst, ReadsInputs, ReadsSecond};
-ghost use Rattle.vcs_check.specs.Commands.{ReadsTwice, TakesFile, Writes, WritesPictures, second_name};
+ghost use Rattle.vcs_check.specs.Commands.{ReadsTwice, TakesFile, Writes, WritesPictures};
 ghost use Rattle.named_files.specs.FileErrors.{IsInputStream, Names};
 ghost use Rattle.named_files.specs.declared.replacing.Whole.TheVariants.{Flushed, Written};
 ghost use Rattle.vcs_check.specs.Failures.{IsNoThread};
@@ -74,7 +74,7 @@ fn whole(command: &Command) -> Whole
     }
 }
 
-/// Does what a command asks for with these streams.
+/// Does what a command line asks for with these streams.
 fn run<
     T: Threads + Wait + Sync + AllocGlobal,
     M: Read,
@@ -84,7 +84,7 @@ fn run<
     G: Gate + Progress + Sync,
 >(
     rt: &T,
-    command: &Command,
+    line: &CommandLine,
     input: &mut M,
     inputs: &mut S,
     output: &mut P,
@@ -92,19 +92,19 @@ fn run<
     gate: &G,
 ) -> Result<Status, RunError>
     ensures ok { IfOk result (λ status. (bytes : List ℕ) × (told : List ℕ) × ReadsAll (M.remaining input.old) (M.remaining input.new) bytes
-        × IsText command.now bytes (S.remaining inputs.old) (S.remaining inputs.new) status told × Appends (W.contents text.old) (W.contents text.new) told) }
+        × IsText line.now bytes (S.remaining inputs.old) (S.remaining inputs.new) status told × Appends (W.contents text.old) (W.contents text.new) told) }
     ensures write_fault { result ≡ Err RunError.WriteFault → (bytes : List ℕ) × (status : Status) × (told : List ℕ)
         × ReadsAll (M.remaining input.old) (M.remaining input.new) bytes
-        × IsText command.now bytes (S.remaining inputs.old) (S.remaining inputs.new) status told
+        × IsText line.now bytes (S.remaining inputs.old) (S.remaining inputs.new) status told
         × AppendsPrefix (W.contents text.old) (W.contents text.new) told }
     ensures memory { result ≡ Err RunError.NoMemory → Keeps (W.contents text.old) (W.contents text.new)
         ⊎ ((bytes : List ℕ) × (m : MovieData) × ReadsAll (M.remaining input.old) (M.remaining input.new) bytes × (movie_at bytes ≡ Ok m)
-        × (file_old file_new : Option (List ℕ)) × HasBegun command.now m (W.contents text.old) (W.contents text.new) file_old file_new) }
-    ensures quiet { OnErr result (result ≢ Err RunError.WriteFault → (result ≡ Err RunError.NoMemory → IsGradual (writing_of command.now) → ⊥)
+        × (file_old file_new : Option (List ℕ)) × HasBegun line.now.command line.now.notation m (W.contents text.old) (W.contents text.new) file_old file_new) }
+    ensures quiet { OnErr result (result ≢ Err RunError.WriteFault → (result ≡ Err RunError.NoMemory → IsGradual (writing_of line.now.command) → ⊥)
         → Keeps (W.contents text.old) (W.contents text.new)) }
-    ensures no_thread { result ≡ Err RunError.NoThread → StartsThreads command.now }
+    ensures no_thread { result ≡ Err RunError.NoThread → StartsThreads line.now }
 {
-    run_command(rt, command, input, inputs, text, output, gate)
+    run_command(rt, line, input, inputs, text, output, gate)
 }
 
 /// The same, where what counts is what a file gets.
@@ -117,7 +117,7 @@ fn run_into<
     G: Gate + Progress + Sync,
 >(
     rt: &T,
-    command: &Command,
+    line: &CommandLine,
     input: &mut M,
     inputs: &mut S,
     output: &mut P,
@@ -125,19 +125,19 @@ fn run_into<
     gate: &G,
 ) -> Result<Status, RunError>
     ensures ok { IfOk result (λ status. (bytes : List ℕ) × (made : List ℕ) × ReadsAll (M.remaining input.old) (M.remaining input.new) bytes
-        × IsFile command.now bytes (S.remaining inputs.old) (S.remaining inputs.new) status made × Appends (P.contents output.old) (P.contents output.new) made) }
+        × IsFile line.now bytes (S.remaining inputs.old) (S.remaining inputs.new) status made × Appends (P.contents output.old) (P.contents output.new) made) }
     ensures write_fault { result ≡ Err RunError.WriteFault → (bytes : List ℕ) × (status : Status) × (made : List ℕ)
         × ReadsAll (M.remaining input.old) (M.remaining input.new) bytes
-        × IsFile command.now bytes (S.remaining inputs.old) (S.remaining inputs.new) status made
+        × IsFile line.now bytes (S.remaining inputs.old) (S.remaining inputs.new) status made
         × AppendsPrefix (P.contents output.old) (P.contents output.new) made }
     ensures memory { result ≡ Err RunError.NoMemory → Keeps (P.contents output.old) (P.contents output.new)
         ⊎ ((bytes : List ℕ) × (m : MovieData) × ReadsAll (M.remaining input.old) (M.remaining input.new) bytes × (movie_at bytes ≡ Ok m)
-        × (text_old text_new : Option (List ℕ)) × HasBegun command.now m text_old text_new (P.contents output.old) (P.contents output.new)) }
+        × (text_old text_new : Option (List ℕ)) × HasBegun line.now.command line.now.notation m text_old text_new (P.contents output.old) (P.contents output.new)) }
     ensures quiet { OnErr result (result ≢ Err RunError.WriteFault → result ≢ Err RunError.NoMemory
         → Keeps (P.contents output.old) (P.contents output.new)) }
-    ensures no_thread { result ≡ Err RunError.NoThread → StartsThreads command.now }
+    ensures no_thread { result ≡ Err RunError.NoThread → StartsThreads line.now }
 {
-    run_command(rt, command, input, inputs, text, output, gate)
+    run_command(rt, line, input, inputs, text, output, gate)
 }
 
 /// The same as `run`. Pictures go through a buffer.
@@ -150,7 +150,7 @@ fn write<
     G: Gate + Progress + Sync,
 >(
     rt: &T,
-    command: &Command,
+    line: &CommandLine,
     input: &mut M,
     inputs: &mut S,
     output: &mut P,
@@ -158,23 +158,23 @@ fn write<
     gate: &G,
 ) -> Result<Status, RunError>
     ensures ok { IfOk result (λ status. (bytes : List ℕ) × (told : List ℕ) × ReadsAll (M.remaining input.old) (M.remaining input.new) bytes
-        × IsText command.now bytes (S.remaining inputs.old) (S.remaining inputs.new) status told × Appends (W.contents text.old) (W.contents text.new) told) }
+        × IsText line.now bytes (S.remaining inputs.old) (S.remaining inputs.new) status told × Appends (W.contents text.old) (W.contents text.new) told) }
     ensures write_fault { result ≡ Err RunError.WriteFault → (bytes : List ℕ) × (status : Status) × (told : List ℕ)
         × ReadsAll (M.remaining input.old) (M.remaining input.new) bytes
-        × IsText command.now bytes (S.remaining inputs.old) (S.remaining inputs.new) status told
+        × IsText line.now bytes (S.remaining inputs.old) (S.remaining inputs.new) status told
         × AppendsPrefix (W.contents text.old) (W.contents text.new) told }
     ensures memory { result ≡ Err RunError.NoMemory → Keeps (W.contents text.old) (W.contents text.new)
         ⊎ ((bytes : List ℕ) × (m : MovieData) × ReadsAll (M.remaining input.old) (M.remaining input.new) bytes × (movie_at bytes ≡ Ok m)
-        × (file_old file_new : Option (List ℕ)) × HasBegun command.now m (W.contents text.old) (W.contents text.new) file_old file_new) }
-    ensures quiet { OnErr result (result ≢ Err RunError.WriteFault → (result ≡ Err RunError.NoMemory → IsGradual (writing_of command.now) → ⊥)
+        × (file_old file_new : Option (List ℕ)) × HasBegun line.now.command line.now.notation m (W.contents text.old) (W.contents text.new) file_old file_new) }
+    ensures quiet { OnErr result (result ≢ Err RunError.WriteFault → (result ≡ Err RunError.NoMemory → IsGradual (writing_of line.now.command) → ⊥)
         → Keeps (W.contents text.old) (W.contents text.new)) }
-    ensures no_thread { result ≡ Err RunError.NoThread → StartsThreads command.now }
+    ensures no_thread { result ≡ Err RunError.NoThread → StartsThreads line.now }
 {
-    if !draws(command) {
-        return run(rt, command, input, inputs, output, text, gate);
+    if !draws(&line.command) {
+        return run(rt, line, input, inputs, output, text, gate);
     }
     let mut pictures = with_buffer(rt.alloc(), output)?;
-    let status = run(rt, command, input, inputs, &mut pictures, text, gate)?;
+    let status = run(rt, line, input, inputs, &mut pictures, text, gate)?;
     flush(&mut pictures)?;
     Ok(status)
 }
@@ -201,17 +201,9 @@ fn tell<
     ensures quiet { KeepsQuiet line.now (W.contents text.old) (W.contents text.new) result }
     ensures part { LeavesPart line.now (ReadsBoth (M.remaining input.old) (M.remaining input.new) (S.remaining inputs.old) (S.remaining inputs.new))
         (W.contents text.old) (W.contents text.new) result }
-    ensures no_thread { IfErr result (λ failure. IsNoThread failure → StartsThreads line.now.command) }
+    ensures no_thread { IfErr result (λ failure. IsNoThread failure → StartsThreads line.now) }
 {
-    match run(
-        rt,
-        &line.command,
-        input,
-        inputs,
-        &mut io::sink(),
-        text,
-        gate,
-    ) {
+    match run(rt, line, input, inputs, &mut io::sink(), text, gate) {
         Ok(status) => Ok(status),
         Err(error) => Err(Failure::Run(error, None)),
     }
@@ -242,11 +234,10 @@ fn write_to<
     ensures quiet { KeepsQuiet line.now (W.contents text.old) (W.contents text.new) result }
     ensures part { LeavesPart line.now (ReadsBoth (M.remaining input.old) (M.remaining input.new) (S.remaining inputs.old) (S.remaining inputs.new))
         (W.contents text.old) (W.contents text.new) result }
-    ensures no_thread { IfErr result (λ failure. IsNoThread failure → StartsThreads line.now.command) }
+    ensures no_thread { IfErr result (λ failure. IsNoThread failure → StartsThreads line.now) }
 {
-    let command = &line.command;
-    let mut output = create(rt, output, identities, whole(command))?;
-    let status = match write(rt, command, input, inputs, &mut output, text, gate) {
+    let mut output = create(rt, output, identities, whole(&line.command))?;
+    let status = match write(rt, line, input, inputs, &mut output, text, gate) {
         Ok(status) => status,
         Err(error) => return Err(Failure::Run(error, None).by_output(output.output_error())),
     };
@@ -280,10 +271,10 @@ fn write_to_standard_output<
     ensures quiet { KeepsQuiet line.now (W.contents output.old) (W.contents output.new) result }
     ensures part { LeavesPart line.now (ReadsBoth (M.remaining input.old) (M.remaining input.new) (S.remaining inputs.old) (S.remaining inputs.new))
         (W.contents output.old) (W.contents output.new) result }
-    ensures no_thread { IfErr result (λ failure. IsNoThread failure → StartsThreads line.now.command) }
+    ensures no_thread { IfErr result (λ failure. IsNoThread failure → StartsThreads line.now) }
 {
     check_standard_output(rt)?;
-    match run_into(rt, &line.command, input, inputs, output, text, gate) {
+    match run_into(rt, line, input, inputs, output, text, gate) {
         Ok(status) => Ok(status),
         Err(error) => Err(Failure::Run(error, None)),
     }
@@ -324,7 +315,7 @@ fn answer<
     ensures quiet { KeepsQuiet line.now (W.contents output.old) (W.contents output.new) result }
     ensures part { LeavesPart line.now (ReadsBoth (M.remaining input.old) (M.remaining input.new) (S.remaining inputs.old) (S.remaining inputs.new))
         (W.contents output.old) (W.contents output.new) result }
-    ensures no_thread { IfErr result (λ failure. IsNoThread failure → StartsThreads line.now.command) }
+    ensures no_thread { IfErr result (λ failure. IsNoThread failure → StartsThreads line.now) }
 {
     if takes_file(line) {
         return write_to_standard_output(rt, line, input, inputs, output, error, gate);
@@ -382,17 +373,6 @@ fn identity_of_standard_input<R: Files>(
     Ok(Some(identity))
 }
 
-/// The name of a command's second input, if it has one.
-pub(crate) fn second_input(command: &Command) -> Option<&str>
-    ensures { option_copied result ≡ second_name command.now }
-{
-    match command {
-        Command::Make { inputs, .. } => Some(inputs.as_str()),
-        Command::Report { rom, .. } => rom.as_deref(),
-        _ => None,
-    }
-}
-
 /// Does what a command line asks for with this first input, and this file as the second one.
 fn answer_with_file<
     'a,
@@ -415,7 +395,7 @@ fn answer_with_file<
     ensures ok { Writes line.now (ReadsFirstly (M.remaining input.old) (M.remaining input.new)) (W.contents output.old) (W.contents output.new) result }
     ensures quiet { KeepsQuiet line.now (W.contents output.old) (W.contents output.new) result }
     ensures part { LeavesPart line.now (ReadsFirstly (M.remaining input.old) (M.remaining input.new)) (W.contents output.old) (W.contents output.new) result }
-    ensures no_thread { IfErr result (λ failure. IsNoThread failure → StartsThreads line.now.command) }
+    ensures no_thread { IfErr result (λ failure. IsNoThread failure → StartsThreads line.now) }
 {
     let mut inputs = open_input(rt, line, second)?;
     let identities = [identity, Some(identity_of(rt, &inputs)?)];
@@ -463,13 +443,13 @@ fn answer_with<
     ensures quiet { KeepsQuiet line.now (W.contents output.old) (W.contents output.new) result }
     ensures part { LeavesPart line.now (ReadsWith line.now (M.remaining input.old) (M.remaining input.new) (I.remaining standard.old) (I.remaining standard.new))
         (W.contents output.old) (W.contents output.new) result }
-    ensures no_thread { IfErr result (λ failure. IsNoThread failure → StartsThreads line.now.command) }
+    ensures no_thread { IfErr result (λ failure. IsNoThread failure → StartsThreads line.now) }
 {
     if reads_second(line) {
         let identities = [identity, identity_of_standard_input(rt, line)?];
         return answer(rt, line, input, standard, &identities, output, error, gate);
     }
-    match second_input(&line.command) {
+    match line.second.as_deref() {
         Some(second) => answer_with_file(
             rt, line, input, identity, second, kept, output, error, gate,
         ),
@@ -509,7 +489,7 @@ fn answer_file<
     ensures quiet { KeepsQuiet line.now (W.contents output.old) (W.contents output.new) result }
     ensures part { LeavesPart line.now (ReadsInputs line.now (I.remaining standard.old) (I.remaining standard.new))
         (W.contents output.old) (W.contents output.new) result }
-    ensures no_thread { IfErr result (λ failure. IsNoThread failure → StartsThreads line.now.command) }
+    ensures no_thread { IfErr result (λ failure. IsNoThread failure → StartsThreads line.now) }
 {
     let mut input = open_input(rt, line, &line.input)?;
     let identity = Some(identity_of(rt, &input)?);
@@ -535,7 +515,7 @@ pub(crate) fn reads_first(line: &CommandLine) -> bool
 pub(crate) fn reads_second(line: &CommandLine) -> bool
     ensures { (result ≡ true) ↔ ReadsSecond line.now }
 {
-    match second_input(&line.command) {
+    match line.second.as_deref() {
         Some(second) => second == STANDARD,
         None => false,
     }
@@ -563,7 +543,7 @@ pub(crate) fn answer_line<
     ensures ok { Writes line.now (ReadsInputs line.now (I.remaining input.old) (I.remaining input.new)) (W.contents output.old) (W.contents output.new) result }
     ensures quiet { KeepsQuiet line.now (W.contents output.old) (W.contents output.new) result }
     ensures part { LeavesPart line.now (ReadsInputs line.now (I.remaining input.old) (I.remaining input.new)) (W.contents output.old) (W.contents output.new) result }
-    ensures no_thread { IfErr result (λ failure. IsNoThread failure → StartsThreads line.now.command) }
+    ensures no_thread { IfErr result (λ failure. IsNoThread failure → StartsThreads line.now) }
 {
     if !reads_first(line) {
         return answer_file(rt, line, input, kept, output, error, gate);

@@ -170,7 +170,7 @@ impl From<LineFault> for Ending<'_> {
     fn from(fault: LineFault) -> Self {
         match fault {
             LineFault::Help { text } => Ending::Help { text },
-            LineFault::Usage { text } => Ending::Usage { text },
+            LineFault::Usage { text, .. } => Ending::Usage { text },
             LineFault::Memory => Ending::Failed(Failure::Run(RunError::NoMemory, None)),
         }
     }

@@ -8,7 +8,7 @@ ghost use Rattle.vcs_check.specs.Failures.{file_error_of};
 use crate::command_files::takes_file;
 use crate::failure::Failure;
 use command_line::CommandLine;
-use commands::{Notation, notation_of};
+use commands::Notation;
 use picture_file::write_bytes;
 use serde_json::json;
 use std::alloc::{AllocError, Global};
@@ -18,7 +18,7 @@ use std::io::Write;
 pub(crate) fn says_errors(line: &CommandLine) -> bool
     ensures { (result ≡ true) ↔ SaysErrors line.now }
 {
-    notation_of(&line.command) == Notation::Json && !takes_file(line)
+    line.notation == Notation::Json && !takes_file(line)
 }
 
 /// The object of an error about no file.

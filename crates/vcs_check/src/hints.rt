@@ -179,23 +179,19 @@ fn tell_of_refusal<R: Files + AllocGlobal + Eprint>(rt: &R, line: &CommandLine, 
     let Some(first) = &kept.first else {
         return;
     };
-    if let (Command::Report { rom: Some(rom), .. }, Some(second)) = (&line.command, &kept.second) {
-        return tell_whole(rt, name_of(rom), Some(hint_of_rom(second)));
-    }
-    let Command::Make {
-        inputs,
-        form,
-        making,
-    } = &line.command
-    else {
+    let second = line.second.as_deref().unwrap_or("");
+    let Command::Make { form, making } = &line.command else {
+        if let Some(rom) = &kept.second {
+            return tell_whole(rt, name_of(second), Some(hint_of_rom(rom)));
+        }
         let hint = hint_of_bytes(rt.alloc(), &line.command, first);
         return tell_whole(rt, name_of(&line.input), hint);
     };
     if !Cart::is_length(first.len()) {
-        return tell_of_rom(rt, &line.input, first, inputs);
+        return tell_of_rom(rt, &line.input, first, second);
     }
-    if let Some(second) = &kept.second {
-        tell_of_inputs(rt, inputs, second, *form, *making);
+    if let Some(inputs) = &kept.second {
+        tell_of_inputs(rt, second, inputs, *form, *making);
     }
 }
 
@@ -218,16 +214,15 @@ fn tell_of_output<R: Files + AllocGlobal + Eprint>(rt: &R, line: &CommandLine) {
 }
 
 /// Says how a text of inputs is stored that was read otherwise than it was meant.
-fn tell_of_storage<R: Files + Eprint>(rt: &R, command: &Command, kept: &Kept) {
+fn tell_of_storage<R: Files + Eprint>(rt: &R, line: &CommandLine, kept: &Kept) {
     let Command::Make {
-        inputs,
         form: InputForm::Text,
         ..
-    } = command
+    } = line.command
     else {
         return;
     };
-    if let Some(text) = &kept.second {
+    if let (Some(inputs), Some(text)) = (line.second.as_deref(), &kept.second) {
         tell_whole(rt, name_of(inputs), hint_of_storage(text));
     }
 }
@@ -278,7 +273,7 @@ pub(crate) fn tell_hints<R: Files + AllocGlobal + Eprint>(
         Status::Refused => tell_of_refusal(rt, line, kept),
         Status::Done => {
             tell_of_no_frame(rt, line, kept);
-            tell_of_storage(rt, &line.command, kept);
+            tell_of_storage(rt, line, kept);
             tell_of_output(rt, line);
         }
         Status::False | Status::Fault | Status::Unexpected => {}

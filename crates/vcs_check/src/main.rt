@@ -37,6 +37,7 @@ ghost use Rattle.std.specs.Io.KnownBytes.{Keeps};
 ghost use Rattle.std.specs.Process.{exit_status};
 
 use advice::{advised, help_without_explain};
+use clap::error::ErrorKind;
 use command_files::{answer_line, draws, reads_first, reads_second, takes_file};
 use command_line::{CommandLine, LineFault, parse_line};
 use commands::{Gate, Progress, RunError, Status};
@@ -65,7 +66,8 @@ fn advised_fault(alloc: Global, words: &[String], fault: LineFault) -> Result<Li
     ensures { IfOk result (IsAdvised fault) }
 {
     match fault {
-        LineFault::Usage { text } => Ok(LineFault::Usage {
+        LineFault::Usage { kind, text } => Ok(LineFault::Usage {
+            kind,
             text: advised(alloc, words, text)?,
         }),
         other => Ok(other),
@@ -85,7 +87,10 @@ fn fault_of_shown(alloc: Global, words: &[String]) -> Result<LineFault, AllocErr
         Err(fault) => advised_fault(alloc, &shown, fault),
         Ok(_) => {
             let text = String::from_str(alloc, "error: no command\n")?;
-            Ok(LineFault::Usage { text })
+            Ok(LineFault::Usage {
+                kind: ErrorKind::UnknownArgument,
+                text,
+            })
         }
     }
 }

@@ -7,7 +7,7 @@ pub returns-in_ok-fault_of_shown-in-Err-Usage-clause-err : goal.returns-in_ok-fa
 returns-in_ok-fault_of_shown-in-Err-Usage-clause-err c =
     let mistaken = c.in-Err-Usage.ensures.err in
     elim c.in_ok-fault_of_shown-in-Err-Usage.ensures [
-      | inl mistake ↦ (c.in-Err-Usage.field-0, mistake_advised _ _ _ c.in-Err-Usage.field-0-is mistake, inl mistaken)
+      | inl mistake ↦ (c.in-Err-Usage.field-0, mistake_advised _ _ _ _ c.in-Err-Usage.field-0-is mistake, inl mistaken)
       | inr shown ↦ (shown.0, shown.1, inr shown.2)
     ]
 

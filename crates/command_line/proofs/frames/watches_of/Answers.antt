@@ -9,4 +9,4 @@ returns-in-Some-clause-ok c =
 pub returns-in_ok-told_words-in-None-clause-err : goal.returns-in_ok-told_words-in-None-clause-err
 returns-in_ok-told_words-in-None-clause-err c =
     rw (words_or c.args.matches.now (codes "watch") c.get_strs.result _ _ c.get_strs.ensures c.unwrap_or-words.ensures refl)
-    (λ has. c.in-None.ensures.none has.0 has.1 has.2, c.in_ok-told_words-in-None.ensures)
+    (λ has. c.in-None.ensures.none has.0 has.1 has.2, refl, c.in_ok-told_words-in-None.ensures)

@@ -3,7 +3,7 @@ use Rattle.std.proofs.lemmas.Result.{IfOk-weaker}
 use Rattle.command_line.specs.Writing.{writing_of}
 use Rattle.movie_file.specs.Reading.{movie_at}
 use Rattle.picture_file.proofs.BytesWritten.{appends_nothing, keeps_same}
-use Rattle.commands.specs.Private.Groups.{IsAboutMovies}
+use Rattle.commands.specs.Commands.{IsAboutMovies}
 use Rattle.commands.proofs.CommandAnswers.{of_movie, of_refusal, only_too_long, text_in_part}
 use Rattle.commands.proofs.WrittenFrames.{the_error}
 use Rattle.commands.proofs.command.run_command.Goals as goal
@@ -18,26 +18,26 @@ pub returns-in_err-expected-in-Ok-clause-too_long : goal.returns-in_err-expected
 returns-in_err-expected-in-Ok-clause-too_long g c = λ is.
     let from = c.from_residual-in_err-expected-in-Ok in
     let error = ap Err (only_too_long _ (the_error from.result _ _ from.ensures.1 is)) in
-    inr (c.in_err-expected-in-Ok.ensures.reads_inputs error, c.in_err-expected-in-Ok.ensures.too_long error)
+    inr (inr (c.in_err-expected-in-Ok.ensures.named error), c.in_err-expected-in-Ok.ensures.too_long error)
 
 pub returns-in-Ok-clause-ok : goal.returns-in-Ok-clause-ok
 returns-in-Ok-clause-ok g c =
     let bytes = c.in_ok-bytes.bytes.items in
-    let about : IsAboutMovies c.args.command.now = search rules in
+    let about : IsAboutMovies c.args.line.now.command = search rules in
     let read : movie_at bytes ≡ Ok c.in-Ok.movie = rw c.in-Ok.is at (sym c.in_ok-bytes.ensures.found) in
     let reads = rw (← c.as_deref.ensures.value) at c.in_ok-expected-in-Ok.ensures.reads in
     IfOk-weaker c.answer_movie.result _ _
-    (λ status h. (bytes, h.0.text, h.0.file, c.in_ok-bytes.ensures.all, of_movie _ bytes _ _ status h.0 about h.2 _ _ read reads h.1, h.3, h.4))
+    (λ status h. (bytes, h.0.text, h.0.file, c.in_ok-bytes.ensures.all, of_movie c.args.line.now bytes _ _ status h.0 about h.2 _ _ read reads h.1, h.3, h.4))
     (rw c.deref.ensures.value at c.answer_movie.ensures.ok)
 
 pub returns-in-Ok-clause-write_fault : goal.returns-in-Ok-clause-write_fault
 returns-in-Ok-clause-write_fault g c = λ is.
     let bytes = c.in_ok-bytes.bytes.items in
-    let about : IsAboutMovies c.args.command.now = search rules in
+    let about : IsAboutMovies c.args.line.now.command = search rules in
     let read : movie_at bytes ≡ Ok c.in-Ok.movie = rw c.in-Ok.is at (sym c.in_ok-bytes.ensures.found) in
     let reads = rw (← c.as_deref.ensures.value) at c.in_ok-expected-in-Ok.ensures.reads in
     let h = (rw c.deref.ensures.value at c.answer_movie.ensures.write_fault) is in
-    (bytes, h.0.status, h.0.text, h.0.file, c.in_ok-bytes.ensures.all, of_movie _ bytes _ _ _ h.0 about refl _ _ read reads h.1, h.2)
+    (bytes, h.0.status, h.0.text, h.0.file, c.in_ok-bytes.ensures.all, of_movie c.args.line.now bytes _ _ _ h.0 about refl _ _ read reads h.1, h.2)
 
 pub returns-in-Ok-clause-memory : goal.returns-in-Ok-clause-memory
 returns-in-Ok-clause-memory g c = λ is.
@@ -49,24 +49,24 @@ pub returns-in_err-write_text-in-Err-clause-write_fault : goal.returns-in_err-wr
 returns-in_err-write_text-in-Err-clause-write_fault g c = λ is.
     let bytes = c.in_ok-bytes.bytes.items in
     let answer = c.in_ok-answer-in-Err.answer in
-    let about : IsAboutMovies c.args.command.now = search rules in
+    let about : IsAboutMovies c.args.line.now.command = search rules in
     let read : movie_at bytes ≡ Err c.in-Err.error = rw c.in-Err.is at (sym c.in_ok-bytes.ensures.found) in
-    let told = rw (c.notation_of.ensures, c.deref-in-Err.ensures.value) at c.in_ok-answer-in-Err.ensures in (
+    let told = rw c.deref-in-Err.ensures.value at c.in_ok-answer-in-Err.ensures in (
       bytes,
       answer.status,
       answer.text,
       _,
       c.in_ok-bytes.ensures.all,
-      of_refusal _ bytes _ _ _ answer about refl _ read (keeps_same _) told,
-      text_in_part (writing_of c.args.command.now) _ _ _ _ c.in_err-write_text-in-Err.ensures.fault,
+      of_refusal c.args.line.now bytes _ _ _ answer about refl _ read (keeps_same _) told,
+      text_in_part (writing_of c.args.line.now.command) _ _ _ _ c.in_err-write_text-in-Err.ensures.fault,
     )
 
 pub returns-clause-ok : goal.returns-clause-ok
 returns-clause-ok g c =
     let bytes = c.in_ok-bytes.bytes.items in
     let answer = c.in_ok-answer-in-Err.answer in
-    let about : IsAboutMovies c.args.command.now = search rules in
+    let about : IsAboutMovies c.args.line.now.command = search rules in
     let read : movie_at bytes ≡ Err c.in-Err.error = rw c.in-Err.is at (sym c.in_ok-bytes.ensures.found) in
-    let told = rw (c.notation_of.ensures, c.deref-in-Err.ensures.value) at c.in_ok-answer-in-Err.ensures in
+    let told = rw c.deref-in-Err.ensures.value at c.in_ok-answer-in-Err.ensures in
     let wrote = c.in_ok-write_text-in-Err.ensures.ok in
-    (bytes, answer.text, _, c.in_ok-bytes.ensures.all, of_refusal _ bytes _ _ _ answer about wrote.0 _ read (keeps_same _) told, wrote.1, appends_nothing _)
+    (bytes, answer.text, _, c.in_ok-bytes.ensures.all, of_refusal c.args.line.now bytes _ _ _ answer about wrote.0 _ read (keeps_same _) told, wrote.1, appends_nothing _)
