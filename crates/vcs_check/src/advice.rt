@@ -1,43 +1,91 @@
-//! What `clap` advises about words that are no command.
+//! What is advised about words that are no command.
 ghost use Rattle.std.specs.Prelude.{◌≡◌, ◌↔◌, IfOk, IfSome, IsSome, None, Some, codes, slice_get};
 ghost use Rattle.vcs_check.specs.Lines.{ExplainsHelp, texts_of, without_explain};
 
-use crate::reasons::has_explain;
-use command_line::{CommandLine, LineFault, parse_line};
+use crate::reasons::{has_explain, write_reason};
+use clap::error::ErrorKind;
+use command_line::{CommandLine, LineFault, is_command, parse_line};
 use std::alloc::{AllocError, Global};
+use std::fmt;
+use std::io::Eprint;
+use std::rt::Files;
+
+/// What stands between paragraphs.
+const BLANK: &str = "\n\n";
+
+/// How advice begins.
+const TIP: &str = "  tip: ";
 
 /// How the advice begins to let a word follow `--`.
-const BEGINS: &str = "  tip: to pass '";
-
-/// What follows the word there.
-const GOES_ON: &str = "' as a value";
-
-/// How it is said that a word is no command.
-const NO_COMMAND: &str = "error: unrecognized subcommand '";
-
-/// How it is said of `version`.
-const NO_VERSION: &str = "error: unrecognized subcommand 'version'";
-
-/// How it is said that a word is no option, up to its name.
-const NO_OPTION: &str = "error: unexpected argument '--";
-
-/// What follows the name there.
-const FOUND: &str = "' found";
-
-/// How it is said that a word is no argument.
-const NO_ARGUMENT: &str = "error: unexpected argument '";
-
-/// What stands before the usage.
-const USAGE: &str = "\n\nUsage: ";
-
-/// How the usage ends of the program, and of none of its commands.
-const ANY_COMMAND: &str = " [OPTIONS] [COMMAND]\n";
-
-/// What stands before advice.
-const TIP: &str = "\n\n  tip: ";
+const DASHES: &str = "  tip: to pass ";
 
 /// An option that is none, and like none.
 const UNLIKE: &str = "--0";
+
+/// Why words are no command.
+#[derive(Drop)]
+struct Mistake {
+    kind: ErrorKind,
+    text: String,
+}
+
+/// The paragraphs of what is said of words that are no command.
+#[derive(Drop)]
+struct Said<'a> {
+    reason: &'a str,
+    advice: Option<&'a str>,
+    /// The usage, and what stands below it.
+    usage: &'a str,
+}
+
+impl Said<'_> {
+    /// The paragraphs of a text, if it has more than one.
+    fn of(text: &str) -> Option<Said<'_>> {
+        let (reason, rest) = text.split_once(BLANK)?;
+        if !rest.starts_with(TIP) {
+            return Some(Said {
+                reason,
+                advice: None,
+                usage: rest,
+            });
+        }
+        let (advice, usage) = rest.split_once(BLANK)?;
+        Some(Said {
+            reason,
+            advice: Some(advice),
+            usage,
+        })
+    }
+}
+
+/// How to write what was meant.
+#[derive(Drop)]
+enum Advice<'a> {
+    /// An option has the name of this command.
+    Command { name: &'a str },
+    /// A command has the name of the option `version`.
+    Version,
+    /// The command has this name in small letters.
+    SmallLetters { name: String },
+    /// The words make a command with `verify` as the first.
+    Verify,
+    /// A file is one too many for a command that judges a movie.
+    Judge,
+}
+
+impl fmt::Display for Advice<'_> {
+    fn fmt<W: fmt::Write>(&self, f: &mut fmt::Formatter<W>) -> fmt::Result {
+        match self {
+            Advice::Command { name } => write!(f, "a command exists: '{name}'"),
+            Advice::Version => f.write_str("an option exists: '--version'"),
+            Advice::SmallLetters { name } => { write!(f, "a similar subcommand exists: '{name}'") }
+            Advice::Verify => f.write_str("to judge a movie, put 'verify' first"),
+            Advice::Judge => {
+                f.write_str("'vcs_judge DIR --out VERDICTS' judges each movie of a folder")
+            }
+        }
+    }
+}
 
 /// Whether words are a command.
 fn are_command(alloc: Global, words: &[&str]) -> Result<bool, AllocError> {
@@ -47,141 +95,76 @@ fn are_command(alloc: Global, words: &[&str]) -> Result<bool, AllocError> {
     }
 }
 
-/// Whether words ask for help.
-fn ask_for_help(alloc: Global, words: &[&str]) -> Result<bool, AllocError> {
+/// Why words are no command, if they are none and ask for nothing.
+fn mistake_in(alloc: Global, words: &[&str]) -> Result<Option<Mistake>, AllocError> {
     match parse_line(alloc, words) {
         Err(LineFault::Memory) => Err(AllocError),
-        Err(LineFault::Help { .. }) => Ok(true),
-        _ => Ok(false),
-    }
-}
-
-/// What is said of words that are no command.
-fn text_of(alloc: Global, words: &[&str]) -> Result<Option<String>, AllocError> {
-    match parse_line(alloc, words) {
-        Err(LineFault::Memory) => Err(AllocError),
-        Err(LineFault::Usage { text, .. }) => Ok(Some(text)),
+        Err(LineFault::Usage { kind, text }) => Ok(Some(Mistake { kind, text })),
         _ => Ok(None),
     }
 }
 
-/// Whether words are a command if `--` stands before the first that is this one.
+/// The place of the word that is no argument or no command: the first with which words are a mistake of
+/// this kind. Other kinds blame no word.
+fn place_of(alloc: Global, words: &[String], kind: ErrorKind) -> Result<Option<usize>, AllocError> {
+    if !matches!(
+        kind,
+        ErrorKind::UnknownArgument | ErrorKind::InvalidSubcommand
+    ) {
+        return Ok(None);
+    }
+    for place in 0..words.len() {
+        match parse_line(alloc, &words[..place + 1]) {
+            Err(LineFault::Memory) => return Err(AllocError),
+            Err(LineFault::Usage { kind: told, .. }) if told == kind => return Ok(Some(place)),
+            _ => {}
+        }
+    }
+    Ok(None)
+}
+
+/// Whether words are a command if `--` stands before the one at this place.
 fn are_command_with_dashes(
     alloc: Global,
     words: &[String],
-    word: &str,
+    place: usize,
 ) -> Result<bool, AllocError> {
-    let Some(place) = words.iter().position(|other| other.as_str() == word) else {
-        return Ok(false);
-    };
-    let mut advised = Vec::with_capacity(alloc, words.len() + 1)?;
-    for (number, other) in words.iter().enumerate() {
+    let mut advised = Vec::with_capacity(alloc, words.len())?;
+    for (number, word) in words.iter().enumerate() {
         if number == place {
             advised.push("--")?;
         }
-        advised.push(other.as_str())?;
+        advised.push(word.as_str())?;
     }
     are_command(alloc, &advised)
 }
 
-/// What is said of words that are no command, without the advice to let one of them follow `--` if
-/// they are no command then either.
-fn without_vain_dashes(
+/// Whether an option that is none is a whole word: it isn't one letter of more, and no value follows it.
+fn is_whole(option: &str) -> bool {
+    match option.strip_prefix("--") {
+        Some(name) => !name.contains('='),
+        None => option.chars().count() == 2,
+    }
+}
+
+/// Whether words are a command if `--` stands before the one at this place, which is no argument.
+fn are_command_by_dashes(
     alloc: Global,
     words: &[String],
-    text: String,
-) -> Result<String, AllocError> {
-    let Some((before, advice)) = text.split_once(BEGINS) else {
-        return Ok(text);
-    };
-    let Some((word, _)) = advice.split_once(GOES_ON) else {
-        return Ok(text);
-    };
-    if are_command_with_dashes(alloc, words, word)? {
-        return Ok(text);
-    }
-    let Some((_, after)) = advice.split_once("\n\n") else {
-        return Ok(text);
-    };
-    format!(in alloc; "{before}{after}")
-}
-
-/// The usage in what is said of words where an option is none that is like no other.
-fn usage_without(
-    alloc: Global,
-    words: &[String],
-    option: &str,
-) -> Result<Option<String>, AllocError> {
-    let mut others = Vec::with_capacity(alloc, words.len())?;
-    for word in words {
-        if word.as_str() == option {
-            others.push(UNLIKE)?;
-        } else {
-            others.push(word.as_str())?;
-        }
-    }
-    let Some(text) = text_of(alloc, &others)? else {
-        return Ok(None);
-    };
-    match text.split_once(USAGE) {
-        Some((_, usage)) => Ok(Some(String::from_str(alloc, usage)?)),
-        None => Ok(None),
+    place: usize,
+) -> Result<bool, AllocError> {
+    match words.get(place) {
+        Some(word) if is_whole(word) => are_command_with_dashes(alloc, words, place),
+        _ => Ok(false),
     }
 }
 
-/// What is said of an option that is none and stands where a command does, with the advice that a command
-/// has its name, if one has.
-fn with_command(alloc: Global, words: &[String], text: String) -> Result<String, AllocError> {
-    let (Some((_, rest)), [program, first, ..]) = (text.split_once(NO_OPTION), words) else {
-        return Ok(text);
-    };
-    let Some((name, _)) = rest.split_once(FOUND) else {
-        return Ok(text);
-    };
-    let option = format!(in alloc; "--{name}")?;
-    if first.as_str() != option.as_str()
-        || !ask_for_help(alloc, &[program.as_str(), "help", name])?
-    {
-        return Ok(text);
+/// Whether the first word names a command, or asks for help.
+fn name_a_command(words: &[String]) -> bool {
+    match words {
+        [_, first, ..] => first.as_str() == "help" || is_command(first),
+        _ => false,
     }
-    match usage_without(alloc, words, option.as_str())? {
-        Some(usage) => {
-            format!(in alloc;
-                "{NO_OPTION}{name}{FOUND}{TIP}a command exists: '{name}'{USAGE}{usage}"
-            )
-        }
-        None => Ok(text),
-    }
-}
-
-/// What is said of the word `version`, which is no command, with the advice that an option is called so.
-fn with_version(alloc: Global, text: String) -> Result<String, AllocError> {
-    match (text.contains(NO_VERSION), text.split_once(USAGE)) {
-        (true, Some((_, usage))) => {
-            format!(in alloc; "{NO_VERSION}{TIP}an option exists: '--version'{USAGE}{usage}")
-        }
-        _ => Ok(text),
-    }
-}
-
-/// What is said of a word that is no command, with the advice that it is one in small letters, if so and
-/// if there is no other advice.
-fn with_small_letters(alloc: Global, words: &[String], text: String) -> Result<String, AllocError> {
-    if text.contains(TIP) {
-        return Ok(text);
-    }
-    let (Some((_, rest)), [program, ..]) = (text.split_once(NO_COMMAND), words) else {
-        return Ok(text);
-    };
-    let (Some((word, _)), Some((reason, usage))) = (rest.split_once("'"), text.split_once(USAGE))
-    else {
-        return Ok(text);
-    };
-    let name = word.to_ascii_lowercase(alloc)?;
-    if !ask_for_help(alloc, &[program.as_str(), "help", name.as_str()])? {
-        return Ok(text);
-    }
-    format!(in alloc; "{reason}{TIP}a similar subcommand exists: '{name}'{USAGE}{usage}")
 }
 
 /// Whether each file of a command line has a name.
@@ -210,21 +193,6 @@ fn are_command_after_verify(alloc: Global, words: &[String]) -> Result<bool, All
     }
 }
 
-/// What is said of words that name no command, with the advice to judge a movie, if that makes a command
-/// of them and there is no other advice.
-fn with_verify(alloc: Global, words: &[String], text: String) -> Result<String, AllocError> {
-    if text.contains(TIP) || !text.contains(ANY_COMMAND) || asked_of_help(words).is_some() {
-        return Ok(text);
-    }
-    let Some((reason, usage)) = text.split_once(USAGE) else {
-        return Ok(text);
-    };
-    if !are_command_after_verify(alloc, words)? {
-        return Ok(text);
-    }
-    format!(in alloc; "{reason}{TIP}to judge a movie, put 'verify' first{USAGE}{usage}")
-}
-
 /// Whether words name a command that judges a movie.
 fn judge_a_movie(words: &[String]) -> bool {
     match words {
@@ -233,21 +201,75 @@ fn judge_a_movie(words: &[String]) -> bool {
     }
 }
 
-/// What is said of a file that is one too many for a command that judges a movie, with the advice how
-/// more are judged.
-fn with_judge(alloc: Global, words: &[String], text: String) -> Result<String, AllocError> {
-    let (Some(rest), Some((reason, usage))) = (
-        text.strip_prefix(NO_ARGUMENT),
-        text.split_once(USAGE),
-    ) else {
-        return Ok(text);
-    };
-    if !judge_a_movie(words) || rest.starts_with('-') || text.contains(TIP) {
-        return Ok(text);
+/// The advice on a word that is no argument: an option may have the name of a command.
+fn advice_on_argument(words: &[String], place: usize, is_advised: bool) -> Option<Advice<'_>> {
+    let word = words.get(place)?.as_str();
+    match word.strip_prefix("--") {
+        Some(name) if place == 1 && is_command(name) => Some(Advice::Command { name }),
+        _ if !is_advised && judge_a_movie(words) && !word.starts_with('-') => Some(Advice::Judge),
+        _ => None,
     }
-    format!(in alloc;
-        "{reason}{TIP}'vcs_judge DIR --out VERDICTS' judges each movie of a folder{USAGE}{usage}"
-    )
+}
+
+/// The advice on a word that is no command: an option has its name, or a command has it in small letters.
+fn advice_on_command(
+    alloc: Global,
+    words: &[String],
+    place: usize,
+    is_advised: bool,
+) -> Result<Option<Advice<'static>>, AllocError> {
+    let Some(word) = words.get(place) else {
+        return Ok(None);
+    };
+    if word.as_str() == "version" {
+        return Ok(Some(Advice::Version));
+    }
+    let name = word.to_ascii_lowercase(alloc)?;
+    if !is_advised && (name.as_str() == "help" || is_command(&name)) {
+        return Ok(Some(Advice::SmallLetters { name }));
+    }
+    Ok(None)
+}
+
+/// The advice on a mistake that `clap` doesn't give, or gives worse, as far as it is known.
+fn advice_on(
+    alloc: Global,
+    words: &[String],
+    kind: ErrorKind,
+    place: usize,
+    is_advised: bool,
+) -> Result<Option<Advice<'_>>, AllocError> {
+    let advice = if kind == ErrorKind::UnknownArgument {
+        advice_on_argument(words, place, is_advised)
+    } else {
+        advice_on_command(alloc, words, place, is_advised)?
+    };
+    if advice.is_some() || is_advised || name_a_command(words) {
+        return Ok(advice);
+    }
+    if are_command_after_verify(alloc, words)? {
+        return Ok(Some(Advice::Verify));
+    }
+    Ok(None)
+}
+
+/// What is said with this advice and no other.
+fn with_advice(
+    alloc: Global,
+    program: &str,
+    said: &Said<'_>,
+    advice: &Advice<'_>,
+) -> Result<String, AllocError> {
+    let Said { reason, usage, .. } = said;
+    if let Advice::Command { .. } = advice {
+        // The usage there may be that of an option that is like it.
+        if let Some(unlike) = mistake_in(alloc, &[program, UNLIKE])? {
+            if let Some(Said { usage, .. }) = Said::of(&unlike.text) {
+                return format!(in alloc; "{reason}{BLANK}{TIP}{advice}{BLANK}{usage}");
+            }
+        }
+    }
+    format!(in alloc; "{reason}{BLANK}{TIP}{advice}{BLANK}{usage}")
 }
 
 /// The words after `help`, if that is the first.
@@ -287,45 +309,105 @@ pub(crate) fn help_without_explain(
     Ok(Some(without_explain(alloc, words)?))
 }
 
-/// What is said of words that ask for help on something that is no command: what is said of it without
-/// `help`, which names commands that are like it.
-fn without_help(alloc: Global, words: &[String], text: String) -> Result<String, AllocError> {
+/// The mistake in words that ask for help on something that is no command: it is that of the words without
+/// `help`, of which more is said.
+fn without_help(alloc: Global, words: &[String], mistake: Mistake) -> Result<Mistake, AllocError> {
     let (Some(others), [program, ..]) = (asked_of_help(words), words) else {
-        return Ok(text);
+        return Ok(mistake);
     };
-    if !text.contains(NO_COMMAND) {
-        return Ok(text);
+    if mistake.kind != ErrorKind::InvalidSubcommand {
+        return Ok(mistake);
     }
     let mut asked = Vec::with_capacity(alloc, words.len())?;
     asked.push(program.as_str())?;
     for word in others {
         asked.push(word.as_str())?;
     }
-    match text_of(alloc, &asked)? {
-        Some(other) if other.contains(NO_COMMAND) => Ok(other),
-        _ => Ok(text),
+    match mistake_in(alloc, &asked)? {
+        Some(other) if other.kind == ErrorKind::InvalidSubcommand => Ok(other),
+        _ => Ok(mistake),
     }
 }
 
 /// What is said of words that are no command, with no advice that leads to none or to another command
 /// than was meant, as far as that is known.
-fn with_good_advice(alloc: Global, words: &[String], text: String) -> Result<String, AllocError> {
-    let text = without_help(alloc, words, text)?;
-    let text = with_command(alloc, words, text)?;
-    let text = with_version(alloc, text)?;
-    let text = with_small_letters(alloc, words, text)?;
-    let text = with_verify(alloc, words, text)?;
-    let text = with_judge(alloc, words, text)?;
-    without_vain_dashes(alloc, words, text)
+fn with_good_advice(
+    alloc: Global,
+    words: &[String],
+    mistake: Mistake,
+) -> Result<String, AllocError> {
+    let Mistake { kind, text } = without_help(alloc, words, mistake)?;
+    let (Some(place), Some(said), [program, ..]) = (
+        place_of(alloc, words, kind)?,
+        Said::of(&text),
+        words,
+    ) else {
+        return Ok(text);
+    };
+    let is_advised = said.advice.is_some();
+    if let Some(advice) = advice_on(alloc, words, kind, place, is_advised)? {
+        return with_advice(alloc, program, &said, &advice);
+    }
+    if !said.advice.unwrap_or("").starts_with(DASHES)
+        || are_command_by_dashes(alloc, words, place)?
+    {
+        return Ok(text);
+    }
+    let Said { reason, usage, .. } = said;
+    format!(in alloc; "{reason}{BLANK}{usage}")
 }
 
 /// What is said of words that are no command: what is said of them without `--explain`, if they are none
 /// then either, since most advice depends on the first of them.
-pub(crate) fn advised(alloc: Global, words: &[String], text: String) -> Result<String, AllocError> {
+pub(crate) fn advised(
+    alloc: Global,
+    words: &[String],
+    kind: ErrorKind,
+    text: String,
+) -> Result<String, AllocError> {
     let others = without_explain(alloc, words)?;
     match parse_line(alloc, &others) {
         Err(LineFault::Memory) => Err(AllocError),
-        Err(LineFault::Usage { text, .. }) => with_good_advice(alloc, &others, text),
-        _ => with_good_advice(alloc, words, text),
+        Err(LineFault::Usage { kind, text }) => {
+            with_good_advice(alloc, &others, Mistake { kind, text })
+        }
+        _ => with_good_advice(alloc, words, Mistake { kind, text }),
+    }
+}
+
+/// Whether a word is a number that is negative.
+fn is_negative(word: &str) -> bool {
+    matches!(word.as_bytes(), [b'-', b'0'..=b'9', ..])
+}
+
+/// What to write in place of words that are no command, if that is known and no advice is it.
+fn remark_on(alloc: Global, words: &[String]) -> Result<Option<&'static str>, AllocError> {
+    let kind = match parse_line(alloc, words) {
+        Err(LineFault::Memory) => return Err(AllocError),
+        Err(LineFault::Usage { kind, .. }) => kind,
+        _ => return Ok(None),
+    };
+    let Some(place) = place_of(alloc, words, kind)? else {
+        return Ok(None);
+    };
+    let Some(word) = words.get(place) else {
+        return Ok(None);
+    };
+    if word.starts_with("-o") {
+        return Ok(Some("-o: --out names what is written, and --pictures of verify"));
+    }
+    if kind == ErrorKind::UnknownArgument
+        && is_negative(word)
+        && !are_command_by_dashes(alloc, words, place)?
+    {
+        return Ok(Some("a number after an option is never negative"));
+    }
+    Ok(None)
+}
+
+/// Says what to write in place of words that are no command, if that is known.
+pub(crate) fn tell_remark<R: Files + AllocGlobal + Eprint>(rt: &R, words: &[String]) {
+    if let Ok(Some(remark)) = remark_on(rt.alloc(), words) {
+        write_reason(rt, remark);
     }
 }

@@ -58,16 +58,6 @@ fn print_whole<R: Files + Print>(rt: &R, text: &str) -> io::Result<()> {
     sync_standard_output(rt)
 }
 
-/// Whether a text says that a negative number is no argument, and gives no advice.
-fn blames_sign(text: &str) -> bool {
-    match text.split_once("unexpected argument '-") {
-        Some((_, rest)) => {
-            matches!(rest.as_bytes(), [b'0'..=b'9', ..]) && !text.contains("tip: ")
-        }
-        None => false,
-    }
-}
-
 impl Ending<'_> {
     /// The program's exit status.
     fn code(&self) -> u8
@@ -80,18 +70,9 @@ impl Ending<'_> {
         }
     }
 
-    /// Says the reason: a file's error, or what to write in place of the arguments.
+    /// Says the reason: a file's error, or how a file can be named.
     fn explain<R: Files + Eprint>(&self, rt: &R) {
         match self {
-            Ending::Usage { text } if text.contains("'-o'") => {
-                write_reason(
-                    rt,
-                    "-o: --out names what is written, and --pictures of verify",
-                );
-            }
-            Ending::Usage { text } if blames_sign(text) => {
-                write_reason(rt, "a number after an option is never negative");
-            }
             Ending::NotUtf8 => {
                 write_reason(
                     rt,

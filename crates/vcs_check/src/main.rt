@@ -36,7 +36,7 @@ ghost use Rattle.vcs_check.specs.Private.FileErrors.{by_input, by_output};
 ghost use Rattle.std.specs.Io.KnownBytes.{Keeps};
 ghost use Rattle.std.specs.Process.{exit_status};
 
-use advice::{advised, help_without_explain};
+use advice::{advised, help_without_explain, tell_remark};
 use clap::error::ErrorKind;
 use command_files::{answer_line, draws, reads_first, reads_second, takes_file};
 use command_line::{CommandLine, LineFault, parse_line};
@@ -68,7 +68,7 @@ fn advised_fault(alloc: Global, words: &[String], fault: LineFault) -> Result<Li
     match fault {
         LineFault::Usage { kind, text } => Ok(LineFault::Usage {
             kind,
-            text: advised(alloc, words, text)?,
+            text: advised(alloc, words, kind, text)?,
         }),
         other => Ok(other),
     }
@@ -281,7 +281,14 @@ fn main(rt: HostRuntime) -> ExitCode {
     };
     let line = match line_of_words(rt.alloc(), &words) {
         Ok(line) => line,
-        Err(ending) => return ending.report(&rt, is_terminal || has_explain(&words)),
+        Err(ending) => {
+            let explain = is_terminal || has_explain(&words);
+            let code = ending.report(&rt, explain);
+            if explain {
+                tell_remark(&rt, &words);
+            }
+            return code;
+        }
     };
     let line = CommandLine {
         explain: is_terminal || line.explain,
