@@ -1,2 +1,10 @@
 pub mod NumberLemmas
 pub mod RangeLemmas
+pub mod UnderwayBall
+pub mod UnderwayBeam
+pub mod UnderwayClock
+pub mod UnderwayLaws
+pub mod UnderwayMissiles
+pub mod UnderwayNumbers
+pub mod UnderwayPlayers
+pub mod UnderwayTables

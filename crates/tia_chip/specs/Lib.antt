@@ -16,4 +16,5 @@ pub mod PowerOn
 pub mod Private
 pub mod Read
 pub mod Registers
+pub mod Underway
 pub mod Write
