@@ -1,5 +1,5 @@
 -- What is true of the ball's numbers, and that steps, looks and writes keep it.
-use Rattle.std.proofs.Common.{◌≡◌, ℕ, ◌+◌, ◌-◌, ◌%◌, ◌<◌, ◌≤◌, ◌==◌, ◌&&◌, ◌||◌, ◌⊎◌, not, max, Bool, true, false, arith, refl, if◌then◌else◌}
+use Rattle.std.proofs.Common.{◌≡◌, ℕ, ◌+◌, ◌%◌, ◌<◌, ◌≤◌, ◌==◌, ◌&&◌, ◌||◌, not, max, Bool, true, false, arith, refl}
 use Rattle.std.proofs.Common.{Option, Some, None, rules}
 use Rattle.std.proofs.lemmas.Bool.{cond_both}
 use Rattle.std.proofs.lemmas.Bool.Decides.{nat_tests}
@@ -8,10 +8,10 @@ use Rattle.tia_chip.proofs.UnderwayMissiles.{IsSize, IsSize-of}
 use Rattle.tia_chip.proofs.UnderwayPlayers.{next_counter-small}
 use Rattle.tia_chip.specs.Ball.{ball_after_step, ball_after_strobe, begun_place, begun_size, ending_size, looked_at_ball, stepped_place}
 use Rattle.tia_chip.specs.Blank.{is_in_blank}
-use Rattle.tia_chip.specs.Counter.{begins_copy, next_counter}
+use Rattle.tia_chip.specs.Counter.{begins_copy}
 use Rattle.tia_chip.specs.Missile.{size_of}
 use Rattle.tia_chip.specs.Motion.{ball_after_pulse, still_moves}
-use Rattle.tia_chip.specs.Numbers.{ball_copy_number, is_ball, size_number}
+use Rattle.tia_chip.specs.Numbers.{ball_copy_number, size_number}
 use Rattle.tia_chip.specs.Registers.{fits_register}
 use Rattle.tia_chip.specs.declared.ball.Ball.{Ball}
 use Rattle.tia_chip.specs.declared.register.Register.TheVariants.{Enabl, Hmbl, Vdelbl}

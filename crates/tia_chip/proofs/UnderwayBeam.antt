@@ -1,19 +1,18 @@
 -- The numbers of the beam: that clocks and writes keep what is true of them.
-use Rattle.std.proofs.Common.{◌≡◌, ℕ, ◌+◌, ◌-◌, ◌%◌, ◌<◌, ◌≤◌, ◌==◌, ◌&&◌, ◌||◌, not, min, Bool, true, false, arith, refl, if◌then◌else◌, rules}
+use Rattle.std.proofs.Common.{◌≡◌, ℕ, ◌+◌, ◌-◌, ◌%◌, ◌<◌, ◌==◌, ◌&&◌, ◌||◌, not, min, Bool, true, false, arith, refl, if◌then◌else◌}
 use Rattle.std.proofs.Common.{Option, Some, None}
 use Rattle.std.proofs.lemmas.Bool.{cond_both, false≢true}
 use Rattle.std.proofs.lemmas.Bool.Decides.{nat_tests}
-use Rattle.std.specs.Prelude.{List, [], ◌∷◌, nat_le, nat_lt}
+use Rattle.std.specs.Prelude.{[], ◌∷◌, nat_le, nat_lt}
 use Rattle.tia_chip.proofs.UnderwayPlayers.{resized-alike}
 use Rattle.tia_chip.specs.Bits.{has_bit}
 use Rattle.tia_chip.specs.Blank.{is_in_blank}
-use Rattle.tia_chip.specs.Clock.{after_clock, at_line_start, at_next_clock, at_next_line, at_pixel, stepped}
-use Rattle.tia_chip.specs.Clock.{with_next_clock, without_rest, without_seen}
+use Rattle.tia_chip.specs.Clock.{after_clock, at_line_start, at_next_clock, at_pixel, stepped}
+use Rattle.tia_chip.specs.Clock.{with_next_clock, without_rest}
 use Rattle.tia_chip.specs.Collision.{latched, number_from}
 use Rattle.tia_chip.specs.Motion.{any_moves, pulsed}
 use Rattle.tia_chip.specs.Numbers.{seen_number}
 use Rattle.tia_chip.specs.Playfield.{mirrored_at, playfield_at, playfield_bit, playfield_index, with_playfield}
-use Rattle.tia_chip.specs.PlayerWidth.{player_after_nusiz}
 use Rattle.tia_chip.specs.Read.{tia_after_read}
 use Rattle.tia_chip.specs.Registers.{delay_of, register_bits}
 use Rattle.tia_chip.specs.Write.{acted, after_action, after_register_write, at_once, player_after_write, with_hmove_in}

@@ -1,7 +1,6 @@
 -- One clock keeps what is true of the numbers of a TIA but those of its beam, and so does a read.
-use Rattle.std.proofs.Common.{◌≡◌, ℕ, zero, suc, ◌+◌, ◌-◌, ◌*◌, ◌%◌, ◌<◌, ◌≤◌, ◌==◌, ◌&&◌, ◌||◌, ◌^◌, not, min, Bool, true, false, arith, refl, if◌then◌else◌, rules, bit_or}
+use Rattle.std.proofs.Common.{◌≡◌, ℕ, zero, suc, ◌+◌, ◌-◌, ◌*◌, ◌%◌, ◌<◌, ◌==◌, ◌&&◌, ◌||◌, not, min, Bool, true, false, arith, refl, if◌then◌else◌, rules, bit_or}
 use Rattle.std.proofs.lemmas.Bool.{cond_both, not-false}
-use Rattle.std.proofs.lemmas.Bool.Decides.{nat_tests}
 use Rattle.std.proofs.lemmas.Nat.{or_lt}
 use Rattle.std.specs.Prelude.{List, [], ◌∷◌, length, map, nat_le, nat_lt}
 use Rattle.tia_chip.proofs.UnderwayBall.{ball-looked_at, ball-pulsed, ball-stepped, ball-unseen}
@@ -11,7 +10,7 @@ use Rattle.tia_chip.proofs.UnderwayNumbers.{HasNumbers, moves-alike, waited_writ
 use Rattle.tia_chip.proofs.UnderwayPlayers.{player-looked_at, player-pulsed, player-stepped, player-unseen, stepped-moves}
 use Rattle.tia_chip.specs.Bits.{has_bit}
 use Rattle.tia_chip.specs.Blank.{is_in_blank}
-use Rattle.tia_chip.specs.Clock.{after_clock, at_line_start, at_next_clock, at_next_line, at_pixel, looked_at, stepped}
+use Rattle.tia_chip.specs.Clock.{after_clock, at_line_start, at_next_clock, at_next_line, at_pixel, stepped}
 use Rattle.tia_chip.specs.Clock.{with_next_clock, without_rest, without_seen}
 use Rattle.tia_chip.specs.Collision.{is_latching, latched, meets, number_from, pair_table, pairs_of}
 use Rattle.tia_chip.specs.Ball.{ball_after_step}
@@ -103,7 +102,7 @@ latched-kept : (t : TiaState) → HasNumbers t → HasNumbers (latched t)
 latched-kept t h =
     let pairs = pairs_of (lit_objects t) in
     let collisions : (if is_latching t then bit_or t.collisions pairs else t.collisions) < 32768 =
-        cond_both (is_latching t) _ _ (λ n. n < 32768) (λ e. or_lt 15 t.collisions pairs h.collisions (pairs_of-below (lit_objects t))) (λ e. h.collisions)
+    cond_both (is_latching t) _ _ (λ n. n < 32768) (λ e. or_lt 15 t.collisions pairs h.collisions (pairs_of-below (lit_objects t))) (λ e. h.collisions)
     in
     search (rules, collisions)
 

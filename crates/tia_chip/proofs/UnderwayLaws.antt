@@ -1,8 +1,8 @@
 -- What is true of the numbers of a TIA that runs is true at power-on, and each call keeps it.
-use Rattle.std.proofs.Common.{◌≡◌, ℕ, Bool, refl, rules}
-use Rattle.tia_chip.proofs.UnderwayBeam.{HasLine, line-clock, line-read, line-write}
+use Rattle.std.proofs.Common.{ℕ, Bool, refl, rules}
+use Rattle.tia_chip.proofs.UnderwayBeam.{line-clock, line-read, line-write}
 use Rattle.tia_chip.proofs.UnderwayClock.{clock-kept, read-kept}
-use Rattle.tia_chip.proofs.UnderwayNumbers.{HasNumbers, register_write-kept}
+use Rattle.tia_chip.proofs.UnderwayNumbers.{register_write-kept}
 use Rattle.tia_chip.proofs.UnderwayTables.{has_line, has_numbers, is_underway, underway-record}
 use Rattle.tia_chip.specs.Clock.{after_clock}
 use Rattle.tia_chip.specs.Numbers.{is_tia}

@@ -1,5 +1,5 @@
 -- What is true of a missile's numbers, and that steps, looks and writes keep it.
-use Rattle.std.proofs.Common.{◌≡◌, ℕ, ◌+◌, ◌-◌, ◌%◌, ◌/◌, ◌^◌, ◌<◌, ◌≤◌, ◌==◌, ◌&&◌, ◌||◌, ◌⊎◌, not, Bool, true, false, arith, refl, if◌then◌else◌}
+use Rattle.std.proofs.Common.{◌≡◌, ℕ, ◌+◌, ◌%◌, ◌/◌, ◌^◌, ◌<◌, ◌≤◌, ◌==◌, ◌&&◌, ◌⊎◌, not, Bool, true, false, arith, refl, if◌then◌else◌}
 use Rattle.std.proofs.Common.{Option, Some, None, zero, suc, rules}
 use Rattle.std.proofs.lemmas.Bool.{cond_both}
 use Rattle.std.proofs.lemmas.Bool.Decides.{nat_tests}
@@ -7,10 +7,9 @@ use Rattle.std.specs.Prelude.{nat_le, nat_lt}
 use Rattle.tia_chip.proofs.UnderwayPlayers.{next_counter-small}
 use Rattle.tia_chip.specs.Bits.{has_bit}
 use Rattle.tia_chip.specs.Blank.{is_in_blank}
-use Rattle.tia_chip.specs.Counter.{next_counter}
 use Rattle.tia_chip.specs.Missile.{begins_missile, copy_about_to_show, copy_before_step, is_locked, looked_at_missile}
 use Rattle.tia_chip.specs.Missile.{missile_after_nusiz, missile_after_resmp, missile_after_step, missile_after_strobe}
-use Rattle.tia_chip.specs.Missile.{release_of, resized_copy, size_of, stepped_missile_copy, strobed_missile_copy}
+use Rattle.tia_chip.specs.Missile.{resized_copy, size_of, stepped_missile_copy, strobed_missile_copy}
 use Rattle.tia_chip.specs.Motion.{missile_after_pulse, still_moves}
 use Rattle.tia_chip.specs.Numbers.{is_missile_copy, missile_copy_number, own_size_number}
 use Rattle.tia_chip.specs.Registers.{fits_register}

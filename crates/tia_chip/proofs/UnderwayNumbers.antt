@@ -1,36 +1,32 @@
 -- The numbers of a TIA but those of its beam, and that what a write does keeps what is true of them.
-use Rattle.std.proofs.Common.{◌≡◌, ℕ, ◌+◌, ◌-◌, ◌*◌, ◌%◌, ◌/◌, ◌^◌, ◌<◌, ◌≤◌, ◌==◌, ◌&&◌, ◌||◌, ◌⊎◌, not, min, Bool, true, false, arith, refl, if◌then◌else◌}
-use Rattle.std.proofs.Common.{Option, Some, None, zero, suc, rules, bit_and, ap, sym}
-use Rattle.std.proofs.lemmas.Bool.{cond_both, eq-eqb, not-false}
+use Rattle.std.proofs.Common.{◌≡◌, ℕ, ◌+◌, ◌-◌, ◌*◌, ◌^◌, ◌<◌, ◌≤◌, ◌==◌, ◌||◌, Bool, true, false, arith, refl, if◌then◌else◌}
+use Rattle.std.proofs.Common.{Option, Some, None, zero, suc, rules, bit_and, ap}
+use Rattle.std.proofs.lemmas.Bool.{cond_both, eq-eqb, true≢false}
 use Rattle.std.proofs.lemmas.Bool.Decides.{nat_tests}
 use Rattle.std.proofs.lemmas.Nat.Bits.{bit_at_and, same_from_bits, and_pow, bit_at-lt}
 use Rattle.std.specs.Int.{bit_at}
-use Rattle.std.specs.Prelude.{nat_le, nat_lt, IfSome}
+use Rattle.std.specs.Prelude.{IfSome}
 use Rattle.tia_chip.proofs.UnderwayBall.{IsBallUnderway, ball-strobed, ball-moved}
 use Rattle.tia_chip.proofs.UnderwayMissiles.{IsMissileUnderway, missile-moved, missile-resized, missile-strobed, missile-released}
 use Rattle.tia_chip.proofs.UnderwayPlayers.{IsPlayerUnderway, player-moved, player-resized, player-strobed, player-written}
 use Rattle.tia_chip.proofs.UnderwayPlayers.{resized-alike, written-moves}
 use Rattle.tia_chip.specs.Bits.{has_bit}
 use Rattle.tia_chip.specs.Blank.{is_in_blank, lateness_of}
-use Rattle.tia_chip.specs.Motion.{after_hmove, any_moves}
+use Rattle.tia_chip.specs.Motion.{any_moves}
 use Rattle.tia_chip.specs.PlayerWidth.{player_after_nusiz}
-use Rattle.tia_chip.specs.Registers.{delay_of, fits_register, mask_of, register_bits, register_of}
-use Rattle.tia_chip.specs.Write.{acted, after_action, after_register_write, at_once, player_after_write, tia_after_write}
-use Rattle.tia_chip.specs.Write.{vblank_of, with_changes, with_hmove_in, with_latching, with_waited, with_waited_hmove}
+use Rattle.tia_chip.specs.Registers.{delay_of, fits_register, mask_of, register_bits}
+use Rattle.tia_chip.specs.Underway.{IsOnItsWay}
+use Rattle.tia_chip.specs.Write.{acted, after_action, after_register_write, at_once}
+use Rattle.tia_chip.specs.Write.{vblank_of, with_changes, with_hmove_in, with_waited}
 use Rattle.tia_chip.specs.Write.{with_waited_write, with_waited_writes, with_waiting}
-use Rattle.tia_chip.specs.declared.ball.Ball.{Ball}
-use Rattle.tia_chip.specs.declared.missile.Missile.{Missile}
-use Rattle.tia_chip.specs.declared.player.Player.{Player}
 use Rattle.tia_chip.specs.declared.register.Register.{Register}
-use Rattle.tia_chip.specs.declared.register.Register.TheVariants.{Vsync, Vblank, Wsync, Rsync}
+use Rattle.tia_chip.specs.declared.register.Register.TheVariants.{Vsync, Vblank}
 use Rattle.tia_chip.specs.declared.register.Register.TheVariants.{Nusiz0, Nusiz1, Colup0, Colup1}
-use Rattle.tia_chip.specs.declared.register.Register.TheVariants.{Colupf, Colubk, Ctrlpf, Refp0}
-use Rattle.tia_chip.specs.declared.register.Register.TheVariants.{Refp1, Pf0, Pf1, Pf2, Resp0}
-use Rattle.tia_chip.specs.declared.register.Register.TheVariants.{Resp1, Resm0, Resm1, Resbl, Grp0}
-use Rattle.tia_chip.specs.declared.register.Register.TheVariants.{Grp1, Enam0, Enam1, Enabl, Hmp0}
-use Rattle.tia_chip.specs.declared.register.Register.TheVariants.{Hmp1, Hmm0, Hmm1, Hmbl, Vdelp0}
-use Rattle.tia_chip.specs.declared.register.Register.TheVariants.{Vdelp1, Vdelbl, Resmp0, Resmp1}
-use Rattle.tia_chip.specs.declared.register.Register.TheVariants.{Hmove, Hmclr, Cxclr, Ignored}
+use Rattle.tia_chip.specs.declared.register.Register.TheVariants.{Colupf, Colubk, Ctrlpf}
+use Rattle.tia_chip.specs.declared.register.Register.TheVariants.{Pf0, Resp0}
+use Rattle.tia_chip.specs.declared.register.Register.TheVariants.{Resp1, Resm0, Resm1, Resbl}
+use Rattle.tia_chip.specs.declared.register.Register.TheVariants.{Resmp0, Resmp1}
+use Rattle.tia_chip.specs.declared.register.Register.TheVariants.{Hmove}
 use Rattle.tia_chip.specs.declared.state.TiaState.{TiaState}
 use Rattle.tia_chip.specs.declared.waiting.Waiting.{Waiting}
 
@@ -53,12 +49,12 @@ pub record HasNumbers (t : TiaState) : Type 0 where
   pub moves : (any_moves t || (t.pulses == 0)) ≡ true
   pub latches : t.latches < 4
   pub latched : (has_bit t.vblank 6 || (t.latches == 0)) ≡ true
-  pub waiting : IfSome t.waiting (λ w. w.clocks ≤ 2)
-  pub hmove : IfSome t.hmove (λ clocks. clocks ≤ 6)
+  pub waiting : IfSome t.waiting IsOnItsWay
+  pub hmove : IfSome t.hmove (λ clocks. clocks ≤ delay_of Hmove)
 
 -- the bits that a register keeps
 and-twice : (n m : ℕ) → bit_and (bit_and n m) m ≡ bit_and n m
-and-twice n m = same_from_bits _ _ (λ i. rw (bit_at_and, bit_at_and) (omega arith))
+and-twice n m = same_from_bits _ _ (λ i. rw (bit_at_and (bit_and n m) m i, bit_at_and n m i) (omega arith))
 
 pub fits-bits : (r : Register) (v : ℕ) → fits_register r (register_bits r v) ≡ true
 fits-bits r v = eq-eqb _ _ (and-twice v (mask_of r))
@@ -98,13 +94,13 @@ acted-kept Vblank v t h =
 acted-kept Nusiz0 v t h =
     let p = player_after_nusiz (is_in_blank t) (register_bits Nusiz0 v) t.player0 in
     let moves : HasMoves p.moves t.player1.moves t.missile0.moves t.missile1.moves t.ball.moves t.pulses =
-        moves-alike _ _ _ _ _ _ _ _ _ _ _ (resized-alike (is_in_blank t) (register_bits Nusiz0 v) t.player0).0 refl refl refl refl h.moves
+    moves-alike _ _ _ _ _ _ _ _ _ _ _ (resized-alike (is_in_blank t) (register_bits Nusiz0 v) t.player0).0 refl refl refl refl h.moves
     in
     search (rules, player-resized, missile-resized, fits-bits, moves)
 acted-kept Nusiz1 v t h =
     let p = player_after_nusiz (is_in_blank t) (register_bits Nusiz1 v) t.player1 in
     let moves : HasMoves t.player0.moves p.moves t.missile0.moves t.missile1.moves t.ball.moves t.pulses =
-        moves-alike _ _ _ _ _ _ _ _ _ _ _ refl (resized-alike (is_in_blank t) (register_bits Nusiz1 v) t.player1).0 refl refl refl h.moves
+    moves-alike _ _ _ _ _ _ _ _ _ _ _ refl (resized-alike (is_in_blank t) (register_bits Nusiz1 v) t.player1).0 refl refl refl h.moves
     in
     search (rules, player-resized, missile-resized, fits-bits, moves)
 acted-kept Hmove v t h = search (rules, player-moved, missile-moved, ball-moved)
@@ -122,7 +118,7 @@ changes-kept before after h =
     let player0 = written-moves (is_in_blank after) before.player0 after.player0 in
     let player1 = written-moves (is_in_blank after) before.player1 after.player1 in
     let moves : (any_moves (with_changes before after) || (after.pulses == 0)) ≡ true =
-        moves-alike _ _ _ _ _ _ _ _ _ _ _ player0 player1 refl refl refl h.moves
+    moves-alike _ _ _ _ _ _ _ _ _ _ _ player0 player1 refl refl refl h.moves
     in
     search (rules, player-written, moves)
 
@@ -138,28 +134,35 @@ at_once-kept : (r : Register) (v : ℕ) (t : TiaState) → HasNumbers t → HasN
 at_once-kept Vblank v t h =
     let latches : (if has_bit v 6 then t.latches else 0) < 4 = cond_both (has_bit v 6) _ _ (λ n. n < 4) (λ e. h.latches) (λ e. omega arith) in
     let latched : (has_bit (vblank_of v t.vblank) 6 || ((if has_bit v 6 then t.latches else 0) == 0)) ≡ true =
-        rw (vblank-six v t.vblank) (latch-cleared (has_bit v 6) t.latches)
+    rw (vblank-six v t.vblank) (latch-cleared (has_bit v 6) t.latches)
     in
     search (rules, fits-vblank, latches, latched)
 at_once-kept r v t h = h
 
-waiting-kept : (r : Register) (v : ℕ) (t : TiaState) → HasNumbers t → HasNumbers (with_waiting r v t)
-waiting-kept r v t h = search (rules, arith)
+-- all but HMOVE wait at most two clocks
+waits : (r : Register) → (delay_of r == 0) ≡ false → (delay_of r == 6) ≡ false → (1 ≤ delay_of r) × (delay_of r ≤ 2) × (delay_of r ≤ delay_of r)
+waits Hmove e f = absurd (true≢false f)
+waits r e f = (grind (arith, nat_tests, e), omega arith, omega arith)
+
+waiting-kept : (r : Register) (v : ℕ) (t : TiaState) → (delay_of r == 0) ≡ false → HasNumbers t → HasNumbers (with_waiting r v t)
+waiting-kept Hmove v t e h = search (rules, arith)
+waiting-kept r v t e h = let w = waits r e refl in search (rules, w)
 
 pub register_write-kept : (r : Register) (v : ℕ) (t : TiaState) → HasNumbers t → HasNumbers (after_register_write r v t)
 register_write-kept r v t h =
-    cond_both (delay_of r == 0) _ _ HasNumbers (λ e. action-kept r v t h) (λ e. waiting-kept r v (at_once r v t) (at_once-kept r v t h))
+    cond_both (delay_of r == 0) _ _ HasNumbers (λ e. action-kept r v t h)
+    (λ e. waiting-kept r v (at_once r v t) e (at_once-kept r v t h))
 
 -- writes that were on their way
-waited-kept : (w : Option Waiting) (t : TiaState) → IfSome w (λ w. w.clocks ≤ 2) → HasNumbers t → HasNumbers (with_waited w t)
+waited-kept : (w : Option Waiting) (t : TiaState) → IfSome w IsOnItsWay → HasNumbers t → HasNumbers (with_waited w t)
 waited-kept None t k h = h
 waited-kept (Some w) t k h =
     let none : HasNumbers (record t { waiting = None }) = search rules in
-    let nearer : w.clocks - 1 ≤ 2 = omega arith in
+    let nearer : IsOnItsWay (record w { clocks = w.clocks - 1 }) = (k.0, k.1, omega arith) in
     let later : HasNumbers (record t { waiting = Some (record w { clocks = w.clocks - 1 }) }) = search (rules, nearer) in
     cond_both (w.clocks == 0) _ _ HasNumbers (λ e. action-kept w.register w.value _ none) (λ e. later)
 
-hmove_in-kept : (hmove : Option ℕ) (t : TiaState) → IfSome hmove (λ clocks. clocks ≤ 6) → HasNumbers t → HasNumbers (with_hmove_in hmove t)
+hmove_in-kept : (hmove : Option ℕ) (t : TiaState) → IfSome hmove (λ clocks. clocks ≤ delay_of Hmove) → HasNumbers t → HasNumbers (with_hmove_in hmove t)
 hmove_in-kept None t k h = h
 hmove_in-kept (Some clocks) t k h =
     let none : HasNumbers (record t { hmove = None }) = search rules in

@@ -1,5 +1,5 @@
 -- What is true of a player's numbers, and that steps, looks and writes keep it.
-use Rattle.std.proofs.Common.{◌≡◌, ℕ, ◌+◌, ◌-◌, ◌%◌, ◌<◌, ◌≤◌, ◌==◌, ◌&&◌, ◌||◌, ◌⊎◌, not, Bool, true, false, arith, refl, if◌then◌else◌}
+use Rattle.std.proofs.Common.{◌≡◌, ℕ, ◌-◌, ◌%◌, ◌<◌, ◌≤◌, ◌==◌, ◌&&◌, ◌||◌, ◌⊎◌, not, Bool, true, false, arith, refl, if◌then◌else◌}
 use Rattle.std.proofs.Common.{Option, Some, None, rules}
 use Rattle.std.proofs.lemmas.Bool.{cond_both}
 use Rattle.std.proofs.lemmas.Bool.Decides.{nat_tests}
@@ -7,12 +7,12 @@ use Rattle.std.specs.Prelude.{nat_le, nat_lt}
 use Rattle.tia_chip.specs.Blank.{is_in_blank}
 use Rattle.tia_chip.specs.Counter.{begins_copy, next_counter}
 use Rattle.tia_chip.specs.Motion.{player_after_pulse, still_moves}
-use Rattle.tia_chip.specs.Numbers.{bit_number, is_player, player_copy_number}
+use Rattle.tia_chip.specs.Numbers.{bit_number, player_copy_number}
 use Rattle.tia_chip.specs.Player.{begins_player, copy_after_step, counts_for_change, ends_bit, looked_at_player}
-use Rattle.tia_chip.specs.Player.{next_place, player_after_step, player_after_strobe, stepped_copy, strobed_copy}
+use Rattle.tia_chip.specs.Player.{player_after_step, player_after_strobe, stepped_copy, strobed_copy}
 use Rattle.tia_chip.specs.Player.{width_of, with_awaited_step, is_player_changed}
-use Rattle.tia_chip.specs.PlayerWidth.{beginning_of, change_of, copy_at_change, copy_in_mode, place_at_change}
-use Rattle.tia_chip.specs.PlayerWidth.{place_for_change, player_after_nusiz, steps_to_change, with_width}
+use Rattle.tia_chip.specs.PlayerWidth.{beginning_of, change_of, copy_at_change, copy_in_mode}
+use Rattle.tia_chip.specs.PlayerWidth.{player_after_nusiz, steps_to_change, with_width}
 use Rattle.tia_chip.specs.Registers.{fits_register}
 use Rattle.tia_chip.specs.Write.{player_after_write}
 use Rattle.tia_chip.specs.declared.player.Player.{Player}

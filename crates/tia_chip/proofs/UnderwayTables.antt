@@ -1,29 +1,26 @@
 -- The numbers of a TIA that runs pass the tests of a record's numbers exactly where each of them is as
 -- steps and writes keep it.
-use Rattle.std.proofs.Common.{◌≡◌, ℕ, ◌+◌, ◌*◌, ◌%◌, ◌/◌, ◌<◌, ◌≤◌, ◌==◌, ◌&&◌, ◌||◌, ◌++◌, not, Bool, true, false, IsTrue, arith, refl, if◌then◌else◌, rules}
+use Rattle.std.proofs.Common.{◌≡◌, ℕ, ◌%◌, ◌/◌, ◌<◌, ◌≤◌, ◌==◌, ◌&&◌, ◌||◌, ◌++◌, not, Bool, true, IsTrue, arith, refl, if◌then◌else◌, rules}
 use Rattle.std.proofs.Common.{Option, Some, None, List, [], ◌∷◌}
 use Rattle.std.proofs.lemmas.Bool.{and_from, and_parts, eqb-true, false≢true, lt-ltb, ltb-true}
 use Rattle.std.proofs.lemmas.Bool.Decides.{nat_tests}
 use Rattle.std.specs.Prelude.{IfSome, is_none, nat_le, nat_lt}
 use Rattle.record_table.proofs.TableLemmas.{are_lawful-append}
 use Rattle.record_table.specs.Numbers.{Number, are_lawful}
-use Rattle.tia_chip.proofs.UnderwayBall.{IsBallUnderway, IsOwnSize}
-use Rattle.tia_chip.proofs.UnderwayBeam.{HasBeam, HasLine, HasSeen, HasStart}
+use Rattle.tia_chip.proofs.UnderwayBall.{IsBallUnderway}
+use Rattle.tia_chip.proofs.UnderwayBeam.{HasBeam, HasLine}
 use Rattle.tia_chip.proofs.UnderwayClock.{bit-below, five-below}
 use Rattle.tia_chip.proofs.UnderwayMissiles.{IsMissileUnderway}
 use Rattle.tia_chip.proofs.UnderwayNumbers.{HasNumbers}
-use Rattle.tia_chip.proofs.UnderwayPlayers.{IsChange, IsPlayerUnderway, IsWidthNumber}
-use Rattle.tia_chip.specs.Bits.{has_bit}
-use Rattle.tia_chip.specs.Blank.{is_in_blank}
-use Rattle.tia_chip.specs.Collision.{number_from}
-use Rattle.tia_chip.specs.Motion.{any_moves}
-use Rattle.tia_chip.specs.Numbers.{beam_numbers, bit_number, colour_numbers, counter_numbers, is_ball, is_beam}
-use Rattle.tia_chip.specs.Numbers.{is_missile_copy, is_player, is_settled, is_tia, motion_numbers, object_numbers}
-use Rattle.tia_chip.specs.Numbers.{place_numbers, player_copy_number, player_numbers, seen_number, size_number}
+use Rattle.tia_chip.proofs.UnderwayPlayers.{IsPlayerUnderway, IsWidthNumber}
+use Rattle.tia_chip.specs.Numbers.{beam_numbers, bit_number, colour_numbers, counter_numbers, is_beam}
+use Rattle.tia_chip.specs.Numbers.{is_player, is_settled, is_tia, motion_numbers, object_numbers}
+use Rattle.tia_chip.specs.Numbers.{place_numbers, player_copy_number, player_numbers, size_number}
 use Rattle.tia_chip.specs.Numbers.{size_numbers, tia_numbers}
 use Rattle.tia_chip.specs.Player.{width_of}
-use Rattle.tia_chip.specs.Underway.{IsUnderway, is_beam_underway}
-use Rattle.tia_chip.specs.declared.ball.Ball.{Ball}
+use Rattle.tia_chip.specs.Registers.{delay_of}
+use Rattle.tia_chip.specs.declared.register.Register.TheVariants.{Hmove}
+use Rattle.tia_chip.specs.Underway.{IsOnItsWay, IsUnderway, is_beam_underway}
 use Rattle.tia_chip.specs.declared.player.Player.{Player}
 use Rattle.tia_chip.specs.declared.state.TiaState.{TiaState}
 
@@ -174,17 +171,41 @@ numbers-tables t h b =
       counters = (is_below _ _ p0.counter, (is_below _ _ p1.counter, (is_below _ _ m0.counter, (is_below _ _ m1.counter, (is_below _ _ l.counter, tt)))));
       players = (
         is_below _ _ p0.copy.0,
-        (is_below _ _ p1.copy.0, (is_below _ _ p0.copy.1, (is_below _ _ p1.copy.1, (is_below _ _ (half-width _ p0.width),
-        (is_below _ _ (half-width _ p1.width), (is_below _ _ p0.change.0, (is_below _ _ p1.change.0, tt))))))));
+        (
+          is_below _ _ p1.copy.0,
+          (
+            is_below _ _ p0.copy.1,
+            (
+              is_below _ _ p1.copy.1,
+              (
+                is_below _ _ (half-width _ p0.width),
+                (is_below _ _ (half-width _ p1.width), (is_below _ _ p0.change.0, (is_below _ _ p1.change.0, tt))),
+              ),
+            ),
+          ),
+        ),
+      );
       places = (is_below _ _ m0.copy.0, (is_below _ _ m1.copy.0, (is_below _ _ l.place, (is_below _ _ (bit-below t.mirrored), (is_below _ _ (bit-below t.playfield), tt)))));
       beams = (
         is_below _ _ h.collisions,
-        (is_below _ _ (five-below t.ball.moves t.missile1.moves t.missile0.moves t.player1.moves t.player0.moves),
-        (is_below _ _ h.pulses, (is_below _ _ h.latches, (in_cycle t.clock b.in_line, (is_below _ _ (bit-below t.longer), tt))))));
+        (
+          is_below _ _ (five-below t.ball.moves t.missile1.moves t.missile0.moves t.player1.moves t.player0.moves),
+          (is_below _ _ h.pulses, (is_below _ _ h.latches, (in_cycle t.clock b.in_line, (is_below _ _ (bit-below t.longer), tt)))),
+        ),
+      );
       sizes = (
         is_below _ _ m0.copy.1,
-        (is_below _ _ m1.copy.1, (is_below _ _ (size-five t.ball.own_size), (is_below _ _ l.phase,
-        (is_below _ _ (five-below t.ball.seen t.missile1.seen t.missile0.seen t.player1.seen t.player0.seen), tt)))));
+        (
+          is_below _ _ m1.copy.1,
+          (
+            is_below _ _ (size-five t.ball.own_size),
+            (
+              is_below _ _ l.phase,
+              (is_below _ _ (five-below t.ball.seen t.missile1.seen t.missile0.seen t.player1.seen t.player0.seen), tt),
+            ),
+          ),
+        ),
+      );
     }
 
 player-whole : (p : Player) → IsPlayerUnderway p → IsTrue (is_player p)
@@ -259,8 +280,8 @@ underway-record t h s =
       beam = beam-settled t clock (eq-of t.beam t.clock same.1) beam.1;
       pulses = pulses.1;
       latches = latches.1;
-      waiting = none-holds t.waiting (λ w. w.clocks ≤ 2) none.0;
-      hmove = none-holds t.hmove (λ clocks. clocks ≤ 6) none.1;
+      waiting = none-holds t.waiting IsOnItsWay none.0;
+      hmove = none-holds t.hmove (λ clocks. clocks ≤ delay_of Hmove) none.1;
     }
 
 beam-record : (t : TiaState) → t.beam ≡ t.clock → IsTrue (is_beam_underway t) → IsTrue (is_beam t)
