@@ -1,3 +1,4 @@
+pub mod AtRestLemmas
 pub mod NumberLemmas
 pub mod RangeLemmas
 pub mod UnderwayBall

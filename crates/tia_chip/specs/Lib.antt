@@ -1,3 +1,4 @@
+pub mod AtRest
 pub mod Ball
 pub mod Bits
 pub mod Blank
