@@ -33,3 +33,47 @@ fn the_timer_has_line_a2(rt: HostRuntime) {
     assert!(rt; riot.read(0x04) == 4);
     assert!(rt; riot.read(0x00) == 0x1C);
 }
+
+#[test]
+fn an_output_of_swcha_is_0_where_its_pin_is(rt: HostRuntime) {
+    let mut riot = Riot::power_on();
+    riot.set_pins(0x3C, 0xFF);
+    riot.write(0x01, 0xF0);
+    riot.write(0x00, 0x50);
+    assert!(rt; riot.read(0x00) == 0x1C);
+}
+
+#[test]
+fn an_output_of_swchb_hides_its_pin(rt: HostRuntime) {
+    let mut riot = Riot::power_on();
+    riot.set_pins(0xFF, 0xC5);
+    riot.write(0x03, 0x0F);
+    riot.write(0x02, 0x0A);
+    assert!(rt; riot.read(0x02) == 0xCA);
+}
+
+#[test]
+fn what_was_written_to_an_input_is_kept(rt: HostRuntime) {
+    let mut riot = Riot::power_on();
+    riot.write(0x02, 0x5A);
+    assert!(rt; riot.read(0x02) == 0xFF);
+    riot.write(0x03, 0xFF);
+    assert!(rt; riot.read(0x02) == 0x5A);
+}
+
+#[test]
+fn line_a3_finds_no_other_port(rt: HostRuntime) {
+    let mut riot = Riot::power_on();
+    riot.write(0x19, 0xF0);
+    assert!(rt; riot.read(0x01) == 0xF0);
+    assert!(rt; riot.read(0x09) == 0xF0);
+}
+
+#[test]
+fn lines_a3_and_a1_find_no_other_register_of_a_read_timer(rt: HostRuntime) {
+    let mut riot = Riot::power_on();
+    riot.write(0x1C, 5);
+    riot.step();
+    assert!(rt; riot.read(0x06) == 4);
+    assert!(rt; riot.read(0x1E) == 4);
+}
