@@ -96,9 +96,10 @@ fn an_interval_of_t1024t_has_1024_cycles(rt: HostRuntime) {
     // The first cycle ends an interval, whatever was written.
     let mut timer = written(0x17, 2);
     timer.cycles(1);
-    for _time in 0..4 {
-        timer.cycles(255);
-    }
+    timer.cycles(255);
+    timer.cycles(255);
+    timer.cycles(255);
+    timer.cycles(255);
     timer.cycles(3);
     assert!(rt; timer.read(4) == 1);
     timer.cycles(1);
