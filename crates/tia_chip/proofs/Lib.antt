@@ -1,5 +1,13 @@
 pub mod AtRestLemmas
+pub mod CalmBlank
+pub mod CalmClocks
+pub mod CalmPairs
 pub mod NumberLemmas
+pub mod QuietAges
+pub mod QuietBall
+pub mod QuietMissiles
+pub mod QuietPixels
+pub mod QuietPlayers
 pub mod RangeLemmas
 pub mod UnderwayBall
 pub mod UnderwayBeam
@@ -9,3 +17,4 @@ pub mod UnderwayMissiles
 pub mod UnderwayNumbers
 pub mod UnderwayPlayers
 pub mod UnderwayTables
+pub mod WaitingLemmas

@@ -2,6 +2,7 @@ pub mod AtRest
 pub mod Ball
 pub mod Bits
 pub mod Blank
+pub mod Calm
 pub mod Clock
 pub mod Collision
 pub mod Colour
@@ -15,6 +16,7 @@ pub mod PlayerWidth
 pub mod Playfield
 pub mod PowerOn
 pub mod Private
+pub mod Quiet
 pub mod Read
 pub mod Registers
 pub mod Underway

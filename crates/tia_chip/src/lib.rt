@@ -27,7 +27,11 @@ mod write;
 
 pub use ball::Ball;
 pub use effect::Effect;
-pub use laws::{law_of_cycles, law_of_records, law_of_tias_underway};
+pub use laws::{
+    law_of_calm_clocks, law_of_cycles, law_of_quiet_balls, law_of_quiet_missiles,
+    law_of_quiet_pixels, law_of_quiet_players, law_of_records, law_of_tias_underway,
+    law_of_waiting_writes,
+};
 pub use missile::{Missile, MissileCopy};
 pub use numbers::{
     ball_copy_number, bit_number, missile_copy_number, moves_number, own_size_number,
