@@ -1,7 +1,8 @@
 -- The timer of the MOS 6532 as a console's chip counts: a byte, the cycles until an interval ends,
 -- the interval, and a flag. Intervals and registers are those of the 6532's data sheet (interval
 -- timer). What happens after zero was measured in Stella 6.7.
-use Rattle.std.specs.Prelude.{ℕ, ◌≡◌, ◌<◌, ◌≤◌, ◌-◌, ◌%◌, Bool, true, false, ◌&&◌, ◌||◌, ◌==◌, nat_le, if◌then◌else◌}
+use Rattle.std.specs.Prelude.{ℕ, ◌≡◌, ◌<◌, ◌≤◌, ◌+◌, ◌-◌, ◌*◌, ◌%◌, Bool, true, false, ◌&&◌, ◌||◌, ◌==◌, nat_le, nat_lt}
+use Rattle.std.specs.Prelude.{if◌then◌else◌}
 use Rattle.record_table.specs.Bits.{has_bit}
 use Rattle.riot_map.specs.Timer.{is_interval, interval_of, interval_code}
 use Rattle.riot_chip.specs.declared.timer.TimerFields.{TimerFields}
@@ -57,6 +58,15 @@ after_read t register = if has_bit register 0 then t else record t { flag = flag
 abbrev pub after_write : TimerState → ℕ → ℕ → TimerState
 after_write t register value =
     if has_bit register 4 then record { value = value; part = 1; interval = interval_of (register % 4); flag = flag_after_access t } else t
+
+-- INTIM shows at least this much, and zero is ahead.
+pub record ShowsAtLeast (least : ℕ) (t : TimerState) : Type 0 where
+  pub ahead : t.flag ≡ false
+  pub shown : least ≤ t.value
+
+-- For how many cycles that is so, from this one on.
+abbrev pub cycles_at_least : ℕ → TimerState → ℕ
+cycles_at_least least t = if t.flag || nat_lt t.value least then 0 else (t.value - least) * t.interval + t.part
 
 -- Power-on, this project's own: one cycle before zero falls, at the longest interval.
 abbrev pub timer_at_power_on : TimerState

@@ -1,9 +1,11 @@
 //! The RIOT.
-ghost use Rattle.std.specs.Prelude.{◌≡◌, ◌<◌, ◌%◌, IsTrue, if◌then◌else◌, slice_index, Some, None};
+ghost use Rattle.std.specs.Prelude.{ℕ, ◌≡◌, ◌<◌, ◌%◌, IsTrue, if◌then◌else◌, slice_index, Some, None};
+ghost use Rattle.std.specs.Fn.{iterate};
 ghost use Rattle.riot_map.specs.Riot.{is_timer};
 ghost use Rattle.riot_chip.specs.Riot.{RiotState, riot_of, fields_of, riot_at_power_on, is_riot};
 ghost use Rattle.riot_chip.specs.Riot.{riot_after_step, riot_read, riot_after_read, riot_after_write};
 ghost use Rattle.riot_chip.specs.Riot.{after_port_write, port_read, with_pins, with_ram};
+ghost use Rattle.riot_chip.specs.Timer.{ShowsAtLeast, after_step, cycles_at_least};
 
 use crate::fields::RiotFields;
 use crate::timer::Timer;
@@ -95,6 +97,23 @@ impl Riot {
         ensures { self.new ≡ riot_after_step self.old }
     {
         self.timer.step();
+    }
+
+    /// Lets so many cycles pass.
+    #[tactic(auto, using(crate::proofs::StepLemmas::steps))]
+    pub fn steps(&mut self, count: u32)
+        ensures { self.new ≡ iterate riot_after_step count self.old }
+    {
+        self.timer.cycles(count);
+    }
+
+    /// For how many cycles, from this one on, INTIM shows at least this much while the timer's flag
+    /// isn't set.
+    pub fn cycles_at_least(&self, least: u8) -> u32
+        ensures value { result ≡ cycles_at_least least self.now.timer }
+        ensures shown { (n : ℕ) → n < result → ShowsAtLeast least (iterate after_step n self.now.timer) }
+    {
+        self.timer.cycles_at_least(least)
     }
 
     /// Reads SWCHA, SWACNT, SWCHB or SWBCNT.

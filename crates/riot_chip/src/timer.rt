@@ -1,9 +1,10 @@
 //! The timer.
-ghost use Rattle.std.specs.Prelude.{◌≡◌, ◌<◌, IsTrue, if◌then◌else◌};
+ghost use Rattle.std.specs.Prelude.{ℕ, ◌≡◌, ◌<◌, true, IsTrue, if◌then◌else◌};
 ghost use Rattle.std.specs.Fn.{iterate};
 ghost use Rattle.riot_map.specs.Timer.{interval_of, is_interval};
 ghost use Rattle.riot_chip.specs.Timer.{TimerState, after_step, after_read, after_write, timer_read};
 ghost use Rattle.riot_chip.specs.Timer.{timer_at_power_on, is_timer, timer_of, numbers_of};
+ghost use Rattle.riot_chip.specs.Timer.{ShowsAtLeast, cycles_at_least};
 
 use std::marker::Model;
 
@@ -122,19 +123,54 @@ impl Timer {
         self.part = if ends { self.interval } else { self.part - 1 };
     }
 
-    /// Lets `n` cycles pass.
-    #[tactic(auto, using(crate::proofs::StepLemmas::quiet))]
-    pub fn cycles(&mut self, n: u8)
+    /// Lets `n` cycles pass while the flag is set: in each the value falls, and intervals go on.
+    #[tactic(auto, using(crate::proofs::StepLemmas::falls))]
+    fn fall(&mut self, n: u32)
+        requires { self.old.flag ≡ true }
         ensures { self.new ≡ iterate after_step n self.old }
     {
-        // Before zero, and in one interval, nothing else changes.
-        if !self.flag && (n as u16) < self.part {
-            self.part -= n as u16;
+        let interval = self.interval as u32;
+        let part = self.part as u32;
+        let past = n % interval;
+        let left = if past < part { part } else { part + interval };
+        self.value = self.value.wrapping_sub((n % 256) as u8);
+        self.part = (left - past) as u16;
+    }
+
+    /// Lets `n` cycles pass.
+    #[tactic(auto, using(crate::proofs::StepLemmas::cycles))]
+    pub fn cycles(&mut self, n: u32)
+        ensures { self.new ≡ iterate after_step n self.old }
+    {
+        if self.flag {
+            self.fall(n);
             return;
         }
-        for _cycle in 0..n {
-            self.step();
+        let interval = self.interval as u32;
+        // The cycle in which the flag is set is so far ahead.
+        let ahead = self.value as u32 * interval + self.part as u32;
+        if n < ahead {
+            let left = ahead - n - 1;
+            self.value = (left / interval) as u8;
+            self.part = (left % interval) as u16 + 1;
+        } else {
+            self.value = 255;
+            self.part = self.interval;
+            self.flag = true;
+            self.fall(n - ahead);
         }
+    }
+
+    /// For how many cycles, from this one on, INTIM shows at least this much while the flag isn't set.
+    #[tactic(auto, using(crate::proofs::StepLemmas::shown))]
+    pub fn cycles_at_least(&self, least: u8) -> u32
+        ensures value { result ≡ cycles_at_least least self.now }
+        ensures shown { (n : ℕ) → n < result → ShowsAtLeast least (iterate after_step n self.now) }
+    {
+        if self.flag || self.value < least {
+            return 0;
+        }
+        (self.value - least) as u32 * self.interval as u32 + self.part as u32
     }
 
     /// Reads INTIM, or the flag where line A0 is 1. The other lines don't count.

@@ -77,3 +77,34 @@ fn lines_a3_and_a1_find_no_other_register_of_a_read_timer(rt: HostRuntime) {
     assert!(rt; riot.read(0x06) == 4);
     assert!(rt; riot.read(0x1E) == 4);
 }
+
+#[test]
+fn intervals_go_on_past_zero(rt: HostRuntime) {
+    let mut riot = Riot::power_on();
+    // TIM64T of 1 is 0 from the first cycle to the 64th. From the 65th on the value falls in each
+    // cycle. 300 cycles later 20 are left of an interval, which the read of INTIM brings back.
+    riot.write(0x16, 1);
+    riot.steps(64);
+    assert!(rt; riot.read(0x04) == 0x00);
+    riot.steps(301);
+    assert!(rt; riot.read(0x05) == 0x80);
+    assert!(rt; riot.read(0x04) == 0xD3);
+    riot.steps(19);
+    assert!(rt; riot.read(0x04) == 0xD3);
+    riot.steps(1);
+    assert!(rt; riot.read(0x04) == 0xD2);
+}
+
+#[test]
+fn intim_shows_2_for_two_intervals(rt: HostRuntime) {
+    let mut riot = Riot::power_on();
+    // TIM8T of 4: its first cycle leads to 3, and 2 is shown at least until 16 cycles more are over.
+    riot.write(0x15, 4);
+    assert!(rt; riot.cycles_at_least(2) == 17);
+    riot.steps(16);
+    assert!(rt; riot.read(0x04) == 2);
+    assert!(rt; riot.cycles_at_least(2) == 1);
+    riot.steps(1);
+    assert!(rt; riot.read(0x04) == 1);
+    assert!(rt; riot.cycles_at_least(2) == 0);
+}
