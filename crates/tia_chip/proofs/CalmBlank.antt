@@ -67,7 +67,7 @@ pixel-blank t u h p e =
 cleared : TiaState → TiaState
 cleared t = record t { playfield = t.playfield && not (t.beam % 4 == 0); mirrored = t.mirrored && nat_lt t.beam 225 }
 
-pulse-stays : (t u : TiaState) → IsFreeInBlank t → pulsed t ≡ u → u.beam ≡ u.clock → u.clock + 1 < blank_end u
+pub pulse-stays : (t u : TiaState) → IsFreeInBlank t → pulsed t ≡ u → u.beam ≡ u.clock → u.clock + 1 < blank_end u
     → after_clock t ≡ with_rest_of (after_clock t) (after_blank 1 u)
 unfolding after_clock with-field cleared
 pulse-stays t u h p b l =
@@ -82,7 +82,7 @@ pulse-stays t u h p b l =
     e ∙ alike-three (λ (beam : ℕ) (longer : Bool) (rest : TiaState). with_rest_of rest (record u { clock = u.clock + 1; beam = beam; longer = longer }))
     (min (u.beam + 1) 227) (u.clock + 1) (u.longer && not (u.clock == 75)) u.longer z (after_clock t) (omega (arith, b, small)) s.same (sym e)
 
-pulse-ends : (t u : TiaState) → IsFreeInBlank t → pulsed t ≡ u → u.beam ≡ u.clock → u.clock + 1 ≡ blank_end u
+pub pulse-ends : (t u : TiaState) → IsFreeInBlank t → pulsed t ≡ u → u.beam ≡ u.clock → u.clock + 1 ≡ blank_end u
     → after_clock t ≡ with_rest_of (after_clock t) (at_blank_end 1 u)
 unfolding after_clock with-field cleared
 pulse-ends t u h p b l =
@@ -98,7 +98,7 @@ pulse-ends t u h p b l =
     (min (u.beam + 1) 227) (u.clock + 1) (u.longer && not (u.clock == 75)) false z (after_clock t) (omega (arith, b, small)) s.over (sym e)
 
 -- whether it pulses or not
-pulse-or-not : (t : TiaState) → (((t.clock % 4 == 0) && any_moves t) ≡ true) ⊎ (((t.clock % 4 == 0) && any_moves t) ≡ false) → (P : TiaState → Type 0)
+pub pulse-or-not : (t : TiaState) → (((t.clock % 4 == 0) && any_moves t) ≡ true) ⊎ (((t.clock % 4 == 0) && any_moves t) ≡ false) → (P : TiaState → Type 0)
     → (pulsed t ≡ after_pulse t → P (after_pulse t)) → (pulsed t ≡ t → P t) → P (pulsed t)
 pulse-or-not t (inl e) P f g = let p : pulsed t ≡ after_pulse t = cond-true ((t.clock % 4 == 0) && any_moves t) _ _ e in subst P (sym p) (f p)
 pulse-or-not t (inr e) P f g = let p : pulsed t ≡ t = cond-false ((t.clock % 4 == 0) && any_moves t) _ _ e in subst P (sym p) (g p)
@@ -130,10 +130,10 @@ calm-later t rest h =
       start = or_right (not t.longer) (not (t.clock + 1 == 0)) (not_from_false (t.clock + 1 == 0) (ne_eqb (t.clock + 1) 0 (λ e. omega arith)));
     }
 
-calm-next : (t : TiaState) → IsCalmInBlank t → t.clock + 1 < blank_end t → IsCalmInBlank (after_clock t)
+pub calm-next : (t : TiaState) → IsCalmInBlank t → t.clock + 1 < blank_end t → IsCalmInBlank (after_clock t)
 calm-next t h l = subst (λ x. IsCalmInBlank x) (sym (blank-clock t h l)) (calm-later t (after_clock t) h)
 
-end-next : (t : TiaState) → IsCalmInBlank t → t.clock + 1 < blank_end t → (blank_end (after_clock t) ≡ blank_end t) × ((after_clock t).clock ≡ t.clock + 1)
+pub end-next : (t : TiaState) → IsCalmInBlank t → t.clock + 1 < blank_end t → (blank_end (after_clock t) ≡ blank_end t) × ((after_clock t).clock ≡ t.clock + 1)
 end-next t h l = (ap (λ (x : TiaState). blank_end x) (blank-clock t h l), ap (λ (x : TiaState). x.clock) (blank-clock t h l))
 
 later : (t : TiaState) (rest after : TiaState) (n : ℕ) → with_rest_of after (after_blank n (with_rest_of rest (after_blank 1 t))) ≡ with_rest_of after (after_blank (suc n) t)
@@ -172,7 +172,7 @@ kept y =
 not-latching : (vblank blank pulses changed : Bool) → blank ≡ true → pulses ≡ false → changed ≡ false → (not vblank && (not blank || pulses || changed)) ≡ false
 not-latching vblank blank pulses changed i j k = rw (i, j, k) (and_right (not vblank) false refl)
 
-in-blank : (clock : ℕ) (longer : Bool) → clock < (if longer then 76 else 68) → (nat_lt clock 68 || longer) ≡ true
+pub in-blank : (clock : ℕ) (longer : Bool) → clock < (if longer then 76 else 68) → (nat_lt clock 68 || longer) ≡ true
 in-blank clock true h = or_right (nat_lt clock 68) true refl
 in-blank clock false h = or_left (nat_lt clock 68) false (lt-ltb clock 68 h)
 
@@ -183,3 +183,10 @@ clock-latches_none t h l c =
     let y = with-field t in
     let none : is_latching y ≡ false = not-latching (has_bit t.vblank 1) (is_in_blank t) (pulses_on t) t.changed now (and_right (t.clock % 4 == 0) (any_moves t) h.calm.moves) c in
     ap (λ (q : TiaState). (with_next_clock (latched q)).collisions) (pixel-blank t t (free t h) (no-pulse t h.calm.moves) now) ∙ (kept (latched y) ∙ cond-false (is_latching y) _ _ none)
+
+-- left of the picture its pixel is taken of the TIA as it is
+pub pixel-left : (t : TiaState) → IsCalmInBlank t → t.clock < 68 → at_pixel t ≡ t
+unfolding with-field
+pixel-left t h l =
+    pixel-blank t t (free t h) (no-pulse t h.calm.moves) (or_left (nat_lt t.clock 68) t.longer (lt-ltb t.clock 68 l))
+    ∙ ap (λ (u : TiaState). record t { playfield = u.playfield; mirrored = u.mirrored }) (cond-true (nat_lt t.clock 68) _ _ (lt-ltb t.clock 68 l))

@@ -219,10 +219,10 @@ unfolding stands missile0-of missile1-of
 pixel-later t rest after n h =
     stands-later t n (t.clock + 1 + n) (t.clock + suc n) (λ x. with_rest_of after x) h (omega arith)
 
-calm-next : (t : TiaState) → IsCalmInPicture t → t.clock + 1 < 228 → IsCalmInPicture (after_clock t)
+pub calm-next : (t : TiaState) → IsCalmInPicture t → t.clock + 1 < 228 → IsCalmInPicture (after_clock t)
 calm-next t h l = subst (λ x. IsCalmInPicture x) (sym (first-clock t h l)) (calm-after t (after_clock t) h)
 
-clock-next : (t : TiaState) → IsCalmInPicture t → t.clock + 1 < 228 → (after_clock t).clock ≡ t.clock + 1
+pub clock-next : (t : TiaState) → IsCalmInPicture t → t.clock + 1 < 228 → (after_clock t).clock ≡ t.clock + 1
 clock-next t h l = ap (λ (x : TiaState). x.clock) (first-clock t h l)
 
 pub clocks-picture : (t : TiaState) (n : ℕ) → IsCalmInPicture t → t.clock + suc n < 228
@@ -251,3 +251,9 @@ clocks-pixel t (suc n) h l =
     let after = at_pixel (iterate after_clock (suc n) t) in
     clocks-pixel (after_clock t) n (calm-next t h next) (omega (arith, clock-next t h next))
     ∙ (ap (λ (x : TiaState). with_rest_of after (at_pixel_after n x)) (first-clock t h next) ∙ pixel-later t (after_clock t) after n h)
+
+pub clocks-calm : (t : TiaState) (n : ℕ) → IsCalmInPicture t → t.clock + n < 228 → IsCalmInPicture (iterate after_clock n t)
+clocks-calm t zero h l = h
+clocks-calm t (suc n) h l =
+    let next : t.clock + 1 < 228 = omega arith in
+    clocks-calm (after_clock t) n (calm-next t h next) (omega (arith, clock-next t h next))

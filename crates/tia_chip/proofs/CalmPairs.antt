@@ -12,11 +12,11 @@ use Rattle.tia_chip.specs.Objects.{lit_objects}
 use Rattle.tia_chip.specs.Playfield.{with_playfield}
 use Rattle.tia_chip.specs.declared.state.TiaState.{TiaState}
 
-and-true : (b : Bool) → (b && true) ≡ b
+pub and-true : (b : Bool) → (b && true) ≡ b
 and-true true = refl
 and-true false = refl
 
-open-test : (vblank blank pulses changed : Bool) → blank ≡ false → (not vblank && (not blank || pulses || changed)) ≡ not vblank
+pub open-test : (vblank blank pulses changed : Bool) → blank ≡ false → (not vblank && (not blank || pulses || changed)) ≡ not vblank
 open-test vblank blank pulses changed e = rw e (and-true (not vblank))
 
 turned : (b : Bool) (x y : ℕ) → (if not b then x else y) ≡ (if b then y else x)

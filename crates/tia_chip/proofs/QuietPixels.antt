@@ -18,10 +18,10 @@ use Rattle.tia_chip.specs.declared.missile.Missile.{Missile}
 use Rattle.tia_chip.specs.declared.player.Player.{Player}
 use Rattle.tia_chip.specs.declared.state.TiaState.{TiaState}
 
-keeps-still : (clock : ℕ) (m : Missile) → m.moves ≡ false → keeps_quiet clock m ≡ true
+pub keeps-still : (clock : ℕ) (m : Missile) → m.moves ≡ false → keeps_quiet clock m ≡ true
 keeps-still clock m e = ap (λ (moves : Bool). not (moves && (nat_le 1 (clock % 4) && nat_le (clock % 4) 2))) e
 
-ball-still : (b : Ball) → b.moves ≡ false → (not b.moves || false) ≡ true
+pub ball-still : (b : Ball) → b.moves ≡ false → (not b.moves || false) ≡ true
 ball-still b e = ap (λ (moves : Bool). not moves || false) e
 
 -- pixels

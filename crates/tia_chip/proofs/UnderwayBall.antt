@@ -34,10 +34,10 @@ pub record IsBallUnderway (b : Ball) : Type 0 where
   pub own_size : IsOwnSize b.own_size
   pub phase : b.phase < 4
 
-own_size-small : (size : ℕ) → IsOwnSize size → size ≤ 8
+pub own_size-small : (size : ℕ) → IsOwnSize size → size ≤ 8
 own_size-small size h = grind (arith, nat_tests, h)
 
-size-small : (size : ℕ) → IsSize size → size ≤ 8
+pub size-small : (size : ℕ) → IsSize size → size ≤ 8
 size-small size h = grind (arith, h)
 
 -- steps

@@ -43,7 +43,7 @@ pow-size (suc (suc (suc (suc k)))) h = absurd (omega arith)
 pub IsSize-of : (register : ℕ) → IsSize (size_of register)
 IsSize-of register = pow-size (register / 16 % 4) (omega arith)
 
-own_size-cases : (copy : MissileCopy) → own_size_number (Some copy) < 4 → IsSize copy.own_size
+pub own_size-cases : (copy : MissileCopy) → own_size_number (Some copy) < 4 → IsSize copy.own_size
 own_size-cases copy h = grind (arith, nat_tests, h)
 
 -- steps

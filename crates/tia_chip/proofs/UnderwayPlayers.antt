@@ -111,7 +111,7 @@ player-strobed late p l h =
     record { nusiz = h.nusiz; refp = h.refp; vdelp = h.vdelp; hmp = h.hmp; counter = omega arith; copy = IsCopy-strobed late p.copy l h.copy; width = h.width; change = h.change }
 
 -- NUSIZ
-width_cases : (width : ℕ) → IsWidthNumber width → (width ≡ 1) ⊎ ((width ≡ 2) ⊎ (width ≡ 4))
+pub width_cases : (width : ℕ) → IsWidthNumber width → (width ≡ 1) ⊎ ((width ≡ 2) ⊎ (width ≡ 4))
 width_cases width h = grind (arith, nat_tests, h)
 
 steps_to_change-small : (in_blank : Bool) (old new place : ℕ) → IsWidthNumber old → steps_to_change in_blank old new place < 6

@@ -1,12 +1,12 @@
 -- The numbers of a TIA that runs pass the tests of a record's numbers exactly where each of them is as
 -- steps and writes keep it.
-use Rattle.std.proofs.Common.{◌≡◌, ℕ, ◌%◌, ◌/◌, ◌<◌, ◌≤◌, ◌==◌, ◌&&◌, ◌||◌, ◌++◌, not, Bool, true, IsTrue, arith, refl, if◌then◌else◌, rules}
-use Rattle.std.proofs.Common.{Option, Some, None, List, [], ◌∷◌}
+use Rattle.std.proofs.Common.{◌≡◌, ℕ, ◌%◌, ◌/◌, ◌<◌, ◌≤◌, ◌==◌, ◌&&◌, ◌||◌, not, Bool, true, IsTrue, arith, refl, if◌then◌else◌, rules}
+use Rattle.std.proofs.Common.{Option, Some, None, sym, subst, List, [], ◌∷◌}
 use Rattle.std.proofs.lemmas.Bool.{and_from, and_parts, eqb-true, false≢true, lt-ltb, ltb-true}
 use Rattle.std.proofs.lemmas.Bool.Decides.{nat_tests}
 use Rattle.std.specs.Prelude.{IfSome, is_none, nat_le, nat_lt}
-use Rattle.record_table.proofs.TableLemmas.{are_lawful-append}
 use Rattle.record_table.specs.Numbers.{Number, are_lawful}
+use Rattle.tia_chip.proofs.NumberLemmas.{of_parts}
 use Rattle.tia_chip.proofs.UnderwayBall.{IsBallUnderway}
 use Rattle.tia_chip.proofs.UnderwayBeam.{HasBeam, HasLine}
 use Rattle.tia_chip.proofs.UnderwayClock.{bit-below, five-below}
@@ -43,46 +43,23 @@ record Tables (t : TiaState) : Type 0 where
   pub beams : EachLawful beam_numbers t
   pub sizes : EachLawful size_numbers t
 
-split : (first second : List (Number TiaState)) (t : TiaState) → IsTrue (are_lawful (first ++ second) t)
-    → IsTrue (are_lawful first t) × IsTrue (are_lawful second t)
-split first second t h = and_parts _ _ (rw (are_lawful-append first second t) at h)
-
--- the tables from each on
-abbrev from_beam : List (Number TiaState)
-from_beam = beam_numbers ++ size_numbers
-
-abbrev from_places : List (Number TiaState)
-from_places = place_numbers ++ from_beam
-
-abbrev from_players : List (Number TiaState)
-from_players = player_numbers ++ from_places
-
-abbrev from_counters : List (Number TiaState)
-from_counters = counter_numbers ++ from_players
-
-abbrev from_motions : List (Number TiaState)
-from_motions = motion_numbers ++ from_counters
-
-abbrev from_objects : List (Number TiaState)
-from_objects = object_numbers ++ from_motions
-
 tables : (t : TiaState) → IsTrue (are_lawful tia_numbers t) → Tables t
 tables t h =
-    let objects = split colour_numbers from_objects t h in
-    let motions = split object_numbers from_motions t objects.1 in
-    let counters = split motion_numbers from_counters t motions.1 in
-    let players = split counter_numbers from_players t counters.1 in
-    let places = split player_numbers from_places t players.1 in
-    let beams = split place_numbers from_beam t places.1 in
-    let sizes = split beam_numbers size_numbers t beams.1 in
+    let sizes = and_parts _ _ (subst (λ (b : Bool). IsTrue b) (of_parts t) h) in
+    let beams = and_parts _ _ sizes.0 in
+    let places = and_parts _ _ beams.0 in
+    let players = and_parts _ _ places.0 in
+    let counters = and_parts _ _ players.0 in
+    let motions = and_parts _ _ counters.0 in
+    let objects = and_parts _ _ motions.0 in
     record {
       colours = each-lawful colour_numbers t objects.0;
-      objects = each-lawful object_numbers t motions.0;
-      motions = each-lawful motion_numbers t counters.0;
-      counters = each-lawful counter_numbers t players.0;
-      players = each-lawful player_numbers t places.0;
-      places = each-lawful place_numbers t beams.0;
-      beams = each-lawful beam_numbers t sizes.0;
+      objects = each-lawful object_numbers t objects.1;
+      motions = each-lawful motion_numbers t motions.1;
+      counters = each-lawful counter_numbers t counters.1;
+      players = each-lawful player_numbers t players.1;
+      places = each-lawful place_numbers t places.1;
+      beams = each-lawful beam_numbers t beams.1;
       sizes = each-lawful size_numbers t sizes.1;
     }
 
@@ -134,19 +111,13 @@ from-each : (ns : List (Number TiaState)) (t : TiaState) → EachLawful ns t →
 from-each [] t h = refl
 from-each (n ∷ ns) t h = and_from _ _ h.0 (from-each ns t h.1)
 
-join : (first second : List (Number TiaState)) (t : TiaState) → IsTrue (are_lawful first t) → IsTrue (are_lawful second t)
-    → IsTrue (are_lawful (first ++ second) t)
-join first second t h k = rw (are_lawful-append first second t) (and_from _ _ h k)
-
 from-tables : (t : TiaState) → Tables t → IsTrue (are_lawful tia_numbers t)
 from-tables t h =
-    let beams = join beam_numbers size_numbers t (from-each beam_numbers t h.beams) (from-each size_numbers t h.sizes) in
-    let places = join place_numbers from_beam t (from-each place_numbers t h.places) beams in
-    let players = join player_numbers from_places t (from-each player_numbers t h.players) places in
-    let counters = join counter_numbers from_players t (from-each counter_numbers t h.counters) players in
-    let motions = join motion_numbers from_counters t (from-each motion_numbers t h.motions) counters in
-    let objects = join object_numbers from_motions t (from-each object_numbers t h.objects) motions in
-    join colour_numbers from_objects t (from-each colour_numbers t h.colours) objects
+    let objects = and_from _ _ (from-each colour_numbers t h.colours) (from-each object_numbers t h.objects) in
+    let counters = and_from _ _ (and_from _ _ objects (from-each motion_numbers t h.motions)) (from-each counter_numbers t h.counters) in
+    let places = and_from _ _ (and_from _ _ counters (from-each player_numbers t h.players)) (from-each place_numbers t h.places) in
+    let sizes = and_from _ _ (and_from _ _ places (from-each beam_numbers t h.beams)) (from-each size_numbers t h.sizes) in
+    subst (λ (b : Bool). IsTrue b) (sym (of_parts t)) sizes
 
 half-width : (width : ℕ) → IsWidthNumber width → width / 2 < 3
 half-width width h = grind (arith, nat_tests, h)

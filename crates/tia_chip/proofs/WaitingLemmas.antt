@@ -1,13 +1,15 @@
 -- Writes on their way: a clock with which none acts is one without them, and they are a clock nearer.
-use Rattle.std.proofs.Common.{◌≡◌, ◌∙◌, ℕ, zero, suc, ◌+◌, ◌-◌, ◌%◌, ◌==◌, ◌&&◌, not, Bool, true, false, arith, refl, ap, sym, if◌then◌else◌}
+use Rattle.std.proofs.Common.{◌≡◌, ◌∙◌, ℕ, zero, suc, ◌+◌, ◌-◌, ◌%◌, ◌≤◌, ◌==◌, ◌&&◌, not, Bool, true, false, arith, refl, ap, sym, if◌then◌else◌}
 use Rattle.std.proofs.Common.{Option, Some, None}
-use Rattle.std.proofs.lemmas.Bool.{cond-false, cond_both, ne_eqb}
+use Rattle.std.proofs.lemmas.Bool.{cond-false, cond-true, cond_both, eq-eqb, ne_eqb}
 use Rattle.std.specs.Fn.{iterate}
 use Rattle.std.specs.Prelude.{nat_le, nat_lt}
 use Rattle.tia_chip.specs.Ball.{ball_after_step}
 use Rattle.tia_chip.specs.Blank.{is_in_blank}
 use Rattle.tia_chip.specs.Clock.{after_clock, at_line_start, at_next_clock, at_next_line, at_pixel, stepped, with_next_clock, without_rest, without_seen}
+use Rattle.tia_chip.specs.Clocks.{sink_after_clocks, with_pixel}
 use Rattle.tia_chip.specs.Collision.{latched}
+use Rattle.tia_chip.specs.Colour.{pixel_of}
 use Rattle.tia_chip.specs.Missile.{missile_after_step}
 use Rattle.tia_chip.specs.Motion.{after_hmove, after_pulse, any_moves, pulsed}
 use Rattle.tia_chip.specs.Player.{player_after_step}
@@ -22,7 +24,7 @@ use Rattle.tia_chip.specs.declared.waiting.Waiting.{Waiting}
 abbrev on : Option Waiting → Option ℕ → TiaState → TiaState
 on waiting hmove t = record t { waiting = waiting; hmove = hmove }
 
-of-both : {A B : Type 0} (b : Bool) (x y : A) (f : A → B) → (if b then f x else f y) ≡ f (if b then x else y)
+pub of-both : {A B : Type 0} (b : Bool) (x y : A) (f : A → B) → (if b then f x else f y) ≡ f (if b then x else y)
 of-both true x y f = refl
 of-both false x y f = refl
 
@@ -104,19 +106,23 @@ not-zero n = ne_eqb (suc n) 0 (λ e. omega arith)
 less-one : (n : ℕ) → suc n - 1 ≡ n
 less-one n = omega arith
 
+writes-nearer : (t : TiaState) (w : Waiting) (k : ℕ)
+    → with_waited_writes (record t { waiting = Some (record w { clocks = suc k }) }) ≡ record (with_waited_writes (record t { waiting = None })) { waiting = Some (record w { clocks = k }) }
+writes-nearer t w k =
+    let before = record t { waiting = Some (record w { clocks = suc k }) } in
+    let later = Some (record w { clocks = k }) in
+    let nearer : with_waited_write before ≡ record t { waiting = later } =
+    cond-false (suc k == 0) _ _ (not-zero k) ∙ ap (λ (n : ℕ). record t { waiting = Some (record w { clocks = n }) }) (less-one k)
+    in
+    ap (λ (x : TiaState). with_waited_hmove x) nearer ∙ hmove_in-waiting t.hmove later (record t { waiting = None })
+
 write-nearer : (t : TiaState) (w : Waiting) (k : ℕ)
     → after_clock (record t { waiting = Some (record w { clocks = suc k }) }) ≡ record (after_clock (record t { waiting = None })) { waiting = Some (record w { clocks = k }) }
 write-nearer t w k =
     let before = record t { waiting = Some (record w { clocks = suc k }) } in
     let later = Some (record w { clocks = k }) in
     let none = record t { waiting = None } in
-    let nearer : with_waited_write before ≡ record t { waiting = later } =
-    cond-false (suc k == 0) _ _ (not-zero k) ∙ ap (λ (n : ℕ). record t { waiting = Some (record w { clocks = n }) }) (less-one k)
-    in
-    let writes : with_waited_writes before ≡ record (with_waited_writes none) { waiting = later } =
-    ap (λ (x : TiaState). with_waited_hmove x) nearer ∙ hmove_in-waiting t.hmove later none
-    in
-    clock-is before ∙ (ap (λ (x : TiaState). without-writes x) writes
+    clock-is before ∙ (ap (λ (x : TiaState). without-writes x) (writes-nearer t w k)
     ∙ (clock-waiting later (with_waited_writes none) ∙ ap (λ (x : TiaState). record x { waiting = later }) (sym (clock-is none))))
 
 hmove_in-none : (h : Option ℕ) (t : TiaState) → (with_hmove_in h t).waiting ≡ t.waiting
@@ -192,3 +198,80 @@ hmove-acts t h =
     clock-is (record t { hmove = Some 0 })
     ∙ (ap (λ (x : TiaState). without-writes x) (no-write (record t { hmove = Some 0 }) h)
     ∙ sym (clock-is after ∙ ap (λ (x : TiaState). without-writes x) (no-write after h)))
+
+-- ---- pixels
+pixel-without : TiaState → TiaState
+pixel-without t = stepped (with_playfield (pulsed (at_line_start t)))
+
+pixel-is : (t : TiaState) → at_pixel t ≡ pixel-without (with_waited_writes t)
+unfolding at_pixel pixel-without
+pixel-is t = refl
+
+pixel-on : (w : Option Waiting) (h : Option ℕ) (t : TiaState) → pixel-without (on w h t) ≡ on w h (pixel-without t)
+unfolding pixel-without
+pixel-on w h t =
+    ap (λ (x : TiaState). stepped (with_playfield (pulsed x))) (start-on w h t)
+    ∙ (ap (λ (x : TiaState). stepped (with_playfield x)) (pulse-on w h (at_line_start t))
+    ∙ (ap (λ (x : TiaState). stepped x) (field-on w h (pulsed (at_line_start t))) ∙ step-on w h (with_playfield (pulsed (at_line_start t)))))
+
+dot-nearer : (t : TiaState) (w : Waiting) (k : ℕ)
+    → pixel_of (at_pixel (record t { waiting = Some (record w { clocks = suc k }) })) ≡ pixel_of (at_pixel (record t { waiting = None }))
+dot-nearer t w k =
+    let none = record t { waiting = None } in
+    let x = with_waited_writes none in
+    ap pixel_of (pixel-is (record t { waiting = Some (record w { clocks = suc k }) }) ∙ (ap pixel-without (writes-nearer t w k) ∙ pixel-on (Some (record w { clocks = k })) x.hmove x))
+    ∙ sym (ap pixel_of (pixel-is none))
+
+sink-waits : {S : Type 0} (drawn : S → ℕ → ℕ → ℕ → S) (sink : S) (n k : ℕ) (t : TiaState) (w : Waiting)
+    → sink_after_clocks drawn sink n (record t { waiting = Some (record w { clocks = n + k }) }) ≡ sink_after_clocks drawn sink n (record t { waiting = None })
+sink-waits drawn sink zero k t w = refl
+sink-waits drawn sink (suc n) k t w =
+    let none = record t { waiting = None } in
+    let next = after_clock none in
+    let stays : record next { waiting = None } ≡ next = ap (λ (o : Option Waiting). record next { waiting = o }) (sym (none-stays none refl)) in
+    let sum : suc n + k ≡ suc (n + k) = omega arith in
+    let put = with_pixel drawn sink (pixel_of (at_pixel none)) in
+    ap (λ (m : ℕ). sink_after_clocks drawn sink (suc n) (record t { waiting = Some (record w { clocks = m }) })) sum
+    ∙ (ap (λ p. sink_after_clocks drawn (with_pixel drawn sink p) n (after_clock (record t { waiting = Some (record w { clocks = suc (n + k) }) }))) (dot-nearer t w (n + k))
+    ∙ (ap (λ (x : TiaState). sink_after_clocks drawn put n x) (write-nearer t w (n + k))
+    ∙ (sink-waits drawn put n k next w ∙ ap (λ (x : TiaState). sink_after_clocks drawn put n x) stays)))
+
+-- ---- clocks in which a write waits, without it
+same-waiting : (t : TiaState) (w : Waiting) (n : ℕ) → t.waiting ≡ Some w → n ≤ w.clocks → record t { waiting = Some (record w { clocks = n + (w.clocks - n) }) } ≡ t
+same-waiting t w n h l =
+    let sum : n + (w.clocks - n) ≡ w.clocks = omega arith in
+    ap (λ (m : ℕ). record t { waiting = Some (record w { clocks = m }) }) sum ∙ ap (λ (o : Option Waiting). record t { waiting = o }) (sym h)
+
+pub waited-state : (t : TiaState) (w : Waiting) (n : ℕ) → t.waiting ≡ Some w → n ≤ w.clocks
+    → record (iterate after_clock n (record t { waiting = None })) { waiting = Some (record w { clocks = w.clocks - n }) } ≡ iterate after_clock n t
+waited-state t w n h l = sym (write-waits n (w.clocks - n) t w) ∙ ap (iterate after_clock n) (same-waiting t w n h l)
+
+pub waited-sink : {S : Type 0} (drawn : S → ℕ → ℕ → ℕ → S) (sink : S) (t : TiaState) (w : Waiting) (n : ℕ) → t.waiting ≡ Some w → n ≤ w.clocks
+    → sink_after_clocks drawn sink n (record t { waiting = None }) ≡ sink_after_clocks drawn sink n t
+waited-sink drawn sink t w n h l = sym (sink-waits drawn sink n (w.clocks - n) t w) ∙ ap (sink_after_clocks drawn sink n) (same-waiting t w n h l)
+
+-- ---- clocks of a TIA on which a write that has waited acts first
+acts-once : (t : TiaState) (w : Waiting) → t.waiting ≡ Some w → w.clocks ≡ 0 → with_waited_writes (with_waited_write t) ≡ with_waited_writes t
+acts-once t w h z =
+    let none = record t { waiting = None } in
+    let after = after_action w.register w.value none in
+    let acted_now : with_waited_write t ≡ after = ap (λ o. with_waited o t) h ∙ cond-true (w.clocks == 0) _ _ (eq-eqb w.clocks 0 z) in
+    let gone : with_waited_write after ≡ after = ap (λ o. with_waited o after) (acted-waiting w.register w.value none) in
+    ap (λ (x : TiaState). with_waited_writes x) acted_now ∙ (ap (λ (x : TiaState). with_waited_hmove x) gone ∙ sym (ap (λ (x : TiaState). with_waited_hmove x) acted_now))
+
+acts-clock : (t : TiaState) (w : Waiting) → t.waiting ≡ Some w → w.clocks ≡ 0 → after_clock (with_waited_write t) ≡ after_clock t
+acts-clock t w h z = clock-is (with_waited_write t) ∙ (ap without-writes (acts-once t w h z) ∙ sym (clock-is t))
+
+acts-pixel : (t : TiaState) (w : Waiting) → t.waiting ≡ Some w → w.clocks ≡ 0 → at_pixel (with_waited_write t) ≡ at_pixel t
+acts-pixel t w h z = pixel-is (with_waited_write t) ∙ (ap pixel-without (acts-once t w h z) ∙ sym (pixel-is t))
+
+pub acts-state : (t : TiaState) (w : Waiting) (n : ℕ) → t.waiting ≡ Some w → w.clocks ≡ 0 → 1 ≤ n → iterate after_clock n (with_waited_write t) ≡ iterate after_clock n t
+acts-state t w zero h z l = absurd (omega arith)
+acts-state t w (suc n) h z l = ap (iterate after_clock n) (acts-clock t w h z)
+
+pub acts-sink : {S : Type 0} (drawn : S → ℕ → ℕ → ℕ → S) (sink : S) (t : TiaState) (w : Waiting) (n : ℕ) → t.waiting ≡ Some w → w.clocks ≡ 0 → 1 ≤ n
+    → sink_after_clocks drawn sink n (with_waited_write t) ≡ sink_after_clocks drawn sink n t
+acts-sink drawn sink t w zero h z l = absurd (omega arith)
+acts-sink drawn sink t w (suc n) h z l =
+    ap (λ (x : TiaState). sink_after_clocks drawn (with_pixel drawn sink (pixel_of (at_pixel (with_waited_write t)))) n x) (acts-clock t w h z)
+    ∙ ap (λ (x : TiaState). sink_after_clocks drawn (with_pixel drawn sink (pixel_of x)) n (after_clock t)) (acts-pixel t w h z)

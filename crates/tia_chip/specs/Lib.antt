@@ -4,6 +4,7 @@ pub mod Bits
 pub mod Blank
 pub mod Calm
 pub mod Clock
+pub mod Clocks
 pub mod Collision
 pub mod Colour
 pub mod Counter
@@ -16,6 +17,7 @@ pub mod PlayerWidth
 pub mod Playfield
 pub mod PowerOn
 pub mod Private
+pub mod Pulses
 pub mod Quiet
 pub mod Read
 pub mod Registers

@@ -1,3 +1,4 @@
 -- Definitions of how things are kept. Only private contracts and proofs cite them: what is promised
 -- can be read without them.
+pub mod Lines
 pub mod Ranges

@@ -1,13 +1,20 @@
 //! The ball.
-ghost use Rattle.std.specs.Prelude.{◌≡◌, ◌<◌, ◌≤◌, Option, ℕ};
+ghost use Rattle.std.specs.Fn.{iterate};
+ghost use Rattle.std.specs.Prelude.{◌≡◌, ◌<◌, ◌≤◌, ◌&&◌, nat_lt, Option, None, ℕ, suc, false, true};
+ghost use Rattle.tia_chip.specs.Counter.{begins_copy as begins_of};
+ghost use Rattle.tia_chip.specs.Quiet.{counter_after as counter_of};
+ghost use Rattle.tia_chip.specs.Bits.{has_bit};
 ghost use Rattle.tia_chip.specs.Ball.{ball_after_step, ball_after_strobe, begun_place, begun_size};
 ghost use Rattle.tia_chip.specs.Ball.{enable_of, ending_size, is_ball_changed, is_ball_drawn};
 ghost use Rattle.tia_chip.specs.Ball.{is_ball_lit, looked_at_ball, stepped_place};
 ghost use Rattle.tia_chip.specs.Private.Ranges.{IsBallInRange, IsBallPlaceInRange};
+ghost use Rattle.tia_chip.specs.Quiet.{IsQuietBall, ball_place_of_age, quiet_ball_after};
 
-use crate::bits::has_bit;
-use crate::counter::{begins_copy, next_counter, strobed_counter};
-use crate::missile::size;
+use crate::bits::{has_bit, with_pixel};
+use crate::counter::{
+    age, begins_copy, begins_within, counter_after, next_counter, steps_to_copy, strobed_counter,
+};
+use crate::missile::{is_dot_of_age, size};
 use crate::register::value_by_delay;
 
 /// The ball, with the registers that are its own.
@@ -72,7 +79,45 @@ fn begun_size(ctrlpf: u8, phase: u8) -> u8
     }
 }
 
+/// The place of a quiet ball whose last copy began so many steps ago.
+fn place_of_age(size: u8, age: u8) -> Option<u8>
+    requires size { size ≤ 8 }
+    ensures value { result ≡ ball_place_of_age size age }
+    ensures range { IsBallPlaceInRange result }
+{
+    if age >= 4 + size { None } else { Some(age) }
+}
+
 impl Ball {
+    /// Whether it isn't enabled, doesn't move, and its place follows from its counter.
+    pub(crate) fn is_dark(&self, ctrlpf: u8) -> bool
+        requires { IsBallInRange self.now }
+        ensures quiet { result ≡ true → IsQuietBall ctrlpf self.now }
+        ensures dark { result ≡ true → has_bit (enable_of self.now) 1 ≡ false }
+        ensures still { result ≡ true → self.now.moves ≡ false }
+    {
+        !has_bit(self.enable(), 1)
+            && !self.moves
+            && self.place == place_of_age(size(ctrlpf), age(0, self.counter))
+    }
+
+    /// So many steps of a quiet ball.
+    pub(crate) fn pass_dark(&mut self, ctrlpf: u8, count: u8)
+        requires range { IsBallInRange self.old }
+        requires some { 1 ≤ count }
+        requires most { count ≤ 160 }
+        ensures value { self.new ≡ quiet_ball_after ctrlpf count self.old }
+        ensures range { IsBallInRange self.new }
+    {
+        let last = counter_after(count - 1, self.counter);
+        self.seen = is_dot_of_age(size(ctrlpf), age(0, last));
+        if begins_within(count, self.counter) {
+            self.own_size = begun_size(ctrlpf, self.phase);
+        }
+        self.counter = counter_after(count, self.counter);
+        self.place = place_of_age(size(ctrlpf), age(0, self.counter));
+    }
+
     /// The enable that it shows.
     fn enable(&self) -> u8
         ensures { result ≡ enable_of self.now }
@@ -150,5 +195,58 @@ impl Ball {
         ensures { result ≡ is_ball_changed before.now self.now }
     {
         before.enable() != self.enable() || before.vdelbl != self.vdelbl
+    }
+
+    /// The first of so many steps in the picture: those up to one with which a copy may begin, if there
+    /// is none, and else one. How many they were.
+    fn stride(&mut self, ctrlpf: u8, most: u8) -> u8
+        requires range { IsBallInRange self.old }
+        requires some { 1 ≤ most }
+        ensures some { 1 ≤ result }
+        ensures most { result ≤ most }
+        ensures value { self.new ≡ iterate (ball_after_step ctrlpf false) result self.old }
+        ensures unlit { (k : ℕ) → suc k < result → is_ball_lit (iterate (ball_after_step ctrlpf false) (suc k) self.old) ≡ false }
+        ensures range { IsBallInRange self.new }
+    {
+        let steps = steps_to_copy(self.counter).min(most);
+        if steps == 0 || self.place.is_some() {
+            self.step(ctrlpf, false);
+            return 1;
+        }
+        self.counter = counter_after(steps, self.counter);
+        self.seen = false;
+        steps
+    }
+
+    /// Whether it has no copy, and none begins with the next steps.
+    fn has_no_copy_for(&self, count: u8) -> bool
+        requires { self.now.counter < 160 }
+        ensures none { result ≡ true → self.now.place ≡ None }
+        ensures begins { result ≡ true → (mode k : ℕ) → k < count → begins_of mode (counter_of k self.now.counter) ≡ false }
+    {
+        self.place.is_none() && steps_to_copy(self.counter) >= count
+    }
+
+    /// So many steps in the picture, at most 64, and with which of them it is lit: bit k is that of
+    /// step k.
+    pub(crate) fn steps(&mut self, ctrlpf: u8, count: u8) -> u64
+        requires range { IsBallInRange self.old }
+        requires some { 1 ≤ count }
+        requires most { count ≤ 64 }
+        ensures value { self.new ≡ iterate (ball_after_step ctrlpf false) count self.old }
+        ensures lit { (k : ℕ) → has_bit result k ≡ (nat_lt k count && is_ball_lit (iterate (ball_after_step ctrlpf false) (suc k) self.old)) }
+        ensures range { IsBallInRange self.new }
+    {
+        if !self.has_no_copy_for(count) && self.is_dark(ctrlpf) {
+            self.pass_dark(ctrlpf, count);
+            return 0;
+        }
+        let mut lit = 0;
+        let mut passed = 0;
+        while passed < count {
+            passed += self.stride(ctrlpf, count - passed);
+            lit = with_pixel(lit, passed - 1, self.is_lit());
+        }
+        lit
     }
 }

@@ -62,7 +62,7 @@ fn is_latching(tia: &TiaState) -> bool
 }
 
 /// The collision bits `collisions` with those of `pairs`.
-fn with_pairs(collisions: u16, pairs: u16) -> u16
+pub fn with_pairs(collisions: u16, pairs: u16) -> u16
     requires collisions { collisions < 2 ^ 15 }
     requires pairs { pairs < 2 ^ 15 }
     ensures value { result ≡ bit_or collisions pairs }

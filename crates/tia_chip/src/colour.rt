@@ -1,5 +1,5 @@
 //! The pixel of a clock.
-ghost use Rattle.std.specs.Prelude.{◌≡◌, ◌-◌};
+ghost use Rattle.std.specs.Prelude.{◌≡◌, ◌-◌, if◌then◌else◌};
 ghost use Rattle.tia_chip.specs.Colour.{colour_at, front_colour, is_black, layers_of, pixel_of};
 
 use crate::bits::has_bit;
@@ -36,6 +36,17 @@ fn front_colour(tia: &TiaState, lit: Objects, x: u8) -> u8
     }
 }
 
+/// The colour of pixel `x` where these objects are lit.
+pub fn colour(tia: &TiaState, lit: Objects, x: u8) -> u8
+    ensures { result ≡ (if is_black tia.now then 0 else front_colour (layers_of tia.now lit x) tia.now.colubk) }
+{
+    if is_black(tia) {
+        0
+    } else {
+        front_colour(tia, lit, x)
+    }
+}
+
 /// The pixel that a clock puts.
 pub fn pixel(tia: &TiaState) -> Option<Pixel>
     ensures { result ≡ pixel_of tia.now }
@@ -44,15 +55,10 @@ pub fn pixel(tia: &TiaState) -> Option<Pixel>
         None
     } else {
         let x = tia.beam - 68;
-        let colour = if is_black(tia) {
-            0
-        } else {
-            front_colour(tia, Objects::lit(tia), x)
-        };
         Some(Pixel {
             line: tia.line,
             x,
-            colour,
+            colour: colour(tia, Objects::lit(tia), x),
         })
     }
 }

@@ -1,10 +1,11 @@
 //! Laws about the definitions.
 ghost use Rattle.std.specs.Fn.{iterate};
 ghost use Rattle.std.specs.Prelude.{◌≡◌, ◌≢◌, ◌<◌, ◌+◌, ◌⊎◌, ◌||◌, not, ℕ, suc, Bool, false, IsTrue, replicate};
-ghost use Rattle.std.specs.Prelude.{if◌then◌else◌, bit_or, Some, None};
+ghost use Rattle.std.specs.Prelude.{◌*◌, ◌%◌, ◌==◌, if◌then◌else◌, bit_or, true, Some, None};
 ghost use Rattle.record_table.specs.Numbers.{bytes_of, table_length};
 ghost use Rattle.tia_chip.specs.AtRest.{IsCycle, is_at_rest, leaves_at_rest};
 ghost use Rattle.tia_chip.specs.Ball.{ball_after_step, is_ball_drawn, is_ball_lit};
+ghost use Rattle.tia_chip.specs.Blank.{is_in_blank};
 ghost use Rattle.tia_chip.specs.Calm.{IsCalmInBlank, IsCalmInPicture, IsFreeInBlank, after_blank, after_line};
 ghost use Rattle.tia_chip.specs.Calm.{after_picture};
 ghost use Rattle.tia_chip.specs.Calm.{at_blank_end, at_pixel_after, blank_end, with_rest_of};
@@ -12,11 +13,12 @@ ghost use Rattle.tia_chip.specs.Clock.{after_clock, at_pixel};
 ghost use Rattle.tia_chip.specs.Bits.{has_bit};
 ghost use Rattle.tia_chip.specs.Collision.{pairs_of};
 ghost use Rattle.tia_chip.specs.Missile.{is_missile_drawn, is_missile_lit, missile_after_step};
-ghost use Rattle.tia_chip.specs.Motion.{after_hmove, pulsed};
+ghost use Rattle.tia_chip.specs.Motion.{after_hmove, player_after_pulse, pulsed, pulses_of};
 ghost use Rattle.tia_chip.specs.Numbers.{is_settled, is_tia, tia_numbers};
 ghost use Rattle.tia_chip.specs.Objects.{lit_objects};
 ghost use Rattle.tia_chip.specs.Player.{player_after_step, shows_one};
 ghost use Rattle.tia_chip.specs.PowerOn.{at_frame_start, tia_at_power_on, with_fire};
+ghost use Rattle.tia_chip.specs.Pulses.{moving_steps, player_after_pulses, pulsed_player};
 ghost use Rattle.tia_chip.specs.Quiet.{IsQuietBall, IsQuietMissile, IsQuietPlayer, ball_mask, counter_after};
 ghost use Rattle.tia_chip.specs.Quiet.{keeps_quiet};
 ghost use Rattle.tia_chip.specs.Quiet.{missile_mask, player_mask, quiet_ball_after, quiet_missile_after};
@@ -55,9 +57,9 @@ pub const fn law_of_tias_underway()
 {}
 
 /// What a cycle of the processor leaves on its way: HMOVE at most, so that a TIA on which none is on
-/// its way is at rest then. It stays so with reads, and with writes that change VSYNC alone, or
-/// nothing. Only a write of HMOVE puts one on its way, and a write leads to no clock but 225. Of a TIA
-/// at rest a record says all but its line and its buttons.
+/// its way is at rest then. It stays at rest with reads, and with writes that change VSYNC alone, or
+/// nothing. Only a write of HMOVE puts one on its way. No read changes the clock, and a write leaves
+/// it, or goes to clock 225. Of a TIA at rest a record says all but its line and its buttons.
 pub const fn law_of_cycles()
     ensures cycle { (t : TiaState) → IsUnderway t → IsCycle t (iterate after_clock 3 t) }
     ensures hmove { (t : TiaState) (number value : ℕ) → register_of number ≢ Hmove → (tia_after_write t number value).hmove ≡ t.hmove }
@@ -105,6 +107,7 @@ pub const fn law_of_calm_clocks()
     ensures pulse { (t : TiaState) → IsFreeInBlank t → t.clock + 1 < blank_end t → let after = after_clock t in after ≡ with_rest_of after (after_blank 1 (pulsed t)) }
     ensures last_pulse { (t : TiaState) → IsFreeInBlank t → t.clock + 1 ≡ blank_end t → let after = after_clock t in after ≡ with_rest_of after (at_blank_end 1 (pulsed t)) }
     ensures latch { (t : TiaState) → IsCalmInBlank t → t.clock < blank_end t → t.changed ≡ false → (after_clock t).collisions ≡ t.collisions }
+    ensures changed { (t : TiaState) (changed : Bool) → IsCalmInPicture t → after_clock (record t { changed = changed }) ≡ after_clock t }
     ensures pairs { (t : TiaState) → IsCalmInPicture t → (after_clock t).collisions ≡ (if has_bit t.vblank 1 then t.collisions else bit_or t.collisions (pairs_of (lit_objects (at_pixel t)))) }
 {}
 
@@ -132,4 +135,16 @@ pub const fn law_of_waiting_writes()
     ensures acts { (t : TiaState) (w : Waiting) → after_clock (record t { waiting = Some (record w { clocks = 0 }) }) ≡ after_clock (after_action w.register w.value (record t { waiting = None })) }
     ensures hmove_waits { (n k : ℕ) (t : TiaState) → t.waiting ≡ None → iterate after_clock n (record t { hmove = Some (n + k) }) ≡ record (iterate after_clock n (record t { hmove = None })) { hmove = Some k } }
     ensures hmove_acts { (t : TiaState) → t.waiting ≡ None → after_clock (record t { hmove = Some 0 }) ≡ after_clock (after_hmove (record t { hmove = None })) }
+{}
+
+/// HMOVE in the blank, where four clocks are a pulse: n pulses of a player that moves are as many steps as its register leaves of them,
+/// by the count, and it goes on moving if each was a step. The sixteen of a blank from its start on are
+/// 8 and what its register says: of a line with 8 steps fewer it is that many to the left.
+pub const fn law_of_pulses()
+    ensures pulse { (t : TiaState) (p : Player) → is_in_blank t ≡ true → player_after_pulse t p ≡ pulsed_player t.pulses p }
+    ensures steps { (p : Player) (pulses n : ℕ) → p.moves ≡ true → player_after_pulses pulses n p ≡ record (iterate player_after_step (moving_steps (pulses_of p.hmp) pulses n) p) { moves = moving_steps (pulses_of p.hmp) pulses n == n } }
+    ensures four_clocks { (t : TiaState) → IsFreeInBlank t → IsTrue (t.clock % 4 == 0) → t.clock + 4 < blank_end t → let after = iterate after_clock 4 t in after ≡ with_rest_of after (after_blank 4 (pulsed t)) }
+    ensures last_four { (t : TiaState) → IsFreeInBlank t → IsTrue (t.clock % 4 == 0) → t.clock + 4 ≡ blank_end t → let after = iterate after_clock 4 t in after ≡ with_rest_of after (at_blank_end 4 (pulsed t)) }
+    ensures players { (t : TiaState) (n : ℕ) → IsFreeInBlank t → IsTrue (t.clock % 4 == 0) → t.clock + 4 * n < blank_end t → let after = iterate (iterate after_clock 4) n t in (after.player0 ≡ player_after_pulses t.pulses n t.player0) × (after.player1 ≡ player_after_pulses t.pulses n t.player1) }
+    ensures all { (motion : ℕ) → moving_steps (pulses_of motion) 0 16 ≡ pulses_of motion }
 {}

@@ -5,12 +5,15 @@
 
 mod ball;
 mod bits;
+mod calm;
 mod collision;
 mod colour;
 mod counter;
 mod effect;
 mod lawful;
 mod laws;
+mod line;
+mod lit_pixels;
 mod missile;
 mod motion;
 mod numbers;
@@ -20,6 +23,7 @@ mod player;
 mod playfield;
 mod read;
 mod register;
+mod sight;
 mod state;
 mod tia;
 mod waiting;
@@ -28,7 +32,7 @@ mod write;
 pub use ball::Ball;
 pub use effect::Effect;
 pub use laws::{
-    law_of_calm_clocks, law_of_cycles, law_of_quiet_balls, law_of_quiet_missiles,
+    law_of_calm_clocks, law_of_cycles, law_of_pulses, law_of_quiet_balls, law_of_quiet_missiles,
     law_of_quiet_pixels, law_of_quiet_players, law_of_records, law_of_tias_underway,
     law_of_waiting_writes,
 };

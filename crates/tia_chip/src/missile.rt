@@ -1,5 +1,9 @@
 //! The two missiles.
-ghost use Rattle.std.specs.Prelude.{◌≡◌, ◌<◌, ◌≤◌, Option};
+ghost use Rattle.std.specs.Fn.{iterate};
+ghost use Rattle.std.specs.Prelude.{◌≡◌, ◌<◌, ◌≤◌, ◌&&◌, nat_lt, Option, None, ℕ, suc, false, true};
+ghost use Rattle.tia_chip.specs.Counter.{begins_copy as begins_of};
+ghost use Rattle.tia_chip.specs.Quiet.{counter_after as counter_of};
+ghost use Rattle.tia_chip.specs.Bits.{has_bit};
 ghost use Rattle.tia_chip.specs.Missile.{begins_missile, copy_about_to_show, copy_before_step};
 ghost use Rattle.tia_chip.specs.Missile.{is_locked, is_missile_changed, is_missile_drawn};
 ghost use Rattle.tia_chip.specs.Missile.{is_missile_lit, looked_at_missile, missile_after_nusiz};
@@ -7,9 +11,13 @@ ghost use Rattle.tia_chip.specs.Missile.{missile_after_resmp, missile_after_step
 ghost use Rattle.tia_chip.specs.Missile.{missile_after_strobe, release_of, resized_copy, size_of};
 ghost use Rattle.tia_chip.specs.Missile.{stepped_missile_copy, strobed_missile_copy};
 ghost use Rattle.tia_chip.specs.Private.Ranges.{IsMissileCopyInRange, IsMissileInRange, IsWidth};
+ghost use Rattle.tia_chip.specs.Quiet.{IsQuietMissile, is_dot_of_age, missile_copy_at, missile_copy_of_age};
+ghost use Rattle.tia_chip.specs.Quiet.{quiet_missile_after};
 
-use crate::bits::has_bit;
-use crate::counter::{begins_copy, next_counter, strobed_counter};
+use crate::bits::{has_bit, with_pixel};
+use crate::counter::{
+    age, begins_copy, counter_after, next_counter, steps_to_copy, strobed_counter,
+};
 
 /// A copy of a missile that is on its way.
 #[derive(Clone, Copy, Debug, PartialEq, Eq)]
@@ -114,6 +122,14 @@ fn stepped_copy(size: u8, moves: bool, copy: Option<MissileCopy>) -> Option<Miss
     }
 }
 
+/// Whether a missile or the ball of this size is drawn at this age.
+pub fn is_dot_of_age(size: u8, age: u8) -> bool
+    requires { size ≤ 8 }
+    ensures { result ≡ is_dot_of_age size age }
+{
+    age >= 4 && age < 4 + size
+}
+
 /// A copy once NUSIZ has this size.
 fn resized_copy(size: u8, copy: Option<MissileCopy>) -> Option<MissileCopy>
     requires copy { IsMissileCopyInRange copy }
@@ -175,7 +191,60 @@ fn release(width: u8) -> u8
     }
 }
 
+/// The copy of a quiet missile whose last copy began so many steps ago.
+fn copy_of_age(size: u8, age: u8) -> Option<MissileCopy>
+    requires size { size ≤ 8 }
+    ensures value { result ≡ missile_copy_of_age size age }
+    ensures range { IsMissileCopyInRange result }
+{
+    if age >= 4 + size {
+        None
+    } else {
+        Some(MissileCopy {
+            place: age,
+            own_size: if age < 4 { 1 } else { size },
+        })
+    }
+}
+
 impl Missile {
+    /// The copy that it has if it is quiet and its counter is this.
+    fn quiet_copy(&self, nusiz: u8, counter: u8) -> Option<MissileCopy>
+        requires { counter < 160 }
+        ensures value { result ≡ missile_copy_at nusiz self.now counter }
+        ensures range { IsMissileCopyInRange result }
+    {
+        if self.is_locked() {
+            None
+        } else {
+            copy_of_age(size(nusiz), age(nusiz % 8, counter))
+        }
+    }
+
+    /// Whether it isn't enabled, doesn't move, and its copy follows from its counter.
+    pub(crate) fn is_dark(&self, nusiz: u8) -> bool
+        requires { IsMissileInRange self.now }
+        ensures quiet { result ≡ true → IsQuietMissile nusiz self.now }
+        ensures dark { result ≡ true → has_bit self.now.enam 1 ≡ false }
+        ensures still { result ≡ true → self.now.moves ≡ false }
+    {
+        !has_bit(self.enam, 1) && !self.moves && self.copy == self.quiet_copy(nusiz, self.counter)
+    }
+
+    /// So many steps of a quiet missile.
+    pub(crate) fn pass_dark(&mut self, nusiz: u8, count: u8)
+        requires range { IsMissileInRange self.old }
+        requires some { 1 ≤ count }
+        requires most { count ≤ 160 }
+        ensures value { self.new ≡ quiet_missile_after nusiz count self.old }
+        ensures range { IsMissileInRange self.new }
+    {
+        let last = counter_after(count - 1, self.counter);
+        self.seen = !self.is_locked() && is_dot_of_age(size(nusiz), age(nusiz % 8, last));
+        self.counter = counter_after(count, self.counter);
+        self.copy = self.quiet_copy(nusiz, self.counter);
+    }
+
     /// Whether it keeps copies from beginning.
     fn is_locked(&self) -> bool
         ensures { result ≡ is_locked self.now }
@@ -266,5 +335,58 @@ impl Missile {
         ensures { result ≡ is_missile_changed before.now self.now }
     {
         before.enam != self.enam || before.resmp != self.resmp
+    }
+
+    /// The first of so many steps in the picture: those up to one with which a copy may begin, if there
+    /// is none, and else one. How many they were.
+    fn stride(&mut self, nusiz: u8, clock: u8, most: u8) -> u8
+        requires range { IsMissileInRange self.old }
+        requires some { 1 ≤ most }
+        ensures some { 1 ≤ result }
+        ensures most { result ≤ most }
+        ensures value { self.new ≡ iterate (missile_after_step nusiz clock) result self.old }
+        ensures unlit { (k : ℕ) → suc k < result → is_missile_lit (iterate (missile_after_step nusiz clock) (suc k) self.old) ≡ false }
+        ensures range { IsMissileInRange self.new }
+    {
+        let steps = steps_to_copy(self.counter).min(most);
+        if steps == 0 || self.copy.is_some() {
+            self.step(nusiz, clock);
+            return 1;
+        }
+        self.counter = counter_after(steps, self.counter);
+        self.seen = false;
+        steps
+    }
+
+    /// Whether it has no copy, and none begins with the next steps.
+    fn has_no_copy_for(&self, count: u8) -> bool
+        requires { self.now.counter < 160 }
+        ensures none { result ≡ true → self.now.copy ≡ None }
+        ensures begins { result ≡ true → (mode k : ℕ) → k < count → begins_of mode (counter_of k self.now.counter) ≡ false }
+    {
+        self.copy.is_none() && steps_to_copy(self.counter) >= count
+    }
+
+    /// So many steps in the picture, at most 64, and with which of them it is lit: bit k is that of
+    /// step k.
+    pub(crate) fn steps(&mut self, nusiz: u8, clock: u8, count: u8) -> u64
+        requires range { IsMissileInRange self.old }
+        requires some { 1 ≤ count }
+        requires most { count ≤ 64 }
+        ensures value { self.new ≡ iterate (missile_after_step nusiz clock) count self.old }
+        ensures lit { (k : ℕ) → has_bit result k ≡ (nat_lt k count && is_missile_lit (iterate (missile_after_step nusiz clock) (suc k) self.old)) }
+        ensures range { IsMissileInRange self.new }
+    {
+        if !self.has_no_copy_for(count) && self.is_dark(nusiz) {
+            self.pass_dark(nusiz, count);
+            return 0;
+        }
+        let mut lit = 0;
+        let mut passed = 0;
+        while passed < count {
+            passed += self.stride(nusiz, clock, count - passed);
+            lit = with_pixel(lit, passed - 1, self.is_lit());
+        }
+        lit
     }
 }

@@ -1,5 +1,9 @@
 //! The two players.
-ghost use Rattle.std.specs.Prelude.{◌≡◌, ◌<◌, ◌≤◌, Option};
+ghost use Rattle.std.specs.Fn.{iterate};
+ghost use Rattle.std.specs.Prelude.{◌≡◌, ◌<◌, ◌≤◌, ◌&&◌, nat_lt, Option, None, ℕ, suc, false, true};
+ghost use Rattle.tia_chip.specs.Counter.{begins_copy as begins_of};
+ghost use Rattle.tia_chip.specs.Quiet.{counter_after as counter_of};
+ghost use Rattle.tia_chip.specs.Bits.{has_bit};
 ghost use Rattle.tia_chip.specs.Player.{begins_player, ends_bit, graphic_of, is_drawn, is_drawn_at};
 ghost use Rattle.tia_chip.specs.Player.{is_player_changed, looked_at_player, next_place};
 ghost use Rattle.tia_chip.specs.Player.{player_after_step, player_after_strobe, stepped_copy};
@@ -9,9 +13,12 @@ ghost use Rattle.tia_chip.specs.PlayerWidth.{beginning_of, change_of, copy_at_ch
 ghost use Rattle.tia_chip.specs.PlayerWidth.{player_after_nusiz, steps_to_change, with_width};
 ghost use Rattle.tia_chip.specs.PlayerWidth.{place_at_change};
 ghost use Rattle.tia_chip.specs.Private.Ranges.{IsCopyInRange, IsPlaceInRange, IsPlayerInRange, IsWidth};
+ghost use Rattle.tia_chip.specs.Quiet.{IsQuietPlayer, player_copy_at, player_copy_of_age, quiet_player_after};
 
-use crate::bits::has_bit;
-use crate::counter::{begins_copy, next_counter, strobed_counter};
+use crate::bits::{has_bit, with_pixel};
+use crate::counter::{
+    age, begins_copy, counter_after, next_counter, steps_to_copy, strobed_counter,
+};
 use crate::register::value_by_delay;
 
 /// A copy of a player that is on its way.
@@ -251,7 +258,60 @@ fn copy_in_mode(old: u8, new: u8, counter: u8, copy: Option<PlayerCopy>) -> Opti
     }
 }
 
+/// The copy of a quiet player whose last copy began so many steps ago.
+fn copy_of_age(width: u8, age: u8) -> Option<PlayerCopy>
+    requires width { IsWidth width }
+    ensures value { result ≡ player_copy_of_age width age }
+    ensures range { IsCopyInRange result }
+{
+    let first = if width == 1 { 5 } else { 6 };
+    if age >= first + 8 * width {
+        None
+    } else {
+        Some(PlayerCopy {
+            place: if age < 6 { age } else { 6 + (age - 6) % 4 },
+            bit: age.saturating_sub(first) / width,
+        })
+    }
+}
+
 impl Player {
+    /// The copy that it has if it is quiet and its counter is this.
+    fn quiet_copy(&self, counter: u8) -> Option<PlayerCopy>
+        requires { counter < 160 }
+        ensures value { result ≡ player_copy_at self.now counter }
+        ensures range { IsCopyInRange result }
+    {
+        copy_of_age(width(self.nusiz), age(self.nusiz % 8, counter))
+    }
+
+    /// Whether its copy follows from its counter, and it shows no bit that is 1.
+    pub(crate) fn is_dark(&self) -> bool
+        requires { IsPlayerInRange self.now }
+        ensures quiet { result ≡ true → IsQuietPlayer self.now }
+        ensures dark { result ≡ true → graphic_of self.now ≡ 0 }
+    {
+        self.graphic() == 0
+            && self.change == 0
+            && self.width == width(self.nusiz)
+            && self.copy == self.quiet_copy(self.counter)
+    }
+
+    /// So many steps of a quiet player that shows no bit that is 1.
+    pub(crate) fn pass_dark(&mut self, count: u8)
+        requires range { IsPlayerInRange self.old }
+        requires some { 1 ≤ count }
+        requires most { count ≤ 160 }
+        requires quiet { IsQuietPlayer self.old }
+        requires dark { graphic_of self.old ≡ 0 }
+        ensures value { self.new ≡ quiet_player_after count self.old }
+        ensures range { IsPlayerInRange self.new }
+    {
+        self.counter = counter_after(count, self.counter);
+        self.copy = self.quiet_copy(self.counter);
+        self.seen = false;
+    }
+
     /// The graphic that it shows.
     fn graphic(&self) -> u8
         ensures { result ≡ graphic_of self.now }
@@ -374,5 +434,58 @@ impl Player {
             && before.refp == self.refp
             && before.vdelp == self.vdelp;
         is_drawn(self.width, self.copy) && !same
+    }
+
+    /// The first of so many steps in the picture: those up to one with which a copy may begin, if there
+    /// is none, and else one. How many they were.
+    fn stride(&mut self, most: u8) -> u8
+        requires range { IsPlayerInRange self.old }
+        requires some { 1 ≤ most }
+        ensures some { 1 ≤ result }
+        ensures most { result ≤ most }
+        ensures value { self.new ≡ iterate player_after_step result self.old }
+        ensures unlit { (k : ℕ) → suc k < result → (iterate player_after_step (suc k) self.old).seen ≡ false }
+        ensures range { IsPlayerInRange self.new }
+    {
+        let steps = steps_to_copy(self.counter).min(most);
+        if steps == 0 || self.copy.is_some() {
+            self.step();
+            return 1;
+        }
+        self.counter = counter_after(steps, self.counter);
+        self.seen = false;
+        steps
+    }
+
+    /// Whether it has no copy, and none begins with the next steps.
+    fn has_no_copy_for(&self, count: u8) -> bool
+        requires { self.now.counter < 160 }
+        ensures none { result ≡ true → self.now.copy ≡ None }
+        ensures begins { result ≡ true → (mode k : ℕ) → k < count → begins_of mode (counter_of k self.now.counter) ≡ false }
+    {
+        self.copy.is_none() && steps_to_copy(self.counter) >= count
+    }
+
+    /// So many steps in the picture, at most 64, and with which of them it is lit: bit k is that of
+    /// step k.
+    pub(crate) fn steps(&mut self, count: u8) -> u64
+        requires range { IsPlayerInRange self.old }
+        requires some { 1 ≤ count }
+        requires most { count ≤ 64 }
+        ensures value { self.new ≡ iterate player_after_step count self.old }
+        ensures lit { (k : ℕ) → has_bit result k ≡ (nat_lt k count && (iterate player_after_step (suc k) self.old).seen) }
+        ensures range { IsPlayerInRange self.new }
+    {
+        if !self.has_no_copy_for(count) && self.is_dark() {
+            self.pass_dark(count);
+            return 0;
+        }
+        let mut lit = 0;
+        let mut passed = 0;
+        while passed < count {
+            passed += self.stride(count - passed);
+            lit = with_pixel(lit, passed - 1, self.seen);
+        }
+        lit
     }
 }

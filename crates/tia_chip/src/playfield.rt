@@ -8,7 +8,7 @@ use crate::bits::has_bit;
 use crate::state::TiaState;
 
 /// Bit `i` of the twenty.
-fn playfield_bit(pf0: u8, pf1: u8, pf2: u8, i: u8) -> bool
+pub fn playfield_bit(pf0: u8, pf1: u8, pf2: u8, i: u8) -> bool
     requires { i < 20 }
     ensures { result ≡ playfield_bit pf0 pf1 pf2 i }
 {
@@ -22,7 +22,7 @@ fn playfield_bit(pf0: u8, pf1: u8, pf2: u8, i: u8) -> bool
 }
 
 /// Which bit pixel `x` shows.
-fn playfield_index(mirrored: bool, x: u8) -> u8
+pub fn playfield_index(mirrored: bool, x: u8) -> u8
     requires { x < 160 }
     ensures value { result ≡ playfield_index mirrored x }
     ensures range { result < 20 }

@@ -1,8 +1,9 @@
 //! The TIA: colour clocks pass, and its registers are written and read.
+ghost use Rattle.std.specs.Fn.{iterate};
 ghost use Rattle.std.specs.Prelude.{◌≡◌, ◌<◌, ◌≤◌, ◌&&◌, not, if◌then◌else◌, Some, None};
 ghost use Rattle.tia_chip.specs.Clock.{after_clock, at_line_start, at_next_clock, at_next_line};
-ghost use Rattle.tia_chip.specs.Clock.{at_pixel, looked_at, stepped, with_next_clock, without_rest};
-ghost use Rattle.tia_chip.specs.Clock.{without_seen};
+ghost use Rattle.tia_chip.specs.Clock.{at_pixel, stepped, with_next_clock, without_rest};
+ghost use Rattle.tia_chip.specs.Clocks.{sink_after_clocks, with_pixel};
 ghost use Rattle.tia_chip.specs.Colour.{pixel_of};
 ghost use Rattle.tia_chip.specs.Numbers.{is_settled, is_tia};
 ghost use Rattle.tia_chip.specs.PowerOn.{at_frame_start, tia_at_power_on, with_fire};
@@ -11,6 +12,7 @@ ghost use Rattle.tia_chip.specs.Read.{tia_after_read, tia_read};
 ghost use Rattle.tia_chip.specs.Write.{effect_of, tia_after_write};
 
 use crate::ball::Ball;
+use crate::calm::{is_at_rest_in_blank, is_calm_in_picture, pass_blank, pass_some};
 use crate::collision::latch;
 use crate::colour::pixel;
 use crate::effect::Effect;
@@ -21,9 +23,12 @@ use crate::player::Player;
 use crate::playfield::take;
 use crate::read::{latch_button, register_byte};
 use crate::register::Register;
+use crate::sight::{forget_seen, look};
 use crate::state::TiaState;
-use crate::write::{bring_on, effect, write_register};
+use crate::waiting::Waiting;
+use crate::write::{bring_on, bring_on_write, effect, write_register};
 use std::marker::Model;
+use tia_core::Paint;
 
 /// A TIA. Contracts see its state.
 #[derive(Drop)]
@@ -159,32 +164,6 @@ fn begin_clock(tia: &mut TiaState)
     step(tia);
 }
 
-/// Looks at each object.
-fn look(tia: &mut TiaState)
-    requires { IsInRange tia.old }
-    ensures value { tia.new ≡ looked_at tia.old }
-    ensures range { IsInRange tia.new }
-{
-    tia.player0.look();
-    tia.player1.look();
-    tia.missile0.look();
-    tia.missile1.look();
-    tia.ball.look();
-}
-
-/// Forgets what was seen.
-fn forget_seen(tia: &mut TiaState)
-    requires { IsInRange tia.old }
-    ensures value { tia.new ≡ without_seen tia.old }
-    ensures range { IsInRange tia.new }
-{
-    tia.player0.seen = false;
-    tia.player1.seen = false;
-    tia.missile0.seen = false;
-    tia.missile1.seen = false;
-    tia.ball.seen = false;
-}
-
 /// Goes to the first clock of the next line.
 fn go_to_next_line(tia: &mut TiaState)
     requires { IsInRange tia.old }
@@ -274,6 +253,13 @@ impl Tia {
         self.state().line
     }
 
+    /// The same TIA again.
+    pub fn copy(&self) -> Tia
+        ensures value { result ≡ self.now }
+    {
+        Tia { state: self.state }
+    }
+
     /// Its state.
     pub fn state(&self) -> TiaState
         ensures { result ≡ self.now }
@@ -292,6 +278,87 @@ impl Tia {
         latch(&mut self.state);
         end_clock(&mut self.state);
         pixel
+    }
+
+    /// So many colour clocks, whose pixels go to the sink in order.
+    pub fn clocks<S: Paint>(&mut self, count: u32, sink: &mut S)
+        ensures state { self.new ≡ iterate after_clock count self.old }
+        ensures sink { sink.new ≡ sink_after_clocks S.drawn sink.old count self.old }
+    {
+        let mut left = count;
+        while left > 0 {
+            left -= self.some_clocks(left, sink);
+        }
+    }
+
+    /// The first of so many colour clocks, at least one. How many they were.
+    fn some_clocks<S: Paint>(&mut self, most: u32, sink: &mut S) -> u32
+        requires { 1 ≤ most }
+        ensures some { 1 ≤ result }
+        ensures most { result ≤ most }
+        ensures state { self.new ≡ iterate after_clock result self.old }
+        ensures sink { sink.new ≡ sink_after_clocks S.drawn sink.old result self.old }
+    {
+        let Some(waiting) = self.state.waiting else {
+            return self.free_clocks(most, sink);
+        };
+        if waiting.clocks == 0 {
+            bring_on_write(&mut self.state);
+            return self.free_clocks(most, sink);
+        }
+        self.waited_clocks(waiting, most.min(u32::from(waiting.clocks)), sink)
+    }
+
+    /// The first of so many colour clocks in which a write waits, at least one. How many they were.
+    fn waited_clocks<S: Paint>(&mut self, waiting: Waiting, most: u32, sink: &mut S) -> u32
+        requires waiting { self.old.waiting ≡ Some waiting }
+        requires some { 1 ≤ most }
+        requires most { most ≤ waiting.clocks }
+        ensures some { 1 ≤ result }
+        ensures most { result ≤ most }
+        ensures state { self.new ≡ iterate after_clock result self.old }
+        ensures sink { sink.new ≡ sink_after_clocks S.drawn sink.old result self.old }
+    {
+        self.state.waiting = None;
+        let passed = self.free_clocks(most, sink);
+        self.state.waiting = Some(Waiting {
+            clocks: waiting.clocks - passed as u8,
+            ..waiting
+        });
+        passed
+    }
+
+    /// The first of so many colour clocks, at least one: many, if no write waits and nothing moves. How
+    /// many they were.
+    fn free_clocks<S: Paint>(&mut self, most: u32, sink: &mut S) -> u32
+        requires { 1 ≤ most }
+        ensures some { 1 ≤ result }
+        ensures most { result ≤ most }
+        ensures state { self.new ≡ iterate after_clock result self.old }
+        ensures sink { sink.new ≡ sink_after_clocks S.drawn sink.old result self.old }
+    {
+        let most = most.min(160) as u8;
+        if is_at_rest_in_blank(&self.state) {
+            let count = most.min(68 - self.state.clock);
+            pass_blank(&mut self.state, count);
+            u32::from(count)
+        } else if is_calm_in_picture(&self.state) {
+            let most = most.min(228 - self.state.clock);
+            u32::from(pass_some(&mut self.state, most, sink))
+        } else {
+            self.put_clock(sink);
+            1
+        }
+    }
+
+    /// One colour clock, whose pixel goes to the sink.
+    fn put_clock<S: Paint>(&mut self, sink: &mut S)
+        ensures state { self.new ≡ after_clock self.old }
+        ensures sink { sink.new ≡ with_pixel S.drawn sink.old (pixel_of (at_pixel self.old)) }
+    {
+        if let Some(pixel) = self.clock() {
+            sink.put(pixel.line, pixel.x, pixel.colour);
+        }
     }
 
     /// Writes a register, of whose number the low six bits count, between two clocks.

@@ -291,7 +291,7 @@ pub fn write_register(tia: &mut TiaState, register: Register, value: u8)
 }
 
 /// A write that is on its way is a clock nearer, or acts.
-fn bring_on_write(tia: &mut TiaState)
+pub fn bring_on_write(tia: &mut TiaState)
     requires { IsInRange tia.old }
     ensures value { tia.new ≡ with_waited_write tia.old }
     ensures range { IsInRange tia.new }

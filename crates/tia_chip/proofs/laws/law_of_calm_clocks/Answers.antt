@@ -1,4 +1,5 @@
 use Rattle.tia_chip.proofs.CalmBlank.{clock-blank, clock-blank_end, clock-latches_none, clocks-blank, clocks-blank_end}
+use Rattle.tia_chip.proofs.CalmChanged.{clock-changed}
 use Rattle.tia_chip.proofs.CalmClocks.{clocks-line, clocks-picture, clocks-pixel}
 use Rattle.tia_chip.proofs.CalmPairs.{clock-pairs}
 use Rattle.tia_chip.proofs.laws.law_of_calm_clocks.Goals as goal
@@ -13,5 +14,6 @@ returns c = record {
   pulse = clock-blank;
   last_pulse = clock-blank_end;
   latch = clock-latches_none;
+  changed = clock-changed;
   pairs = clock-pairs;
 }

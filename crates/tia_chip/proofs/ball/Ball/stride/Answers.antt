@@ -1,0 +1,20 @@
+use Rattle.std.proofs.Common.{◌≡◌, false, arith, sym}
+use Rattle.std.specs.Prelude.{is_some}
+use Rattle.tia_chip.proofs.Strides.{NoneBegins, ball-passes, ball-unlit}
+use Rattle.tia_chip.proofs.ball.Ball.stride.Goals as goal
+
+pub returns-clause-value : goal.returns-clause-value
+returns-clause-value c =
+    let p = c.args.self.now in
+    let n = c.min-steps.result in
+    let none : is_some p.place ≡ false = cc in
+    let free : NoneBegins 0 p.counter n = λ k l. c.steps_to_copy.ensures.none 0 k (omega arith) in
+    rw c.counter_after-self.ensures.value (sym (ball-passes n c.args.ctrlpf p none (omega arith) c.requires.range.counter free))
+
+pub returns-clause-unlit : goal.returns-clause-unlit
+returns-clause-unlit c =
+    let p = c.args.self.now in
+    let n = c.min-steps.result in
+    let none : is_some p.place ≡ false = cc in
+    let free : NoneBegins 0 p.counter n = λ k l. c.steps_to_copy.ensures.none 0 k (omega arith) in
+    λ k l. ball-unlit n c.args.ctrlpf k p none c.requires.range.counter free l

@@ -1,0 +1,17 @@
+use Rattle.std.proofs.Common.{◌∙◌, ap}
+use Rattle.tia_chip.proofs.DarkLemmas.{dark-latches, dark-lit, no_pixels}
+use Rattle.tia_chip.proofs.LineLemmas.{picture-some}
+use Rattle.tia_chip.proofs.ShownLemmas.{unlatched-some}
+use Rattle.tia_chip.specs.Private.Lines.{gone_on, with_line}
+use Rattle.tia_chip.specs.declared.state.TiaState.{TiaState}
+use Rattle.tia_chip.proofs.calm.pass_dark.Goals as goal
+
+pub returns-clause-value : goal.returns-clause-value
+returns-clause-value c =
+    let t = c.args.tia.now in
+    let n = c.args.count in
+    let line = c.unlatched_line-line.result in
+    c.end_pixels.ensures.value
+    ∙ (ap (λ (u : TiaState). gone_on n (with_line line u)) c.step_dark.ensures.value
+    ∙ picture-some n t line c.requires.some c.requires.calm c.requires.end
+    (c.unlatched_line-line.ensures ∙ unlatched-some n t no_pixels c.requires.some c.requires.calm c.requires.end (dark-lit n t c.requires.calm.calm c.requires.dark) (dark-latches n t)))

@@ -1,0 +1,58 @@
+use Rattle.std.proofs.Common.{◌≡◌, ◌∙◌, ℕ, ◌+◌, ◌-◌, ◌/◌, ◌^◌, ◌<◌, ◌≤◌, ◌==◌, ◌&&◌, ◌||◌, inl, inr, Bool, false, arith, sym, ap}
+use Rattle.std.proofs.lemmas.Bool.{and_left, and_right, cases_lt, lt-ltb}
+use Rattle.std.proofs.lemmas.Bool.Decides.{nat_tests}
+use Rattle.std.specs.Prelude.{nat_lt}
+use Rattle.tia_core.proofs.MaskWordLemmas.{bit-high, bit-zero}
+use Rattle.tia_chip.specs.Bits.{has_bit}
+use Rattle.tia_chip.specs.Private.Lines.{shown_playfield}
+use Rattle.tia_chip.proofs.calm.playfield_in.Goals as goal
+
+below : (j k : ℕ) (a b : Bool) → j < k → ((nat_lt j k && a) || (b && (j == k))) ≡ (nat_lt j (k + 1) && a)
+below j k a b l = grind (arith, nat_tests)
+
+beyond : (j k : ℕ) (a b : Bool) → k < j → ((nat_lt j k && a) || (b && (j == k))) ≡ (nat_lt j (k + 1) && a)
+beyond j k a b l = grind (arith, nat_tests)
+
+here : (j k : ℕ) (a b : Bool) → j ≡ k → a ≡ b → ((nat_lt j k && a) || (b && (j == k))) ≡ (nat_lt j (k + 1) && a)
+here j k a b l e = grind (arith, nat_tests)
+
+one-more : (j k : ℕ) (shown : ℕ → Bool) → ((nat_lt j k && shown j) || (shown k && (j == k))) ≡ (nat_lt j (k + 1) && shown j)
+one-more j k shown = elim (cases_lt j k) [
+  | inl l ↦ below j k (shown j) (shown k) l
+  | inr l ↦ elim (cases_lt k j) [ inl m ↦ beyond j k (shown j) (shown k) m | inr m ↦ let e : j ≡ k = omega arith in here j k (shown j) (shown k) e (ap shown e) ]
+]
+
+pub loop-k-preserved : goal.loop-k-preserved
+loop-k-preserved c =
+    let t = c.args.tia.now in
+    let k = c.loop-k.k in
+    let shown : ℕ → Bool = λ j. has_bit c.args.pixels j && shown_playfield t (t.clock - 68) (t.clock - 68 + j) in
+    record {
+      most = omega arith;
+      bits = λ j. c.with_pixel-lit.ensures j
+          ∙ (ap (λ (b : Bool). b || (c.is_in_playfield.result && (j == k))) (c.loop-k.invariant.bits j)
+          ∙ (ap (λ (b : Bool). (nat_lt j k && shown j) || (b && (j == k))) c.is_in_playfield.ensures ∙ one-more j k shown));
+    }
+
+pub returns-after-loop-k : goal.returns-after-loop-k
+returns-after-loop-k c =
+    let t = c.args.tia.now in
+    let all : c.loop-k.k ≡ c.args.count = omega arith in
+    λ j. c.loop-k.invariant.bits j ∙ ap (λ (n : ℕ). nat_lt j n && (has_bit c.args.pixels j && shown_playfield t (t.clock - 68) (t.clock - 68 + j))) all
+
+-- where no pixel of the set is left
+none-left : (pixels k count j : ℕ) (shown : Bool) → k ≤ count → pixels / 2 ^ k ≡ 0
+    → (nat_lt j k && (has_bit pixels j && shown)) ≡ (nat_lt j count && (has_bit pixels j && shown))
+none-left pixels k count j shown l e = elim (cases_lt j k) [
+  | inl m ↦ ap (λ (b : Bool). b && (has_bit pixels j && shown)) (lt-ltb j k m ∙ sym (lt-ltb j count (omega arith)))
+  | inr m ↦ let place : k + (j - k) ≡ j = omega arith in
+      let none : has_bit pixels j ≡ false =
+      ap (has_bit pixels) (sym place) ∙ (sym (bit-high pixels k (j - k)) ∙ (ap (λ (n : ℕ). has_bit n (j - k)) e ∙ bit-zero (j - k))) in
+      let both = and_left (has_bit pixels j) shown none in
+      and_right (nat_lt j k) (has_bit pixels j && shown) both ∙ sym (and_right (nat_lt j count) (has_bit pixels j && shown) both)
+]
+
+pub returns-else-pixels-k-ne0 : goal.returns-else-pixels-k-ne0
+returns-else-pixels-k-ne0 c =
+    let t = c.args.tia.now in
+    λ j. c.loop-k.invariant.bits j ∙ none-left c.args.pixels c.loop-k.k c.args.count j (shown_playfield t (t.clock - 68) (t.clock - 68 + j)) c.loop-k.invariant.most c.if-pixels-k-ne0.false

@@ -1,0 +1,293 @@
+//! Many colour clocks at once, where no write is on its way and nothing moves.
+ghost use Rattle.std.specs.Fn.{iterate};
+ghost use Rattle.std.specs.Prelude.{◌≡◌, ◌<◌, ◌≤◌, ◌+◌, ◌-◌, ◌^◌, ◌&&◌, ◌==◌, ℕ, nat_lt, true};
+ghost use Rattle.tia_chip.specs.Bits.{has_bit as bit_of};
+ghost use Rattle.tia_chip.specs.Calm.{IsCalm, IsCalmInPicture, after_steps, blank_end};
+ghost use Rattle.tia_chip.specs.Clock.{after_clock};
+ghost use Rattle.tia_chip.specs.Clocks.{sink_after_clocks};
+ghost use Rattle.tia_chip.specs.Private.Lines.{AreLit, IsAtRestInBlank, IsDark, IsLatched, gone_on, line_of, lit_at};
+ghost use Rattle.tia_chip.specs.Private.Lines.{shown_playfield, unlatched_line, with_line};
+ghost use Rattle.tia_chip.specs.Private.Ranges.{IsInRange};
+
+use crate::bits::{has_bit, has_pixel, with_pixel};
+use crate::colour::colour;
+use crate::line::{Line, shown_mirrored, shown_playfield};
+use crate::lit_pixels::LitPixels;
+use crate::motion::any_moves;
+use crate::sight::{forget_seen, look};
+use crate::state::TiaState;
+use tia_core::Paint;
+
+/// Whether no write is on its way, nothing moves, and pixels are put where the line's clock is.
+fn is_calm(tia: &TiaState) -> bool
+    ensures { result ≡ true → IsCalm tia.now }
+{
+    tia.waiting.is_none() && tia.hmove.is_none() && !any_moves(tia) && tia.beam == tia.clock
+}
+
+/// Whether the clocks up to the picture do nothing.
+pub fn is_at_rest_in_blank(tia: &TiaState) -> bool
+    ensures rest { result ≡ true → IsAtRestInBlank tia.now }
+    ensures clock { result ≡ true → tia.now.clock < 68 }
+{
+    tia.clock < 68
+        && is_calm(tia)
+        && !(tia.changed || tia.playfield || tia.mirrored)
+        && !(tia.longer && tia.clock == 0)
+}
+
+/// So many clocks up to the picture that do nothing.
+pub fn pass_blank(tia: &mut TiaState, count: u8)
+    requires range { IsInRange tia.old }
+    requires rest { IsAtRestInBlank tia.old }
+    requires some { 1 ≤ count }
+    requires end { tia.old.clock + count ≤ 68 }
+    ensures value { tia.new ≡ iterate after_clock count tia.old }
+    ensures range { IsInRange tia.new }
+{
+    let leaves = leaves_blank(tia, count);
+    tia.clock += count;
+    tia.beam = tia.clock;
+    if leaves {
+        forget_seen(tia);
+    }
+}
+
+/// Whether the blank is over after so many clocks.
+fn leaves_blank(tia: &TiaState, count: u8) -> bool
+    requires { tia.now.clock + count ≤ 68 }
+    ensures { result ≡ (tia.now.clock + count == blank_end tia.now) }
+{
+    tia.clock + count == (if tia.longer { 76 } else { 68 })
+}
+
+/// Whether the clocks up to the line's end are of the picture, and the objects only make steps.
+pub fn is_calm_in_picture(tia: &TiaState) -> bool
+    ensures { result ≡ true → IsCalmInPicture tia.now }
+{
+    tia.clock >= 68 && !tia.longer && is_calm(tia)
+}
+
+/// The first of so many clocks of the picture, at least one, whose pixels go to the sink in order. How
+/// many they were.
+pub fn pass_some<S: Paint>(tia: &mut TiaState, most: u8, sink: &mut S) -> u8
+    requires range { IsInRange tia.old }
+    requires calm { IsCalmInPicture tia.old }
+    requires some { 1 ≤ most }
+    requires end { tia.old.clock + most ≤ 228 }
+    ensures some { 1 ≤ result }
+    ensures most { result ≤ most }
+    ensures value { tia.new ≡ iterate after_clock result tia.old }
+    ensures sink { sink.new ≡ sink_after_clocks S.drawn sink.old result tia.old }
+    ensures range { IsInRange tia.new }
+{
+    if !sink.keeps() && most > 64 && is_dark(tia) {
+        pass_dark(tia, most);
+        return most;
+    }
+    let count = most.min(64);
+    pass_picture(tia, count, sink);
+    count
+}
+
+/// Whether each object is quiet and lights nothing.
+fn is_dark(tia: &TiaState) -> bool
+    requires { IsInRange tia.now }
+    ensures { result ≡ true → IsDark tia.now }
+{
+    tia.player0.is_dark()
+        && tia.player1.is_dark()
+        && tia.missile0.is_dark(tia.player0.nusiz)
+        && tia.missile1.is_dark(tia.player1.nusiz)
+        && tia.ball.is_dark(tia.ctrlpf)
+}
+
+/// So many clocks of the picture in which no object lights a pixel.
+fn pass_dark(tia: &mut TiaState, count: u8)
+    requires range { IsInRange tia.old }
+    requires calm { IsCalmInPicture tia.old }
+    requires dark { IsDark tia.old }
+    requires some { 1 ≤ count }
+    requires end { tia.old.clock + count ≤ 228 }
+    ensures value { tia.new ≡ iterate after_clock count tia.old }
+    ensures range { IsInRange tia.new }
+{
+    let line = unlatched_line(tia, count);
+    step_dark(tia, count);
+    end_pixels(tia, line, count);
+}
+
+/// So many steps of objects that are quiet and light nothing.
+fn step_dark(tia: &mut TiaState, count: u8)
+    requires range { IsInRange tia.old }
+    requires calm { IsCalm tia.old }
+    requires dark { IsDark tia.old }
+    requires some { 1 ≤ count }
+    requires most { count ≤ 160 }
+    ensures value { tia.new ≡ after_steps count tia.old }
+    ensures range { IsInRange tia.new }
+{
+    let ctrlpf = tia.ctrlpf;
+    let (nusiz0, nusiz1) = (tia.player0.nusiz, tia.player1.nusiz);
+    tia.player0.pass_dark(count);
+    tia.player1.pass_dark(count);
+    tia.missile0.pass_dark(nusiz0, count);
+    tia.missile1.pass_dark(nusiz1, count);
+    tia.ball.pass_dark(ctrlpf, count);
+}
+
+/// So many clocks of the picture, at most 64, whose pixels go to the sink in order.
+fn pass_picture<S: Paint>(tia: &mut TiaState, count: u8, sink: &mut S)
+    requires range { IsInRange tia.old }
+    requires calm { IsCalmInPicture tia.old }
+    requires some { 1 ≤ count }
+    requires most { count ≤ 64 }
+    requires end { tia.old.clock + count ≤ 228 }
+    ensures value { tia.new ≡ iterate after_clock count tia.old }
+    ensures sink { sink.new ≡ sink_after_clocks S.drawn sink.old count tia.old }
+    ensures range { IsInRange tia.new }
+{
+    let before = *tia;
+    let lit = LitPixels::of_steps(tia, count);
+    let line = line_after(&before, &lit, count, sink);
+    end_pixels(tia, line, count);
+}
+
+/// Once the objects have made the steps of so many clocks: the playfield, the collisions and the beam.
+fn end_pixels(tia: &mut TiaState, line: Line, count: u8)
+    requires range { IsInRange tia.old }
+    requires collisions { line.collisions < 2 ^ 15 }
+    requires picture { 68 ≤ tia.old.clock }
+    requires end { tia.old.clock + count ≤ 228 }
+    ensures value { tia.new ≡ gone_on count (with_line line tia.old) }
+    ensures range { IsInRange tia.new }
+{
+    tia.playfield = line.playfield;
+    tia.mirrored = line.mirrored;
+    tia.collisions = line.collisions;
+    tia.changed = false;
+    go_on(tia, count);
+}
+
+/// The playfield and the collisions after so many clocks, whose pixels go to the sink in order.
+fn line_after<S: Paint>(tia: &TiaState, lit: &LitPixels, count: u8, sink: &mut S) -> Line
+    requires range { IsInRange tia.now }
+    requires calm { IsCalmInPicture tia.now }
+    requires some { 1 ≤ count }
+    requires most { count ≤ 64 }
+    requires end { tia.now.clock + count ≤ 228 }
+    requires lit { AreLit lit.now count tia.now }
+    ensures value { result ≡ line_of (iterate after_clock count tia.now) }
+    ensures sink { sink.new ≡ sink_after_clocks S.drawn sink.old count tia.now }
+    ensures range { result.collisions < 2 ^ 15 }
+{
+    if !sink.keeps() && latches_nothing(tia, lit, count) {
+        unlatched_line(tia, count)
+    } else {
+        show(tia, lit, count, sink)
+    }
+}
+
+/// Whether so many pixels latch no pair that isn't latched.
+fn latches_nothing(tia: &TiaState, lit: &LitPixels, count: u8) -> bool
+    requires range { IsInRange tia.now }
+    requires picture { 68 ≤ tia.now.clock }
+    requires most { count ≤ 64 }
+    requires end { tia.now.clock + count ≤ 228 }
+    ensures { result ≡ true → (k : ℕ) → k < count → IsLatched tia.now (lit_at lit.now k (shown_playfield tia.now (tia.now.clock - 68) (tia.now.clock - 68 + k))) }
+{
+    let pixels = lit.union();
+    if pixels == 0 {
+        return true;
+    }
+    if has_bit(tia.vblank, 1) {
+        return true;
+    }
+    let playfield = playfield_in(tia, pixels, count);
+    tia.collisions | lit.pairs(playfield) == tia.collisions
+}
+
+/// Which of so many pixels the playfield lights, of those that are in a set.
+fn playfield_in(tia: &TiaState, pixels: u64, count: u8) -> u64
+    requires picture { 68 ≤ tia.now.clock }
+    requires most { count ≤ 64 }
+    requires end { tia.now.clock + count ≤ 228 }
+    ensures { (k : ℕ) → bit_of result k ≡ (nat_lt k count && (bit_of pixels k && shown_playfield tia.now (tia.now.clock - 68) (tia.now.clock - 68 + k))) }
+{
+    let first = tia.clock - 68;
+    let mut lit = 0;
+    let mut k = 0;
+    while k < count && pixels >> k != 0 {
+        lit = with_pixel(lit, k, is_in_playfield(tia, pixels, first, k));
+        k += 1;
+    }
+    lit
+}
+
+/// Whether the playfield lights the k-th pixel from `first` on, if that is in a set.
+fn is_in_playfield(tia: &TiaState, pixels: u64, first: u8, k: u8) -> bool
+    requires few { k < 64 }
+    requires end { first + k < 160 }
+    ensures { result ≡ (bit_of pixels k && shown_playfield tia.now first (first + k)) }
+{
+    has_pixel(pixels, k) && shown_playfield(tia, first, first + k)
+}
+
+/// The playfield and the collisions after so many clocks that latch no pair.
+fn unlatched_line(tia: &TiaState, count: u8) -> Line
+    requires picture { 68 ≤ tia.now.clock }
+    requires some { 1 ≤ count }
+    requires end { tia.now.clock + count ≤ 228 }
+    ensures { result ≡ unlatched_line count tia.now }
+{
+    let first = tia.clock - 68;
+    let last = first + (count - 1);
+    Line {
+        playfield: shown_playfield(tia, first, last) && (last + 1) % 4 != 0,
+        mirrored: shown_mirrored(tia, first, last) && last < 156,
+        collisions: tia.collisions,
+    }
+}
+
+/// Puts so many pixels, and latches their pairs.
+fn show<S: Paint>(tia: &TiaState, lit: &LitPixels, count: u8, sink: &mut S) -> Line
+    requires range { IsInRange tia.now }
+    requires calm { IsCalmInPicture tia.now }
+    requires most { count ≤ 64 }
+    requires end { tia.now.clock + count ≤ 228 }
+    requires lit { AreLit lit.now count tia.now }
+    ensures value { result ≡ line_of (iterate after_clock count tia.now) }
+    ensures sink { sink.new ≡ sink_after_clocks S.drawn sink.old count tia.now }
+    ensures range { result.collisions < 2 ^ 15 }
+{
+    let first = tia.clock - 68;
+    let mut line = Line::of(tia);
+    for k in 0..count {
+        let x = first + k;
+        let begun = line.at(tia, x);
+        let objects = lit.objects(k, begun.playfield);
+        sink.put(tia.line, x, colour(tia, objects, x));
+        line = begun.past(tia, x, objects);
+    }
+    line
+}
+
+/// The beam goes on by so many clocks of the picture.
+fn go_on(tia: &mut TiaState, count: u8)
+    requires range { IsInRange tia.old }
+    requires picture { 68 ≤ tia.old.clock }
+    requires end { tia.old.clock + count ≤ 228 }
+    ensures value { tia.new ≡ gone_on count tia.old }
+    ensures range { IsInRange tia.new }
+{
+    if tia.clock + count == 228 {
+        look(tia);
+        tia.clock = 0;
+        tia.beam = 0;
+        tia.line = tia.line.wrapping_add(1);
+    } else {
+        forget_seen(tia);
+        tia.clock += count;
+        tia.beam = tia.clock;
+    }
+}
