@@ -1,7 +1,6 @@
 -- What holds of one value holds of another that equals it: answers say so of the values of a body.
-use Rattle.std.proofs.Common.{◌≡◌, ◌∙◌, ℕ, true, false, Result, sym, refl, subst, arith}
-use Rattle.std.specs.Prelude.{◌==◌, IsOk, if◌then◌else◌}
-use Rattle.std.proofs.lemmas.Bool.Decides.{nat_tests}
+use Rattle.std.proofs.Common.{◌≡◌, ◌∙◌, ℕ, true, false, Result, sym, refl, subst}
+use Rattle.std.specs.Prelude.{IsOk}
 use Rattle.mos_cpu.specs.Operands.{takes_vector, instruction_at}
 use Rattle.mos_cpu.specs.Registers.{Registers}
 use Rattle.mos_cpu.specs.declared.fault.CpuFault.{CpuFault}
@@ -45,8 +44,3 @@ pub jmp-found : (mode : Mode) (row : Row) → IsExpected (expected kind.Jmp mode
 jmp-found Absolute row e = refl
 jmp-found Indirect row e = refl
 jmp-found other row e = absurd e
-
--- A branch that takes neither two cycles nor three.
-pub far : {S : Type 0} (cycles : ℕ) (two three more : S) → (cycles ≡ 2 → ⊥) → (cycles ≡ 3 → ⊥)
-    → more ≡ (if cycles == 2 then two else (if cycles == 3 then three else more))
-far cycles two three more h k = grind (arith, nat_tests)

@@ -1,4 +1,5 @@
 pub mod AnswerLemmas
+pub mod AtHandLemmas
 pub mod DataLemmas
 pub mod HeldLemmas
 pub mod KindLemmas

@@ -1,7 +1,7 @@
 //! What the processor is connected to.
 
-ghost use Rattle.std.specs.Prelude.{◌≡◌};
-ghost use Rattle.bus_cycles.specs.Buses.{Meaning};
+ghost use Rattle.std.specs.Prelude.{◌≡◌, ◌+◌, ◌%◌, IfSome};
+ghost use Rattle.bus_cycles.specs.Buses.{AtHand, Meaning};
 
 /// What a read is for.
 #[derive(Clone, Copy, Debug, PartialEq, Eq)]
@@ -39,4 +39,21 @@ pub trait CycleBus {
     /// A cycle that writes.
     fn write(&mut self, address: u16, value: u8)
         ensures { state self.new ≡ meaning.after_write (state self.old) address value };
+
+    /// The byte at an address and the one after it, if the bus has both at hand: what the next two
+    /// cycles would fetch there. This is no cycle. None says nothing of them.
+    fn at_hand(&self, _address: u16) -> Option<(u8, u8)>
+        ensures { IfSome result (λ bytes. AtHand meaning (state self.now) _address bytes.0 bytes.1) }
+    {
+        None
+    }
+
+    /// Two cycles that read, the first a byte of the program and the second the byte after it. The
+    /// bytes are thrown away.
+    fn read_two(&mut self, address: u16, purpose: Purpose)
+        ensures { state self.new ≡ meaning.after_read (meaning.after_read (state self.old) Purpose.Code address) purpose ((address + 1) % 65536) }
+    {
+        let _ = self.read(address, Purpose::Code);
+        let _ = self.read(address.wrapping_add(1), purpose);
+    }
 }

@@ -63,6 +63,23 @@ pub(crate) fn discard<B: CycleBus>(bus: &mut B, at: u16)
     let _ = bus.read(at, Purpose::Discarded);
 }
 
+/// The cycles of a branch after its second, by how many it takes in all. The next instruction's
+/// first byte is read, and then the target before its page is right.
+#[inline(always)]
+pub(crate) fn finish_branch<B: CycleBus>(bus: &mut B, next: u16, target: u16, cycles: u8)
+    ensures { let near = B.meaning.after_read (B.state bus.old) Purpose.Discarded next in
+        B.state bus.new ≡ (if cycles == 2 then B.state bus.old else (if cycles == 3 then near
+        else B.meaning.after_read near Purpose.Discarded (in_page_of next target))) }
+{
+    if cycles == 2 {
+        return;
+    }
+    discard(bus, next);
+    if cycles != 3 {
+        discard(bus, in_page(next, target));
+    }
+}
+
 /// The second byte of a pointer is in the page of the first.
 #[inline(always)]
 fn next_in_page(at: u16) -> u16

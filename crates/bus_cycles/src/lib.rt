@@ -1,7 +1,9 @@
 //! The processor of `mos_cpu` by the cycle: each cycle of an instruction is one access of a bus.
 #![tactic(auto)]
 
+mod at_hand;
 mod bus;
+mod class;
 mod finding;
 mod held;
 mod kind;

@@ -6,8 +6,9 @@ ghost use Rattle.bus_cycles.specs.Execution.{step_of};
 ghost use Rattle.bus_cycles.specs.Private.Found.{IsRun};
 ghost use Rattle.bus_cycles.specs.Private.Kinds.{kind_of};
 
+use crate::at_hand::step_at_hand;
 use crate::bus::{CycleBus, Purpose};
-use crate::finding::{discard, fetch, find, find_none, in_page, pulled_at, pushed_at};
+use crate::finding::{discard, fetch, find, find_none, finish_branch, pulled_at, pushed_at};
 use crate::held::{HeldBus, HeldBytes, execute};
 use crate::kind::Kind;
 use mos_cpu::{Cpu, CpuFault, Mode, Row, RunningCpu, row};
@@ -102,8 +103,7 @@ fn change<B: CycleBus>(
     Ok(cycles)
 }
 
-/// A branch. Its target is read before its page is right, and before that the next instruction's
-/// first byte.
+/// A branch.
 fn branch<B: CycleBus>(
     cpu: &mut RunningCpu,
     bus: &mut B,
@@ -118,16 +118,8 @@ fn branch<B: CycleBus>(
     let mut held = HeldBytes::of(start.pc, opcode);
     held.low = fetch(bus, start.pc.wrapping_add(1))?;
     let cycles = execute(cpu, &mut HeldBus::of(held, 0, 0, 0));
-    if cycles == 2 {
-        return Ok(cycles);
-    }
-    let next = start.pc.wrapping_add(2);
-    discard(bus, next);
-    if cycles == 3 {
-        return Ok(cycles);
-    }
     let after = cpu.registers();
-    discard(bus, in_page(next, after.pc));
+    finish_branch(bus, start.pc.wrapping_add(2), after.pc, cycles);
     Ok(cycles)
 }
 
@@ -284,6 +276,24 @@ fn run<B: CycleBus>(cpu: &mut RunningCpu, bus: &mut B, opcode: u8, row: Row) -> 
     }
 }
 
+/// The instruction at the program counter, a cycle at a time.
+#[inline(never)]
+fn step_by_cycles<B: CycleBus>(cpu: &mut RunningCpu, bus: &mut B) -> Result<u8, CpuFault>
+    ensures answer { result ≡ (step_of B.meaning cpu.old (B.state bus.old)).answer }
+    ensures registers { cpu.new ≡ (step_of B.meaning cpu.old (B.state bus.old)).registers }
+    ensures bus { B.state bus.new ≡ (step_of B.meaning cpu.old (B.state bus.old)).bus }
+{
+    let start = cpu.registers();
+    let opcode = fetch(bus, start.pc)?;
+    match row(opcode) {
+        Some(row) => run(cpu, bus, opcode, row),
+        None => Err(CpuFault::BadOpcode {
+            opcode,
+            at: start.pc,
+        }),
+    }
+}
+
 /// Executes the instruction at the program counter, and answers its cycles, 2 to 7. Each is one
 /// access of the bus.
 ///
@@ -301,18 +311,14 @@ pub fn step<B: CycleBus>(cpu: &mut Cpu, bus: &mut B) -> Result<u8, CpuFault>
 }
 
 /// The same as `step`, for a caller with a loop over instructions.
+#[inline(always)]
 pub fn step_running<B: CycleBus>(cpu: &mut RunningCpu, bus: &mut B) -> Result<u8, CpuFault>
     ensures answer { result ≡ (step_of B.meaning cpu.old (B.state bus.old)).answer }
     ensures registers { cpu.new ≡ (step_of B.meaning cpu.old (B.state bus.old)).registers }
     ensures bus { B.state bus.new ≡ (step_of B.meaning cpu.old (B.state bus.old)).bus }
 {
-    let start = cpu.registers();
-    let opcode = fetch(bus, start.pc)?;
-    match row(opcode) {
-        Some(row) => run(cpu, bus, opcode, row),
-        None => Err(CpuFault::BadOpcode {
-            opcode,
-            at: start.pc,
-        }),
+    match step_at_hand(cpu, bus) {
+        Some(cycles) => Ok(cycles),
+        None => step_by_cycles(cpu, bus),
     }
 }

@@ -1,3 +1,4 @@
+pub mod PlainLemmas
 pub mod RecordLemmas
 pub mod RowLemmas
 pub mod SoundLemmas

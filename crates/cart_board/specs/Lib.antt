@@ -2,5 +2,6 @@ pub mod Access
 pub mod Board
 pub mod Boards
 pub mod CartState
+pub mod Plain
 pub mod Private
 pub mod Record

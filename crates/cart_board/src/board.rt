@@ -1,14 +1,16 @@
 //! A board: how the bytes of a cartridge are wired.
-ghost use Rattle.std.specs.Prelude.{◌≡◌, ◌==◌, IfSome, bytes_eq, find, length, map, option_map, slice_get, take};
+ghost use Rattle.std.specs.Prelude.{ℕ, ◌≡◌, ◌==◌, ◌<◌, ◌%◌, IfSome, bytes_eq, find, length, map, option_map, slice_get, take};
+ghost use Rattle.std.specs.List.{list_all};
 ghost use Rattle.cart_board.specs.Board.{row_of, index_of, has_length, last_bank};
 ghost use Rattle.cart_board.specs.Access.{banks_selected, banks_of_byte, is_at, is_in};
 ghost use Rattle.cart_board.specs.Boards.{boards, IsBoard};
+ghost use Rattle.cart_board.specs.Private.Kept.{IsPlainAt, is_high};
 ghost use Rattle.cart_board.specs.Record.{record_length, bank_in, banks_in};
 ghost use Rattle.cart_board.specs.CartState.{bank_at_power_on, banks_at_power_on};
 
 use crate::bank::{BankByte, BankNumbers};
 use crate::boards::BOARDS;
-use crate::hot_spot::HotSpot;
+use crate::hot_spot::{FIRST_HIGH, HotSpot};
 use crate::window::{Slice, Window};
 
 /// A board, as a row of the table `BOARDS`.
@@ -140,6 +142,25 @@ impl Board {
             .iter()
             .find(|spot| spot.is_at(address))
             .copied()
+    }
+
+    /// Whether each hot spot is one of the last 32 addresses.
+    fn has_high_hot_spots(&self) -> bool
+        ensures { result ≡ list_all is_high self.now.hot_spots.now }
+    {
+        self.hot_spots.iter().all(|spot| spot.is_high())
+    }
+
+    /// Accesses to addresses below this one, of 13 lines, select nothing, and are in no window; 0 of a
+    /// board of which that isn't known.
+    pub(crate) fn plain_to(&self) -> u16
+        ensures { (at : ℕ) → at % 8192 < result → IsPlainAt (row_of self.now) at }
+    {
+        if self.trigger.is_none() && self.windows.is_empty() && self.has_high_hot_spots() {
+            FIRST_HIGH
+        } else {
+            0
+        }
     }
 
     /// Selects what an access to an address selects before its byte is taken. A write has the byte.

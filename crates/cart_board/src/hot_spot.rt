@@ -1,8 +1,12 @@
 //! Hot spots: the addresses that select banks.
 ghost use Rattle.std.specs.Prelude.{◌≡◌};
 ghost use Rattle.cart_board.specs.Access.{is_at, bank_selected};
+ghost use Rattle.cart_board.specs.Private.Kept.{is_high};
 
 use crate::bank::BankByte;
+
+/// The first of the last 32 addresses of a cartridge, of 13 lines.
+pub(crate) const FIRST_HIGH: u16 = 0x1FE0;
 
 /// What an access to a hot spot selects.
 #[derive(Clone, Copy, Debug, PartialEq, Eq)]
@@ -47,5 +51,12 @@ impl HotSpot {
         ensures { result ≡ is_at address self.now }
     {
         address & self.mask == self.value
+    }
+
+    /// Whether it is one address of the last 32.
+    pub(crate) fn is_high(&self) -> bool
+        ensures { result ≡ is_high self.now }
+    {
+        self.mask == 0x1FFF && self.value >= FIRST_HIGH
     }
 }

@@ -1,9 +1,10 @@
 //! A cartridge in a console.
-ghost use Rattle.std.specs.Prelude.{◌≡◌, ◌↔◌, ◌<◌, length, replicate, IsTrue, IsOk, IfOk, OnErr, slice_set};
+ghost use Rattle.std.specs.Prelude.{◌≡◌, ◌↔◌, ◌<◌, length, replicate, IsTrue, IsOk, IfOk, IfSome, OnErr, slice_set};
 ghost use Rattle.cart_board.specs.Board.{has_length};
 ghost use Rattle.cart_board.specs.Boards.{IsBoard};
 ghost use Rattle.cart_board.specs.CartState.{CartState, are_banks, fits, is_bank, cart_at_power_on, cart_target};
 ghost use Rattle.cart_board.specs.CartState.{cart_read, after_select, after_write, after_byte};
+ghost use Rattle.cart_board.specs.Plain.{SelectsNothing, ShowsRom};
 
 use crate::bank::BankByte;
 use crate::cart::Cart;
@@ -35,6 +36,8 @@ pub struct MappedCart<'a> {
     ram: Vec<u8>,
     /// Where the ROM begins that addresses in no window lead to.
     rest: usize,
+    /// Addresses below this one, of 13 lines, select nothing and are in no window.
+    plain_to: u16,
 }
 
 impl<'a> Model for MappedCart<'a> {
@@ -45,7 +48,7 @@ impl<'a> Model for MappedCart<'a> {
 
     ghost view = { λ c. record { cartridge = c.cart.now; banks = c.banks; ram = c.ram.items } };
 
-    ghost invariant = { λ c. IsKept c.cart.now c.banks c.ram.items c.rest };
+    ghost invariant = { λ c. IsKept c.cart.now c.banks c.ram.items c.rest c.plain_to };
 }
 
 impl<'a> MappedCart<'a> {
@@ -61,12 +64,15 @@ impl<'a> MappedCart<'a> {
         requires { IsTrue (fits cart.now banks ram.items) }
         ensures { result ≡ record { cartridge = cart.now; banks = banks; ram = ram.items } }
     {
-        let rest = cart.board().rest.start(cart.bytes().len(), &banks);
+        let board = cart.board();
+        let rest = board.rest.start(cart.bytes().len(), &banks);
+        let plain_to = board.plain_to();
         MappedCart {
             cart,
             banks,
             ram,
             rest,
+            plain_to,
         }
     }
 
@@ -131,6 +137,7 @@ impl<'a> MappedCart<'a> {
             banks,
             ram,
             rest: _,
+            plain_to: _,
         } = self;
         (banks, ram)
     }
@@ -186,6 +193,28 @@ impl<'a> MappedCart<'a> {
         ensures write_port { result.kind ≡ Kind.WritePort → result.offset < length self.now.ram }
     {
         self.found(address)
+    }
+
+    /// Whether an access to an address, of the cartridge or not, surely selects nothing.
+    #[inline(always)]
+    pub fn is_plain(&self, address: u16) -> bool
+        ensures { IsTrue result → SelectsNothing self.now address }
+    {
+        address % 8192 < self.plain_to
+    }
+
+    /// The byte of ROM that a read from an address of the cartridge gives, if it surely selects
+    /// nothing. None says nothing.
+    #[inline(always)]
+    pub fn rom_at(&self, address: u16) -> Option<u8>
+        ensures { IfSome result (λ byte. ShowsRom self.now address byte) }
+    {
+        if address % 8192 < self.plain_to {
+            let mask = self.cart.board().rest.mask;
+            Some(self.cart.bytes()[self.rest + (address & mask) as usize])
+        } else {
+            None
+        }
     }
 
     /// What a read from an address of the cartridge would give, while this is the last byte on the

@@ -24,4 +24,5 @@ invariant_of-self c =
           ∙ ap (λ (r : Row). start_of r.rest (length c.bytes-bytes.result.now) c.select.new.banks) c.board-board.ensures.value
           ∙ ap (λ (all : List ℕ). start_of row.rest (length all) c.select.new.banks) c.bytes-bytes.ensures.value;
       small = search rules;
+      plain = c.self.invariant.plain;
     }

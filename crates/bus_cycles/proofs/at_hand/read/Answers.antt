@@ -1,0 +1,29 @@
+use Rattle.std.proofs.Common.{◌≡◌, ◌∙◌, refl, ap}
+use Rattle.mos_cpu.specs.Registers.{Registers}
+use Rattle.bus_cycles.specs.Private.Held.{held_bus}
+use Rattle.bus_cycles.proofs.AnswerLemmas.{ok-tied, guide-tied}
+use Rattle.bus_cycles.proofs.AtHandLemmas.{both_fetched, low-ok, read-class, read-step}
+use Rattle.bus_cycles.proofs.QuietLemmas.{two_held}
+use Rattle.bus_cycles.specs.declared.kind.Kind.TheVariants as kind
+use Rattle.bus_cycles.proofs.at_hand.read.Goals as goal
+
+pub execute-requires : goal.execute-requires
+execute-requires g c =
+    let m = g.B.CycleBus.meaning in
+    let r = c.args.cpu.now in
+    let s = g.B.CycleBus.state c.args.bus.now in
+    let here = ap (λ (r : Registers). r.pc) (c.start.view_is ∙ c.registers-start.ensures) in
+    ok-tied c.of.result (held_bus (two_held r c.args.opcode c.args.low) (m.read_value (both_fetched m c.args.row r s c.args.opcode c.args.low c.requires.known c.requires.bytes) c.args.low) 0 0) r (rw (c.of.ensures, c.two_bytes-held.ensures, here, c.read-byte.ensures.value, c.read_two.ensures, here) refl)
+    (low-ok m c.args.row r s c.args.opcode c.args.low c.requires.known c.requires.bytes kind.Read (read-class c.args.row c.requires.class) (λ e. cc) (m.read_value (both_fetched m c.args.row r s c.args.opcode c.args.low c.requires.known c.requires.bytes) c.args.low))
+
+pub returns : goal.returns
+returns g c =
+    let m = g.B.CycleBus.meaning in
+    let r = c.args.cpu.now in
+    let s = g.B.CycleBus.state c.args.bus.now in
+    let here = ap (λ (r : Registers). r.pc) (c.start.view_is ∙ c.registers-start.ensures) in
+    let bus = held_bus (two_held r c.args.opcode c.args.low) (m.read_value (both_fetched m c.args.row r s c.args.opcode c.args.low c.requires.known c.requires.bytes) c.args.low) 0 0 in
+    let held : c.of.result ≡ bus = rw (c.of.ensures, c.two_bytes-held.ensures, here, c.read-byte.ensures.value, c.read_two.ensures, here) refl in
+    read-step m c.args.row r s c.args.opcode c.args.low c.requires.known c.requires.bytes c.requires.class c.execute.result c.execute.new.cpu c.execute.new.bus (g.B.CycleBus.state c.read-byte.new.self)
+    (rw (c.read-byte.ensures.bus, c.read_two.ensures, here) refl)
+    (guide-tied r c.of.result bus c.execute.result c.execute.new.cpu c.execute.new.bus held c.execute.ensures)
