@@ -1,10 +1,13 @@
 mod AlongBuses
+mod AtHandLemmas
 mod ByteLemmas
 mod CartLemmas
 mod CycleLemmas
 mod FrameOutcomes
 mod GrowthLemmas
+mod LagLemmas
 mod LoggedLemmas
+mod PollLemmas
 mod RecordLaws
 mod RecordParts
 mod RowLemmas

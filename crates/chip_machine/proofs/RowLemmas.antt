@@ -12,6 +12,7 @@ use Rattle.riot_map.specs.Place.{place_of}
 use Rattle.riot_map.specs.declared.places.Place.{Place}
 use Rattle.riot_map.specs.declared.places.Place.TheVariants.{Cart, Tia, Ram, Io}
 use Rattle.tia_chip.specs.Clock.{at_pixel}
+use Rattle.tia_chip.specs.Clocks.{with_pixel}
 use Rattle.tia_chip.specs.Colour.{pixel_of}
 use Rattle.tia_chip.specs.Write.{effect_of}
 use Rattle.tia_chip.specs.declared.effect.Effect.{Effect}
@@ -19,7 +20,7 @@ use Rattle.tia_chip.specs.declared.effect.Effect.TheVariants.{Nothing, Sync, Fra
 use Rattle.tia_chip.specs.declared.pixel.Pixel.{Pixel}
 use Rattle.vcs_machine.specs.Pictures.{Rows, with_pixel as with_pixel_in}
 use Rattle.chip_machine.specs.Consoles.{Console, after_colour_clock, after_cycle, after_stop, cycles_to_line_start, meaning_of}
-use Rattle.chip_machine.specs.Consoles.{read_at, with_effect, with_pixel, written_at}
+use Rattle.chip_machine.specs.Consoles.{read_at, with_effect, written_at}
 use Rattle.chip_machine.specs.Frame.{Machine, Went, Ended, turn, turn_by, stop_of}
 use Rattle.chip_machine.proofs.CycleLemmas.{step-kept}
 use Rattle.chip_machine.proofs.TurnLemmas.{ended-kept}

@@ -11,6 +11,7 @@ use Rattle.riot_map.specs.Place.{place_of}
 use Rattle.riot_map.specs.declared.places.Place.{Place}
 use Rattle.riot_map.specs.declared.places.Place.TheVariants.{Cart, Tia, Ram, Io}
 use Rattle.tia_chip.specs.Clock.{at_pixel}
+use Rattle.tia_chip.specs.Clocks.{with_pixel}
 use Rattle.tia_chip.specs.Colour.{pixel_of}
 use Rattle.tia_chip.specs.Write.{tia_after_write, effect_of}
 use Rattle.tia_chip.specs.declared.effect.Effect.{Effect}
@@ -18,7 +19,7 @@ use Rattle.tia_chip.specs.declared.effect.Effect.TheVariants.{Nothing, Sync, Fra
 use Rattle.tia_chip.specs.declared.pixel.Pixel.{Pixel}
 use Rattle.chip_machine.specs.Consoles.{Console, after_colour_clock, after_cycle, after_stop, at_read, at_write, byte_at, byte_found}
 use Rattle.chip_machine.specs.Consoles.{cycles_to_line_start, found_at, holds_code_at, meaning_of, most_cycles, read_at, seen}
-use Rattle.chip_machine.specs.Consoles.{selected, stored_at, with_effect, with_pixel, written_at}
+use Rattle.chip_machine.specs.Consoles.{selected, stored_at, with_effect, written_at}
 use Rattle.chip_machine.specs.Frame.{Machine, Turn, Faulty, Went, Stop, Ended, Overlong, Faulted, overlong_cycles}
 use Rattle.chip_machine.specs.Frame.{turn, turn_by, stop_after, stop_within, stop_of}
 use Rattle.chip_machine.proofs.AlongBuses.{Respects, choice-along, step_of-along}

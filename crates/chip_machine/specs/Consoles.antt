@@ -12,12 +12,12 @@ use Rattle.riot_map.specs.Place.{place_of}
 use Rattle.riot_map.specs.declared.places.Place.{Place}
 use Rattle.riot_map.specs.declared.places.Place.TheVariants.{Cart, Tia, Ram, Io}
 use Rattle.tia_chip.specs.Clock.{after_clock, at_pixel}
+use Rattle.tia_chip.specs.Clocks.{with_pixel}
 use Rattle.tia_chip.specs.Colour.{pixel_of}
 use Rattle.tia_chip.specs.Read.{tia_read, tia_after_read}
 use Rattle.tia_chip.specs.Write.{tia_after_write, effect_of}
 use Rattle.tia_chip.specs.declared.effect.Effect.{Effect}
 use Rattle.tia_chip.specs.declared.effect.Effect.TheVariants.{Nothing, Sync, FrameEnd}
-use Rattle.tia_chip.specs.declared.pixel.Pixel.{Pixel}
 use Rattle.tia_chip.specs.declared.state.TiaState.{TiaState}
 
 -- A console in a frame, whose pixels go to a sink.
@@ -36,11 +36,6 @@ pub record Console (S : Type 0) : Type 0 where
   pub cycles : ℕ
 
 -- ---- a cycle
-
--- What a sink is after the pixel of a clock, where `drawn` is what it says of one pixel.
-abbrev pub with_pixel : {S : Type 0} → (S → ℕ → ℕ → ℕ → S) → S → Option Pixel → S
-with_pixel drawn sink None = sink
-with_pixel drawn sink (Some pixel) = drawn sink pixel.line pixel.x pixel.colour
 
 -- The most cycles that are counted, which no frame reaches: this project's own.
 abbrev pub most_cycles : ℕ

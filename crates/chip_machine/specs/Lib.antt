@@ -3,6 +3,7 @@ pub mod Frame
 pub mod Instructions
 pub mod Outcomes
 pub mod Pictures
+pub mod Private
 pub mod Record
 pub mod RecordNumbers
 pub mod States

@@ -1,13 +1,20 @@
 //! A console as its processor's bus.
-ghost use Rattle.std.specs.Prelude.{◌≡◌, ◌/◌, ◌<◌, IsTrue};
+ghost use Rattle.std.specs.Prelude.{◌≡◌, ◌/◌, ◌<◌, ◌≤◌, IfSome, IsTrue, None, Some};
 ghost use Rattle.cart_board.specs.CartState.{fits};
-ghost use Rattle.chip_machine.specs.Consoles.{after_colour_clock, after_cycle, after_stop, byte_found};
-ghost use Rattle.chip_machine.specs.Consoles.{found_at, meaning_of, seen, stored_at};
+ghost use Rattle.chip_machine.specs.Consoles.{after_cycle, after_stop, byte_found};
+ghost use Rattle.chip_machine.specs.Consoles.{found_at, meaning_of, read_at, seen, selected, stored_at};
 ghost use Rattle.chip_machine.specs.Consoles.{after_tia_write as after_tia_write_of};
 ghost use Rattle.chip_machine.specs.Outcomes.{begun, riot_left, tia_left};
 ghost use Rattle.chip_machine.specs.Pictures.{rows_of};
+ghost use Rattle.chip_machine.specs.Private.AtHand.{AreAtHand, IsRomAt, ReadsAlone};
+ghost use Rattle.chip_machine.specs.Private.Lag.{after_cycles};
+ghost use Rattle.chip_machine.specs.Private.Polls.{GoOn, IsPoll};
+ghost use Rattle.riot_chip.specs.Riot.{riot_read};
+ghost use Rattle.riot_map.specs.declared.places.Place.TheVariants.{Io};
 
+use crate::devices::Devices;
 use crate::left::Left;
+use crate::polls::{Poll, ROUND_CYCLES, poll_at};
 use bus_cycles::{CycleBus, Purpose};
 use cart_board::{Kind, MappedCart};
 use riot_chip::Riot;
@@ -21,34 +28,36 @@ use vcs_machine::{Input, LINE_CYCLES, MOST_ROWS};
 #[derive(Drop)]
 pub struct Console<'a, S: Paint> {
     cart: MappedCart<'a>,
-    riot: Riot,
-    tia: Tia,
-    sink: S,
+    devices: Devices<S>,
     /// The last byte on the bus.
     byte: u8,
     /// WSYNC was written, and nothing was read since.
     is_stopped: bool,
     /// VSYNC has fallen in this frame.
     has_ended: bool,
-    /// The cycles of the frame so far.
-    cycles: u32,
+    /// The RIOT's ports or timer were read.
+    has_read_riot: bool,
 }
 
 impl<'a, S: Paint> Model for Console<'a, S> {
     ghost use Rattle.chip_machine.specs.Consoles.{Console as ConsoleOf};
+    ghost use Rattle.chip_machine.specs.Private.Lag.{IsBehind, cycles_seen, riot_seen, sink_seen};
+    ghost use Rattle.chip_machine.specs.Private.Lag.{tia_seen};
 
     ghost Value = { ConsoleOf S };
 
     ghost view = { λ c. record {
       cart = c.cart;
-      riot = c.riot;
-      tia = c.tia;
-      sink = c.sink;
+      riot = riot_seen c.devices;
+      tia = tia_seen c.devices;
+      sink = sink_seen S.drawn c.devices;
       byte = c.byte;
       is_stopped = c.is_stopped;
       has_ended = c.has_ended;
-      cycles = c.cycles;
+      cycles = cycles_seen c.devices;
     } };
+
+    ghost invariant = { λ c. IsBehind c.devices };
 }
 
 impl<'a, S: Paint> CycleBus for Console<'a, S> {
@@ -69,22 +78,39 @@ impl<'a, S: Paint> CycleBus for Console<'a, S> {
         }
     }
 
+    #[inline(always)]
     #[tactic(auto, unfolding(crate::specs::Consoles::meaning_of))]
     fn read(&mut self, address: u16, _purpose: Purpose) -> u8 {
         self.pass_stop();
         self.cycle();
-        self.cart.select(address, None);
-        let byte = self.find(address);
-        self.see(address, byte);
-        byte
+        self.read_now(address)
     }
 
+    #[inline(always)]
     #[tactic(auto, unfolding(crate::specs::Consoles::meaning_of))]
     fn write(&mut self, address: u16, value: u8) {
         self.cycle();
-        self.cart.select(address, Some(value));
-        self.store(address, value);
-        self.see(address, value);
+        self.write_now(address, value);
+    }
+
+    #[inline(always)]
+    fn at_hand(&self, address: u16) -> Option<(u8, u8)> {
+        self.two_at(address)
+    }
+
+    #[inline(always)]
+    fn read_two(&mut self, address: u16, purpose: Purpose) {
+        match self.two_at(address) {
+            Some((_, second)) => {
+                self.cycle();
+                self.cycle();
+                self.byte = second;
+            }
+            None => {
+                let _ = self.read(address, Purpose::Code);
+                let _ = self.read(address.wrapping_add(1), purpose);
+            }
+        }
     }
 }
 
@@ -94,53 +120,171 @@ impl<'a, S: Paint> Console<'a, S> {
         ensures { result ≡ begun cart.entry riot tia input sink }
     {
         let [swcha, swchb, buttons] = input.bytes();
-        let mut console = Console {
+        let (mut riot, mut tia) = (riot, tia);
+        riot.set_pins(swcha, swchb);
+        tia.set_fire(buttons % 2 == 1, buttons / 2 % 2 == 1);
+        tia.new_frame();
+        Console {
             cart,
-            riot,
-            tia,
-            sink,
+            devices: Devices::new(riot, tia, sink),
             byte: 0,
             is_stopped: false,
             has_ended: false,
-            cycles: 0,
-        };
-        console.riot.set_pins(swcha, swchb);
-        console.tia.set_fire(buttons % 2 == 1, buttons / 2 % 2 == 1);
-        console.tia.new_frame();
-        console
-    }
-
-    /// One colour clock.
-    fn colour_clock(&mut self)
-        ensures { self.new ≡ after_colour_clock S.drawn self.old }
-    {
-        if let Some(pixel) = self.tia.clock() {
-            self.sink.put(pixel.line, pixel.x, pixel.colour);
+            has_read_riot: false,
         }
     }
 
     /// One cycle of the processor's clock: three colour clocks, and a step of the timer.
+    #[inline(always)]
     fn cycle(&mut self)
         ensures { self.new ≡ after_cycle S.drawn self.old }
     {
-        self.colour_clock();
-        self.colour_clock();
-        self.colour_clock();
-        self.riot.step();
-        self.cycles = self.cycles.saturating_add(1);
+        self.devices.pass(1);
     }
 
     /// Lets the cycles pass for which WSYNC has stopped the processor, if it has.
+    #[inline(always)]
     pub fn pass_stop(&mut self)
         ensures { self.new ≡ after_stop S.drawn self.old }
     {
         if self.is_stopped {
-            let cycles = (LINE_CYCLES - self.tia.line_clock() / 3) % LINE_CYCLES;
-            for _cycle in 0..cycles {
-                self.cycle();
-            }
+            self.devices.catch_up_tia();
+            let cycles = (LINE_CYCLES - self.devices.tia.line_clock() / 3) % LINE_CYCLES;
+            self.devices.pass(cycles);
             self.is_stopped = false;
         }
+    }
+
+    /// The byte of ROM at an address, if an access that reads it selects nothing. None says nothing.
+    #[inline(always)]
+    fn rom_at(&self, address: u16) -> Option<u8>
+        ensures { IfSome result (λ byte. IsRomAt self.now.cart address byte) }
+    {
+        match place(address) {
+            Place::Cart(_) => self.cart.rom_at(address),
+            _ => None,
+        }
+    }
+
+    /// Two such bytes one after the other, if the processor isn't stopped.
+    #[inline(always)]
+    fn two_at(&self, address: u16) -> Option<(u8, u8)>
+        ensures { IfSome result (λ bytes. AreAtHand self.now address bytes.0 bytes.1) }
+    {
+        if self.is_stopped {
+            return None;
+        }
+        let first = self.rom_at(address)?;
+        let second = self.rom_at(address.wrapping_add(1))?;
+        Some((first, second))
+    }
+
+    /// The byte of ROM or of the RIOT's memory at an address, if an access that reads it leaves it on
+    /// the bus and does nothing else. None says nothing.
+    #[inline(always)]
+    fn memory_at(&self, address: u16) -> Option<u8>
+        ensures { IfSome result (λ byte. ReadsAlone self.now address byte) }
+    {
+        match place(address) {
+            Place::Cart(_) => self.rom_at(address),
+            Place::Ram(index) => {
+                if self.cart.is_plain(address) {
+                    Some(self.devices.riot.ram(index))
+                } else {
+                    None
+                }
+            }
+            _ => None,
+        }
+    }
+
+    /// An access that reads, behind its cycle: the board sees it before and after.
+    #[inline(never)]
+    fn read_seen(&mut self, address: u16) -> u8
+        ensures value { result ≡ byte_found (selected self.old address None) address }
+        ensures after { let here = selected self.old address None in
+            self.new ≡ seen (found_at here address) address (byte_found here address) }
+    {
+        self.cart.select(address, None);
+        let byte = self.find(address);
+        self.see(address, byte);
+        byte
+    }
+
+    /// An access that reads, behind its cycle.
+    #[inline(always)]
+    fn read_now(&mut self, address: u16) -> u8
+        ensures value { result ≡ byte_found (selected self.old address None) address }
+        ensures after { let here = selected self.old address None in
+            self.new ≡ seen (found_at here address) address (byte_found here address) }
+    {
+        match self.memory_at(address) {
+            Some(byte) => {
+                self.byte = byte;
+                byte
+            }
+            None => self.read_seen(address),
+        }
+    }
+
+    /// An access that writes, behind its cycle: the board sees it before and after.
+    #[inline(never)]
+    fn write_seen(&mut self, address: u16, value: u8)
+        ensures { self.new ≡ seen (stored_at (selected self.old address (Some value)) address value) address value }
+    {
+        self.cart.select(address, Some(value));
+        self.store(address, value);
+        self.see(address, value);
+    }
+
+    /// An access that writes, behind its cycle.
+    #[inline(always)]
+    fn write_now(&mut self, address: u16, value: u8)
+        ensures { self.new ≡ seen (stored_at (selected self.old address (Some value)) address value) address value }
+    {
+        if address / 4096 % 2 == 0 && self.cart.is_plain(address) {
+            self.store(address, value);
+            self.byte = value;
+        } else {
+            self.write_seen(address, value);
+        }
+    }
+
+    /// The loop that waits for the timer whose branch stands at an address, if one does there.
+    pub fn poll_at(&self, pc: u16) -> Option<Poll>
+        ensures { IfSome result (λ poll. IsPoll self.now.cart pc poll) }
+    {
+        poll_at(&self.cart, pc)
+    }
+
+    /// So many rounds of such a loop surely go on.
+    pub fn rounds_ahead(&mut self) -> u32
+        ensures console { self.new ≡ self.old }
+        ensures some { 1 ≤ result }
+        ensures going { GoOn self.old.riot result }
+    {
+        self.devices.cycles_at_one().saturating_sub(1) / ROUND_CYCLES as u32 + 1
+    }
+
+    /// Lets cycles pass, and loads from a register of the RIOT.
+    pub fn load_after(&mut self, register: u8, cycles: u32) -> u8
+        ensures byte { result ≡ riot_read (after_cycles S.drawn cycles self.old).riot register }
+        ensures console { self.new ≡ record (read_at (after_cycles S.drawn cycles self.old) (Io register)) { byte = result } }
+    {
+        self.devices.pass_all(cycles);
+        self.devices.catch_up_riot();
+        let byte = self.devices.riot.read(register);
+        self.byte = byte;
+        byte
+    }
+
+    /// Whether the RIOT's ports or timer were read since this was asked.
+    pub fn has_read_riot(&mut self) -> bool
+        ensures { self.new ≡ self.old }
+    {
+        let has_read = self.has_read_riot;
+        self.has_read_riot = false;
+        has_read
     }
 
     /// The byte that a read of an address finds.
@@ -150,9 +294,16 @@ impl<'a, S: Paint> Console<'a, S> {
     {
         match place(address) {
             Place::Cart(address) => self.cart.read(address, self.byte),
-            Place::Tia(register) => self.tia.read(register, self.byte),
-            Place::Ram(index) => self.riot.ram(index),
-            Place::Io(register) => self.riot.read(register),
+            Place::Tia(register) => {
+                self.devices.catch_up_tia();
+                self.devices.tia.read(register, self.byte)
+            }
+            Place::Ram(index) => self.devices.riot.ram(index),
+            Place::Io(register) => {
+                self.has_read_riot = true;
+                self.devices.catch_up_riot();
+                self.devices.riot.read(register)
+            }
         }
     }
 
@@ -160,7 +311,8 @@ impl<'a, S: Paint> Console<'a, S> {
     fn write_tia(&mut self, register: u8, value: u8)
         ensures { self.new ≡ after_tia_write_of self.old register value }
     {
-        match self.tia.write(register, value) {
+        self.devices.catch_up_tia();
+        match self.devices.tia.write(register, value) {
             Effect::Nothing => {}
             Effect::Sync => self.is_stopped = true,
             Effect::FrameEnd => self.has_ended = true,
@@ -174,8 +326,11 @@ impl<'a, S: Paint> Console<'a, S> {
         match place(address) {
             Place::Cart(address) => self.cart.write(address, value),
             Place::Tia(register) => self.write_tia(register, value),
-            Place::Ram(index) => self.riot.set_ram(index, value),
-            Place::Io(register) => self.riot.write(register, value),
+            Place::Ram(index) => self.devices.riot.set_ram(index, value),
+            Place::Io(register) => {
+                self.devices.catch_up_riot();
+                self.devices.riot.write(register, value);
+            }
         }
     }
 
@@ -198,7 +353,7 @@ impl<'a, S: Paint> Console<'a, S> {
     pub fn cycles(&self) -> u32
         ensures { result ≡ self.now.cycles }
     {
-        self.cycles
+        self.devices.cycles()
     }
 
     /// The bank bytes of the cartridge.
@@ -213,14 +368,16 @@ impl<'a, S: Paint> Console<'a, S> {
         ensures line { result.0 ≡ self.now.tia.line }
         ensures cycle { result.1 ≡ self.now.tia.clock / 3 }
     {
-        (self.tia.line(), self.tia.line_clock() / 3)
+        let tia = self.devices.seen_tia();
+        (tia.line(), tia.line_clock() / 3)
     }
 
     /// The rows of the picture of a frame that ends here.
     pub fn rows(&self) -> u16
         ensures { result ≡ rows_of self.now.tia }
     {
-        let lines = self.tia.line() as u32 + u32::from(self.tia.line_clock() > 0);
+        let tia = self.devices.seen_tia();
+        let lines = tia.line() as u32 + u32::from(tia.line_clock() > 0);
         lines.min(MOST_ROWS as u32) as u16
     }
 
@@ -233,14 +390,22 @@ impl<'a, S: Paint> Console<'a, S> {
     {
         let Console {
             cart,
-            mut riot,
-            mut tia,
-            sink,
+            mut devices,
             byte: _,
             is_stopped: _,
             has_ended: _,
-            cycles: _,
+            has_read_riot: _,
         } = self;
+        devices.catch_up_tia();
+        devices.catch_up_riot();
+        let Devices {
+            mut riot,
+            mut tia,
+            sink,
+            cycles: _,
+            lag_left: _,
+            riot_left: _,
+        } = devices;
         riot.set_pins(0xFF, 0xFF);
         tia.set_fire(false, false);
         tia.new_frame();

@@ -1,16 +1,70 @@
 //! Instructions until a frame stops.
-ghost use Rattle.std.specs.Prelude.{◌≡◌, OnOk, IfErr};
+ghost use Rattle.std.specs.Prelude.{◌≡◌, ◌≤◌, false, OnOk, IfErr};
 ghost use Rattle.chip_machine.specs.Frame.{Ended, Machine, stop_of};
 ghost use Rattle.chip_machine.specs.Outcomes.{stop_with};
 
 use crate::console::Console;
+use crate::polls::ROUND_CYCLES;
 use bus_cycles::step_running;
-use mos_cpu::RunningCpu;
+use mos_cpu::{Cpu, RunningCpu, load};
 use tia_core::Paint;
 use vcs_machine::FaultKind;
 
 /// Cycles after which a frame that has not ended is too long: those of 1,024 scanlines.
 pub const TOO_MANY_CYCLES: u32 = 77_824;
+
+/// Passes the rounds of a loop that waits for the timer, if the processor is at its branch, and they
+/// surely go on and begin before the frame is too long. A frame that goes on from there stops as it
+/// would have stopped.
+#[inline(never)]
+fn pass_rounds<S: Paint>(cpu: &mut RunningCpu, console: &mut Console<S>)
+    requires no_stop { console.old.is_stopped ≡ false }
+    requires no_end { console.old.has_ended ≡ false }
+    ensures stops { stop_of S.drawn (record { registers = cpu.old; console = console.old })
+        ≡ stop_of S.drawn (record { registers = cpu.new; console = console.new }) }
+    ensures cartridge { console.new.cart.cartridge ≡ console.old.cart.cartridge }
+    ensures later { console.old.cycles ≤ console.new.cycles }
+{
+    let registers = cpu.registers();
+    let cycles = console.cycles();
+    let Some(poll) = console.poll_at(registers.pc) else {
+        return;
+    };
+    if cycles >= TOO_MANY_CYCLES || registers.p / 2 % 2 == 1 {
+        return;
+    }
+    let round = ROUND_CYCLES as u32;
+    let count = console
+        .rounds_ahead()
+        .min((TOO_MANY_CYCLES - cycles) / round);
+    if count == 0 {
+        return;
+    }
+    let loaded = load(
+        console.load_after(poll.register, round * count),
+        registers.p,
+    );
+    *cpu = RunningCpu::of(&Cpu {
+        a: loaded.value,
+        p: loaded.p,
+        ..registers
+    });
+}
+
+/// The same after an instruction, if it read the RIOT.
+#[inline(always)]
+fn pass_rounds_after_read<S: Paint>(cpu: &mut RunningCpu, console: &mut Console<S>)
+    requires no_stop { console.old.is_stopped ≡ false }
+    requires no_end { console.old.has_ended ≡ false }
+    ensures stops { stop_of S.drawn (record { registers = cpu.old; console = console.old })
+        ≡ stop_of S.drawn (record { registers = cpu.new; console = console.new }) }
+    ensures cartridge { console.new.cart.cartridge ≡ console.old.cart.cartridge }
+    ensures later { console.old.cycles ≤ console.new.cycles }
+{
+    if console.has_read_riot() {
+        pass_rounds(cpu, console);
+    }
+}
 
 /// Instructions, each with the stop that it leaves, until the frame stops.
 pub fn run_until_stop<S: Paint>(
@@ -31,6 +85,7 @@ pub fn run_until_stop<S: Paint>(
         if console.has_ended() {
             return Ok(());
         }
+        pass_rounds_after_read(cpu, console);
     }
     Err(FaultKind::Overlong)
 }

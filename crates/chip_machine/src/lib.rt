@@ -3,12 +3,14 @@
 #![tactic(auto)]
 
 mod console;
+mod devices;
 mod executed;
 mod fields;
 mod frame_loop;
 mod frames;
 mod left;
 mod logged;
+mod polls;
 mod record;
 mod state;
 mod stepping;

@@ -1,5 +1,5 @@
 //! State records.
-ghost use Rattle.std.specs.Prelude.{◌≡◌, ◌+◌, ◌++◌, ◌&&◌, length, if◌then◌else◌, IfOk, IfSome, OnOk, Some, None};
+ghost use Rattle.std.specs.Prelude.{◌≡◌, ◌+◌, ◌<◌, ◌++◌, ◌&&◌, length, if◌then◌else◌, IfOk, IfSome, OnOk, OnErr, Some, None};
 ghost use Rattle.cart_board.specs.Record.{record_length};
 ghost use Rattle.chip_machine.specs.Record.{IsStateOf, record_of};
 ghost use Rattle.chip_machine.specs.RecordNumbers.{fields_at, spells_tia, tia_part};
@@ -11,7 +11,7 @@ mod riot;
 mod tia;
 
 use crate::fields::StateFields;
-use crate::state::State;
+use crate::state::{State, ram_of};
 use cart_board::Cart;
 use cpu::{PROCESSOR_LENGTH, cpu_bytes, cpu_in};
 use riot::{RIOT_LENGTH, riot_bytes, riot_in};
@@ -50,10 +50,13 @@ fn fields_in(cart: &Cart, bytes: &[u8]) -> Option<StateFields>
 }
 
 /// The state of a cartridge whose record the bytes are; none if they aren't as many as its board's,
-/// or break a condition. Takes memory for its RAM.
+/// or break a condition.
+///
+/// AllocError comes only if the allocation of its RAM was refused. A board without RAM takes no memory.
 pub fn read_state(alloc: Global, cart: &Cart, bytes: &[u8]) -> Result<Option<State>, AllocError>
     ensures found { IfOk result (λ found. IfSome found (λ s. IsStateOf cart.now s × (bytes.now ≡ record_of cart.now.row s))) }
     ensures only { IfOk result (λ found. (s : StateData) → IsStateOf cart.now s → bytes.now ≡ record_of cart.now.row s → found ≡ Some s) }
+    ensures memory { OnErr result (0 < cart.now.row.ram) }
 {
     let board = cart.board();
     if bytes.len() != BANKS_AT + board.record_length() {
@@ -62,7 +65,7 @@ pub fn read_state(alloc: Global, cart: &Cart, bytes: &[u8]) -> Result<Option<Sta
     let Some(fields) = fields_in(cart, bytes) else {
         return Ok(None);
     };
-    let ram = bytes[BANKS_AT + board.banks.len()..].to_vec(alloc)?;
+    let ram = ram_of(alloc, &bytes[BANKS_AT + board.banks.len()..])?;
     let Some(state) = State::new(fields, ram) else {
         return Ok(None);
     };
@@ -72,16 +75,20 @@ pub fn read_state(alloc: Global, cart: &Cart, bytes: &[u8]) -> Result<Option<Sta
     Ok(Some(state))
 }
 
-/// Appends the record of a state of a cartridge.
+/// Appends the record of a state of a cartridge. AllocError comes only if the allocation of its room
+/// was refused.
 pub fn write_state(cart: &Cart, state: &State, out: &mut Vec<u8>) -> Result<(), AllocError>
-    ensures { OnOk result (out.new.items ≡ out.old.items ++ record_of cart.now.row state.now) }
+    ensures ok { OnOk result (out.new.items ≡ out.old.items ++ record_of cart.now.row state.now) }
+    ensures err { OnErr result (out.new.items ≡ out.old.items) }
 {
     let fields = state.fields();
     let banks = cart.board().bank_bytes(&fields.banks);
+    let ram = state.ram();
+    out.reserve(BANKS_AT + banks.len() + ram.len())?;
     out.extend_from_slice(&cpu_bytes(&fields.cpu))?;
     out.extend_from_slice(&riot_bytes(&fields.riot))?;
     out.extend_from_slice(&tia_bytes(&fields.tia))?;
     out.extend_from_slice(banks)?;
-    out.extend_from_slice(state.ram())?;
+    out.extend_from_slice(ram)?;
     Ok(())
 }

@@ -1,5 +1,5 @@
 //! States between frames.
-ghost use Rattle.std.specs.Prelude.{◌≡◌, ◌↔◌, ◌<◌, ◌%◌, IsTrue, if◌then◌else◌, Some, None, IfOk};
+ghost use Rattle.std.specs.Prelude.{◌≡◌, ◌↔◌, ◌<◌, ◌%◌, length, IsTrue, if◌then◌else◌, Some, None, IfOk, OnErr};
 ghost use Rattle.cart_board.specs.CartState.{cart_at_power_on, fits};
 ghost use Rattle.riot_chip.specs.Riot.{fields_of, riot_of};
 ghost use Rattle.tia_chip.specs.Numbers.{is_settled, is_tia};
@@ -17,6 +17,18 @@ use tia_chip::Tia;
 
 /// Where a processor that was reset finds the address of its first instruction.
 const RESET_VECTOR: u16 = 0xFFFC;
+
+/// A RAM of these bytes. AllocError comes only if its allocation was refused; no bytes need none.
+pub(crate) fn ram_of(alloc: Global, bytes: &[u8]) -> Result<Vec<u8>, AllocError>
+    ensures value { IfOk result (λ ram. ram.items ≡ bytes.now) }
+    ensures memory { OnErr result (0 < length bytes.now) }
+{
+    if bytes.is_empty() {
+        Ok(Vec::new(alloc))
+    } else {
+        bytes.to_vec(alloc)
+    }
+}
 
 /// The state of a console between two frames, which contracts see as its numbers and the RAM of its
 /// cartridge.
@@ -40,11 +52,14 @@ impl Model for State {
 }
 
 impl State {
-    /// The state of a console that was just switched on, with this cartridge. Takes memory for its
-    /// RAM.
+    /// The state of a console that was just switched on, with this cartridge.
+    ///
+    /// AllocError comes only if the allocation of its RAM was refused. A board without RAM takes no
+    /// memory.
     pub fn power_on(alloc: Global, cart: &Cart) -> Result<State, AllocError>
         ensures value { IfOk result (λ s. s ≡ state_at_power_on cart.now) }
         ensures cartridge { IfOk result (λ s. IsTrue (is_of cart.now s)) }
+        ensures memory { OnErr result (0 < cart.now.row.ram) }
     {
         let mapped = MappedCart::power_on(alloc, cart)?;
         let low = mapped.peek(RESET_VECTOR, 0);
@@ -126,11 +141,14 @@ impl State {
         self.has_numbers_of(other) && self.ram == other.ram
     }
 
-    /// A state with the same numbers and the same RAM. Takes memory for the RAM.
+    /// A state with the same numbers and the same RAM.
+    ///
+    /// AllocError comes only if the allocation of the RAM was refused. Without RAM it takes no memory.
     pub fn copy(&self, alloc: Global) -> Result<State, AllocError>
-        ensures { IfOk result (λ s. s ≡ self.now) }
+        ensures value { IfOk result (λ s. s ≡ self.now) }
+        ensures memory { OnErr result (0 < length self.now.ram) }
     {
-        let ram = self.ram.to_vec(alloc)?;
+        let ram = ram_of(alloc, &self.ram)?;
         Ok(State {
             fields: self.fields,
             ram,

@@ -1,5 +1,5 @@
 //! A frame that is executed one instruction at a time.
-ghost use Rattle.std.specs.Prelude.{◌≡◌, ◌≤◌, ◌||◌, nat_le, IsTrue, IfOk, IfErr, OnOk};
+ghost use Rattle.std.specs.Prelude.{◌≡◌, ◌≤◌, ◌<◌, ◌||◌, length, nat_le, IsTrue, IfOk, IfErr, OnOk, OnErr};
 ghost use Rattle.mos_cpu.specs.declared.fault.CpuFault.{CpuFault};
 ghost use Rattle.vcs_machine.specs.Faults.{kind_of};
 ghost use Rattle.chip_machine.specs.Frame.{Faulty, Went, overlong_cycles, turn};
@@ -43,8 +43,10 @@ impl<'a> Model for Stepping<'a> {
 }
 
 impl<'a> Stepping<'a> {
-    /// A frame that begins in a state of this cartridge, with this input. Takes memory for the
-    /// cartridge's RAM.
+    /// A frame that begins in a state of this cartridge, with this input.
+    ///
+    /// AllocError comes only if the allocation of the cartridge's RAM was refused. Without RAM it takes
+    /// no memory.
     pub fn begin(
         alloc: Global,
         cart: &'a Cart,
@@ -52,7 +54,8 @@ impl<'a> Stepping<'a> {
         input: Input,
     ) -> Result<Stepping<'a>, AllocError>
         requires { IsTrue (is_of cart.now state.now) }
-        ensures { IfOk result (λ stepping. stepping ≡ machine_of cart.now state.now input (record {})) }
+        ensures value { IfOk result (λ stepping. stepping ≡ machine_of cart.now state.now input (record {})) }
+        ensures memory { OnErr result (0 < length state.now.ram) }
     {
         let mut copy = state.copy(alloc)?;
         let mapped = copy.take_cart(alloc, cart);

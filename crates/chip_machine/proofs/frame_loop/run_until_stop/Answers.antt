@@ -2,6 +2,7 @@ use Rattle.std.proofs.Common.{◌<◌, ◌≤◌, ◌∙◌, sym, arith}
 use Rattle.chip_machine.specs.Frame.{Machine, overlong_cycles}
 use Rattle.chip_machine.proofs.CartLemmas.{step-cart, stop-kept}
 use Rattle.chip_machine.proofs.FrameOutcomes.{stop-kind}
+use Rattle.chip_machine.proofs.LagLemmas.{stop-over}
 use Rattle.chip_machine.proofs.StopLemmas.{stops-ended, stops-faulty, stops-later, stops-long, turn-faulty, turn-later, went}
 use Rattle.chip_machine.proofs.frame_loop.run_until_stop.Goals as goal
 
@@ -34,6 +35,9 @@ returns-then-has_ended-clause-cartridge g c =
     let after = step-cart g.S.Paint.drawn k c.loop-cpu.cpu c.loop-cpu.console c.loop-cpu.invariant.cartridge in
     rw c.pass_stop.ensures (stop-kept g.S.Paint.drawn k c.step_running.new.bus (rw c.step_running.ensures.bus after))
 
+pub pass_rounds_after_read-requires-clause-no_stop : goal.pass_rounds_after_read-requires-clause-no_stop
+pass_rounds_after_read-requires-clause-no_stop g c = rw c.pass_stop.ensures (stop-over g.S.Paint.drawn c.step_running.new.bus)
+
 pub loop-cpu-smaller : goal.loop-cpu-smaller
 loop-cpu-smaller g c =
     let drawn = g.S.Paint.drawn in
@@ -43,7 +47,7 @@ loop-cpu-smaller g c =
     let there = went drawn m c.in_default.field-0 c.step_running.new.cpu c.step_running.new.bus c.pass_stop.new.self (sym c.in_default.is ∙ c.step_running.ensures.answer)
     c.step_running.ensures.registers c.step_running.ensures.bus c.pass_stop.ensures in
     let later = turn-later drawn m next short there in
-    omega (arith, later, short)
+    omega (arith, later, short, c.pass_rounds_after_read.ensures.later)
 
 pub loop-cpu-preserved : goal.loop-cpu-preserved
 loop-cpu-preserved g c =
@@ -56,8 +60,10 @@ loop-cpu-preserved g c =
     c.step_running.ensures.registers c.step_running.ensures.bus c.pass_stop.ensures in
     let after = step-cart drawn k c.loop-cpu.cpu c.loop-cpu.console c.loop-cpu.invariant.cartridge in
     record {
-      stops = c.loop-cpu.invariant.stops ∙ stops-later drawn m next short there (sym c.has_ended.ensures ∙ c.if-has_ended.false);
-      cartridge = rw c.pass_stop.ensures (stop-kept drawn k c.step_running.new.bus (rw c.step_running.ensures.bus after));
+      stops = c.loop-cpu.invariant.stops
+          ∙ stops-later drawn m next short there (sym c.has_ended.ensures ∙ c.if-has_ended.false)
+          ∙ c.pass_rounds_after_read.ensures.stops;
+      cartridge = c.pass_rounds_after_read.ensures.cartridge ∙ rw c.pass_stop.ensures (stop-kept drawn k c.step_running.new.bus (rw c.step_running.ensures.bus after));
     }
 
 pub returns-clause-err : goal.returns-clause-err

@@ -24,7 +24,7 @@ pub returns-then-not-is_of-clause-only : goal.returns-then-not-is_of-clause-only
 returns-then-not-is_of-clause-only c = λ s h is.
     let cart = c.args.cart.now in
     let bytes = c.args.bytes.now in
-    let ram = c.in_ok-ram.ensures.items_if_clones_equal (λ x y e. e) ∙ ram_there bytes _ _ (ap (λ (r : Row). length r.banks) c.board-board.ensures.value) in
+    let ram = c.in_ok-ram.ensures.value ∙ ram_there bytes _ _ (ap (λ (r : Row). length r.banks) c.board-board.ensures.value) in
     let found = read_found cart.row bytes c.in-Some.fields _ c.new.result c.in-Some-new.state (sym c.fields_in.ensures ∙ c.in-Some.is) ram
     c.new.ensures c.in-Some-new.is in
     let same = state_only cart bytes c.in-Some-new.state s c.board-board.ensures.known found.2 h is in
@@ -34,7 +34,7 @@ pub returns-clause-found : goal.returns-clause-found
 returns-clause-found c =
     let cart = c.args.cart.now in
     let bytes = c.args.bytes.now in
-    let ram = c.in_ok-ram.ensures.items_if_clones_equal (λ x y e. e) ∙ ram_there bytes _ _ (ap (λ (r : Row). length r.banks) c.board-board.ensures.value) in
+    let ram = c.in_ok-ram.ensures.value ∙ ram_there bytes _ _ (ap (λ (r : Row). length r.banks) c.board-board.ensures.value) in
     let found = read_found cart.row bytes c.in-Some.fields _ c.new.result c.in-Some-new.state (sym c.fields_in.ensures ∙ c.in-Some.is) ram
     c.new.ensures c.in-Some-new.is in
     let row = c.board-board.ensures.value in
@@ -47,7 +47,7 @@ pub returns-clause-only : goal.returns-clause-only
 returns-clause-only c = λ s h is.
     let cart = c.args.cart.now in
     let bytes = c.args.bytes.now in
-    let ram = c.in_ok-ram.ensures.items_if_clones_equal (λ x y e. e) ∙ ram_there bytes _ _ (ap (λ (r : Row). length r.banks) c.board-board.ensures.value) in
+    let ram = c.in_ok-ram.ensures.value ∙ ram_there bytes _ _ (ap (λ (r : Row). length r.banks) c.board-board.ensures.value) in
     let found = read_found cart.row bytes c.in-Some.fields _ c.new.result c.in-Some-new.state (sym c.fields_in.ensures ∙ c.in-Some.is) ram
     c.new.ensures c.in-Some-new.is in
     ap (λ (x : StateData). Some x) (state_only cart bytes c.in-Some-new.state s c.board-board.ensures.known found.2 h is)

@@ -1,9 +1,9 @@
-use Rattle.std.proofs.Common.{length, take, ◌∙◌, ap}
+use Rattle.std.proofs.Common.{ℕ, List, ◌++◌, length, take, ◌∙◌, ap}
 use Rattle.record_table.specs.Numbers.{bytes_of}
 use Rattle.cart_board.specs.Board.{Row}
 use Rattle.mos_cpu.specs.Registers.{processor_numbers}
 use Rattle.tia_chip.specs.Numbers.{tia_numbers}
-use Rattle.chip_machine.specs.Record.{riot_bytes}
+use Rattle.chip_machine.specs.Record.{record_of, riot_bytes}
 use Rattle.chip_machine.specs.declared.fields.StateFields.{StateFields}
 use Rattle.chip_machine.proofs.RecordLaws.{appended, same_five}
 use Rattle.chip_machine.proofs.StateLemmas.{state_tia}
@@ -12,8 +12,8 @@ use Rattle.chip_machine.proofs.record.write_state.Goals as goal
 pub tia_bytes-requires : goal.tia_bytes-requires
 tia_bytes-requires c = state_tia _ c.fields-fields.ensures.lawful
 
-pub returns : goal.returns
-returns c =
+pub returns-clause-ok : goal.returns-clause-ok
+returns-clause-ok c =
     let f = c.fields-fields.ensures.value in
     let banks =
     c.bank_bytes-banks.ensures
@@ -26,4 +26,5 @@ returns c =
     (c.riot_bytes.ensures ∙ ap (λ (f : StateFields). riot_bytes f.riot) f)
     (c.tia_bytes.ensures ∙ ap (λ (f : StateFields). bytes_of tia_numbers f.tia) f)
     banks
-    c.ram.ensures
+    c.ram-ram.ensures
+    ∙ ap (λ (out : List ℕ). out ++ record_of c.args.cart.now.row c.args.state.now) c.reserve.ensures.items

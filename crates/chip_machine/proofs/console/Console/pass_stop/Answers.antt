@@ -1,18 +1,40 @@
-use Rattle.std.proofs.Common.{◌≡◌, ◌∙◌, ℕ, suc, true, false, sym, ap, arith}
+use Rattle.std.proofs.Common.{◌∙◌, ℕ, ◌+◌, ◌-◌, ◌*◌, ◌/◌, ◌%◌, ◌≤◌, ap, arith}
+use Rattle.std.specs.Prelude.{min}
 use Rattle.std.specs.Fn.{iterate}
-use Rattle.std.proofs.lemmas.Bool.{cond-true}
-use Rattle.chip_machine.specs.Consoles.{Console, after_cycle, cycles_to_line_start}
+use Rattle.tia_chip.specs.Clock.{after_clock}
+use Rattle.tia_chip.specs.Clocks.{sink_after_clocks}
+use Rattle.tia_chip.specs.declared.state.TiaState.{TiaState}
+use Rattle.chip_machine.specs.Consoles.{Console, cycles_to_line_start, most_cycles}
+use Rattle.chip_machine.specs.Private.Lag.{cycles_seen, riot_after_steps, riot_seen, sink_seen, tia_seen}
+use Rattle.chip_machine.proofs.LagLemmas.{cycles-caught_up, sink-caught_up, stop-passed, tia-caught_up}
 use Rattle.chip_machine.proofs.console.Console.pass_stop.Goals as goal
 
-pub loop-cycle-preserved : goal.loop-cycle-preserved
-loop-cycle-preserved g c = λ left e. rw c.cycle.ensures (c.loop-cycle.invariant (suc left) (omega (arith, e)))
-
-pub returns-after-loop-cycle : goal.returns-after-loop-cycle
-returns-after-loop-cycle g c =
-    let now = c.args.self.now in
-    let stopped : now.is_stopped ≡ true = cc in
-    let clock : c.line_clock.result ≡ now.tia.clock = cc in
-    let done = c.loop-cycle.invariant 0 (omega (arith, c.loop-cycle-test.false, c.loop-cycle.auto._cycle-end)) in
-    let here =
-    c.self-then-self.view_is ∙ done ∙ ap (λ (n : ℕ). iterate (after_cycle g.S.Paint.drawn) (cycles_to_line_start n) now) clock in
-    ap (λ (x : Console g.row.S.Denot). record x { is_stopped = false }) here ∙ sym (cond-true now.is_stopped _ _ stopped)
+pub returns-then-self : goal.returns-then-self
+returns-then-self g c =
+    let drawn = g.S.Paint.drawn in
+    let inside = c.self.inside in
+    let before : Console g.row.S.Denot = record {
+      cart = inside.cart;
+      riot = riot_seen inside.devices;
+      tia = tia_seen inside.devices;
+      sink = sink_seen drawn inside.devices;
+      byte = inside.byte;
+      is_stopped = inside.is_stopped;
+      has_ended = inside.has_ended;
+      cycles = cycles_seen inside.devices;
+    } in
+    let d = c.catch_up_tia.new.self in
+    let now = c.catch_up_tia.ensures in
+    let n : ℕ = (76 - c.line_clock.result / 3) % 76 in
+    let tia = tia-caught_up drawn d now.left ∙ now.tia in
+    let sink = sink-caught_up drawn d now.left ∙ now.sink in
+    let cycles = cycles-caught_up drawn d now.left (inside.devices.cycles + (76 - inside.devices.lag_left)) now.cycles in
+    let few : before.cycles ≤ most_cycles = omega arith in
+    let count = ap cycles_to_line_start (c.line_clock.ensures.value ∙ ap (λ (t : TiaState). t.clock) now.tia) in
+    rw (← c.self.view_is)
+    (stop-passed drawn before n _ _ _ _ c.if-self.true few count (c.pass.ensures.riot ∙ ap (riot_after_steps n) now.riot)
+    (c.pass.ensures.tia ∙ ap (iterate after_clock (3 * n)) tia)
+    (c.pass.ensures.sink
+    ∙ ap (λ (s : g.row.S.Denot). sink_after_clocks drawn s (3 * n) (tia_seen d)) sink
+    ∙ ap (sink_after_clocks drawn before.sink (3 * n)) tia)
+    (c.pass.ensures.cycles ∙ ap (λ (k : ℕ). min (k + n) most_cycles) cycles))

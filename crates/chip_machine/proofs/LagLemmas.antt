@@ -1,0 +1,94 @@
+-- Devices that lag.
+use Rattle.std.proofs.Common.{◌≡◌, ◌∙◌, ℕ, zero, suc, ◌+◌, ◌-◌, ◌*◌, ◌≤◌, true, false, refl, sym, ap, arith, inl, inr}
+use Rattle.std.specs.Prelude.{min}
+use Rattle.std.specs.Fn.{iterate}
+use Rattle.std.proofs.lemmas.Bool.{cases_Bool, cond-true}
+use Rattle.riot_chip.specs.Riot.{RiotState}
+use Rattle.riot_chip.specs.Timer.{TimerState, after_step}
+use Rattle.tia_chip.specs.Clock.{after_clock}
+use Rattle.tia_chip.specs.Clocks.{sink_after_clocks}
+use Rattle.tia_chip.specs.declared.state.TiaState.{TiaState}
+use Rattle.tia_chip.proofs.ClocksLemmas.{iterate-add, sink-add}
+use Rattle.chip_machine.specs.Consoles.{Console, after_cycle, after_stop, cycles_to_line_start, most_cycles}
+use Rattle.chip_machine.specs.Private.Lag.{after_cycles, cycles_seen, riot_after_steps, sink_seen, tia_seen}
+use Rattle.chip_machine.specs.declared.devices.Devices.{Devices}
+
+-- ---- fewer cycles are left
+
+pub riot-later : (riot_left left n : ℕ) (r : RiotState) → n ≤ left → left ≤ riot_left
+    → riot_after_steps (riot_left - (left - n)) r ≡ riot_after_steps n (riot_after_steps (riot_left - left) r)
+riot-later riot_left left n r few behind =
+    let e : riot_left - (left - n) ≡ riot_left - left + n = omega arith in
+    rw e (ap (λ (t : TimerState). record r { timer = t }) (iterate-add after_step (riot_left - left) n r.timer))
+
+three : (left n : ℕ) → n ≤ left → left ≤ 76 → 3 * (76 - (left - n)) ≡ 3 * (76 - left) + 3 * n
+three left n few most = omega arith
+
+pub tia-later : (left n : ℕ) (t : TiaState) → n ≤ left → left ≤ 76
+    → iterate after_clock (3 * (76 - (left - n))) t ≡ iterate after_clock (3 * n) (iterate after_clock (3 * (76 - left)) t)
+tia-later left n t few most = rw (three left n few most) (iterate-add after_clock (3 * (76 - left)) (3 * n) t)
+
+pub sink-later : {S : Type 0} (drawn : S → ℕ → ℕ → ℕ → S) (left n : ℕ) (t : TiaState) (s : S) → n ≤ left → left ≤ 76
+    → sink_after_clocks drawn s (3 * (76 - (left - n))) t
+    ≡ sink_after_clocks drawn (sink_after_clocks drawn s (3 * (76 - left)) t) (3 * n) (iterate after_clock (3 * (76 - left)) t)
+sink-later drawn left n t s few most = rw (three left n few most) (sink-add drawn s (3 * (76 - left)) (3 * n) t)
+
+-- ---- some of the cycles, and then the rest
+
+pub riot-rest : (left n : ℕ) (r : RiotState) → n ≤ left → riot_after_steps (left - n) (riot_after_steps n r) ≡ riot_after_steps left r
+riot-rest left n r few =
+    let all : n + (left - n) ≡ left = omega arith in
+    rw all at (ap (λ (t : TimerState). record r { timer = t }) (sym (iterate-add after_step n (left - n) r.timer)))
+
+pub tia-rest : (left n : ℕ) (t : TiaState) → n ≤ left
+    → iterate after_clock (3 * (left - n)) (iterate after_clock (3 * n) t) ≡ iterate after_clock (3 * left) t
+tia-rest left n t few =
+    let all : 3 * n + 3 * (left - n) ≡ 3 * left = omega arith in
+    rw all at (sym (iterate-add after_clock (3 * n) (3 * (left - n)) t))
+
+pub sink-rest : {S : Type 0} (drawn : S → ℕ → ℕ → ℕ → S) (left n : ℕ) (t : TiaState) (s : S) → n ≤ left
+    → sink_after_clocks drawn (sink_after_clocks drawn s (3 * n) t) (3 * (left - n)) (iterate after_clock (3 * n) t)
+    ≡ sink_after_clocks drawn s (3 * left) t
+sink-rest drawn left n t s few =
+    let all : 3 * n + 3 * (left - n) ≡ 3 * left = omega arith in
+    rw all at (sym (sink-add drawn s (3 * n) (3 * (left - n)) t))
+
+-- ---- devices that have caught up
+
+module _ {S : Type 0} (drawn : S → ℕ → ℕ → ℕ → S) (d : Devices S) (left : d.lag_left ≡ 76) where
+  pub tia-caught_up : tia_seen d ≡ d.tia
+  tia-caught_up = rw left refl
+
+  pub sink-caught_up : sink_seen drawn d ≡ d.sink
+  sink-caught_up = rw left refl
+
+  pub cycles-caught_up : (n : ℕ) → d.cycles ≡ min n most_cycles → cycles_seen d ≡ min n most_cycles
+  cycles-caught_up n e = omega arith
+
+-- ---- cycles of a console
+
+module _ {S : Type 0} (drawn : S → ℕ → ℕ → ℕ → S) where
+  pub cycles-passed : (n : ℕ) (c : Console S) → c.cycles ≤ most_cycles → iterate (after_cycle drawn) n c ≡ after_cycles drawn n c
+  cycles-passed zero c few = ap (λ (k : ℕ). record c { cycles = k }) (omega arith)
+  cycles-passed (suc n) c few =
+      let clocks : 3 * suc n ≡ 3 + 3 * n = omega arith in
+      let count : min (min (c.cycles + 1) most_cycles + n) most_cycles ≡ min (c.cycles + suc n) most_cycles = omega arith in
+      let tia = iterate-add after_clock 3 (3 * n) c.tia in
+      let sink = sink-add drawn c.sink 3 (3 * n) c.tia in
+      cycles-passed n (after_cycle drawn c) (omega arith)
+      ∙ rw (clocks, tia, sink, count) refl
+
+  -- The stop after WSYNC, where so many cycles lead to the next line.
+  pub stop-passed : (c : Console S) (n : ℕ) (riot : RiotState) (tia : TiaState) (sink : S) (cycles : ℕ)
+      → c.is_stopped ≡ true → c.cycles ≤ most_cycles → n ≡ cycles_to_line_start c.tia.clock → riot ≡ riot_after_steps n c.riot
+      → tia ≡ iterate after_clock (3 * n) c.tia → sink ≡ sink_after_clocks drawn c.sink (3 * n) c.tia → cycles ≡ min (c.cycles + n) most_cycles
+      → record c { riot = riot; tia = tia; sink = sink; cycles = cycles; is_stopped = false } ≡ after_stop drawn c
+  stop-passed c n riot tia sink cycles stopped few count riot_is tia_is sink_is cycles_are =
+      rw (riot_is, tia_is, sink_is, cycles_are)
+      (ap (λ (x : Console S). record x { is_stopped = false })
+      (sym (cycles-passed n c few) ∙ ap (λ (k : ℕ). iterate (after_cycle drawn) k c) count)
+      ∙ sym (cond-true c.is_stopped _ _ stopped))
+
+  -- After it the processor is not stopped.
+  pub stop-over : (c : Console S) → (after_stop drawn c).is_stopped ≡ false
+  stop-over c = elim (cases_Bool c.is_stopped) [ inl stopped ↦ rw stopped refl | inr free ↦ rw free refl ]
