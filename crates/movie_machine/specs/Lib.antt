@@ -1,0 +1,3 @@
+pub mod Carts
+pub mod Outcomes
+pub mod States

@@ -1,0 +1,18 @@
+//! The console of a movie, by the movie's rules: the guide's (`vcs_machine`) or the chip's
+//! (`chip_machine`). Each function asks once by which, and hands its arguments on.
+#![tactic(auto)]
+
+mod cart;
+mod fault;
+mod frames;
+mod laws;
+mod rules;
+mod state;
+
+pub use cart::Cart;
+pub use chip_machine::TimedFrame;
+pub use fault::Halt;
+pub use frames::{frame, halt};
+pub use laws::law_of_frames;
+pub use rules::Rules;
+pub use state::State;
