@@ -24,11 +24,12 @@ use Rattle.commands.specs.Inputs.{Lists}
 use Rattle.commands.specs.Make.{Makes}
 use Rattle.commands.specs.Pictures.{AppendsPictures, Draws}
 use Rattle.commands.specs.Refusals.{Refuses}
+use Rattle.commands.specs.Remarks.{no_frame}
 use Rattle.commands.specs.Report.{Reports}
 use Rattle.commands.specs.Streams.{ReadsAll, WritesPart}
 use Rattle.commands.specs.Trace.{AppendsInstructions, Traces}
 use Rattle.commands.specs.Verify.{Verifies}
-use Rattle.commands.specs.declared.status.Status.{Status}
+use Rattle.commands.specs.declared.conclusion.Conclusion.{Conclusion}
 
 -- It is about a movie.
 abbrev pub IsAboutMovies : Command → Type 0
@@ -47,10 +48,11 @@ Answers (Inputs first count numbers) notation bytes read m answer = Lists m (non
 Answers Cartridge notation bytes read m answer = answer ≡ cartridge_answer m
 Answers Convert notation bytes read m answer = answer ≡ conversion_of m
 Answers (Frames first count details) notation bytes read m answer =
-    Describes m notation details (non_zero_u32_get first) count answer.status answer.text × (answer.file ≡ [])
+    Describes m notation details (non_zero_u32_get first) count answer.status answer.text × (answer.file ≡ []) × (answer.remark ≡ no_frame m (non_zero_u32_get first))
 Answers (Pictures first count) notation bytes read m answer = Draws m (non_zero_u32_get first) count answer
 Answers (Cut first count every) notation bytes read m answer = Cuts m (non_zero_u32_get first) count (non_zero_u32_get every) answer
-Answers (Trace frame) notation bytes read m answer = Traces m (non_zero_u32_get frame) answer.status answer.text × (answer.file ≡ [])
+Answers (Trace frame) notation bytes read m answer =
+    Traces m (non_zero_u32_get frame) answer.status answer.text × (answer.file ≡ []) × (answer.remark ≡ no_frame m (non_zero_u32_get frame))
 
 -- The answer of a command about what reading found in these bytes.
 abbrev pub AnswersFound : Command → Notation → List ℕ → Option (List ℕ) → Result MovieData MovieError → AnswerData → Type 0
@@ -75,10 +77,10 @@ AnswersBytes (Make form making) notation name bytes old new answer = Makes form 
 AnswersBytes command notation name bytes old new answer =
     (read : Option (List ℕ)) × ReadsFor name (movie_at bytes) old new read × AnswersFound command notation bytes read (movie_at bytes) answer
 
--- The same of a command line, as a status, the text, and the bytes of the file.
-abbrev pub IsAnswered : CommandLine → List ℕ → (old new : Option (List ℕ)) → Status → (text file : List ℕ) → Type 0
-IsAnswered line bytes old new status text file =
-    AnswersBytes line.command line.notation line.second bytes old new (record { status = status; text = text; file = file })
+-- The same of a command line, as how it ended, the text, and the bytes of the file.
+abbrev pub IsAnswered : CommandLine → List ℕ → (old new : Option (List ℕ)) → Conclusion → (text file : List ℕ) → Type 0
+IsAnswered line bytes old new end text file =
+    AnswersBytes line.command line.notation line.second bytes old new (record { status = end.status; text = text; file = file; remark = end.remark })
 
 -- After a failed write one of the two has got a part of its own, and the other all or nothing.
 abbrev pub WritesSome : Writing → (old new : Option (List ℕ)) → List ℕ → (file_old file_new : Option (List ℕ)) → List ℕ → Type 0

@@ -5,6 +5,7 @@ use Rattle.input_text.specs.Stretches.{IsNumbered, IsPrinted}
 use Rattle.movie_file.specs.Movie.{MovieData}
 use Rattle.commands.specs.Answers.{AnswerData, text_answer}
 use Rattle.commands.specs.AskedFrames.{inputs_asked}
+use Rattle.commands.specs.Remarks.{no_frame}
 use Rattle.commands.specs.declared.status.Status.TheVariants.{Done}
 
 -- The text of these inputs, of which the first is that of this frame: with the numbers of frames, or
@@ -13,6 +14,6 @@ abbrev pub IsListing : Bool → ℕ → List InputData → List ℕ → Type 0
 IsListing true first inputs text = IsNumbered first inputs text
 IsListing false first inputs text = IsPrinted inputs text
 
--- That of the frames that are asked for.
+-- That of the frames that are asked for. If there is none, how many there are is said.
 abbrev pub Lists : MovieData → (first count : ℕ) → Bool → AnswerData → Type 0
-Lists m first count numbers answer = (text : List ℕ) × IsListing numbers first (inputs_asked m first count) text × (answer ≡ text_answer Done text)
+Lists m first count numbers answer = (text : List ℕ) × IsListing numbers first (inputs_asked m first count) text × (answer ≡ record (text_answer Done text) { remark = no_frame m first })

@@ -15,6 +15,7 @@ pub mod Make
 pub mod Pictures
 pub mod Private
 pub mod Refusals
+pub mod Remarks
 pub mod Report
 pub mod Status
 pub mod Streams

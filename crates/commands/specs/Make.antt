@@ -1,7 +1,8 @@
 -- What the making of a movie writes for the bytes of a ROM and of inputs, and its status. This
 -- project's own.
 use Rattle.std.specs.Prelude.{◌≡◌, ◌⊎◌, ℕ, ◌+◌, ◌-◌, ◌*◌, ◌/◌, ◌%◌, ◌==◌, ◌&&◌, ◌++◌, Bool, true, false, not, nat_le, List, [], ◌∷◌, length}
-use Rattle.std.specs.Prelude.{if◌then◌else◌, Option, Some, Result, Ok, Err, IsTrue, slice_get, take}
+use Rattle.std.specs.Prelude.{if◌then◌else◌, Option, Some, None, IfSome, Result, Ok, Err, IsTrue, slice_get, take}
+use Rattle.std.specs.Option.{option_or}
 use Rattle.std.specs.Result.{result_map_both}
 use Rattle.std.specs.Io.KnownBytes.{Keeps}
 use Rattle.riot_map.specs.Cart.{is_cart_length}
@@ -18,17 +19,24 @@ use Rattle.movie_file.specs.Movie.{MovieData}
 use Rattle.movie_file.specs.Run.{run}
 use Rattle.movie_file.specs.Spelling.{spelling}
 use Rattle.movie_file.specs.declared.checkpoint.Checkpoint.{Checkpoint}
-use Rattle.movie_file.specs.declared.error.MovieError.TheVariants.{BadCartSize, BadCounts}
-use Rattle.movie_hints.specs.Counts.{checkpoints_of}
+use Rattle.movie_file.specs.declared.error.MovieError.TheVariants.{BadCounts}
+use Rattle.command_line.specs.Program.{program_name}
+use Rattle.movie_hints.specs.Counts.{IsCountsHint, checkpoints_of}
+use Rattle.movie_hints.specs.Hints.{TellsStorage}
+use Rattle.movie_hints.specs.declared.hint.Hint.{Hint}
 use Rattle.replay_plan.specs.declared.input_form.InputForm.{InputForm}
 use Rattle.replay_plan.specs.declared.keep.Keep.{Keep}
+use Rattle.replay_plan.specs.declared.notation.Notation.TheVariants.{Lines}
 use Rattle.replay_plan.specs.declared.input_form.InputForm.TheVariants.{Bytes, Text}
 use Rattle.replay_segments.specs.Verdicts.{IsVerdict}
 use Rattle.replay_segments.specs.declared.verdict.Verdict.TheVariants.{Fault}
 use Rattle.commands.specs.Answers.{AnswerData, line_answer, movie_answer}
+use Rattle.commands.specs.Refusals.{RefusesRom}
+use Rattle.commands.specs.Remarks.{BlamesInputs, known_if}
 use Rattle.commands.specs.Streams.{ReadsAll}
 use Rattle.commands.specs.declared.line.Line.{Line}
 use Rattle.commands.specs.declared.line.Line.TheVariants as lines
+use Rattle.commands.specs.declared.remark.WhichInput.TheVariants.{First, Second}
 
 -- Frames of which a movie can be made, with a checkpoint after every so many, and to the end after the
 -- last one too.
@@ -73,29 +81,46 @@ WritesFault cartridge inputs every true frame kind answer =
     (m : MovieData) × IsMadeToTheFault cartridge inputs every frame m × ((keep : Keep) → IsVerdict m keep (Fault frame kind))
     × (answer ≡ record (line_answer (lines.Fault frame kind)) { file = spelling m })
 
--- What is written of a cartridge and inputs: the movie of their run, which is genuine, or the run's
--- first fault; or that their counts are refused.
-abbrev pub MakesOf : List ℕ → List InputData → ℕ → Bool → Bool → AnswerData → Type 0
-MakesOf cartridge inputs every to_the_end to_the_fault answer =
+-- How inputs are stored in this form that may be meant otherwise: a text alone.
+abbrev pub IsStoredAs : InputForm → List ℕ → Option Hint → Type 0
+IsStoredAs Bytes input stored = stored ≡ None
+IsStoredAs Text input stored = IfSome stored (TellsStorage input)
+
+-- What is written of a cartridge and inputs that are stored so: the movie of their run, which is genuine,
+-- or the run's first fault; or that their counts are refused, with what is wrong with them.
+abbrev pub MakesOf : List ℕ → List InputData → Option Hint → ℕ → Bool → Bool → AnswerData → Type 0
+MakesOf cartridge inputs stored every to_the_end to_the_fault answer =
     (IsTrue (do_claims_fit (length inputs) every to_the_end)
-    × (((m : MovieData) × IsMadeMovie cartridge inputs every to_the_end m × IsGenuine m × (answer ≡ movie_answer lines.Made m))
+    × (((m : MovieData) × IsMadeMovie cartridge inputs every to_the_end m × IsGenuine m
+    × (answer ≡ record (movie_answer lines.Made m) { remark = known_if Second stored }))
     ⊎ ((frame : ℕ) × (kind : FaultKind) × IsFirstFault cartridge inputs frame kind × WritesFault cartridge inputs every to_the_fault frame kind answer)))
-    ⊎ ((¬ IsTrue (do_claims_fit (length inputs) every to_the_end)) × (answer ≡ line_answer (lines.Refused BadCounts)))
+    ⊎ ((¬ IsTrue (do_claims_fit (length inputs) every to_the_end)) × (hint : Option Hint) × IsCountsHint (length inputs) every to_the_end hint
+    × (answer ≡ record (line_answer (lines.Refused BadCounts)) { remark = known_if Second (option_or stored hint) }))
 
 -- The inputs that some bytes are in this form, or the line of why they are none.
 abbrev pub inputs_by : InputForm → List ℕ → Result (List InputData) Line
 inputs_by Bytes input = result_map_both (λ inputs. inputs) lines.Refused (all_inputs_at input)
 inputs_by Text input = result_map_both (λ inputs. inputs) lines.BadLine (inputs_in input)
 
+-- That inputs are refused by this line, and the remark has their bytes.
+abbrev pub RefusesInputs : List ℕ → Line → AnswerData → Type 0
+RefusesInputs input line answer = (answer ≡ record (line_answer line) { remark = answer.remark }) × BlamesInputs input line answer.remark
+
 -- What is written of a cartridge and what reading the inputs found.
-abbrev pub MakesFrom : List ℕ → Result (List InputData) Line → ℕ → Bool → Bool → AnswerData → Type 0
-MakesFrom cartridge (Ok inputs) every to_the_end to_the_fault answer = MakesOf cartridge inputs every to_the_end to_the_fault answer
-MakesFrom cartridge (Err line) every to_the_end to_the_fault answer = answer ≡ line_answer line
+abbrev pub MakesFound : List ℕ → InputForm → List ℕ → Result (List InputData) Line → ℕ → Bool → Bool → AnswerData → Type 0
+MakesFound cartridge form input (Ok inputs) every to_the_end to_the_fault answer =
+    (stored : Option Hint) × IsStoredAs form input stored × MakesOf cartridge inputs stored every to_the_end to_the_fault answer
+MakesFound cartridge form input (Err line) every to_the_end to_the_fault answer = RefusesInputs input line answer
+
+-- Of a cartridge and the bytes of inputs.
+abbrev pub MakesFrom : List ℕ → InputForm → List ℕ → ℕ → Bool → Bool → AnswerData → Type 0
+MakesFrom cartridge form input every to_the_end to_the_fault answer =
+    MakesFound cartridge form input (inputs_by form input) every to_the_end to_the_fault answer
 
 -- What is written of the bytes of a ROM, and what is read of the inputs: if no cartridge has the
 -- ROM's length, nothing.
 abbrev pub Makes : InputForm → List ℕ → Option (List ℕ) → Option (List ℕ) → ℕ → Bool → Bool → AnswerData → Type 0
 Makes form rom old new every to_the_end to_the_fault answer =
     (IsTrue (is_cart_length (length rom))
-    × ((input : List ℕ) × ReadsAll old new input × MakesFrom rom (inputs_by form input) every to_the_end to_the_fault answer))
-    ⊎ ((¬ IsTrue (is_cart_length (length rom))) × Keeps old new × (answer ≡ line_answer (lines.Refused BadCartSize)))
+    × ((input : List ℕ) × ReadsAll old new input × MakesFrom rom form input every to_the_end to_the_fault answer))
+    ⊎ ((¬ IsTrue (is_cart_length (length rom))) × Keeps old new × RefusesRom First Lines program_name rom answer)

@@ -7,13 +7,15 @@ use Rattle.picture_file.specs.PictureBytes.{pictures_bytes}
 use Rattle.commands.specs.Answers.{AnswerData, line_answer}
 use Rattle.run_cursor.specs.RunFaults.{FaultsWithin}
 use Rattle.commands.specs.AskedFrames.{frames_asked, last_asked, Ends, pictures_after}
+use Rattle.commands.specs.Remarks.{no_frame}
 use Rattle.commands.specs.declared.line.Line.{Line}
 use Rattle.commands.specs.declared.line.Line.TheVariants as lines
 
--- The pictures of the frames that are asked for, up to a fault, and a line.
+-- The pictures of the frames that are asked for, up to a fault, and a line; and how many frames there
+-- are, if none of those.
 abbrev pub drawn : MovieData → ℕ → ℕ → Line → AnswerData
 drawn m first count line =
-    record (line_answer line) { file = pictures_bytes (pictures_after m (first - 1) (frames_asked m first count)) }
+    record (line_answer line) { file = pictures_bytes (pictures_after m (first - 1) (frames_asked m first count)); remark = no_frame m first }
 
 -- What is written of a movie: the pictures and how many they are, if each frame up to the last one
 -- that is asked for ends; or those before the fault, and its line. Frames after that one, and what

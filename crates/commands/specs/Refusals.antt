@@ -14,8 +14,12 @@ use Rattle.movie_hints.specs.declared.hint.Hint.TheVariants as hints
 use Rattle.movie_hints.specs.declared.mismatch.Mismatch.{Mismatch}
 use Rattle.replay_plan.specs.declared.notation.Notation.{Notation}
 use Rattle.replay_plan.specs.declared.notation.Notation.TheVariants.{Lines, Json}
-use Rattle.commands.specs.Answers.{AnswerData, line_answer, text_answer}
+use Rattle.commands.specs.Answers.{AnswerData, text_answer}
+use Rattle.commands.specs.Lines.{line_bytes}
+use Rattle.commands.specs.Remarks.{known_if, no_cartridge}
 use Rattle.commands.specs.declared.line.Line.TheVariants as lines
+use Rattle.commands.specs.declared.remark.WhichInput.{WhichInput}
+use Rattle.commands.specs.declared.remark.WhichInput.TheVariants.{First}
 use Rattle.commands.specs.declared.status.Status.TheVariants as statuses
 
 -- The number that a refusal has,
@@ -46,20 +50,29 @@ refusal_object program bytes error hint =
     codes "{\"verdict\":\"refused\",\"refusal\":\"" ++ (refusal_text error ++ (codes "\"" ++ (number_member error ++ (reason_members hint
     ++ (codes ",\"program\":\"" ++ (program ++ (codes "\",\"movie_sha256\":\"" ++ (encode_lower (sha256 bytes) ++ (codes "\"}" ++ 10 ∷ [])))))))))
 
--- The answer that these bytes are refused so. An object has a reason that is true of the bytes; it has
--- none only where it isn't known which number of a state is wrong.
+-- What is written of it.
+abbrev pub refusal_bytes : Notation → List ℕ → List ℕ → MovieError → Option Hint → List ℕ
+refusal_bytes Lines program bytes error hint = line_bytes (lines.Refused error)
+refusal_bytes Json program bytes error hint = refusal_object program bytes error hint
+
+-- The answer that these bytes are refused so. It has a reason that is true of the bytes, which an object
+-- says too; it has none only where it isn't known which number of a state is wrong.
 abbrev pub Refuses : Notation → List ℕ → List ℕ → MovieError → AnswerData → Type 0
-Refuses Lines program bytes error answer = answer ≡ line_answer (lines.Refused error)
-Refuses Json program bytes error answer =
-    (hint : Option Hint) × Explains bytes error hint × (answer ≡ text_answer statuses.Refused (refusal_object program bytes error hint))
+Refuses notation program bytes error answer =
+    (hint : Option Hint) × Explains bytes error hint
+    × (answer ≡ record (text_answer statuses.Refused (refusal_bytes notation program bytes error hint)) { remark = known_if First hint })
 
 -- The object of a refusal of a ROM, by a program of this name, with this reason.
 abbrev pub rom_refusal_object : List ℕ → Hint → List ℕ
 rom_refusal_object program hint =
     codes "{\"rom_refusal\":\"BadCartSize\",\"reason\":\"" ++ (hint_text hint ++ (codes "\",\"program\":\"" ++ (program ++ (codes "\"}" ++ 10 ∷ []))))
 
--- The answer that these bytes are no cartridge.
-abbrev pub RefusesRom : Notation → List ℕ → List ℕ → AnswerData → Type 0
-RefusesRom Lines program rom answer = answer ≡ line_answer (lines.Refused BadCartSize)
-RefusesRom Json program rom answer =
-    (hint : Hint) × TellsRom rom hint × (answer ≡ text_answer statuses.Refused (rom_refusal_object program hint))
+abbrev pub rom_refusal_bytes : Notation → List ℕ → Hint → List ℕ
+rom_refusal_bytes Lines program hint = line_bytes (lines.Refused BadCartSize)
+rom_refusal_bytes Json program hint = rom_refusal_object program hint
+
+-- The answer that the bytes of this input are no cartridge. It has a reason, likewise.
+abbrev pub RefusesRom : WhichInput → Notation → List ℕ → List ℕ → AnswerData → Type 0
+RefusesRom input notation program rom answer =
+    (hint : Hint) × TellsRom rom hint
+    × (answer ≡ record (text_answer statuses.Refused (rom_refusal_bytes notation program hint)) { remark = Some (no_cartridge input hint) })

@@ -14,6 +14,7 @@ use Rattle.commands.specs.Answers.{AnswerData, text_answer}
 use Rattle.commands.specs.Lines.{line_bytes, status_of}
 use Rattle.commands.specs.Refusals.{RefusesRom}
 use Rattle.commands.specs.Verify.{verdict_line}
+use Rattle.commands.specs.declared.remark.WhichInput.TheVariants.{Second}
 use Rattle.commands.specs.declared.status.Status.{Status}
 use Rattle.commands.specs.declared.status.Status.TheVariants.{Done, Unexpected}
 
@@ -43,4 +44,4 @@ IsNoCartridge rom bytes = (rom ≡ Some bytes) × (is_cart_length (length bytes)
 abbrev pub Reports : Notation → List ℕ → Option (List ℕ) → Expectations → List ℕ → MovieData → AnswerData → Type 0
 Reports notation program rom expectations bytes m answer =
     (((other : List ℕ) → IsNoCartridge rom other → ⊥) × ReportsMovie notation program rom expectations bytes m answer)
-    ⊎ ((other : List ℕ) × IsNoCartridge rom other × RefusesRom notation program other answer)
+    ⊎ ((other : List ℕ) × IsNoCartridge rom other × RefusesRom Second notation program other answer)

@@ -11,7 +11,7 @@ use Rattle.replay_segments.specs.declared.verdict.Verdict.{Verdict}
 use Rattle.replay_segments.specs.declared.verdict.Verdict.TheVariants.{Genuine, FalseCheckpoint}
 use Rattle.replay_segments.specs.declared.verdict.Verdict.TheVariants.{Fault}
 use Rattle.movie_report.specs.VerdictHeads.{verdict_head}
-use Rattle.commands.specs.Answers.{AnswerData}
+use Rattle.commands.specs.Answers.{AnswerData, text_answer}
 use Rattle.commands.specs.Lines.{line_bytes, status_of}
 use Rattle.commands.specs.declared.line.Line.{Line}
 use Rattle.commands.specs.declared.line.Line.TheVariants as lines
@@ -41,11 +41,8 @@ pictures_of other = []
 
 -- That line or object, and the pictures.
 abbrev pub verdict_answer : Notation → MovieData → Verdict → AnswerData
-verdict_answer notation m verdict = record {
-  status = status_of (verdict_line m verdict);
-  text = verdict_text notation m verdict;
-  file = pictures_of verdict;
-}
+verdict_answer notation m verdict =
+    record (text_answer (status_of (verdict_line m verdict)) (verdict_text notation m verdict)) { file = pictures_of verdict }
 
 -- Those of the movie's verdict.
 abbrev pub Verifies : Notation → Keep → MovieData → AnswerData → Type 0

@@ -4,7 +4,9 @@ ghost use Rattle.std.specs.Io.KnownBytes.{Appends};
 ghost use Rattle.picture_file.specs.Prefixes.{AppendsPrefix};
 ghost use Rattle.commands.specs.Streams.{WritesPart};
 
+use crate::conclusion::Conclusion;
 use crate::line::Line;
+use crate::remark::Remark;
 use crate::status::Status;
 use crate::verdict_text::verdict_text;
 use movie_file::{Movie, write_movie};
@@ -23,12 +25,13 @@ enum Contents {
     Pictures(Pictures),
 }
 
-/// A status, a text with its end, and what a file gets.
+/// A status, a text with its end, what a file gets, and what is to be said of an input.
 #[derive(Drop)]
 pub(crate) struct Answer {
     status: Status,
     text: String,
     file: Contents,
+    remark: Option<Remark>,
 }
 
 impl Model for Answer {
@@ -38,7 +41,7 @@ impl Model for Answer {
 
     ghost Value = { AnswerData };
 
-    ghost view = { λ a. record { status = a.status; text = string_bytes a.text; file = contents_bytes a.file } };
+    ghost view = { λ a. record { status = a.status; text = string_bytes a.text; file = contents_bytes a.file; remark = a.remark } };
 }
 
 impl Contents {
@@ -58,7 +61,7 @@ impl Contents {
 impl Answer {
     ghost use Rattle.std.specs.Prelude.{string_bytes};
     ghost use Rattle.movie_file.specs.Spelling.{spelling};
-    ghost use Rattle.commands.specs.Answers.{line_answer, text_answer};
+    ghost use Rattle.commands.specs.Answers.{conclusion_of, line_answer, text_answer};
     ghost use Rattle.commands.specs.Verify.{verdict_answer};
 
     /// A text alone.
@@ -69,6 +72,24 @@ impl Answer {
             status,
             text,
             file: Contents::Bytes(Vec::new(alloc)),
+            remark: None,
+        }
+    }
+
+    /// The same answer, with what is to be said of an input.
+    pub(crate) fn with_remark(self, remark: Option<Remark>) -> Answer
+        ensures { result ≡ record self { remark = remark } }
+    {
+        Answer { remark, ..self }
+    }
+
+    /// How a command ended with it.
+    fn conclusion(self) -> Conclusion
+        ensures { result ≡ conclusion_of self }
+    {
+        Conclusion {
+            status: self.status,
+            remark: self.remark,
         }
     }
 
@@ -117,49 +138,50 @@ impl Answer {
                 status,
                 text,
                 file: Contents::Pictures(pictures),
+                remark: None,
             }),
             _ => Ok(Answer::of_text(alloc, status, text)),
         }
     }
 
     /// Writes the text of an answer whose file gets nothing.
-    pub(crate) fn write_text<W: Write>(&self, text: &mut W) -> Result<Status, WriteFault>
-        ensures ok { IfOk result (λ status. (status ≡ self.now.status) × Appends (W.contents text.old) (W.contents text.new) self.now.text) }
-        ensures fault { OnErr result (AppendsPrefix (W.contents text.old) (W.contents text.new) self.now.text) }
+    pub(crate) fn write_text<W: Write>(self, text: &mut W) -> Result<Conclusion, WriteFault>
+        ensures ok { IfOk result (λ end. (end ≡ conclusion_of self) × Appends (W.contents text.old) (W.contents text.new) self.text) }
+        ensures fault { OnErr result (AppendsPrefix (W.contents text.old) (W.contents text.new) self.text) }
     {
         write_bytes(self.text.as_bytes(), text)?;
-        Ok(self.status)
+        Ok(self.conclusion())
     }
 
     /// Writes the text, then the file.
     pub(crate) fn write_text_first<W: Write, P: Write>(
-        &self,
+        self,
         text: &mut W,
         file: &mut P,
-    ) -> Result<Status, WriteFault>
-        ensures ok { IfOk result (λ status. (status ≡ self.now.status) × Appends (W.contents text.old) (W.contents text.new) self.now.text
-            × Appends (P.contents file.old) (P.contents file.new) self.now.file) }
-        ensures fault { OnErr result (WritesPart (W.contents text.old) (W.contents text.new) self.now.text
-            (P.contents file.old) (P.contents file.new) self.now.file) }
+    ) -> Result<Conclusion, WriteFault>
+        ensures ok { IfOk result (λ end. (end ≡ conclusion_of self) × Appends (W.contents text.old) (W.contents text.new) self.text
+            × Appends (P.contents file.old) (P.contents file.new) self.file) }
+        ensures fault { OnErr result (WritesPart (W.contents text.old) (W.contents text.new) self.text
+            (P.contents file.old) (P.contents file.new) self.file) }
     {
         write_bytes(self.text.as_bytes(), text)?;
         self.file.write(file)?;
-        Ok(self.status)
+        Ok(self.conclusion())
     }
 
     /// Writes the file, then the text.
     pub(crate) fn write_file_first<P: Write, W: Write>(
-        &self,
+        self,
         file: &mut P,
         text: &mut W,
-    ) -> Result<Status, WriteFault>
-        ensures ok { IfOk result (λ status. (status ≡ self.now.status) × Appends (P.contents file.old) (P.contents file.new) self.now.file
-            × Appends (W.contents text.old) (W.contents text.new) self.now.text) }
-        ensures fault { OnErr result (WritesPart (P.contents file.old) (P.contents file.new) self.now.file
-            (W.contents text.old) (W.contents text.new) self.now.text) }
+    ) -> Result<Conclusion, WriteFault>
+        ensures ok { IfOk result (λ end. (end ≡ conclusion_of self) × Appends (P.contents file.old) (P.contents file.new) self.file
+            × Appends (W.contents text.old) (W.contents text.new) self.text) }
+        ensures fault { OnErr result (WritesPart (P.contents file.old) (P.contents file.new) self.file
+            (W.contents text.old) (W.contents text.new) self.text) }
     {
         self.file.write(file)?;
         write_bytes(self.text.as_bytes(), text)?;
-        Ok(self.status)
+        Ok(self.conclusion())
     }
 }

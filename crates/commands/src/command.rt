@@ -1,19 +1,22 @@
 //! From a command to its answer.
 ghost use Rattle.std.specs.Prelude.{◌≡◌, ◌≢◌, ◌⊎◌, List, ℕ, IfOk, IsSome, OnErr};
+ghost use Rattle.std.specs.NonZero.{non_zero_u32_get};
 ghost use Rattle.std.specs.Option.{option_copied, option_map};
 ghost use Rattle.std.specs.Io.KnownBytes.{Appends, Keeps};
 ghost use Rattle.command_line.specs.Writing.{writing_of};
 ghost use Rattle.movie_file.specs.Movie.{MovieData};
 ghost use Rattle.movie_file.specs.Reading.{movie_at};
-ghost use Rattle.commands.specs.Answers.{AnswerData};
+ghost use Rattle.commands.specs.Answers.{AnswerData, conclusion_of};
 ghost use Rattle.commands.specs.Commands.{Answers, HasBegun, IsAboutMovies, IsAnswered, ReadsInputs, ReadsNamed};
 ghost use Rattle.commands.specs.Commands.{StartsThreads, WritesSome};
 ghost use Rattle.commands.specs.Private.Groups.{IsAtOnce};
+ghost use Rattle.commands.specs.Remarks.{no_frame};
 ghost use Rattle.commands.specs.Streams.{IsTooLong, ReadsAll};
 
 use crate::answer::Answer;
 use crate::cartridge::cartridge;
 use crate::claims::claims;
+use crate::conclusion::Conclusion;
 use crate::convert::convert;
 use crate::cut::cut;
 use crate::frames::frames;
@@ -22,6 +25,7 @@ use crate::inputs::inputs;
 use crate::make::make;
 use crate::pictures::pictures;
 use crate::refusal::refusal;
+use crate::remark::no_frame;
 use crate::report::report;
 use crate::run_error::{JudgeError, ReadError, RunError};
 use crate::status::Status;
@@ -33,6 +37,7 @@ use movie_file::{Movie, Progress};
 use replay_plan::Plan;
 use std::alloc::Global;
 use std::io::{Read, Write};
+use std::num::NonZeroU32;
 use std::sync::Wait;
 use std::thread::Threads;
 use verify_pool::Gate;
@@ -87,8 +92,18 @@ fn answer<T: Threads + Wait + Sync + AllocGlobal, G: Gate + Progress + Sync>(
             first,
             count,
             every,
-        } => Ok(cut(alloc, &movie, *first, *count, every.get(), gate)?),
+        } => Ok(cut(alloc, &movie, *first, *count, *every, gate)?),
         _ => unreachable!(),
+    }
+}
+
+/// How a command ended with this status that looks at frames of a movie from this one on.
+fn of_frames(movie: &Movie, first: NonZeroU32, status: Status) -> Conclusion
+    ensures { result ≡ record { status = status; remark = no_frame movie.now (non_zero_u32_get first) } }
+{
+    Conclusion {
+        status,
+        remark: no_frame(movie, first),
     }
 }
 
@@ -107,9 +122,9 @@ fn answer_movie<
     text: &mut W,
     file: &mut P,
     gate: &G,
-) -> Result<Status, RunError>
+) -> Result<Conclusion, RunError>
     requires { IsAboutMovies line.now.command }
-    ensures ok { IfOk result (λ status. (answer : AnswerData) × Answers line.now.command line.now.notation bytes.now (option_copied rom.entry) movie answer × (status ≡ answer.status)
+    ensures ok { IfOk result (λ end. (answer : AnswerData) × Answers line.now.command line.now.notation bytes.now (option_copied rom.entry) movie answer × (end ≡ conclusion_of answer)
         × Appends (W.contents text.old) (W.contents text.new) answer.text × Appends (P.contents file.old) (P.contents file.new) answer.file) }
     ensures write_fault { result ≡ Err RunError.WriteFault → (answer : AnswerData) × Answers line.now.command line.now.notation bytes.now (option_copied rom.entry) movie answer
         × WritesSome (writing_of line.now.command) (W.contents text.old) (W.contents text.new) answer.text (P.contents file.old) (P.contents file.new) answer.file }
@@ -126,20 +141,27 @@ fn answer_movie<
             first,
             count,
             details,
-        } => Ok(frames(
-            alloc,
-            &movie,
-            line.notation,
-            details,
-            *first,
-            *count,
-            text,
-            gate,
-        )?),
-        Command::Pictures { first, count } => {
-            Ok(pictures(alloc, &movie, *first, *count, file, text, gate)?)
+        } => {
+            let status = frames(
+                alloc,
+                &movie,
+                line.notation,
+                details,
+                *first,
+                *count,
+                text,
+                gate,
+            )?;
+            Ok(of_frames(&movie, *first, status))
         }
-        Command::Trace { frame } => Ok(trace(alloc, &movie, *frame, text, gate)?),
+        Command::Pictures { first, count } => {
+            let status = pictures(alloc, &movie, *first, *count, file, text, gate)?;
+            Ok(of_frames(&movie, *first, status))
+        }
+        Command::Trace { frame } => {
+            let status = trace(alloc, &movie, *frame, text, gate)?;
+            Ok(of_frames(&movie, *frame, status))
+        }
         Command::Verify { .. } => {
             Ok(answer(rt, line, bytes, rom, movie, gate)?.write_text_first(text, file)?)
         }
@@ -167,10 +189,10 @@ fn read_second<S: Read>(
 /// then `inputs`, and writes a text, which ends with a line feed, and a file. A report that names a
 /// ROM reads that from `inputs`, unless its input is no movie. The files' names aren't used.
 ///
-/// Input that is refused is a line and `Status::Refused`. After ReadFault, TooLong and NoThread
-/// nothing was written. After NoMemory nothing was written either, or by `frames`, `pictures` and
-/// `trace` the first lines or pictures, each whole. `verify` writes its text before its file, and
-/// each other command after it. At most 16,777,217 reads of each input are made.
+/// Input that is refused is a line and `Status::Refused`, and the remark says why. After ReadFault,
+/// TooLong and NoThread nothing was written. After NoMemory nothing was written either, or by
+/// `frames`, `pictures` and `trace` the first lines or pictures, each whole. `verify` writes its text
+/// before its file, and each other command after it. At most 16,777,217 reads of each input are made.
 ///
 /// The progress of each replay is told to the gate, as a work. A work has ended before anything is
 /// written, but for the lines and pictures of `frames` and `pictures`. That of a verdict counts
@@ -190,14 +212,14 @@ pub fn run_command<
     text: &mut W,
     file: &mut P,
     gate: &G,
-) -> Result<Status, RunError>
+) -> Result<Conclusion, RunError>
     // The output is that of the bytes read, and nothing else.
-    ensures ok { IfOk result (λ status. (bytes : List ℕ) × (told : List ℕ) × (made : List ℕ) × ReadsAll (R.remaining input.old) (R.remaining input.new) bytes
-        × IsAnswered line.now bytes (S.remaining inputs.old) (S.remaining inputs.new) status told made
+    ensures ok { IfOk result (λ end. (bytes : List ℕ) × (told : List ℕ) × (made : List ℕ) × ReadsAll (R.remaining input.old) (R.remaining input.new) bytes
+        × IsAnswered line.now bytes (S.remaining inputs.old) (S.remaining inputs.new) end told made
         × Appends (W.contents text.old) (W.contents text.new) told × Appends (P.contents file.old) (P.contents file.new) made) }
-    ensures write_fault { result ≡ Err RunError.WriteFault → (bytes : List ℕ) × (status : Status) × (told : List ℕ) × (made : List ℕ)
+    ensures write_fault { result ≡ Err RunError.WriteFault → (bytes : List ℕ) × (end : Conclusion) × (told : List ℕ) × (made : List ℕ)
         × ReadsAll (R.remaining input.old) (R.remaining input.new) bytes
-        × IsAnswered line.now bytes (S.remaining inputs.old) (S.remaining inputs.new) status told made
+        × IsAnswered line.now bytes (S.remaining inputs.old) (S.remaining inputs.new) end told made
         × WritesSome (writing_of line.now.command) (W.contents text.old) (W.contents text.new) told (P.contents file.old) (P.contents file.new) made }
 
     // What was written after the other errors.
@@ -217,7 +239,7 @@ pub fn run_command<
             rom,
             *form,
             inputs,
-            making.every.get(),
+            making.every,
             making.to_the_end,
             making.to_the_fault,
             gate,

@@ -3,12 +3,16 @@ ghost use Rattle.std.specs.Prelude.{◌≡◌, IfOk};
 ghost use Rattle.std.specs.NonZero.{non_zero_u32_get};
 ghost use Rattle.commands.specs.Answers.{movie_answer};
 ghost use Rattle.commands.specs.declared.line.Line.TheVariants.{Cut};
-ghost use Rattle.commands.specs.Cut.{Cuts};
+ghost use Rattle.commands.specs.Cut.{Cuts, IsCutHint};
 
 use crate::answer::Answer;
+use crate::asked_frames::frames_asked;
 use crate::cut_movie::{CutError, cut_movie};
 use crate::line::Line;
-use movie_file::{Movie, MovieError, Progress};
+use crate::refusal::counts_refusal;
+use crate::remark::WhichInput;
+use movie_file::{Movie, Progress};
+use movie_hints::{Hint, hint_of_counts};
 use std::alloc::{AllocError, Global};
 use std::num::NonZeroU32;
 
@@ -25,6 +29,17 @@ fn of_cut(alloc: Global, cut: &Movie) -> Result<Answer, AllocError>
     Answer::of_movie(alloc, cut, line)
 }
 
+/// What keeps these frames of a movie from being cut.
+fn hint_of_part(movie: &Movie, first: NonZeroU32, count: u32, every: NonZeroU32) -> Option<Hint>
+    ensures { IsCutHint movie.now (non_zero_u32_get first) count (non_zero_u32_get every) result }
+{
+    let frames = movie.frames();
+    if frames < first.get() {
+        return Some(Hint::HasFrames { frames });
+    }
+    hint_of_counts(u64::from(frames_asked(movie, first, count)), every, false)
+}
+
 /// A movie of its own of `count` frames from `first` on, as many as the movie has, with a checkpoint
 /// after each `every` of them; or why none is made.
 ///
@@ -35,14 +50,17 @@ pub(crate) fn cut<P: Progress>(
     movie: &Movie,
     first: NonZeroU32,
     count: u32,
-    every: u32,
+    every: NonZeroU32,
     progress: &P,
 ) -> Result<Answer, AllocError>
-    ensures { IfOk result (Cuts movie.now (non_zero_u32_get first) count every) }
+    ensures { IfOk result (Cuts movie.now (non_zero_u32_get first) count (non_zero_u32_get every)) }
 {
-    match cut_movie(alloc, movie, first, count, every, progress) {
+    match cut_movie(alloc, movie, first, count, every.get(), progress) {
         Ok(cut) => of_cut(alloc, &cut),
-        Err(CutError::BadCounts) => { Answer::of_line(alloc, Line::Refused(MovieError::BadCounts)) }
+        Err(CutError::BadCounts) => {
+            let hint = hint_of_part(movie, first, count, every);
+            counts_refusal(alloc, WhichInput::First, hint)
+        }
         Err(CutError::Fault { frame, kind }) => {
             Answer::of_line(alloc, Line::Fault { frame, kind })
         }

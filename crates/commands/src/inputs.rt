@@ -6,6 +6,7 @@ ghost use Rattle.commands.specs.Inputs.{Lists};
 
 use crate::answer::Answer;
 use crate::asked_frames::frames_asked;
+use crate::remark::no_frame;
 use crate::status::Status;
 use input_text::{write_numbered, write_text};
 use movie_file::Movie;
@@ -42,5 +43,5 @@ pub(crate) fn inputs(
     } else {
         write_text(alloc, inputs)?
     };
-    Ok(Answer::of_text(alloc, Status::Done, text))
+    Ok(Answer::of_text(alloc, Status::Done, text).with_remark(no_frame(movie, first)))
 }

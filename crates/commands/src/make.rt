@@ -1,20 +1,31 @@
 //! A movie that is made of a ROM and of inputs.
-ghost use Rattle.std.specs.Prelude.{◌≡◌, IfOk};
-ghost use Rattle.commands.specs.Make.{Makes, MakesFrom, MakesOf, inputs_by};
-ghost use Rattle.commands.specs.Private.MadeRuns.{line_of};
+ghost use Rattle.std.specs.Prelude.{◌≡◌, ◌≢◌, Err, IfOk, Some};
+ghost use Rattle.std.specs.NonZero.{non_zero_u32_get};
+ghost use Rattle.input_text.specs.Texts.{inputs_in};
+ghost use Rattle.movie_file.specs.Spelling.{spelling};
+ghost use Rattle.commands.specs.Answers.{line_answer};
+ghost use Rattle.commands.specs.Make.{Makes, MakesFrom, MakesOf, RefusesInputs};
+ghost use Rattle.commands.specs.Private.MadeRuns.{line_of, remark_of};
+ghost use Rattle.commands.specs.declared.line.Line.TheVariants as lines;
+ghost use Rattle.commands.specs.declared.remark.WhichInput.TheVariants.{Second};
 ghost use Rattle.commands.specs.Streams.{IsTooLong};
 
 use crate::answer::Answer;
+use crate::bad_text::BadText;
 use crate::line::Line;
 use crate::make_run::{MadeMovie, make_run};
+use crate::refusal::{counts_refusal, remark_if, rom_refusal};
+use crate::remark::{Cause, Remark, WhichInput};
 use crate::run_error::ReadError;
 use crate::streams::read_all;
 use input_text::{TextError, read_text};
 use movie_file::{MakeError, MovieError, Progress, read_inputs};
-use replay_plan::InputForm;
+use movie_hints::{Hint, hint_of_counts, hint_of_storage};
+use replay_plan::{InputForm, Notation};
 use riot_map::Cart;
 use std::alloc::{AllocError, Global};
 use std::io::Read;
+use std::num::NonZeroU32;
 use vcs_machine::Input;
 
 /// What is said of a movie that was made: how much it has, or its fault.
@@ -33,34 +44,88 @@ fn line_of(made: &MadeMovie) -> Line
     }
 }
 
-/// What is written of a cartridge and inputs.
+/// What is said of inputs of which this was made: how they are stored, if the run ended.
+fn remark_of(made: &MadeMovie, stored: Option<Hint>) -> Option<Remark>
+    ensures { result ≡ remark_of stored made.now.fault }
+{
+    match made.fault {
+        None => remark_if(WhichInput::Second, stored),
+        Some(_) => None,
+    }
+}
+
+/// What is written of a movie that was made of inputs that are stored so.
+fn of_made(alloc: Global, made: MadeMovie, stored: Option<Hint>) -> Result<Answer, AllocError>
+    ensures { IfOk result (λ answer. answer
+        ≡ record (line_answer (line_of made.movie made.fault)) { file = spelling made.movie; remark = remark_of stored made.fault }) }
+{
+    let answer = Answer::of_movie(alloc, &made.movie, line_of(&made))?;
+    Ok(answer.with_remark(remark_of(&made, stored)))
+}
+
+/// That inputs are refused by this line, for this cause.
+fn refused_inputs(alloc: Global, line: Line, cause: Cause) -> Result<Answer, AllocError>
+    ensures { IfOk result (λ answer. answer ≡ record (line_answer line) { remark = Some (record { input = Second; cause = cause }) }) }
+{
+    let input = WhichInput::Second;
+    let answer = Answer::of_line(alloc, line)?;
+    Ok(answer.with_remark(Some(Remark { input, cause })))
+}
+
+/// That bytes are no inputs, for this reason.
+fn no_inputs(alloc: Global, bytes: Vec<u8>, error: MovieError) -> Result<Answer, AllocError>
+    ensures { IfOk result (λ answer. (error ≢ MovieError.NoMemory) × RefusesInputs bytes.items (lines.Refused error) answer) }
+{
+    match error {
+        MovieError::NoMemory => Err(AllocError),
+        _ => refused_inputs(
+            alloc,
+            Line::Refused(error),
+            Cause::NoInputs { bytes, error },
+        ),
+    }
+}
+
+/// That the line of this number, from 1, is the first bad one of a text.
+fn bad_line(alloc: Global, text: Vec<u8>, number: u64) -> Result<Answer, AllocError>
+    requires { inputs_in text.items ≡ Err number }
+    ensures { IfOk result (RefusesInputs text.items (lines.BadLine number)) }
+{
+    let bad = BadText { text, number };
+    refused_inputs(alloc, Line::BadLine(number), Cause::BadLine(bad))
+}
+
+/// What is written of a cartridge and inputs, which are stored so.
 fn of_inputs<P: Progress>(
     alloc: Global,
     cart: Cart,
     inputs: Vec<Input>,
-    every: u32,
+    stored: Option<Hint>,
+    every: NonZeroU32,
     to_the_end: bool,
     to_the_fault: bool,
     progress: &P,
 ) -> Result<Answer, AllocError>
-    ensures { IfOk result (λ answer. MakesOf cart inputs.items every to_the_end to_the_fault answer) }
+    ensures { IfOk result (λ answer. MakesOf cart inputs.items stored (non_zero_u32_get every) to_the_end to_the_fault answer) }
 {
+    let frames = inputs.len();
     match make_run(
         alloc,
         cart,
         inputs,
-        every,
+        every.get(),
         to_the_end,
         to_the_fault,
         progress,
     ) {
-        Ok(made) => Answer::of_movie(alloc, &made.movie, line_of(&made)),
+        Ok(made) => of_made(alloc, made, stored),
         Err(MakeError::Fault { frame, kind }) => {
             let line = Line::Fault { frame, kind };
             Answer::of_line(alloc, line)
         }
         Err(MakeError::BadCounts) => {
-            Answer::of_line(alloc, Line::Refused(MovieError::BadCounts))
+            let hint = stored.or(hint_of_counts(frames as u64, every, to_the_end));
+            counts_refusal(alloc, WhichInput::Second, hint)
         }
         Err(MakeError::NoMemory) => Err(AllocError),
     }
@@ -71,40 +136,41 @@ fn of_bytes<P: Progress>(
     alloc: Global,
     cart: Cart,
     form: InputForm,
-    inputs: &[u8],
-    every: u32,
+    bytes: Vec<u8>,
+    every: NonZeroU32,
     to_the_end: bool,
     to_the_fault: bool,
     progress: &P,
 ) -> Result<Answer, AllocError>
-    ensures { IfOk result (λ answer. MakesFrom cart (inputs_by form inputs.now) every to_the_end to_the_fault answer) }
+    ensures { IfOk result (λ answer. MakesFrom cart form bytes.items (non_zero_u32_get every) to_the_end to_the_fault answer) }
 {
     match form {
-        InputForm::Bytes => match read_inputs(alloc, inputs) {
+        InputForm::Bytes => match read_inputs(alloc, &bytes) {
             Ok(inputs) => of_inputs(
                 alloc,
                 cart,
                 inputs,
+                None,
                 every,
                 to_the_end,
                 to_the_fault,
                 progress,
             ),
-            Err(MovieError::NoMemory) => Err(AllocError),
-            Err(error) => Answer::of_line(alloc, Line::Refused(error)),
+            Err(error) => no_inputs(alloc, bytes, error),
         },
-        InputForm::Text => match read_text(alloc, inputs) {
+        InputForm::Text => match read_text(alloc, &bytes) {
             Ok(inputs) => of_inputs(
                 alloc,
                 cart,
                 inputs,
+                hint_of_storage(&bytes),
                 every,
                 to_the_end,
                 to_the_fault,
                 progress,
             ),
             Err(TextError::NoMemory) => Err(AllocError),
-            Err(TextError::BadLine(number)) => Answer::of_line(alloc, Line::BadLine(number)),
+            Err(TextError::BadLine(number)) => bad_line(alloc, bytes, number),
         },
     }
 }
@@ -117,23 +183,27 @@ pub(crate) fn make<S: Read, P: Progress>(
     rom: Vec<u8>,
     form: InputForm,
     inputs: &mut S,
-    every: u32,
+    every: NonZeroU32,
     to_the_end: bool,
     to_the_fault: bool,
     progress: &P,
 ) -> Result<Answer, ReadError>
-    ensures makes { IfOk result (λ answer. Makes form rom.items (S.remaining inputs.old) (S.remaining inputs.new) every to_the_end to_the_fault answer) }
+    ensures makes { IfOk result (λ answer. Makes form rom.items (S.remaining inputs.old) (S.remaining inputs.new)
+        (non_zero_u32_get every) to_the_end to_the_fault answer) }
     ensures too_long { result ≡ Err ReadError.TooLong → IsTooLong (S.remaining inputs.old) }
 {
+    if !Cart::is_length(rom.len()) {
+        return Ok(rom_refusal(alloc, WhichInput::First, Notation::Lines, &rom)?);
+    }
     let Ok(cart) = Cart::new(rom) else {
-        return Ok(Answer::of_line(alloc, Line::Refused(MovieError::BadCartSize))?);
+        unreachable!();
     };
     let bytes = read_all(alloc, inputs)?;
     Ok(of_bytes(
         alloc,
         cart,
         form,
-        &bytes,
+        bytes,
         every,
         to_the_end,
         to_the_fault,

@@ -1,10 +1,15 @@
 //! That bytes are no movie, or no cartridge.
 ghost use Rattle.std.specs.Prelude.{◌≡◌, IfOk, string_bytes};
 ghost use Rattle.command_line.specs.Program.{program_name};
-ghost use Rattle.commands.specs.Refusals.{Refuses, RefusesRom, refusal_object, rom_refusal_object};
+ghost use Rattle.movie_file.specs.declared.error.MovieError.TheVariants.{BadCounts};
+ghost use Rattle.commands.specs.Answers.{line_answer};
+ghost use Rattle.commands.specs.Refusals.{Refuses, RefusesRom, refusal_bytes, refusal_object, rom_refusal_bytes, rom_refusal_object};
+ghost use Rattle.commands.specs.Remarks.{known_if};
+ghost use Rattle.commands.specs.declared.line.Line.TheVariants as lines;
 
 use crate::answer::Answer;
 use crate::line::Line;
+use crate::remark::{Cause, Remark, WhichInput};
 use crate::status::Status;
 use command_line::program_name;
 use hex::encode;
@@ -94,7 +99,33 @@ fn refusal_object(
     )
 }
 
-/// That these bytes are refused so: a line, or an object of JSON that also says why.
+/// The line or the object about bytes that are refused so, with this reason.
+fn refusal_text(
+    alloc: Global,
+    notation: Notation,
+    bytes: &[u8],
+    error: MovieError,
+    hint: Option<Hint>,
+) -> Result<String, AllocError>
+    ensures { IfOk result (λ text. string_bytes text ≡ refusal_bytes notation program_name bytes.now error hint) }
+{
+    match notation {
+        Notation::Lines => Line::Refused(error).text(alloc),
+        Notation::Json => refusal_object(alloc, program_name(), bytes, error, hint),
+    }
+}
+
+/// What is to be said of an input, if anything is known of it.
+pub(crate) fn remark_if(input: WhichInput, hint: Option<Hint>) -> Option<Remark>
+    ensures { result ≡ known_if input hint }
+{
+    match hint {
+        Some(hint) => Some(Remark::of(input, hint)),
+        None => None,
+    }
+}
+
+/// That these bytes are refused so, and why: a line, or an object of JSON that also says why.
 pub(crate) fn refusal(
     alloc: Global,
     notation: Notation,
@@ -103,14 +134,22 @@ pub(crate) fn refusal(
 ) -> Result<Answer, AllocError>
     ensures { IfOk result (Refuses notation program_name bytes.now error) }
 {
-    match notation {
-        Notation::Lines => Answer::of_line(alloc, Line::Refused(error)),
-        Notation::Json => {
-            let hint = hint_of(bytes, error);
-            let text = refusal_object(alloc, program_name(), bytes, error, hint)?;
-            Ok(Answer::of_text(alloc, Status::Refused, text))
-        }
-    }
+    let hint = hint_of(bytes, error);
+    let text = refusal_text(alloc, notation, bytes, error, hint)?;
+    let answer = Answer::of_text(alloc, Status::Refused, text);
+    Ok(answer.with_remark(remark_if(WhichInput::First, hint)))
+}
+
+/// That counts are refused, which this input has, with what is known of them.
+pub(crate) fn counts_refusal(
+    alloc: Global,
+    input: WhichInput,
+    hint: Option<Hint>,
+) -> Result<Answer, AllocError>
+    ensures { IfOk result (λ answer. answer ≡ record (line_answer (lines.Refused BadCounts)) { remark = known_if input hint }) }
+{
+    let answer = Answer::of_line(alloc, Line::Refused(MovieError::BadCounts))?;
+    Ok(answer.with_remark(remark_if(input, hint)))
 }
 
 /// The object about a ROM that is refused, with this reason. The program's name has no quotation mark,
@@ -123,19 +162,31 @@ fn rom_refusal_object(alloc: Global, program: &str, hint: Hint) -> Result<String
     )
 }
 
-/// That these bytes are no cartridge: a line, or an object of JSON that also says why.
+/// The line or the object about a ROM that is refused, with this reason.
+fn rom_refusal_text(alloc: Global, notation: Notation, hint: Hint) -> Result<String, AllocError>
+    ensures { IfOk result (λ text. string_bytes text ≡ rom_refusal_bytes notation program_name hint) }
+{
+    match notation {
+        Notation::Lines => Line::Refused(MovieError::BadCartSize).text(alloc),
+        Notation::Json => rom_refusal_object(alloc, program_name(), hint),
+    }
+}
+
+/// That the bytes of this input are no cartridge, and why: a line, or an object of JSON that also says
+/// why.
 pub(crate) fn rom_refusal(
     alloc: Global,
+    input: WhichInput,
     notation: Notation,
     rom: &[u8],
 ) -> Result<Answer, AllocError>
-    ensures { IfOk result (RefusesRom notation program_name rom.now) }
+    ensures { IfOk result (RefusesRom input notation program_name rom.now) }
 {
-    match notation {
-        Notation::Lines => Answer::of_line(alloc, Line::Refused(MovieError::BadCartSize)),
-        Notation::Json => {
-            let text = rom_refusal_object(alloc, program_name(), hint_of_rom(rom))?;
-            Ok(Answer::of_text(alloc, Status::Refused, text))
-        }
-    }
+    let hint = hint_of_rom(rom);
+    let text = rom_refusal_text(alloc, notation, hint)?;
+    let remark = Remark {
+        input,
+        cause: Cause::NoCartridge(hint),
+    };
+    Ok(Answer::of_text(alloc, Status::Refused, text).with_remark(Some(remark)))
 }

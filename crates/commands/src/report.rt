@@ -9,6 +9,7 @@ ghost use Rattle.commands.specs.Verify.{verdict_line};
 use crate::answer::Answer;
 use crate::line::Line;
 use crate::refusal::rom_refusal;
+use crate::remark::WhichInput;
 use crate::run_error::JudgeError;
 use crate::status::Status;
 use crate::verify::verdict_of;
@@ -120,7 +121,7 @@ pub(crate) fn report<T: Threads + Wait + Sync, G: Gate + Progress + Sync>(
     ensures no_thread { result ≡ Err JudgeError.NoThread → 2 ≤ workers.number }
 {
     match no_cartridge(rom) {
-        Some(other) => Ok(rom_refusal(alloc, notation, other)?),
+        Some(other) => Ok(rom_refusal(alloc, WhichInput::Second, notation, other)?),
         None => report_of(
             rt,
             alloc,

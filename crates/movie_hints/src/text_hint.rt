@@ -7,7 +7,7 @@ use crate::hint::Hint;
 use crate::inputs::look_of;
 use crate::plain_text::{is_frame_number, is_text, is_utf16};
 use crate::word::Word;
-use input_text::{Mistake, TextError, line_at, meant_by, mistake_in, read_text};
+use input_text::{Mistake, line_at, meant_by, mistake_in};
 use movie_file::read_inputs;
 use riot_map::Cart;
 use std::alloc::Global;
@@ -110,15 +110,14 @@ fn hint_of_line(text: &[u8], number: u64) -> Option<TextHint<'_>>
     }
 }
 
-/// What is wrong with inputs as text that are refused.
-pub fn hint_of_text(alloc: Global, bytes: &[u8]) -> Option<TextHint<'_>>
-    ensures { IfSome result (IsTrueOfText bytes.now) }
+/// What is wrong with inputs as text that are refused, since the line of this number, from 1, is the
+/// first bad one.
+pub fn hint_of_text(alloc: Global, text: &[u8], number: u64) -> Option<TextHint<'_>>
+    requires { inputs_in text.now ≡ Err number }
+    ensures { IfSome result (IsTrueOfText text.now) }
 {
-    if let Some(hint) = hint_of_whole(alloc, bytes) {
-        return Some(TextHint::Whole(hint));
-    }
-    match read_text(alloc, bytes) {
-        Err(TextError::BadLine(number)) => hint_of_line(bytes, number),
-        _ => None,
+    match hint_of_whole(alloc, text) {
+        Some(hint) => Some(TextHint::Whole(hint)),
+        None => hint_of_line(text, number),
     }
 }

@@ -26,7 +26,7 @@ IsAbout name reason error = Names name error × (error.reason ≡ reason)
 
 -- It was opened under this name: nothing was read of it, and it has not failed.
 abbrev pub IsOpened : {S : Type 0} → List ℕ → Named S → Type 0
-IsOpened name named = (named.name.now ≡ name) × (named.length ≡ 0) × (named.reason ≡ None) × (named.copy ≡ None)
+IsOpened name named = (named.name.now ≡ name) × (named.length ≡ 0) × (named.reason ≡ None)
 
 -- It is why this file failed, if it has, by its name.
 abbrev pub IsErrorOf : {S : Type 0} → Named S → Option FileError → Type 0

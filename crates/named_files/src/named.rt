@@ -9,20 +9,17 @@ ghost use Rattle.named_files.specs.declared.file_error.Reason.TheVariants.{Syste
 use crate::file_error::{FileError, Reason};
 use crate::replacing::Replacing;
 use commands::INPUT_LIMIT;
-use std::alloc::Global;
 use std::io::{self, ErrorKind, Read, Write};
 use std::rt::Files;
 
 /// A file or a standard stream with its name, which remembers how many bytes were read of it, and
-/// why it failed last. It can keep what is read of it, since a pipe can't be read again.
+/// why it failed last.
 #[derive(Drop)]
 pub struct Named<'a, S> {
     name: &'a str,
     stream: S,
     length: u64,
     reason: Option<Reason>,
-    /// What was read of it, if that is kept.
-    copy: Option<Vec<u8>>,
 }
 
 impl<'a, S> Named<'a, S> {
@@ -31,50 +28,12 @@ impl<'a, S> Named<'a, S> {
         ensures stream { result.stream ≡ stream }
         ensures length { result.length ≡ 0 }
         ensures reason { result.reason ≡ None }
-        ensures copy { result.copy ≡ None }
     {
         Named {
             name,
             stream,
             length: 0,
             reason: None,
-            copy: None,
-        }
-    }
-
-    /// The same, which keeps what is read of it from now on, as long as there is memory for it.
-    pub fn keeping(self, alloc: Global) -> Named<'a, S>
-        ensures name { result.name.now ≡ self.entry.name.now }
-        ensures stream { result.stream ≡ self.entry.stream }
-        ensures length { result.length ≡ self.entry.length }
-        ensures reason { result.reason ≡ self.entry.reason }
-        ensures copy { IsSomeAnd result.copy (λ copy. copy.items ≡ []) }
-    {
-        Named {
-            copy: Some(Vec::new(alloc)),
-            ..self
-        }
-    }
-
-    /// What was read of it, if that was kept and memory was there for all of it. It keeps nothing from
-    /// now on.
-    pub fn take_copy(&mut self) -> Option<Vec<u8>>
-        ensures copy { result ≡ self.old.copy }
-        ensures kept { self.new ≡ record self.old { copy = None } }
-    {
-        self.copy.take()
-    }
-
-    /// Adds these bytes to what is kept. If there is no memory for them nothing is kept any more.
-    fn keep(&mut self, bytes: &[u8])
-        ensures copy { IfSome self.new.copy (λ copy. IsSomeAnd self.old.copy (λ before. copy.items ≡ before.items ++ bytes.now)) }
-        ensures others { self.new ≡ record self.old { copy = self.new.copy } }
-    {
-        let Some(copy) = &mut self.copy else {
-            return;
-        };
-        if copy.extend_from_slice(bytes).is_err() {
-            self.copy = None;
         }
     }
 
@@ -143,14 +102,11 @@ impl<S: Read> Read for Named<'_, S> {
         ensures length { IfOk result (λ n. self.new.length ≡ min (self.old.length + n) (2 ^ 64 - 1)) }
         ensures ok { IfOk result (λ n. self.new.reason ≡ reason_at_length (self.old.length + n) self.old.reason) }
         ensures err { IfErr result (λ error. self.new.reason ≡ Some (System error)) }
-        ensures copy { IfOk result (λ n. IfSome self.new.copy (λ copy.
-            IsSomeAnd self.old.copy (λ before. copy.items ≡ before.items ++ take n buf.new))) }
-        ensures kept { OnErr result ((self.new.length ≡ self.old.length) × (self.new.copy ≡ self.old.copy)) }
+        ensures kept { OnErr result (self.new.length ≡ self.old.length) }
     {
         let answer = self.stream.read(buf);
         match &answer {
             Ok(n) => {
-                self.keep(&buf[..*n]);
                 self.length = self.length.saturating_add(*n as u64);
                 if self.length > INPUT_LIMIT as u64 {
                     self.reason = Some(Reason::TooLong);

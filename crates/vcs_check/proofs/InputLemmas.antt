@@ -8,6 +8,7 @@ use Rattle.commands.specs.Streams.{ReadsAll}
 use Rattle.commands.specs.declared.run_error.RunError.{RunError}
 use Rattle.commands.specs.declared.run_error.RunError.TheVariants.{NoMemory, WriteFault}
 use Rattle.commands.specs.declared.status.Status.{Status}
+use Rattle.vcs_check.specs.declared.answered.Answered.{Answered}
 use Rattle.movie_file.specs.Movie.{MovieData}
 use Rattle.movie_file.specs.Reading.{movie_at}
 use Rattle.vcs_check.specs.Private.Inputs.{ReadsBoth}
@@ -24,13 +25,13 @@ pub Says-weaker : (line : CommandLine) (R S : Inputs) → ((bytes : List ℕ) (o
 Says-weaker line R S f status written says = (says.0, says.1, says.2, f says.0 says.1 says.2 says.3, says.4, says.5)
 
 pub Writes-weaker : (line : CommandLine) (R S : Inputs) → ((bytes : List ℕ) (old new : Option (List ℕ)) → R bytes old new → S bytes old new)
-    → (old new : Option (List ℕ)) (result : Result Status Failure) → Writes line R old new result → Writes line S old new result
-Writes-weaker line R S f old new (Ok status) w = (w.0, Says-weaker line R S f status w.0 w.1, w.2)
+    → (old new : Option (List ℕ)) (result : Result Answered Failure) → Writes line R old new result → Writes line S old new result
+Writes-weaker line R S f old new (Ok end) w = (w.0, Says-weaker line R S f end.status w.0 w.1, w.2)
 Writes-weaker line R S f old new (Err failure) w = tt
 
 pub LeavesPart-weaker : (line : CommandLine) (R S : Inputs) → ((bytes : List ℕ) (old new : Option (List ℕ)) → R bytes old new → S bytes old new)
-    → (old new : Option (List ℕ)) (result : Result Status Failure) → LeavesPart line R old new result → LeavesPart line S old new result
-LeavesPart-weaker line R S f old new (Ok status) p = tt
+    → (old new : Option (List ℕ)) (result : Result Answered Failure) → LeavesPart line R old new result → LeavesPart line S old new result
+LeavesPart-weaker line R S f old new (Ok end) p = tt
 LeavesPart-weaker line R S f old new (Err failure) p = (
   λ is. let h = p.0 is in (h.0, h.1, Says-weaker line R S f h.0 h.1 h.2, h.3),
   λ is. elim (p.1 is) [ inl kept ↦ inl kept | inr b ↦ inr (b.0, b.1, b.2, b.3, f b.0 b.1 b.2 b.4, b.5, b.6, b.7) ],

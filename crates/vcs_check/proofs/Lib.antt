@@ -1,6 +1,5 @@
 pub mod Conclusions
 pub mod FileParts
-pub mod HintLemmas
 pub mod InputLemmas
 pub mod LineLemmas
 pub mod ObjectLemmas

@@ -1,6 +1,6 @@
 //! A command and its files.
 ghost use Rattle.std.specs.Prelude.{◌≡◌, ◌≢◌, ◌⊎◌, ◌↔◌, List, ℕ, Option, Ok, true, Err, IfErr, IfOk, OnErr};
-ghost use Rattle.std.specs.Prelude.{IsSome, None, codes, is_some, option_copied, option_map, string_bytes};
+ghost use Rattle.std.specs.Prelude.{IsSome, None, codes, option_copied, option_map, string_bytes};
 ghost use Rattle.std.specs.Io.KnownBytes.{Appends, Keeps};
 ghost use Rattle.command_line.specs.Writing.{writing_of};
 ghost use Rattle.commands.specs.Commands.{HasBegun, IsGradual, StartsThreads};
@@ -15,8 +15,8 @@ ghost use Rattle.named_files.specs.declared.replacing.Whole.TheVariants.{Flushed
 ghost use Rattle.vcs_check.specs.Failures.{IsNoThread};
 ghost use Rattle.vcs_check.specs.Private.Inputs.{ReadsBoth, ReadsFirstly, ReadsWith};
 
+use crate::answered::Answered;
 use crate::failure::Failure;
-use crate::kept::Kept;
 use command_line::{Command, CommandLine, Writing};
 use commands::{Gate, Progress, RunError, Status, run_command};
 use named_files::{
@@ -76,7 +76,7 @@ fn whole(command: &Command) -> Whole
 
 /// Does what a command line asks for with these streams.
 fn run<
-    T: Threads + Wait + Sync + AllocGlobal,
+    T: Files + Threads + Wait + Sync + AllocGlobal,
     M: Read,
     S: Read,
     P: Write,
@@ -90,9 +90,9 @@ fn run<
     output: &mut P,
     text: &mut W,
     gate: &G,
-) -> Result<Status, RunError>
-    ensures ok { IfOk result (λ status. (bytes : List ℕ) × (told : List ℕ) × ReadsAll (M.remaining input.old) (M.remaining input.new) bytes
-        × IsText line.now bytes (S.remaining inputs.old) (S.remaining inputs.new) status told × Appends (W.contents text.old) (W.contents text.new) told) }
+) -> Result<Answered, RunError>
+    ensures ok { IfOk result (λ answered. (bytes : List ℕ) × (told : List ℕ) × ReadsAll (M.remaining input.old) (M.remaining input.new) bytes
+        × IsText line.now bytes (S.remaining inputs.old) (S.remaining inputs.new) answered.status told × Appends (W.contents text.old) (W.contents text.new) told) }
     ensures write_fault { result ≡ Err RunError.WriteFault → (bytes : List ℕ) × (status : Status) × (told : List ℕ)
         × ReadsAll (M.remaining input.old) (M.remaining input.new) bytes
         × IsText line.now bytes (S.remaining inputs.old) (S.remaining inputs.new) status told
@@ -104,12 +104,15 @@ fn run<
         → Keeps (W.contents text.old) (W.contents text.new)) }
     ensures no_thread { result ≡ Err RunError.NoThread → StartsThreads line.now }
 {
-    run_command(rt, line, input, inputs, text, output, gate)
+    match run_command(rt, line, input, inputs, text, output, gate) {
+        Ok(end) => Ok(Answered::of(rt, line, &end)),
+        Err(error) => Err(error),
+    }
 }
 
 /// The same, where what counts is what a file gets.
 fn run_into<
-    T: Threads + Wait + Sync + AllocGlobal,
+    T: Files + Threads + Wait + Sync + AllocGlobal,
     M: Read,
     S: Read,
     P: Write,
@@ -123,9 +126,9 @@ fn run_into<
     output: &mut P,
     text: &mut W,
     gate: &G,
-) -> Result<Status, RunError>
-    ensures ok { IfOk result (λ status. (bytes : List ℕ) × (made : List ℕ) × ReadsAll (M.remaining input.old) (M.remaining input.new) bytes
-        × IsFile line.now bytes (S.remaining inputs.old) (S.remaining inputs.new) status made × Appends (P.contents output.old) (P.contents output.new) made) }
+) -> Result<Answered, RunError>
+    ensures ok { IfOk result (λ answered. (bytes : List ℕ) × (made : List ℕ) × ReadsAll (M.remaining input.old) (M.remaining input.new) bytes
+        × IsFile line.now bytes (S.remaining inputs.old) (S.remaining inputs.new) answered.status made × Appends (P.contents output.old) (P.contents output.new) made) }
     ensures write_fault { result ≡ Err RunError.WriteFault → (bytes : List ℕ) × (status : Status) × (made : List ℕ)
         × ReadsAll (M.remaining input.old) (M.remaining input.new) bytes
         × IsFile line.now bytes (S.remaining inputs.old) (S.remaining inputs.new) status made
@@ -137,12 +140,15 @@ fn run_into<
         → Keeps (P.contents output.old) (P.contents output.new)) }
     ensures no_thread { result ≡ Err RunError.NoThread → StartsThreads line.now }
 {
-    run_command(rt, line, input, inputs, text, output, gate)
+    match run_command(rt, line, input, inputs, text, output, gate) {
+        Ok(end) => Ok(Answered::of(rt, line, &end)),
+        Err(error) => Err(error),
+    }
 }
 
 /// The same as `run`. Pictures go through a buffer.
 fn write<
-    T: Threads + Wait + Sync + AllocGlobal,
+    T: Files + Threads + Wait + Sync + AllocGlobal,
     M: Read,
     S: Read,
     P: Write + Drop,
@@ -156,9 +162,9 @@ fn write<
     output: &mut P,
     text: &mut W,
     gate: &G,
-) -> Result<Status, RunError>
-    ensures ok { IfOk result (λ status. (bytes : List ℕ) × (told : List ℕ) × ReadsAll (M.remaining input.old) (M.remaining input.new) bytes
-        × IsText line.now bytes (S.remaining inputs.old) (S.remaining inputs.new) status told × Appends (W.contents text.old) (W.contents text.new) told) }
+) -> Result<Answered, RunError>
+    ensures ok { IfOk result (λ answered. (bytes : List ℕ) × (told : List ℕ) × ReadsAll (M.remaining input.old) (M.remaining input.new) bytes
+        × IsText line.now bytes (S.remaining inputs.old) (S.remaining inputs.new) answered.status told × Appends (W.contents text.old) (W.contents text.new) told) }
     ensures write_fault { result ≡ Err RunError.WriteFault → (bytes : List ℕ) × (status : Status) × (told : List ℕ)
         × ReadsAll (M.remaining input.old) (M.remaining input.new) bytes
         × IsText line.now bytes (S.remaining inputs.old) (S.remaining inputs.new) status told
@@ -174,15 +180,15 @@ fn write<
         return run(rt, line, input, inputs, output, text, gate);
     }
     let mut pictures = with_buffer(rt.alloc(), output)?;
-    let status = run(rt, line, input, inputs, &mut pictures, text, gate)?;
+    let answered = run(rt, line, input, inputs, &mut pictures, text, gate)?;
     flush(&mut pictures)?;
-    Ok(status)
+    Ok(answered)
 }
 
 /// Does what a command line without an output asks for with these inputs.
 fn tell<
     'a,
-    R: Threads + Wait + Sync + AllocGlobal,
+    R: Files + Threads + Wait + Sync + AllocGlobal,
     M: Read,
     S: Read,
     W: Write,
@@ -194,7 +200,7 @@ fn tell<
     inputs: &mut S,
     text: &mut W,
     gate: &G,
-) -> Result<Status, Failure<'a>>
+) -> Result<Answered, Failure<'a>>
     requires { TakesFile line.now → ⊥ }
     ensures ok { Writes line.now (ReadsBoth (M.remaining input.old) (M.remaining input.new) (S.remaining inputs.old) (S.remaining inputs.new))
         (W.contents text.old) (W.contents text.new) result }
@@ -204,7 +210,7 @@ fn tell<
     ensures no_thread { IfErr result (λ failure. IsNoThread failure → StartsThreads line.now) }
 {
     match run(rt, line, input, inputs, &mut io::sink(), text, gate) {
-        Ok(status) => Ok(status),
+        Ok(answered) => Ok(answered),
         Err(error) => Err(Failure::Run(error, None)),
     }
 }
@@ -227,7 +233,7 @@ fn write_to<
     output: &'a str,
     text: &mut W,
     gate: &G,
-) -> Result<Status, Failure<'a>>
+) -> Result<Answered, Failure<'a>>
     requires { TakesFile line.now → ⊥ }
     ensures ok { Writes line.now (ReadsBoth (M.remaining input.old) (M.remaining input.new) (S.remaining inputs.old) (S.remaining inputs.new))
         (W.contents text.old) (W.contents text.new) result }
@@ -237,14 +243,14 @@ fn write_to<
     ensures no_thread { IfErr result (λ failure. IsNoThread failure → StartsThreads line.now) }
 {
     let mut output = create(rt, output, identities, whole(&line.command))?;
-    let status = match write(rt, line, input, inputs, &mut output, text, gate) {
-        Ok(status) => status,
+    let answered = match write(rt, line, input, inputs, &mut output, text, gate) {
+        Ok(answered) => answered,
         Err(error) => return Err(Failure::Run(error, None).by_output(output.output_error())),
     };
-    if status == Status::Done && output.finish().is_err() {
+    if answered.status == Status::Done && output.finish().is_err() {
         return Err(Failure::Run(RunError::WriteFault, output.output_error()));
     }
-    Ok(status)
+    Ok(answered)
 }
 
 /// Does what a command line asks for with these inputs, and standard output as what takes the file.
@@ -264,7 +270,7 @@ fn write_to_standard_output<
     output: &mut W,
     text: &mut E,
     gate: &G,
-) -> Result<Status, Failure<'a>>
+) -> Result<Answered, Failure<'a>>
     requires { TakesFile line.now }
     ensures ok { Writes line.now (ReadsBoth (M.remaining input.old) (M.remaining input.new) (S.remaining inputs.old) (S.remaining inputs.new))
         (W.contents output.old) (W.contents output.new) result }
@@ -275,7 +281,7 @@ fn write_to_standard_output<
 {
     check_standard_output(rt)?;
     match run_into(rt, line, input, inputs, output, text, gate) {
-        Ok(status) => Ok(status),
+        Ok(answered) => Ok(answered),
         Err(error) => Err(Failure::Run(error, None)),
     }
 }
@@ -309,7 +315,7 @@ fn answer<
     output: &mut W,
     error: &mut E,
     gate: &G,
-) -> Result<Status, Failure<'a>>
+) -> Result<Answered, Failure<'a>>
     ensures ok { Writes line.now (ReadsBoth (M.remaining input.old) (M.remaining input.new) (S.remaining inputs.old) (S.remaining inputs.new))
         (W.contents output.old) (W.contents output.new) result }
     ensures quiet { KeepsQuiet line.now (W.contents output.old) (W.contents output.new) result }
@@ -326,25 +332,18 @@ fn answer<
     }
 }
 
-/// Opens an input of a command line, beside its output if that has a name. What is read of it is kept
-/// if reasons are wanted.
-fn open_input<'a, R: Files + AllocGlobal>(
+/// Opens an input of a command line, beside its output if that has a name.
+fn open_input<'a, R: Files>(
     rt: &R,
     line: &'a CommandLine,
     name: &'a str,
 ) -> Result<Named<'a, R::File>, FileError<'a>>
-    ensures ok { IfOk result (λ input. (input.name.now ≡ name.now) × (input.length ≡ 0) × (input.reason ≡ None)) }
-    ensures copy { IfOk result (λ input. is_some input.copy ≡ line.now.explain) }
+    ensures { IfOk result (λ input. (input.name.now ≡ name.now) × (input.length ≡ 0) × (input.reason ≡ None)) }
 {
-    let input = match line.output.as_deref() {
-        Some(output) if output != STANDARD => open_beside(rt, name, output)?,
-        _ => open(rt, name)?,
-    };
-    Ok(if line.explain {
-        input.keeping(rt.alloc())
-    } else {
-        input
-    })
+    match line.output.as_deref() {
+        Some(output) if output != STANDARD => open_beside(rt, name, output),
+        _ => open(rt, name),
+    }
 }
 
 /// What tells an input, which is open, from an output. That it is a standard stream of text is an error.
@@ -387,11 +386,10 @@ fn answer_with_file<
     input: &mut M,
     identity: Option<Identity>,
     second: &'a str,
-    kept: &mut Kept,
     output: &mut W,
     error: &mut E,
     gate: &G,
-) -> Result<Status, Failure<'a>>
+) -> Result<Answered, Failure<'a>>
     ensures ok { Writes line.now (ReadsFirstly (M.remaining input.old) (M.remaining input.new)) (W.contents output.old) (W.contents output.new) result }
     ensures quiet { KeepsQuiet line.now (W.contents output.old) (W.contents output.new) result }
     ensures part { LeavesPart line.now (ReadsFirstly (M.remaining input.old) (M.remaining input.new)) (W.contents output.old) (W.contents output.new) result }
@@ -409,10 +407,7 @@ fn answer_with_file<
         error,
         gate,
     ) {
-        Ok(status) => {
-            kept.second = inputs.take_copy();
-            Ok(status)
-        }
+        Ok(answered) => Ok(answered),
         Err(failure) => Err(failure.by_input(inputs.file_error())),
     }
 }
@@ -433,11 +428,10 @@ fn answer_with<
     input: &mut M,
     identity: Option<Identity>,
     standard: &mut I,
-    kept: &mut Kept,
     output: &mut W,
     error: &mut E,
     gate: &G,
-) -> Result<Status, Failure<'a>>
+) -> Result<Answered, Failure<'a>>
     ensures ok { Writes line.now (ReadsWith line.now (M.remaining input.old) (M.remaining input.new) (I.remaining standard.old) (I.remaining standard.new))
         (W.contents output.old) (W.contents output.new) result }
     ensures quiet { KeepsQuiet line.now (W.contents output.old) (W.contents output.new) result }
@@ -450,9 +444,7 @@ fn answer_with<
         return answer(rt, line, input, standard, &identities, output, error, gate);
     }
     match line.second.as_deref() {
-        Some(second) => answer_with_file(
-            rt, line, input, identity, second, kept, output, error, gate,
-        ),
+        Some(second) => answer_with_file(rt, line, input, identity, second, output, error, gate),
         None => answer(
             rt,
             line,
@@ -478,11 +470,10 @@ fn answer_file<
     rt: &R,
     line: &'a CommandLine,
     standard: &mut I,
-    kept: &mut Kept,
     output: &mut W,
     error: &mut E,
     gate: &G,
-) -> Result<Status, Failure<'a>>
+) -> Result<Answered, Failure<'a>>
     requires { ReadsFirst line.now → ⊥ }
     ensures ok { Writes line.now (ReadsInputs line.now (I.remaining standard.old) (I.remaining standard.new))
         (W.contents output.old) (W.contents output.new) result }
@@ -494,12 +485,9 @@ fn answer_file<
     let mut input = open_input(rt, line, &line.input)?;
     let identity = Some(identity_of(rt, &input)?);
     match answer_with(
-        rt, line, &mut input, identity, standard, kept, output, error, gate,
+        rt, line, &mut input, identity, standard, output, error, gate,
     ) {
-        Ok(status) => {
-            kept.first = input.take_copy();
-            Ok(status)
-        }
+        Ok(answered) => Ok(answered),
         Err(failure) => Err(failure.by_input(input.file_error())),
     }
 }
@@ -522,7 +510,7 @@ pub(crate) fn reads_second(line: &CommandLine) -> bool
 }
 
 /// Does what a command line asks for, whose inputs aren't both standard input. The gate is called
-/// around replays. What is read of inputs that are no standard input is kept, if reasons are wanted.
+/// around replays.
 pub(crate) fn answer_line<
     'a,
     R: Files + Threads + Wait + Sync + AllocGlobal,
@@ -534,11 +522,10 @@ pub(crate) fn answer_line<
     rt: &R,
     line: &'a CommandLine,
     input: &mut I,
-    kept: &mut Kept,
     output: &mut W,
     error: &mut E,
     gate: &G,
-) -> Result<Status, Failure<'a>>
+) -> Result<Answered, Failure<'a>>
     requires { ReadsTwice line.now → ⊥ }
     ensures ok { Writes line.now (ReadsInputs line.now (I.remaining input.old) (I.remaining input.new)) (W.contents output.old) (W.contents output.new) result }
     ensures quiet { KeepsQuiet line.now (W.contents output.old) (W.contents output.new) result }
@@ -546,7 +533,7 @@ pub(crate) fn answer_line<
     ensures no_thread { IfErr result (λ failure. IsNoThread failure → StartsThreads line.now) }
 {
     if !reads_first(line) {
-        return answer_file(rt, line, input, kept, output, error, gate);
+        return answer_file(rt, line, input, output, error, gate);
     }
     let identity = identity_of_standard_input(rt, line)?;
     answer_with(
@@ -555,7 +542,6 @@ pub(crate) fn answer_line<
         input,
         identity,
         &mut io::empty(),
-        kept,
         output,
         error,
         gate,

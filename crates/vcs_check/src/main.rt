@@ -7,12 +7,12 @@
 #![tactic(auto)]
 
 mod advice;
+mod answered;
 mod command_files;
 mod ending;
 mod error_object;
 mod failure;
 mod hints;
-mod kept;
 mod progress;
 mod reasons;
 
@@ -25,7 +25,7 @@ ghost use Rattle.command_line.specs.Faults.{IsRefusal};
 ghost use Rattle.command_line.specs.declared.command.LineFault.{LineFault as Refused};
 ghost use Rattle.terminal_text.specs.Names.{shown_text};
 ghost use Rattle.vcs_check.specs.declared.failure.Failure.{Failure as WhyNot};
-ghost use Rattle.commands.specs.declared.status.Status.{Status};
+ghost use Rattle.vcs_check.specs.declared.answered.Answered.{Answered as Told};
 ghost use Rattle.named_files.specs.FileErrors.{IsAbout, IsErrorOf};
 ghost use Rattle.named_files.specs.declared.file_error.FileError.{FileError as FailedFile};
 ghost use Rattle.named_files.specs.declared.file_error.Reason.TheVariants.{IsTerminal as IsTerminalOutput};
@@ -37,15 +37,15 @@ ghost use Rattle.std.specs.Io.KnownBytes.{Keeps};
 ghost use Rattle.std.specs.Process.{exit_status};
 
 use advice::{advised, help_without_explain, tell_remark};
+use answered::Answered;
 use clap::error::ErrorKind;
 use command_files::{answer_line, draws, reads_first, reads_second, takes_file};
 use command_line::{CommandLine, LineFault, parse_line};
-use commands::{Gate, Progress, RunError, Status};
+use commands::{Gate, Progress, RunError};
 use ending::{Ending, not_written};
 use error_object::{says_errors, write_error_object};
 use failure::Failure;
 use hints::tell_hints;
-use kept::Kept;
 use named_files::{
     FileError, Limited, Named, Quota, Reason, STANDARD_ERROR, STANDARD_INPUT, STANDARD_OUTPUT,
     null_if_closed, sync_standard_output,
@@ -162,41 +162,25 @@ fn say_error<R: Files + AllocGlobal, W: Write>(
     }
 }
 
-/// Says what is to be told of an answer with this status, if reasons are wanted.
-fn explain<R: Files + AllocGlobal + Eprint, I>(
-    rt: &R,
-    line: &CommandLine,
-    input: &mut Named<'_, I>,
-    kept: &mut Kept,
-    status: Status,
-)
-    ensures { input.new.stream ≡ input.old.stream }
-{
-    if line.explain {
-        kept.take_standard(line, input);
-        tell_hints(rt, line, kept, status);
-    }
-}
-
 /// Says the reason of what a command has answered so, if reasons are wanted, and answers the exit
 /// status.
 fn conclude<R: Files + AllocGlobal + Print + Eprint, I, W: Write, E>(
     rt: &R,
     line: &CommandLine,
-    input: &mut Named<'_, I>,
-    kept: &mut Kept,
+    input: &Named<'_, I>,
     output: &mut Named<'_, W>,
     error: &Named<'_, E>,
-    answer: Result<Status, Failure<'_>>,
+    answer: Result<Answered, Failure<'_>>,
 ) -> ExitCode
-    ensures ends { Concludes line.now (W.contents output.old.stream) (W.contents output.new.stream) answer.entry (exit_status result) }
-    ensures same_input { input.new.stream ≡ input.old.stream }
+    ensures { Concludes line.now (W.contents output.old.stream) (W.contents output.new.stream) answer.entry (exit_status result) }
 {
     match answer {
-        Ok(status) => match settle(rt, output) {
+        Ok(answered) => match settle(rt, output) {
             Ok(()) => {
-                explain(rt, line, input, kept, status);
-                ExitCode::from(status.code())
+                if line.explain {
+                    tell_hints(rt, line, &answered);
+                }
+                ExitCode::from(answered.status.code())
             }
             Err(error) => not_written(error).report(rt, line.explain),
         },
@@ -218,7 +202,6 @@ fn carry_out<
 >(
     rt: &R,
     input: &mut Named<'_, I>,
-    kept: &mut Kept,
     output: &mut Named<'_, W>,
     error: &mut Named<'_, E>,
     line: &CommandLine,
@@ -226,14 +209,14 @@ fn carry_out<
 ) -> ExitCode
     requires { ReadsTwice line.now → ⊥ }
     // An answer, and what stands on standard output after it.
-    ensures { (answer : Result Status WhyNot) × (told : Option (List ℕ))
+    ensures { (answer : Result Told WhyNot) × (told : Option (List ℕ))
         × Writes line.now (ReadsInputs line.now (I.remaining input.old.stream) (I.remaining input.new.stream)) (W.contents output.old.stream) told answer
         × KeepsQuiet line.now (W.contents output.old.stream) told answer
         × LeavesPart line.now (ReadsInputs line.now (I.remaining input.old.stream) (I.remaining input.new.stream)) (W.contents output.old.stream) told answer
         × Concludes line.now told (W.contents output.new.stream) answer (exit_status result) }
 {
-    let answer = answer_line(rt, line, input, kept, output, error, gate);
-    conclude(rt, line, input, kept, output, error, answer)
+    let answer = answer_line(rt, line, input, output, error, gate);
+    conclude(rt, line, input, output, error, answer)
 }
 
 /// The program's arguments.
@@ -303,42 +286,20 @@ fn main(rt: HostRuntime) -> ExitCode {
             "reads a movie from standard input; vcs_check --help says more",
         );
     }
-    let input = Named::new(STANDARD_INPUT, rt.stdin());
-    let mut input = if line.explain {
-        input.keeping(rt.alloc())
-    } else {
-        input
-    };
-    let mut kept = Kept::nothing();
+    let mut input = Named::new(STANDARD_INPUT, rt.stdin());
     let output = Limited::new(io::writer(&rt), Quota::of_standard_output(&rt));
     let error = Limited::new(rt.stderr(), Quota::of_standard_error(&rt));
     let mut error = Named::new(STANDARD_ERROR, error);
     let progress = ProgressLine::new(&rt, is_terminal, rt.stdout().is_terminal());
     if !takes_file(&line) || !draws(&line.command) {
         let mut output = Named::new(STANDARD_OUTPUT, output);
-        return carry_out(
-            &rt,
-            &mut input,
-            &mut kept,
-            &mut output,
-            &mut error,
-            &line,
-            &progress,
-        );
+        return carry_out(&rt, &mut input, &mut output, &mut error, &line, &progress);
     }
     // Pictures go through a buffer.
     match BufWriter::new(rt.alloc(), output) {
         Ok(output) => {
             let mut output = Named::new(STANDARD_OUTPUT, output);
-            carry_out(
-                &rt,
-                &mut input,
-                &mut kept,
-                &mut output,
-                &mut error,
-                &line,
-                &progress,
-            )
+            carry_out(&rt, &mut input, &mut output, &mut error, &line, &progress)
         }
         Err(_) => Ending::Failed(Failure::from(RunError::NoMemory)).report(&rt, line.explain),
     }

@@ -14,13 +14,17 @@ use Rattle.movie_file.specs.Run.{run}
 use Rattle.movie_file.specs.declared.checkpoint.Checkpoint.{Checkpoint}
 use Rattle.movie_file.specs.declared.error.MakeError.{MakeError}
 use Rattle.movie_file.specs.declared.error.MakeError.TheVariants.{Fault, BadCounts, NoMemory}
+use Rattle.movie_hints.specs.declared.hint.Hint.{Hint}
 use Rattle.replay_plan.specs.declared.keep.Keep.{Keep}
 use Rattle.replay_segments.specs.Verdicts.{IsVerdict}
 use Rattle.replay_segments.specs.declared.verdict.Verdict.TheVariants as verdicts
 use Rattle.run_cursor.specs.declared.cursor.RunFault.{RunFault}
 use Rattle.commands.specs.Make.{IsMadeMovie, IsMadeToTheFault, do_claims_fit}
+use Rattle.commands.specs.Remarks.{known_if}
 use Rattle.commands.specs.declared.line.Line.{Line}
 use Rattle.commands.specs.declared.line.Line.TheVariants as lines
+use Rattle.commands.specs.declared.remark.Remark.{Remark}
+use Rattle.commands.specs.declared.remark.WhichInput.TheVariants.{Second}
 
 -- So many frames ended, the last one in this state, and these are the checkpoints after every so many.
 pub record HasRun (cartridge : List ℕ) (inputs : List InputData) (every frames : ℕ) (checkpoints : List Checkpoint) (state : StateFields) : Type 0 where
@@ -55,6 +59,11 @@ IsMadeRun cartridge inputs every to_the_end to_the_fault m (Some fault) =
 abbrev pub line_of : MovieData → Option RunFault → Line
 line_of m None = lines.Made (length m.inputs) (length m.checkpoints)
 line_of m (Some fault) = lines.Fault fault.frame fault.kind
+
+-- How the inputs are stored is said of a movie whose run ended.
+abbrev pub remark_of : Option Hint → Option RunFault → Option Remark
+remark_of stored None = known_if Second stored
+remark_of stored (Some fault) = None
 
 -- The counts are looked at first.
 abbrev pub Explains : List ℕ → List InputData → ℕ → Bool → Bool → MakeError → Type 0

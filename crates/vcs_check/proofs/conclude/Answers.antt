@@ -2,15 +2,15 @@ use Rattle.std.proofs.Common.{arith, inl, inr}
 use Rattle.vcs_check.proofs.Conclusions.{failed, settled}
 use Rattle.vcs_check.proofs.conclude.Goals as goal
 
-pub returns-in-Ok-settle-clause-ends : goal.returns-in-Ok-settle-clause-ends
-returns-in-Ok-settle-clause-ends g c = settled c.args.line.now _ _ _ c.in-Ok.status _ c.in-Ok.is (inl (cc)) c.settle.ensures
+pub returns-in-Ok-settle : goal.returns-in-Ok-settle
+returns-in-Ok-settle g c = settled c.args.line.now _ _ _ c.in-Ok.answered _ c.in-Ok.is (inl (cc)) c.settle.ensures
 
-pub returns-in-Err-settle-clause-ends : goal.returns-in-Err-settle-clause-ends
-returns-in-Err-settle-clause-ends g c =
-    settled c.args.line.now _ _ _ c.in-Ok.status _ c.in-Ok.is (inr (grind (arith, c.report.ensures, c.not_written.ensures))) c.settle.ensures
+pub returns-in-Ok : goal.returns-in-Ok
+returns-in-Ok g c =
+    settled c.args.line.now _ _ _ c.in-Ok.answered _ c.in-Ok.is (inr (grind (arith, c.report.ensures, c.not_written.ensures))) c.settle.ensures
 
-pub returns-in-Err-clause-ends : goal.returns-in-Err-clause-ends
-returns-in-Err-clause-ends g c =
+pub returns : goal.returns
+returns g c =
     let e = c.of_streams-failure.ensures in
     failed c.args.line.now _ _ _ c.in-Err.failure c.of_streams-failure.result e.0 e.1 e.2 _ c.in-Err.is e.6
     (grind (arith, c.report-in-Err.ensures)) c.say_error.ensures.object c.say_error.ensures.none c.say_error.ensures.not_for_it

@@ -3,6 +3,7 @@ use Rattle.std.proofs.lemmas.Result.{IfOk-weaker}
 use Rattle.command_line.specs.Writing.{writing_of}
 use Rattle.movie_file.specs.Reading.{movie_at}
 use Rattle.picture_file.proofs.BytesWritten.{appends_nothing, keeps_same}
+use Rattle.commands.specs.Answers.{conclusion_of}
 use Rattle.commands.specs.Commands.{IsAboutMovies}
 use Rattle.commands.proofs.CommandAnswers.{of_movie, of_refusal, only_too_long, text_in_part}
 use Rattle.commands.proofs.WrittenFrames.{the_error}
@@ -11,8 +12,8 @@ use Rattle.commands.proofs.command.run_command.Goals as goal
 pub returns-in_err-write_file_first-clause-write_fault : goal.returns-in_err-write_file_first-clause-write_fault
 returns-in_err-write_file_first-clause-write_fault g c = λ is.
     let answer = c.in_ok-answer.answer in
-    let makes = rw c.get.ensures.value at c.in_ok-answer.ensures.makes in
-    rw c.in-Make.is (c.in_ok-rom.rom.items, answer.status, answer.text, answer.file, c.in_ok-rom.ensures.all, makes, c.in_err-write_file_first.ensures.fault)
+    rw c.in-Make.is
+    (c.in_ok-rom.rom.items, conclusion_of answer, answer.text, answer.file, c.in_ok-rom.ensures.all, c.in_ok-answer.ensures.makes, c.in_err-write_file_first.ensures.fault)
 
 pub returns-in_err-expected-in-Ok-clause-too_long : goal.returns-in_err-expected-in-Ok-clause-too_long
 returns-in_err-expected-in-Ok-clause-too_long g c = λ is.
@@ -27,7 +28,7 @@ returns-in-Ok-clause-ok g c =
     let read : movie_at bytes ≡ Ok c.in-Ok.movie = rw c.in-Ok.is at (sym c.in_ok-bytes.ensures.found) in
     let reads = rw (← c.as_deref.ensures.value) at c.in_ok-expected-in-Ok.ensures.reads in
     IfOk-weaker c.answer_movie.result _ _
-    (λ status h. (bytes, h.0.text, h.0.file, c.in_ok-bytes.ensures.all, of_movie c.args.line.now bytes _ _ status h.0 about h.2 _ _ read reads h.1, h.3, h.4))
+    (λ end h. (bytes, h.0.text, h.0.file, c.in_ok-bytes.ensures.all, of_movie c.args.line.now bytes _ _ end h.0 about h.2 _ _ read reads h.1, h.3, h.4))
     (rw c.deref.ensures.value at c.answer_movie.ensures.ok)
 
 pub returns-in-Ok-clause-write_fault : goal.returns-in-Ok-clause-write_fault
@@ -37,7 +38,7 @@ returns-in-Ok-clause-write_fault g c = λ is.
     let read : movie_at bytes ≡ Ok c.in-Ok.movie = rw c.in-Ok.is at (sym c.in_ok-bytes.ensures.found) in
     let reads = rw (← c.as_deref.ensures.value) at c.in_ok-expected-in-Ok.ensures.reads in
     let h = (rw c.deref.ensures.value at c.answer_movie.ensures.write_fault) is in
-    (bytes, h.0.status, h.0.text, h.0.file, c.in_ok-bytes.ensures.all, of_movie c.args.line.now bytes _ _ _ h.0 about refl _ _ read reads h.1, h.2)
+    (bytes, conclusion_of h.0, h.0.text, h.0.file, c.in_ok-bytes.ensures.all, of_movie c.args.line.now bytes _ _ _ h.0 about refl _ _ read reads h.1, h.2)
 
 pub returns-in-Ok-clause-memory : goal.returns-in-Ok-clause-memory
 returns-in-Ok-clause-memory g c = λ is.
@@ -53,7 +54,7 @@ returns-in_err-write_text-in-Err-clause-write_fault g c = λ is.
     let read : movie_at bytes ≡ Err c.in-Err.error = rw c.in-Err.is at (sym c.in_ok-bytes.ensures.found) in
     let told = rw c.deref-in-Err.ensures.value at c.in_ok-answer-in-Err.ensures in (
       bytes,
-      answer.status,
+      conclusion_of answer,
       answer.text,
       _,
       c.in_ok-bytes.ensures.all,

@@ -1,7 +1,6 @@
 use Rattle.std.proofs.Common.{refl}
 use Rattle.commands.proofs.refusal.refusal.Goals as goal
 
-pub returns-in_ok-text-in-Json : goal.returns-in_ok-text-in-Json
-returns-in_ok-text-in-Json c =
-    let told = rw c.program_name.ensures at c.in_ok-text-in-Json.ensures in
-    rw c.in-Json.is (c.hint_of-hint.result, c.hint_of-hint.ensures, rw (c.of_text.ensures, told) refl)
+pub returns : goal.returns
+returns c =
+    (c.hint_of-hint.result, c.hint_of-hint.ensures, rw (c.with_remark.ensures, c.of_text-answer.ensures, c.remark_if.ensures, c.in_ok-text.ensures) refl)

@@ -4,7 +4,7 @@ use Rattle.vcs_check.proofs.command_files.answer_file.Goals as goal
 
 pub returns-in-Ok-clause-ok : goal.returns-in-Ok-clause-ok
 returns-in-Ok-clause-ok g c = Writes-weaker c.args.line.now _ _
-    (λ bytes old new read. ((λ first. absurd (c.requires first)), read.1, λ other others. read.2 others)) _ _ (Ok c.in-Ok.status) c.in-Ok.ensures.ok
+    (λ bytes old new read. ((λ first. absurd (c.requires first)), read.1, λ other others. read.2 others)) _ _ (Ok c.in-Ok.answered) c.in-Ok.ensures.ok
 
 pub returns-clause-part : goal.returns-clause-part
 returns-clause-part g c = rw c.by_input.ensures
