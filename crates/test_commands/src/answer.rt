@@ -2,9 +2,8 @@
 
 use crate::case::Case;
 use crate::named_bytes::malformed;
-use crate::reason::reason_of;
 use command_line::{CommandLine, LineFault, parse_line};
-use commands::{NoGate, RunError, Status, run_command};
+use commands::{Conclusion, NoGate, RunError, Status, run_command};
 use std::alloc::{AllocError, Global};
 use std::sync::Wait;
 use std::thread::Threads;
@@ -55,19 +54,27 @@ fn answer_of_fault(alloc: Global, fault: LineFault) -> Result<Answer, AllocError
     })
 }
 
-/// What standard error gets after a command: its error, or where that is asked for the reason of a
-/// refusal.
+/// What is to be said of an input, as a line without the input's name, or nothing.
+fn reason_of(alloc: Global, end: &Conclusion) -> Result<String, AllocError> {
+    let Some(remark) = &end.remark else {
+        return Ok(String::new(alloc));
+    };
+    match remark.hint(alloc) {
+        Some(hint) => format!(in alloc; "{hint}\n"),
+        None => Ok(String::new(alloc)),
+    }
+}
+
+/// What standard error gets after a command: its error, or where that is asked for what is to be said of
+/// an input.
 fn remark_of(
     alloc: Global,
     line: &CommandLine,
-    case: &Case<'_>,
-    status: Result<Status, RunError>,
+    answer: &Result<Conclusion, RunError>,
 ) -> Result<String, AllocError> {
-    match status {
+    match answer {
         Err(error) => format!(in alloc; "error: {error}\n"),
-        Ok(Status::Refused) if line.explain => {
-            reason_of(alloc, &line.command, &case.first, &case.second)
-        }
+        Ok(end) if line.explain => reason_of(alloc, end),
         Ok(_) => Ok(String::new(alloc)),
     }
 }
@@ -81,7 +88,7 @@ fn answer_to_line<R: Threads + Wait + Sync + AllocGlobal>(
     let alloc = rt.alloc();
     let mut text = Vec::new(alloc);
     let mut file = Vec::new(alloc);
-    let status = run_command(
+    let answer = run_command(
         rt,
         line,
         &mut case.first.as_slice(),
@@ -90,11 +97,11 @@ fn answer_to_line<R: Threads + Wait + Sync + AllocGlobal>(
         &mut file,
         &NoGate,
     );
-    let remark = remark_of(alloc, line, case, status)?;
+    let remark = remark_of(alloc, line, &answer)?;
     text.extend_from_slice(remark.as_bytes())?;
     let text = str::from_utf8(&text).map_err(|_| malformed())?;
     Ok(Answer {
-        status: status.map_or(FAILED, |status| status.code()),
+        status: answer.map_or(FAILED, |end| end.status.code()),
         text: text.replace(alloc, "\n", "\\n")?,
         file,
     })

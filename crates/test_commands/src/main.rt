@@ -22,7 +22,6 @@ mod answer;
 mod case;
 mod named_bytes;
 mod quoted;
-mod reason;
 
 use answer::answer_to;
 use case::Case;

@@ -3,8 +3,9 @@
 use crate::call_failure::{CallFailure, right};
 use crate::gate::Counting;
 use arrayvec::ArrayVec;
-use command_line::{Command, CommandLine};
+use command_line::{Command, CommandLine, parse_line};
 use commands::{RunError, Status, run_command};
+use replay_plan::Workers;
 use std::alloc::Global;
 use std::io::{self, Read};
 use std::sync::Wait;
@@ -26,22 +27,54 @@ pub(crate) struct Answer {
     pub has_ended: bool,
 }
 
-/// The command line of a command, whose input's name isn't used. It takes no memory.
-pub(crate) fn line_of(alloc: Global, command: Command) -> CommandLine {
-    CommandLine::of(command, String::new(alloc))
+/// The command line of these words, of which the first is the program's name.
+fn line_of(alloc: Global, words: &str) -> Result<CommandLine, CallFailure> {
+    let mut all = Vec::new(alloc);
+    // A growth that `collect` is refused it asks for once more.
+    for word in words.split(' ') {
+        all.push(word)?;
+    }
+    Ok(parse_line(alloc, &all)?)
 }
 
-/// The answer to a command line over this input. Its second input is empty.
+/// The answer to these words over this input. The second input is empty, and the names of files aren't
+/// used.
 pub(crate) fn answer_to<T: Threads + Wait + Sync + AllocGlobal, R: Read>(
     rt: &T,
-    line: &CommandLine,
+    words: &str,
+    input: &mut R,
+) -> Result<Answer, CallFailure> {
+    answer_with(rt, words, input, &mut io::empty())
+}
+
+/// The answer to these words over both inputs.
+pub(crate) fn answer_with<T: Threads + Wait + Sync + AllocGlobal, R: Read, S: Read>(
+    rt: &T,
+    words: &str,
+    input: &mut R,
+    inputs: &mut S,
+) -> Result<Answer, CallFailure> {
+    let line = line_of(rt.alloc(), words)?;
+    Ok(answer_of(rt, &line, input, inputs))
+}
+
+/// The answer to a command over this input. No memory is taken for words, so that the growths of the
+/// command can be counted.
+pub(crate) fn answer_to_command<T: Threads + Wait + Sync + AllocGlobal, R: Read>(
+    rt: &T,
+    command: Command,
+    workers: Workers,
     input: &mut R,
 ) -> Answer {
-    answer_with(rt, line, input, &mut io::empty())
+    let line = CommandLine {
+        workers,
+        ..CommandLine::of(command, String::new(rt.alloc()))
+    };
+    answer_of(rt, &line, input, &mut io::empty())
 }
 
 /// The answer to a command line over both inputs.
-pub(crate) fn answer_with<T: Threads + Wait + Sync + AllocGlobal, R: Read, S: Read>(
+fn answer_of<T: Threads + Wait + Sync + AllocGlobal, R: Read, S: Read>(
     rt: &T,
     line: &CommandLine,
     input: &mut R,
@@ -50,9 +83,9 @@ pub(crate) fn answer_with<T: Threads + Wait + Sync + AllocGlobal, R: Read, S: Re
     let mut text = Text::new();
     let mut file = File::new();
     let gate = Counting::new();
-    let status = run_command(rt, line, input, inputs, &mut text, &mut file, &gate);
+    let end = run_command(rt, line, input, inputs, &mut text, &mut file, &gate);
     Answer {
-        status,
+        status: end.map(|end| end.status),
         text,
         file,
         has_ended: gate.has_ended_as_begun(),

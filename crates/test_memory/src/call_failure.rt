@@ -1,5 +1,6 @@
 //! Why a call is not right.
 
+use command_line::LineFault;
 use commands::RunError;
 use movie_file::{MakeError, MovieError};
 use replay_plan::BadKeep;
@@ -44,6 +45,15 @@ impl From<AllocError> for CallFailure {
 impl<T: Drop> From<AllocFailed<T>> for CallFailure {
     fn from(_refused: AllocFailed<T>) -> CallFailure {
         OUT_OF_MEMORY
+    }
+}
+
+impl From<LineFault> for CallFailure {
+    fn from(fault: LineFault) -> CallFailure {
+        match fault {
+            LineFault::Memory => OUT_OF_MEMORY,
+            _ => CallFailure::Wrong,
+        }
     }
 }
 

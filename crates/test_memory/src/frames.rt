@@ -1,12 +1,9 @@
 //! What the program tells of frames and of instructions, over bytes in place of files.
 
-use crate::answer::{answer_to, line_of};
+use crate::answer::answer_to;
 use crate::call_failure::CallFailure;
 use crate::movies::two_frames;
-use command_line::{Command, CommandLine};
 use commands::Status;
-use replay_plan::{Address, Details, Notation, Watches};
-use std::num::NonZeroU32;
 use std::sync::Wait;
 use std::thread::Threads;
 
@@ -26,27 +23,15 @@ pub(crate) fn are_told<R: Threads + Wait + Sync + AllocGlobal>(
     rt: &R,
     digests: bool,
 ) -> Result<(), CallFailure> {
-    let wanted = if digests { LINES_WITH_DIGESTS } else { LINES };
-    let mut watches = Watches::none();
-    let address = Address::new(0x80).ok_or(CallFailure::Wrong)?;
-    if watches.add(address).is_err() {
-        return Err(CallFailure::Wrong);
-    }
-    let frames = Command::Frames {
-        first: NonZeroU32::MIN,
-        count: 3,
-        details: Details {
-            watches,
-            memory: false,
-            digests,
-        },
+    let (words, wanted) = if digests {
+        (
+            "vcs_check frames m --count 3 --watch 80 --digests",
+            LINES_WITH_DIGESTS,
+        )
+    } else {
+        ("vcs_check frames m --count 3 --watch 80", LINES)
     };
-    answer_to(
-        rt,
-        &line_of(rt.alloc(), frames),
-        &mut two_frames().as_slice(),
-    )
-    .is_in_lines(Status::Done, wanted.as_bytes())
+    answer_to(rt, words, &mut two_frames().as_slice())?.is_in_lines(Status::Done, wanted.as_bytes())
 }
 
 /// The objects about the two frames.
@@ -59,20 +44,11 @@ const OBJECTS: &str =
 pub(crate) fn are_told_as_json<R: Threads + Wait + Sync + AllocGlobal>(
     rt: &R,
 ) -> Result<(), CallFailure> {
-    let frames = Command::Frames {
-        first: NonZeroU32::MIN,
-        count: 3,
-        details: Details {
-            watches: Watches::none(),
-            memory: false,
-            digests: false,
-        },
-    };
-    let line = CommandLine {
-        notation: Notation::Json,
-        ..line_of(rt.alloc(), frames)
-    };
-    answer_to(rt, &line, &mut two_frames().as_slice()).is_in_lines(Status::Done, OBJECTS.as_bytes())
+    let words = "vcs_check frames m --count 3 --json";
+    answer_to(rt, words, &mut two_frames().as_slice())?.is_in_lines(
+        Status::Done,
+        OBJECTS.as_bytes(),
+    )
 }
 
 /// How the first line with the memory begins.
@@ -91,20 +67,8 @@ const BOTH_LINES: usize = FIRST_LINE + 26 + MEMORY;
 pub(crate) fn are_told_with_memory<R: Threads + Wait + Sync + AllocGlobal>(
     rt: &R,
 ) -> Result<(), CallFailure> {
-    let frames = Command::Frames {
-        first: NonZeroU32::MIN,
-        count: 3,
-        details: Details {
-            watches: Watches::none(),
-            memory: true,
-            digests: false,
-        },
-    };
-    let answer = answer_to(
-        rt,
-        &line_of(rt.alloc(), frames),
-        &mut two_frames().as_slice(),
-    );
+    let words = "vcs_check frames m --count 3 --memory";
+    let answer = answer_to(rt, words, &mut two_frames().as_slice())?;
     let (text, file) = (answer.text.as_slice(), answer.file.as_slice());
     answer.judged(
         Status::Done,
@@ -124,13 +88,6 @@ frame 1: 13 cycles, 1 rows
 
 /// The trace of a frame.
 pub(crate) fn is_traced<R: Threads + Wait + Sync + AllocGlobal>(rt: &R) -> Result<(), CallFailure> {
-    let trace = Command::Trace {
-        frame: NonZeroU32::MIN,
-    };
-    answer_to(
-        rt,
-        &line_of(rt.alloc(), trace),
-        &mut two_frames().as_slice(),
-    )
-    .is_in_lines(Status::Done, TRACE.as_bytes())
+    let words = "vcs_check trace m --frame 1";
+    answer_to(rt, words, &mut two_frames().as_slice())?.is_in_lines(Status::Done, TRACE.as_bytes())
 }

@@ -2,10 +2,9 @@
 //! one growth of memory refused. It is a program, since the growth that is refused is chosen for a
 //! whole process.
 //!
-//! A line of standard input that begins with `vcs_check` is a command line, whose words stand one
-//! space apart: the answer is the command that it is. Each other line names a call, and is answered
-//! by a line: the call is right, or failed with out of memory or another error, or is wrong, which
-//! means any other value, or something written where nothing was to be.
+//! A line of standard input names a call, and is answered by a line: the call is right, or failed with
+//! out of memory or another error, or is wrong, which means any other value, or something written
+//! where nothing was to be.
 //!
 //! Where nothing is refused, each call has to be right. `ci/refused-growths` refuses each growth of
 //! each call. `ci/wrong-bodies` has bodies that keep their contracts and are wrong. They are tried
@@ -18,6 +17,7 @@ mod answer;
 mod arguments;
 mod call_failure;
 mod command_calls;
+mod consoles;
 mod frames;
 mod gate;
 mod growths;
@@ -111,25 +111,28 @@ fn outcome_of_commands<R: Threads + Wait + Sync + AllocGlobal>(
         "command" => arguments::are_command(alloc),
         "usage" => arguments::are_usage(alloc),
         "help" => arguments::are_help(alloc),
-        "run" => command_calls::is_judged(rt, alloc, 1),
-        "run_by_two" => command_calls::is_judged(rt, alloc, 2),
+        "run" => command_calls::is_judged(rt, 1),
+        "run_by_two" => command_calls::is_judged(rt, 2),
         "run_of_9_megabytes" => command_calls::is_refused(rt),
-        "run_make" => command_calls::is_made(alloc, InputForm::Bytes),
-        "run_make_of_text" => command_calls::is_made(alloc, InputForm::Text),
+        "run_make" => command_calls::is_made(rt, InputForm::Bytes),
+        "run_make_of_text" => command_calls::is_made(rt, InputForm::Text),
         "run_inputs" => command_calls::is_listed(rt, false),
         "run_inputs_with_numbers" => command_calls::is_listed(rt, true),
-        "run_report" => command_calls::is_reported(rt, 1),
-        "run_report_by_two" => command_calls::is_reported(rt, 2),
-        "run_report_of_false" => command_calls::is_reported_false(rt, 1),
-        "run_report_of_false_by_two" => command_calls::is_reported_false(rt, 2),
+        "run_report" => command_calls::is_reported(rt, "vcs_check report m"),
+        "run_report_by_two" => command_calls::is_reported(rt, "vcs_check report m --workers 2"),
+        "run_report_of_false" => command_calls::is_reported_false(rt, "vcs_check report m --json"),
+        "run_report_of_false_by_two" => command_calls::is_reported_false(
+            rt,
+            "vcs_check report m --json --workers 2",
+        ),
         "run_verify_as_json" => command_calls::is_judged_as_json(rt),
         "run_refusal_as_json" => command_calls::is_refused_as_json(rt),
         "run_report_with_rom" => command_calls::is_compared(rt),
-        "run_info" => command_calls::is_told(alloc),
+        "run_info" => command_calls::is_told(rt),
         "run_information" => command_calls::is_told_as_json(rt),
         "run_claims" => command_calls::is_claimed(rt),
         "run_cartridge" => command_calls::is_taken(rt),
-        "run_convert" => command_calls::is_converted(alloc),
+        "run_convert" => command_calls::is_converted(rt),
         "run_frames" => frames::are_told(rt, false),
         "run_frames_with_digests" => frames::are_told(rt, true),
         "run_frames_as_json" => frames::are_told_as_json(rt),
@@ -151,6 +154,9 @@ fn outcome_of<R: Threads + Wait + Sync + AllocGlobal>(
     if let Some(outcome) = outcome_of_movies(alloc, call) {
         return Some(outcome);
     }
+    if let Some(outcome) = consoles::outcome(alloc, call) {
+        return Some(outcome);
+    }
     if let Some(outcome) = outcome_of_workers(rt, alloc, call) {
         return Some(outcome);
     }
@@ -166,9 +172,6 @@ fn tell_outcome<R: Threads + Wait + Sync + AllocGlobal + Print>(
     line: &str,
 ) -> io::Result<()> {
     let alloc = rt.alloc();
-    if line.starts_with("vcs_check") {
-        return arguments::tell(rt, alloc, line);
-    }
     let (call, number) = match line.split_once(' ') {
         Some((call, number)) => (call, number.parse::<usize>().ok()),
         None => (line, None),
@@ -191,7 +194,7 @@ fn tell_outcome<R: Threads + Wait + Sync + AllocGlobal + Print>(
 }
 
 fn main(rt: HostRuntime) -> ExitCode {
-    let mut room = [0u8; 8192];
+    let mut room = [0u8; 2048];
     let Ok(length) = rt.stdin().read(&mut room) else {
         return ExitCode::FAILURE;
     };

@@ -1,12 +1,13 @@
 //! What is refused for another reason where memory is there: a call takes its room before it looks
 //! at what it may refuse, so a refused growth is the answer whatever is wrong behind it.
 
-use crate::answer::{answer_to, line_of};
+use crate::answer::answer_to_command;
 use crate::call_failure::{CallFailure, OUT_OF_MEMORY};
 use crate::movies::{LENGTH, cartridge, two_frames};
 use command_line::Command;
 use commands::Status;
 use movie_file::{MakeError, MovieError, make_movie, read_inputs, read_movie};
+use replay_plan::Workers;
 use std::alloc::Global;
 use std::num::NonZeroU32;
 use std::sync::Wait;
@@ -79,10 +80,9 @@ pub(crate) fn is_faulty_cut<R: Threads + Wait + Sync + AllocGlobal>(
         every: NonZeroU32::MIN,
     };
     let wanted = b"fault at frame 1: bad opcode 02 at F000\n";
-    answer_to(
-        rt,
-        &line_of(rt.alloc(), cut),
-        &mut without_opcode().as_slice(),
+    answer_to_command(rt, cut, Workers::ONE, &mut without_opcode().as_slice()).is(
+        Status::Fault,
+        wanted,
+        &[],
     )
-    .is(Status::Fault, wanted, &[])
 }

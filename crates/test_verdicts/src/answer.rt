@@ -2,12 +2,13 @@
 
 use crate::devices::FailingWriter;
 use crate::expectation::expect_equal;
-use command_line::{Command, CommandLine};
+use command_line::{CommandLine, parse_line};
 use commands::{NoGate, RunError, Status, run_command};
 use std::alloc::Global;
 use std::io::{self, Read};
 use std::process::Abort;
 use std::sync::Wait;
+use std::test::Fail;
 use std::thread::Threads;
 
 /// What a command answered, and what its writers took.
@@ -18,14 +19,16 @@ pub(crate) struct Answer {
     pub file: Vec<u8>,
 }
 
-/// The command line of a command, whose input's name isn't used.
-pub(crate) fn line_of(alloc: Global, command: Command) -> CommandLine {
-    CommandLine::of(command, String::new(alloc))
+/// The command line of these words, of which the first is the program's name. The names of files aren't
+/// used.
+pub(crate) fn line_of(alloc: Global, words: &str) -> Result<CommandLine, Fail> {
+    let words: Vec<&str> = words.split(' ').collect(alloc)?;
+    Ok(parse_line(alloc, &words)?)
 }
 
 /// The answer to a command with a second input, whose text's writer and whose file's writer take so
 /// many bytes each.
-fn answer_over<T: Threads + Wait + Sync + AllocGlobal, R: Read, S: Read>(
+pub(crate) fn answer_over<T: Threads + Wait + Sync + AllocGlobal, R: Read, S: Read>(
     rt: &T,
     line: &CommandLine,
     input: &mut R,
@@ -35,9 +38,9 @@ fn answer_over<T: Threads + Wait + Sync + AllocGlobal, R: Read, S: Read>(
 ) -> Answer {
     let mut text = FailingWriter::new(rt.alloc(), text);
     let mut file = FailingWriter::new(rt.alloc(), file);
-    let status = run_command(rt, line, input, inputs, &mut text, &mut file, &NoGate);
+    let end = run_command(rt, line, input, inputs, &mut text, &mut file, &NoGate);
     Answer {
-        status,
+        status: end.map(|end| end.status),
         text: text.taken,
         file: file.taken,
     }

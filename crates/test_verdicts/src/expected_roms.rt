@@ -4,9 +4,7 @@ use crate::answer::{Answer, answer_with, expect_nothing, line_of};
 use crate::devices::{FailingReader, Zeros};
 use crate::expectation::expect_equal;
 use crate::movies::{ENDLESS_FRAMES, rom, two_frames};
-use command_line::{Command, CommandLine};
 use commands::{RunError, Status};
-use replay_plan::Expectations;
 use std::io::Read;
 use std::sync::Wait;
 use std::test::Fail;
@@ -17,15 +15,9 @@ fn compare<T: Threads + Wait + Sync + AllocGlobal, R: Read, S: Read>(
     rt: &T,
     movie: &mut R,
     rom: &mut S,
-) -> Answer {
-    let command = Command::Report {
-        expectations: Expectations::NONE,
-    };
-    let report = CommandLine {
-        second: Some(String::new(rt.alloc())),
-        ..line_of(rt.alloc(), command)
-    };
-    answer_with(rt, &report, movie, rom)
+) -> Result<Answer, Fail> {
+    let report = line_of(rt.alloc(), "vcs_check report m --rom r")?;
+    Ok(answer_with(rt, &report, movie, rom))
 }
 
 #[test]
@@ -37,7 +29,7 @@ fn rom_that_cannot_be_read_is_a_failed_read(rt: HostRuntime) -> Result<(), Fail>
             bytes: &bytes,
             left,
         };
-        let answer = compare(&rt, &mut movie.as_slice(), &mut reader);
+        let answer = compare(&rt, &mut movie.as_slice(), &mut reader)?;
         expect_nothing(&rt, &answer, RunError::ReadFault);
     }
     Ok(())
@@ -47,7 +39,7 @@ fn rom_that_cannot_be_read_is_a_failed_read(rt: HostRuntime) -> Result<(), Fail>
 fn endless_rom_is_too_long(rt: HostRuntime) -> Result<(), Fail> {
     let movie = two_frames(rt.alloc())?;
     let mut zeros = Zeros::new(u64::MAX);
-    let answer = compare(&rt, &mut movie.as_slice(), &mut zeros);
+    let answer = compare(&rt, &mut movie.as_slice(), &mut zeros)?;
     expect_nothing(&rt, &answer, RunError::TooLong);
     expect_equal(&rt, zeros.reads, 4097);
     Ok(())
@@ -59,7 +51,7 @@ fn rom_is_not_read_for_a_refused_movie(rt: HostRuntime) -> Result<(), Fail> {
         bytes: &[],
         left: 0,
     };
-    let answer = compare(&rt, &mut b"A26N".as_slice(), &mut reader);
+    let answer = compare(&rt, &mut b"A26N".as_slice(), &mut reader)?;
     expect_equal(&rt, answer.status, Ok(Status::Refused));
     assert!(rt; answer.text.as_slice() == b"refused: BadMagic\n".as_slice());
     Ok(())

@@ -8,85 +8,51 @@ use crate::gates::Counting;
 use crate::movies::{
     ENDLESS_FRAMES, SEVEN_FRAMES, first_of_two_false, movie, power_on, rom, run_of, two,
 };
-use command_line::{Command, CommandLine, Making};
-use commands::{InputForm, run_command};
+use commands::run_command;
 use movie_file::write_movie;
-use replay_plan::{Details, Expectations, Keep, Watches, Workers};
+use replay_plan::{Keep, Workers};
 use replay_segments::{Cuts, replay_with_progress};
 use std::alloc::Global;
-use std::num::{NonZeroU16, NonZeroU32};
+use std::num::NonZeroU16;
 use std::sync::Wait;
 use std::test::Fail;
 use std::thread::Threads;
 use verify_pool::{verify, verify_with_progress};
 
-/// What a gate counts while a command is done whose text's writer takes so many bytes.
+/// What a gate counts while the command of these words is done, whose text's writer takes so many
+/// bytes.
 fn told_over<T: Threads + Wait + Sync + AllocGlobal>(
     rt: &T,
-    line: &CommandLine,
+    words: &str,
     input: &[u8],
     inputs: &[u8],
     text: usize,
-) -> [u64; 6] {
+) -> Result<[u64; 6], Fail> {
+    let line = line_of(rt.alloc(), words)?;
     let mut input = input;
     let mut inputs = inputs;
     let mut text = FailingWriter::new(rt.alloc(), text);
     let mut file = FailingWriter::new(rt.alloc(), usize::MAX);
     let gate = Counting::new();
-    let _status = run_command(
+    let _end = run_command(
         rt,
-        line,
+        &line,
         &mut input,
         &mut inputs,
         &mut text,
         &mut file,
         &gate,
     );
-    gate.counts()
+    Ok(gate.counts())
 }
 
 /// What it counts while a command about a movie is done, whose writers take all.
 fn told<T: Threads + Wait + Sync + AllocGlobal>(
     rt: &T,
-    line: &CommandLine,
+    words: &str,
     input: &[u8],
-) -> [u64; 6] {
-    told_over(rt, line, input, &[], usize::MAX)
-}
-
-/// The lines of so many frames from one on.
-fn frames(alloc: Global, first: NonZeroU32, count: u32) -> CommandLine {
-    let details = Details {
-        watches: Watches::none(),
-        memory: false,
-        digests: false,
-    };
-    let command = Command::Frames {
-        first,
-        count,
-        details,
-    };
-    line_of(alloc, command)
-}
-
-/// A report by one worker.
-fn report(alloc: Global) -> CommandLine {
-    let command = Command::Report {
-        expectations: Expectations::NONE,
-    };
-    line_of(alloc, command)
-}
-
-/// A verdict by two workers, of a movie that is cut at every so many checkpoints.
-fn verdict(alloc: Global, every: NonZeroU16) -> CommandLine {
-    let command = Command::Verify {
-        every,
-        keep: Keep::NONE,
-    };
-    CommandLine {
-        workers: Workers::new(2).unwrap(),
-        ..line_of(alloc, command)
-    }
+) -> Result<[u64; 6], Fail> {
+    told_over(rt, words, input, &[], usize::MAX)
 }
 
 /// A run of five frames with a checkpoint after each.
@@ -106,13 +72,13 @@ fn seven_frames(alloc: Global) -> Result<Vec<u8>, Fail> {
 #[test]
 fn frames_of_one_segment_are_told(rt: HostRuntime) -> Result<(), Fail> {
     let alloc = rt.alloc();
-    let uncut = verdict(alloc, NonZeroU16::MIN.saturating_add(5));
+    let uncut = "vcs_check verify m --workers 2 --every 6";
     let without = movie(alloc, &ENDLESS_FRAMES, &power_on(), 5, 1, &[])?;
-    expect_equal(&rt, told(&rt, &uncut, &without), [0, 5, 0, 5, 1, 1]);
+    expect_equal(&rt, told(&rt, uncut, &without)?, [0, 5, 0, 5, 1, 1]);
     let five = five_frames(alloc)?;
-    expect_equal(&rt, told(&rt, &uncut, &five), [0, 5, 0, 5, 1, 1]);
+    expect_equal(&rt, told(&rt, uncut, &five)?, [0, 5, 0, 5, 1, 1]);
     let wrong = first_of_two_false(alloc)?;
-    expect_equal(&rt, told(&rt, &uncut, &wrong), [0, 3, 0, 1, 1, 1]);
+    expect_equal(&rt, told(&rt, uncut, &wrong)?, [0, 3, 0, 1, 1, 1]);
     Ok(())
 }
 
@@ -154,75 +120,84 @@ fn verdict_is_told_where_that_is_asked_for(rt: HostRuntime) -> Result<(), Fail> 
     Ok(())
 }
 
+#[test]
+fn each_segment_is_told(rt: HostRuntime) -> Result<(), Fail> {
+    let five = five_frames(rt.alloc())?;
+    let told = told(&rt, "vcs_check verify m --workers 2", &five)?;
+    expect_equal(&rt, told, [6, 0, 0, 6, 1, 1]);
+    Ok(())
+}
+
+/// A run of five frames with a checkpoint after each, of which every second is a cut, the last one, or
+/// none.
+#[test]
+fn movie_is_cut_at_every_so_many_checkpoints(rt: HostRuntime) -> Result<(), Fail> {
+    let five = five_frames(rt.alloc())?;
+    for (words, wanted) in [
+        (
+            "vcs_check verify m --workers 2 --every 2",
+            [3, 0, 0, 3, 1, 1],
+        ),
+        (
+            "vcs_check verify m --workers 2 --every 5",
+            [0, 5, 0, 5, 1, 1],
+        ),
+        (
+            "vcs_check verify m --workers 2 --every 6",
+            [0, 5, 0, 5, 1, 1],
+        ),
+    ] {
+        expect_equal(&rt, told(&rt, words, &five)?, wanted);
+    }
+    Ok(())
+}
+
 /// Frames 3 and 4 of five.
 #[test]
 fn frames_are_told_up_to_the_last_one(rt: HostRuntime) -> Result<(), Fail> {
-    let alloc = rt.alloc();
-    let bytes = five_frames(alloc)?;
-    let first = NonZeroU32::MIN.saturating_add(2);
-    let count = 2;
-    let every = NonZeroU32::MIN;
-    let cut = Command::Cut {
-        first,
-        count,
-        every,
-    };
-    for (line, wanted) in [
-        (frames(alloc, first, count), [0, 2, 2, 4, 2, 2]),
+    let bytes = five_frames(rt.alloc())?;
+    for (words, wanted) in [
+        ("vcs_check frames m --first 3 --count 2", [0, 2, 2, 4, 2, 2]),
         (
-            line_of(alloc, Command::Pictures { first, count }),
+            "vcs_check pictures m --first 3 --count 2 --out o",
             [0, 4, 0, 4, 2, 2],
         ),
-        (line_of(alloc, cut), [0, 4, 0, 4, 1, 1]),
         (
-            line_of(alloc, Command::Trace { frame: first }),
-            [0, 2, 0, 2, 1, 1],
+            "vcs_check cut m --first 3 --count 2 --every 1 --out o",
+            [0, 4, 0, 4, 1, 1],
         ),
-        (
-            line_of(alloc, Command::Trace { frame: every }),
-            [0, 0, 0, 0, 0, 0],
-        ),
-        (report(alloc), [6, 0, 0, 6, 1, 1]),
+        ("vcs_check trace m --frame 3", [0, 2, 0, 2, 1, 1]),
+        ("vcs_check trace m --frame 1", [0, 0, 0, 0, 0, 0]),
+        ("vcs_check report m", [6, 0, 0, 6, 1, 1]),
     ] {
-        expect_equal(&rt, told(&rt, &line, &bytes), wanted);
+        expect_equal(&rt, told(&rt, words, &bytes)?, wanted);
     }
     Ok(())
 }
 
 #[test]
-fn frames_of_a_movie_that_is_made_are_told(rt: HostRuntime) {
-    let command = Command::Make {
-        form: InputForm::Bytes,
-        making: Making {
-            every: NonZeroU32::MIN,
-            to_the_end: false,
-            to_the_fault: false,
-        },
-    };
+fn frames_of_a_movie_that_is_made_are_told(rt: HostRuntime) -> Result<(), Fail> {
     let inputs = [0xFF, 0x3F, 0, 0xFF, 0x3F, 0];
-    let make = line_of(rt.alloc(), command);
-    let told = told_over(&rt, &make, &rom(&ENDLESS_FRAMES), &inputs, usize::MAX);
+    let words = "vcs_check make r i --every 1 --out o";
+    let told = told_over(&rt, words, &rom(&ENDLESS_FRAMES), &inputs, usize::MAX)?;
     expect_equal(&rt, told, [0, 2, 0, 2, 1, 1]);
+    Ok(())
 }
 
 /// A fault in frame 7, in a verdict, among the frames that are asked for and before them.
 #[test]
 fn works_end_at_a_fault(rt: HostRuntime) -> Result<(), Fail> {
-    let alloc = rt.alloc();
-    let bytes = seven_frames(alloc)?;
-    let seventh = NonZeroU32::MIN.saturating_add(6);
-    let cut = Command::Cut {
-        first: seventh,
-        count: 1,
-        every: seventh,
-    };
-    for (line, wanted) in [
-        (frames(alloc, NonZeroU32::MIN, 7), [0, 0, 7, 6, 1, 1]),
-        (line_of(alloc, cut), [0, 7, 0, 6, 1, 1]),
-        (verdict(alloc, NonZeroU16::MIN), [0, 7, 0, 6, 1, 1]),
-        (report(alloc), [0, 13, 0, 12, 2, 2]),
+    let bytes = seven_frames(rt.alloc())?;
+    for (words, wanted) in [
+        ("vcs_check frames m --count 7", [0, 0, 7, 6, 1, 1]),
+        (
+            "vcs_check cut m --first 7 --count 1 --every 7 --out o",
+            [0, 7, 0, 6, 1, 1],
+        ),
+        ("vcs_check verify m --workers 2", [0, 7, 0, 6, 1, 1]),
+        ("vcs_check report m", [0, 13, 0, 12, 2, 2]),
     ] {
-        expect_equal(&rt, told(&rt, &line, &bytes), wanted);
+        expect_equal(&rt, told(&rt, words, &bytes)?, wanted);
     }
     Ok(())
 }
@@ -231,8 +206,8 @@ fn works_end_at_a_fault(rt: HostRuntime) -> Result<(), Fail> {
 #[test]
 fn works_end_at_a_failed_write(rt: HostRuntime) -> Result<(), Fail> {
     let bytes = five_frames(rt.alloc())?;
-    let line = frames(rt.alloc(), NonZeroU32::MIN, 5);
-    let told = told_over(&rt, &line, &bytes, &[], 50);
+    let words = "vcs_check frames m --count 5";
+    let told = told_over(&rt, words, &bytes, &[], 50)?;
     expect_equal(&rt, told, [0, 0, 5, 1, 1, 1]);
     Ok(())
 }
@@ -243,10 +218,7 @@ fn works_end_at_a_failed_write(rt: HostRuntime) -> Result<(), Fail> {
 #[test]
 fn signs_are_a_work_of_their_own(rt: HostRuntime) -> Result<(), Fail> {
     let bytes = first_of_two_false(rt.alloc())?;
-    expect_equal(
-        &rt,
-        told(&rt, &report(rt.alloc()), &bytes),
-        [5, 6, 0, 9, 6, 6],
-    );
+    let told = told(&rt, "vcs_check report m", &bytes)?;
+    expect_equal(&rt, told, [5, 6, 0, 9, 6, 6]);
     Ok(())
 }

@@ -2,8 +2,6 @@
 
 use crate::answer::{answer_into, expect_beginning, line_of};
 use crate::movies::two_frames;
-use command_line::Command;
-use std::num::NonZeroU32;
 use std::test::Fail;
 
 /// The trace of the second of two frames.
@@ -16,17 +14,10 @@ const LINES: &str = "  0 13  F00A  4C 00 F0  JMP $F000    A=00 X=00 Y=00 S=FF P=
 frame 2: 16 cycles, 1 rows
 ";
 
-/// The command for the second frame.
-fn second() -> Command {
-    Command::Trace {
-        frame: NonZeroU32::MIN.saturating_add(1),
-    }
-}
-
 #[test]
 fn failed_write_leaves_the_instructions_before(rt: HostRuntime) -> Result<(), Fail> {
     let bytes = two_frames(rt.alloc())?;
-    let line = line_of(rt.alloc(), second());
+    let line = line_of(rt.alloc(), "vcs_check trace m --frame 2")?;
     for left in [0, 1, 61, 62, 200, LINES.len() - 1] {
         let answer = answer_into(&rt, &line, &mut bytes.as_slice(), left, 0);
         expect_beginning(&rt, answer.status, &answer.text, LINES.as_bytes(), left);

@@ -1,0 +1,41 @@
+//! Prints what the words of a command line ask for: of each line of standard input, whose words stand
+//! one blank apart, so that options and their ranges can be laid beside the page of commands.
+//!
+//! It stands apart from `test_commands`, since it needs no movie: only a change of the command line
+//! proves it again.
+#![tactic(auto)]
+
+use command_line::{CommandLine, LineFault, parse_line};
+use std::alloc::Global;
+use std::io::{self, Print};
+
+/// The command line of these words, of which the first is the program's name.
+fn line_of(alloc: Global, words: &str) -> Result<CommandLine, LineFault> {
+    let words: Vec<&str> = words.split(' ').collect(alloc)?;
+    parse_line(alloc, &words)
+}
+
+/// What the answer is where there is no command.
+fn name_of(fault: &LineFault) -> &'static str {
+    match fault {
+        LineFault::Usage { text, .. } if text.starts_with("error") => "usage",
+        LineFault::Usage { .. } => "usage that names no error",
+        LineFault::Help { .. } => "help",
+        LineFault::Memory => "out of memory",
+    }
+}
+
+/// Prints the command line of these words.
+fn tell(rt: &impl Print, alloc: Global, words: &str) -> io::Result<()> {
+    match line_of(alloc, words) {
+        Ok(line) => println!(rt; "{words}: {line:?}"),
+        Err(fault) => println!(rt; "{words}: {}", name_of(&fault)),
+    }
+}
+
+fn main(rt: HostRuntime) -> io::Result<()> {
+    for line in rt.lines(rt.alloc()) {
+        tell(&rt, rt.alloc(), &line?)?;
+    }
+    Ok(())
+}
