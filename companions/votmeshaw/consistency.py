@@ -5,7 +5,7 @@ import pathlib
 import shlex
 from collections.abc import Iterator
 
-from votmeshaw import verdicts
+from votmeshaw import sums, verdicts
 from votmeshaw.facts import NONE
 from votmeshaw.files import opened
 from votmeshaw.names import readable
@@ -13,8 +13,8 @@ from votmeshaw.verdicts import Damaged, Verdict
 
 
 def _command(words: str, file: pathlib.Path) -> str:
-    """A command for a file."""
-    return f"{words} {shlex.quote(os.fspath(file))}"
+    """A command that changes a file, and has vcs_judge take it as it is then."""
+    return f"{words} {shlex.quote(os.fspath(file))} && {sums.removal(file)}"
 
 
 def _advice(file: pathlib.Path, *numbers: int) -> str:

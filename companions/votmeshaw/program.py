@@ -23,7 +23,7 @@ def _why_none(name: str) -> str:
     """Why no program of this name can be run: it isn't there, or what is there, here or on the path, isn't executable."""
     there = shutil.which(name, os.F_OK) or (name if os.path.dirname(name) and os.path.exists(name) else "")
     if not there:
-        return f"{name}: {os.strerror(errno.ENOENT)}"
+        return f"{name}: " + (os.strerror(errno.ENOENT) if os.path.dirname(name) else "it isn't on the path; --program names another place")
     return (there if there == name else f"{name}: {there}") + f": {os.strerror(errno.EISDIR if os.path.isdir(there) else errno.EACCES)}"
 
 

@@ -10,6 +10,7 @@ from votmeshaw import files, memory_logs
 from votmeshaw.command import Stop
 from votmeshaw.importing import cartridges, making, runs
 from votmeshaw.importing.runs import Refused, Run
+from votmeshaw.layout import NoMovie, Parts
 from votmeshaw.memory_logs import Frames
 from votmeshaw.names import readable
 from votmeshaw.progress import Progress
@@ -20,9 +21,8 @@ REACH = 10
 # How many frames are compared: as many as a movie can have checkpoints.
 LOOKED_AT = 4095
 FAULT = re.compile(r"fault at frame (\d+)")
-# Where a movie of version 1 and of version 2 has the memory in a checkpoint's record (docs/MOVIE_FORMAT.md).
-RECORDS = {1: 187, 2: 188}
-MEMORY = slice(4 + 7, 4 + 7 + 128)
+# Where a state's record has the memory (docs/MOVIE_FORMAT.md).
+MEMORY = slice(7, 7 + 128)
 
 
 class Agreement(NamedTuple):
@@ -78,18 +78,19 @@ def memories(verifier: Verifier, game: bytes, frames: runs.Frames, most: int) ->
     while frames.count:
         made = making.made(verifier, game, frames, 1)
         if made.movie is not None:
-            return _claimed(made.movie, frames.count)
+            return _claimed(made.movie)
         if not (fault := FAULT.match(made.line)):
             raise Refused(made.line)
         frames = _first(frames, int(fault[1]) - 1)
     return []
 
 
-def _claimed(movie: bytes, frames: int) -> list[bytes]:
-    """The memory that each checkpoint of a movie claims, which has one after each frame."""
-    record = RECORDS[int.from_bytes(movie[4:6])]
-    begin, step = 14 + int.from_bytes(movie[6:8]) + record + 3 * frames, 4 + record
-    return [movie[at:at + step][MEMORY] for at in range(begin, begin + step * frames, step)]
+def _claimed(movie: bytes) -> list[bytes]:
+    """The memory that each checkpoint of a movie claims; Stop if its version isn't known here."""
+    try:
+        return [record[MEMORY] for _, record in Parts.of(movie).checkpoints]
+    except NoMovie as error:
+        raise Stop(f"the movie that vcs_check makes {error}") from None
 
 
 def agreement(log: Frames, ours: list[bytes], shift: int, offset: int) -> Agreement:

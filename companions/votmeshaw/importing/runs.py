@@ -5,13 +5,14 @@ import io
 from collections.abc import Iterator
 from typing import NamedTuple
 
-from votmeshaw.names import printable
 from votmeshaw.facts import KINDS, NONE
+from votmeshaw.layout import VERSIONS
+from votmeshaw.names import printable
 
 # What docs/MOVIE_FORMAT.md calls the keys that can be held, in the order in which 'vcs_check inputs' prints them.
 KEYS = (*(f"{it}{port}" for port in (0, 1) for it in ("up", "down", "left", "right", "fire")), "reset", "select")
 # The frames of the longest movie, and the bytes of the longest text that the program takes.
-MOST_FRAMES = 262_143
+MOST_FRAMES = max(it.most_frames for it in VERSIONS)
 LONGEST = 16_777_216
 # The lines of a text: each may be a frame, and as many may be something else.
 MOST_LINES = 2 * MOST_FRAMES
