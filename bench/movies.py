@@ -13,6 +13,10 @@ from typing import Iterator, NoReturn
 import tia_model
 
 HOME = pathlib.Path(__file__).resolve().parent
+# (the module alone: with its package SIGINT ends a run at once, and temporary folders stay)
+sys.path.append(str(HOME.parent / "companions" / "votmeshaw"))
+from layout import NoMovie, Parts  # noqa: E402
+
 DEMOS = (HOME.parent / "demo" / "demo.a26m", HOME.parent / "demo" / "harbour.a26m")
 MOST_PICTURES = 600
 # The palette of docs/MACHINE.md (9): each colour byte by its red, green and blue.
@@ -42,33 +46,22 @@ def program(word: str) -> str:
     return os.path.abspath(word)
 
 
-def parts(movie: bytes) -> tuple[bytes, bytes, bytes, list[bytes]]:
-    """The cartridge, the start state, the inputs and the claimed records of a movie's bytes, by docs/MOVIE_FORMAT.md."""
-    version, length = int.from_bytes(movie[4:6], "big"), int.from_bytes(movie[6:8], "big")
-    size = 186 + version
-    inputs = 14 + length + size
-    claims = inputs + 3 * int.from_bytes(movie[8:12], "big")
-    records = [movie[at + 4 : at + 4 + size] for at in range(claims, len(movie), 4 + size)]
-    return movie[14 : 14 + length], movie[14 + length : inputs], movie[inputs:claims], records
-
-
-def read(movie: pathlib.Path) -> bytes:
-    """A movie's bytes."""
+def read(movie: pathlib.Path) -> Parts:
+    """The parts of a movie."""
     try:
-        data = movie.read_bytes()
+        return Parts.of(movie.read_bytes())
     except OSError as error:
         fail(f"cannot read {str(movie)!r}: {error.strerror}")
-    if data[:4] != b"A26M" or len(data) < 14 or len(data) < 14 + int.from_bytes(data[6:8], "big"):
-        fail(f"no movie: {str(movie)!r}")
-    return data
+    except NoMovie as error:
+        fail(f"no movie: {str(movie)!r}: {error}")
 
 
 def lay_out(movie: pathlib.Path, folder: pathlib.Path) -> None:
     """Leaves what other emulators play of a movie."""
-    cartridge, _, inputs, _ = parts(read(movie))
-    lines = ["%d %d %d\n" % tuple(inputs[at : at + 3]) for at in range(0, len(inputs), 3)]
-    (folder / "cartridge.bin").write_bytes(cartridge)
-    (folder / "made.inputs").write_bytes(inputs)
+    parts = read(movie)
+    lines = ["%d %d %d\n" % tuple(parts.inputs[at : at + 3]) for at in range(0, len(parts.inputs), 3)]
+    (folder / "cartridge.bin").write_bytes(parts.cartridge)
+    (folder / "made.inputs").write_bytes(parts.inputs)
     (folder / "inputs").write_text("".join(lines))
 
 
@@ -80,8 +73,8 @@ def make(program: str, movie: pathlib.Path, folder: pathlib.Path) -> list[bytes]
     made = subprocess.run(words, cwd=folder, capture_output=True, text=True)
     if made.returncode:
         fail(f"no movie made of {movie.name}: {(made.stdout + made.stderr).strip()}")
-    _, start, _, records = parts((folder / "made").read_bytes())
-    return [start, *records]
+    states = read(folder / "made")
+    return [states.start, *(record for _, record in states.checkpoints)]
 
 
 def pictures(program: str, folder: pathlib.Path, wanted: int) -> Iterator[list[bytes]]:
