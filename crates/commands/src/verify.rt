@@ -11,7 +11,7 @@ use replay_segments::{Cuts, Verdict};
 use std::alloc::Global;
 use std::sync::Wait;
 use std::thread::Threads;
-use verify_pool::{Gate, VerifyError, verify_with_progress};
+use verify_pool::{Gate, VerifyError};
 
 /// The verdict of a movie, by the workers of a plan. It is a work.
 pub(crate) fn verdict_of<T: Threads + Wait + Sync, G: Gate + Progress + Sync>(
@@ -27,7 +27,7 @@ pub(crate) fn verdict_of<T: Threads + Wait + Sync, G: Gate + Progress + Sync>(
     let Ok(cuts) = Cuts::every(alloc, movie, plan.every) else {
         return Err(JudgeError::NoMemory);
     };
-    match verify_with_progress(rt, alloc, movie, &cuts, plan.workers, plan.keep, gate) {
+    match verify_pool::verify(rt, alloc, movie, &cuts, plan.workers, plan.keep, gate) {
         Ok(verdict) => Ok(verdict),
         Err(VerifyError::NoMemory) => Err(JudgeError::NoMemory),
         Err(VerifyError::NoThread) => Err(JudgeError::NoThread),

@@ -31,7 +31,7 @@ pub use laws::{
     law_of_checkpoints, law_of_conversion, law_of_inputs, law_of_judgements, law_of_making,
     law_of_one_movie, law_of_one_spelling, law_of_reading, law_of_records, law_of_runs,
 };
-pub use making::{claim, do_counts_fit, make_movie, make_movie_with_progress, version_made};
+pub use making::{claim, do_counts_fit, make_movie, version_made};
 pub use movie::Movie;
 pub use progress::{NoProgress, Progress, Work};
 pub use reading::{read_inputs, read_movie};

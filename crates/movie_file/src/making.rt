@@ -15,7 +15,7 @@ use crate::checkpoint::Checkpoint;
 use crate::error::MakeError;
 use crate::format::{MOST_CHECKPOINTS, MOST_FRAMES, most_frames, takes_cart};
 use crate::movie::Movie;
-use crate::progress::{NoProgress, Progress, Work};
+use crate::progress::{Progress, Work};
 use riot_map::Cart;
 use std::alloc::Global;
 use vcs_machine::{Input, State, halt};
@@ -99,23 +99,9 @@ fn checkpoints_of_run<P: Progress>(
 ///
 /// `BadCounts` comes first: for no inputs, more than 262,143, `every` 0, or more than 4,095
 /// checkpoints. Then the memory of the checkpoints is taken, in one allocation; if that is refused
-/// `NoMemory` comes before any frame. `Fault` names the first frame that faults.
-pub fn make_movie(
-    alloc: Global,
-    cart: Cart,
-    inputs: Vec<Input>,
-    every: u32,
-) -> Result<Movie, MakeError>
-    ensures made { IfOk result (λ movie. IsMadeOf cart inputs.items every movie) }
-    ensures genuine { IfOk result (λ movie. IsGenuine movie) }
-    ensures refused { IfErr result (Explains cart inputs.items every) }
-    ensures counts { IfOk result (λ movie. IsTrue (counts_fit (length inputs.items) every)) }
-{
-    make_movie_with_progress(alloc, cart, inputs, every, &NoProgress)
-}
-
-/// The same. Its frames are told as one work, which begins after that memory was taken.
-pub fn make_movie_with_progress<P: Progress>(
+/// `NoMemory` comes before any frame. `Fault` names the first frame that faults. The frames are told
+/// as one work, which begins after that memory was taken.
+pub fn make_movie<P: Progress>(
     alloc: Global,
     cart: Cart,
     inputs: Vec<Input>,

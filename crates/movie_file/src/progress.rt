@@ -15,27 +15,21 @@ pub enum Work {
 /// or none: each is begun and ended, also where it breaks off, and no other begins before its end.
 ///
 /// `begin` and `end` come on the calling thread, `advance` from each thread that replays. They have
-/// to return, and can't change an answer.
+/// to return, and can't change an answer. Each does nothing, unless it is written otherwise.
 pub trait Progress {
     /// This work is next.
-    fn begin(&self, work: Work);
+    fn begin(&self, _work: Work) {}
 
     /// One more of its segments or frames is done. It isn't called for a frame that faults, or for a
     /// segment that is passed over.
-    fn advance(&self);
+    fn advance(&self) {}
 
     /// It has come to its end.
-    fn end(&self);
+    fn end(&self) {}
 }
 
 /// Progress that is told to nobody.
 #[derive(Clone, Copy, Debug)]
 pub struct NoProgress;
 
-impl Progress for NoProgress {
-    fn begin(&self, _work: Work) {}
-
-    fn advance(&self) {}
-
-    fn end(&self) {}
-}
+impl Progress for NoProgress {}

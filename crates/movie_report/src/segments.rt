@@ -8,7 +8,7 @@ ghost use Rattle.movie_report.specs.Segments.{AreSigns, HasSign, character_of};
 ghost use Rattle.movie_report.specs.Segments.{ends_with_checkpoint, sign_of, signs_text};
 
 use crate::later_signs::later_signs;
-use movie_file::{Movie, Progress};
+use movie_file::{Movie, NoProgress, Progress};
 use replay_plan::{Keep, Notation, Workers};
 use replay_segments::{Cuts, Verdict, replay};
 use std::alloc::{AllocError, Global};
@@ -89,7 +89,7 @@ pub(crate) fn segment_sign(alloc: Global, movie: &Movie, cuts: &Cuts, number: u3
     requires number { number < length cuts.now + 1 }
     ensures { HasSign movie.now cuts.now number result }
 {
-    let piece = replay(alloc, movie, cuts, Keep::NONE, number);
+    let piece = replay(alloc, movie, cuts, Keep::NONE, number, &NoProgress);
     let Some(verdict) = piece.verdict() else {
         unreachable!()
     };

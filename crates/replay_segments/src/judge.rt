@@ -4,10 +4,10 @@ ghost use Rattle.std.specs.Prelude.{vec_len, vec_capacity, if◌then◌else◌};
 ghost use Rattle.replay_plan.specs.Keeping.{is_kept, kept_count};
 ghost use Rattle.replay_segments.specs.NextCheckpoint.{IsNext};
 ghost use Rattle.replay_segments.specs.Private.Steps.{IsFrameStep, IsClaim, IsAdvance};
-ghost use Rattle.replay_segments.specs.Verdicts.{IsJudged, IsVerdict};
+ghost use Rattle.replay_segments.specs.Verdicts.{IsJudged};
 
 use crate::verdict::Verdict;
-use movie_file::{Movie, NoProgress, Progress};
+use movie_file::{Movie, Progress};
 use replay_plan::Keep;
 use std::alloc::{AllocError, Global};
 use vcs_machine::{FrameError, Picture, Pictures, State, frame};
@@ -122,17 +122,4 @@ pub(crate) fn judge_frames<P: Progress>(
     Ok(Verdict::Genuine {
         pictures: Pictures::new(pictures),
     })
-}
-
-/// The verdict of a movie, by one unbroken replay on the calling thread.
-///
-/// AllocError comes only if an allocation was refused, for a kept picture or for their list; if no
-/// frame is kept none is taken.
-#[tactic(auto, using(crate::proofs::CheckpointLemmas::at_start))]
-pub fn verify_one(alloc: Global, movie: &Movie, keep: Keep) -> Result<Verdict, AllocError>
-    ensures verdict { IfOk result (λ verdict. IsVerdict movie.now keep verdict) }
-    ensures refused { OnErr result (0 < kept_count keep 0 (length movie.now.inputs)) }
-{
-    let frames = movie.frames();
-    judge_frames(alloc, movie, keep, movie.start(), 0, frames, 0, &NoProgress)
 }

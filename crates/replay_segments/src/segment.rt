@@ -10,7 +10,7 @@ use crate::judge::judge_frames;
 use crate::outcome::Outcome;
 use crate::piece::Piece;
 use crate::verdict::Verdict;
-use movie_file::{Movie, NoProgress, Progress};
+use movie_file::{Movie, Progress};
 use replay_plan::Keep;
 use std::alloc::{AllocError, Global};
 use std::snapshot::Snapshot;
@@ -88,20 +88,9 @@ fn outcome_of<P: Progress>(
 /// Replays a segment, from 0, on the calling thread. The cuts fit the movie, and have that segment.
 ///
 /// NoMemory comes only if an allocation was refused, for a kept picture or for their list; if no
-/// frame of the segment is kept none is taken.
-pub fn replay(alloc: Global, movie: &Movie, cuts: &Cuts, keep: Keep, number: u32) -> Piece
-    requires fit { Fits cuts.now movie.now }
-    requires number { number < length cuts.now + 1 }
-    ensures number { result.number ≡ number }
-    ensures job { result.job ≡ job_of movie.now cuts.now keep }
-    ensures memory { result.outcome ≡ Outcome.NoMemory
-        → HasKept (job_of movie.now cuts.now keep) number }
-{
-    replay_with_progress(alloc, movie, cuts, keep, number, &NoProgress)
-}
-
-/// The same. Each frame that is played is told, as a part of a work that has begun.
-pub fn replay_with_progress<P: Progress>(
+/// frame of the segment is kept none is taken. Each frame that is played is told, as a part of a
+/// work that has begun.
+pub fn replay<P: Progress>(
     alloc: Global,
     movie: &Movie,
     cuts: &Cuts,

@@ -1,5 +1,6 @@
 //! Growths that come to the refused one.
 
+use movie_file::Progress;
 use replay_segments::Piece;
 use std::alloc::Global;
 use std::sync::atomic::{AtomicU64, Ordering};
@@ -59,3 +60,5 @@ impl Gate for TakesRefused {
 
     fn leave(&self, _ticket: &Ticket, _piece: &Piece) {}
 }
+
+impl Progress for TakesRefused {}

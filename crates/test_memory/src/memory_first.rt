@@ -6,7 +6,7 @@ use crate::call_failure::{CallFailure, OUT_OF_MEMORY};
 use crate::movies::{LENGTH, cartridge, two_frames};
 use command_line::Command;
 use commands::Status;
-use movie_file::{MakeError, MovieError, make_movie, read_inputs, read_movie};
+use movie_file::{MakeError, MovieError, NoProgress, make_movie, read_inputs, read_movie};
 use replay_plan::Workers;
 use std::alloc::Global;
 use std::num::NonZeroU32;
@@ -48,7 +48,7 @@ pub(crate) fn is_faulty_run(alloc: Global) -> Result<(), CallFailure> {
     };
     let cart = cartridge(alloc, &without_opcode())?;
     let inputs = vec![in alloc; idle; 2]?;
-    match make_movie(alloc, cart, inputs, 1) {
+    match make_movie(alloc, cart, inputs, 1, &NoProgress) {
         Err(MakeError::Fault { frame: 1, kind: _ }) => Ok(()),
         Err(MakeError::NoMemory) => Err(OUT_OF_MEMORY),
         _ => Err(CallFailure::Wrong),

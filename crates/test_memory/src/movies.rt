@@ -1,7 +1,7 @@
 //! Movies: one of two frames byte by byte, longer ones that are made.
 
 use crate::call_failure::{CallFailure, OUT_OF_MEMORY, right};
-use movie_file::{Movie, make_movie, read_movie, write_movie};
+use movie_file::{Movie, NoProgress, make_movie, read_movie, write_movie};
 use riot_map::Cart;
 use std::alloc::{AllocError, Global};
 use vcs_machine::Input;
@@ -109,7 +109,7 @@ pub(crate) fn make(alloc: Global, frames: usize, every: u32) -> Result<Movie, Ca
     };
     let cart = cartridge(alloc, &two_frames())?;
     let inputs = vec![in alloc; idle; frames]?;
-    Ok(make_movie(alloc, cart, inputs, every)?)
+    Ok(make_movie(alloc, cart, inputs, every, &NoProgress)?)
 }
 
 /// A cartridge of two banks, which takes no memory beside its bytes.

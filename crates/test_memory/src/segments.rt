@@ -4,9 +4,9 @@ ghost use Rattle.replay_segments.specs.Cuts.{Fits};
 use crate::call_failure::{CallFailure, OUT_OF_MEMORY, right};
 use crate::movies::movie;
 use crate::wrong_movies::WrongMovie;
-use movie_file::Movie;
+use movie_file::{Movie, NoProgress};
 use replay_plan::Keep;
-use replay_segments::{Cuts, Piece, Verdict, gather, replay, verify_one};
+use replay_segments::{Cuts, Piece, Verdict, gather, replay};
 use std::alloc::Global;
 use std::num::NonZeroU16;
 
@@ -15,23 +15,6 @@ pub(crate) fn is_genuine(verdict: &Verdict, pictures: usize) -> Result<(), CallF
     match verdict {
         Verdict::Genuine { pictures: kept } => right(kept.len() == pictures),
         _ => Err(CallFailure::Wrong),
-    }
-}
-
-pub(crate) fn is_judged_whole(alloc: Global) -> Result<(), CallFailure> {
-    let movie = movie(alloc)?;
-    match verify_one(alloc, &movie, Keep::new(1, 2)?) {
-        Ok(verdict) => is_genuine(&verdict, 2),
-        Err(_) => Err(OUT_OF_MEMORY),
-    }
-}
-
-/// Only the movie takes memory: its verdict is never out of it.
-pub(crate) fn is_judged_without_pictures(alloc: Global) -> Result<(), CallFailure> {
-    let movie = movie(alloc)?;
-    match verify_one(alloc, &movie, Keep::new(1, 0)?) {
-        Ok(verdict) => is_genuine(&verdict, 0),
-        Err(_) => Err(CallFailure::Wrong),
     }
 }
 
@@ -52,13 +35,37 @@ fn is_first(alloc: Global, mut pieces: Vec<Piece>, piece: Piece) -> Result<(), C
     Err(CallFailure::Wrong)
 }
 
+/// The one segment of a movie without cuts, with both pictures.
+pub(crate) fn is_replayed_whole(alloc: Global) -> Result<(), CallFailure> {
+    let movie = movie(alloc)?;
+    let cuts = Cuts::new(&movie, Vec::new(alloc))?;
+    let keep = Keep::new(1, 2)?;
+    let pieces = Vec::with_capacity(alloc, 1)?;
+    is_first(
+        alloc,
+        pieces,
+        replay(alloc, &movie, &cuts, keep, 0, &NoProgress),
+    )
+}
+
+/// Only the movie takes memory: its replay is never out of it.
+pub(crate) fn is_replayed_without_pictures(alloc: Global) -> Result<(), CallFailure> {
+    let movie = movie(alloc)?;
+    let cuts = Cuts::new(&movie, Vec::new(alloc))?;
+    right(replay(alloc, &movie, &cuts, Keep::NONE, 0, &NoProgress).passed())
+}
+
 /// The first segment, with its picture.
 pub(crate) fn is_replayed(alloc: Global) -> Result<(), CallFailure> {
     let movie = movie(alloc)?;
     let cuts = Cuts::new(&movie, vec![in alloc; 1u16]?)?;
     let keep = Keep::new(1, 2)?;
     let pieces = Vec::with_capacity(alloc, 1)?;
-    is_first(alloc, pieces, replay(alloc, &movie, &cuts, keep, 0))
+    is_first(
+        alloc,
+        pieces,
+        replay(alloc, &movie, &cuts, keep, 0, &NoProgress),
+    )
 }
 
 /// The pieces of all segments.
@@ -72,7 +79,7 @@ fn replayed(
 {
     let mut pieces = Vec::with_capacity(alloc, 2)?;
     for number in 0..cuts.segments() {
-        pieces.push(replay(alloc, movie, cuts, keep, number))?;
+        pieces.push(replay(alloc, movie, cuts, keep, number, &NoProgress))?;
     }
     Ok(pieces)
 }
@@ -94,7 +101,7 @@ fn pieces_of(alloc: Global, movie: &Movie, numbers: &[u32]) -> Result<Vec<Piece>
     let mut pieces = Vec::with_capacity(alloc, numbers.len())?;
     for number in numbers {
         let number = *number % cuts.segments();
-        pieces.push(replay(alloc, movie, &cuts, keep, number))?;
+        pieces.push(replay(alloc, movie, &cuts, keep, number, &NoProgress))?;
     }
     Ok(pieces)
 }

@@ -6,7 +6,7 @@ use crate::growths::TakesRefused;
 use crate::movies::{make, movie};
 use crate::segments::is_genuine;
 use crate::wrong_movies::WrongMovie;
-use movie_file::Movie;
+use movie_file::{Movie, Progress};
 use replay_plan::{Keep, Workers};
 use replay_segments::{Cuts, Piece, gather};
 use std::alloc::{AllocError, Global};
@@ -72,7 +72,7 @@ pub(crate) fn is_worked_on<R: Threads + Wait + Sync>(
 }
 
 /// The verdict with all pictures, and a gate.
-fn judged_with<G: Gate + Sync, R: Threads + Wait + Sync>(
+fn judged_with<G: Gate + Progress + Sync, R: Threads + Wait + Sync>(
     rt: &R,
     alloc: Global,
     movie: &Movie,

@@ -81,6 +81,8 @@ impl Gate for Counts {
     }
 }
 
+impl Progress for Counts {}
+
 /// A gate that holds segment 0 until segment 1 has been left.
 #[derive(Drop)]
 pub(crate) struct SecondFirst {
@@ -110,6 +112,8 @@ impl Gate for SecondFirst {
         }
     }
 }
+
+impl Progress for SecondFirst {}
 
 /// A gate where each segment, once entered, waits until so many have been.
 #[derive(Drop)]
@@ -141,6 +145,8 @@ impl Gate for Meeting {
 
     fn leave(&self, _ticket: &Ticket, _piece: &Piece) {}
 }
+
+impl Progress for Meeting {}
 
 /// A gate that adds up the segments, the frames and the lines of the works that begin and what of
 /// them is done, and counts the beginnings and the ends.

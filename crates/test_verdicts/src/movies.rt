@@ -1,6 +1,6 @@
 //! Worked movies as the format spells them, byte by byte.
 
-use movie_file::{Movie, make_movie, read_movie};
+use movie_file::{Movie, NoProgress, make_movie, read_movie};
 use riot_map::Cart;
 use std::alloc::Global;
 use std::test::Fail;
@@ -154,7 +154,7 @@ pub(crate) fn run_of(alloc: Global, program: &[u8], frames: usize) -> Result<Mov
     let idle = Input::new(0xFF, 0x3F, 0).ok_or("an input")?;
     let cart = cartridge(alloc, program)?;
     let inputs = vec![in alloc; idle; frames]?;
-    Ok(make_movie(alloc, cart, inputs, 1)?)
+    Ok(make_movie(alloc, cart, inputs, 1, &NoProgress)?)
 }
 
 /// The movie of these bytes.

@@ -11,13 +11,13 @@ use crate::movies::{
 use commands::run_command;
 use movie_file::write_movie;
 use replay_plan::{Keep, Workers};
-use replay_segments::{Cuts, replay_with_progress};
+use replay_segments::{Cuts, replay};
 use std::alloc::Global;
 use std::num::NonZeroU16;
 use std::sync::Wait;
 use std::test::Fail;
 use std::thread::Threads;
-use verify_pool::{verify, verify_with_progress};
+use verify_pool::verify;
 
 /// What a gate counts while the command of these words is done, whose text's writer takes so many
 /// bytes.
@@ -90,33 +90,11 @@ fn frames_of_each_segment_are_told(rt: HostRuntime) -> Result<(), Fail> {
     let gate = Counting::new();
     if cuts.fits(&movie) {
         for number in 0..cuts.segments() {
-            let piece = replay_with_progress(rt.alloc(), &movie, &cuts, Keep::NONE, number, &gate);
+            let piece = replay(rt.alloc(), &movie, &cuts, Keep::NONE, number, &gate);
             assert!(rt; piece.passed());
         }
     }
     expect_equal(&rt, gate.counts(), [0, 0, 0, 2, 0, 0]);
-    Ok(())
-}
-
-/// `verify` takes a gate, and no progress.
-#[test]
-fn verdict_is_told_where_that_is_asked_for(rt: HostRuntime) -> Result<(), Fail> {
-    let alloc = rt.alloc();
-    let movie = two(alloc)?;
-    let cuts = Cuts::every(alloc, &movie, NonZeroU16::MIN)?;
-    let gate = Counting::new();
-    let _verdict = verify(&rt, alloc, &movie, &cuts, Workers::ONE, Keep::NONE, &gate)?;
-    expect_equal(&rt, gate.counts(), [0, 0, 0, 0, 0, 0]);
-    let _verdict = verify_with_progress(
-        &rt,
-        alloc,
-        &movie,
-        &cuts,
-        Workers::ONE,
-        Keep::NONE,
-        &gate,
-    )?;
-    expect_equal(&rt, gate.counts(), [0, 2, 0, 2, 1, 1]);
     Ok(())
 }
 

@@ -5,10 +5,10 @@ use crate::movies::{
     endless, fourth_of_five_false, going_on_at_no_opcode, read, two,
     two_frames_with_a_last_checkpoint,
 };
-use crate::verdicts::{FIRST_FALSE, picture_count};
-use movie_file::Movie;
+use crate::verdicts::{FIRST_FALSE, picture_count, verdict_of};
+use movie_file::{Movie, NoProgress};
 use replay_plan::Keep;
-use replay_segments::{BadCuts, Cuts, GatherError, Piece, Verdict, gather, replay, verify_one};
+use replay_segments::{BadCuts, Cuts, GatherError, Piece, Verdict, gather, replay};
 use std::alloc::Global;
 use std::num::NonZeroU16;
 use std::test::Fail;
@@ -33,7 +33,8 @@ fn pieces_of(alloc: Global, movie: &Movie, numbers: &[u32]) -> Result<Vec<Piece>
     let mut pieces = Vec::new(alloc);
     if cuts.fits(movie) && cuts.segments() == 2 {
         for number in numbers {
-            pieces.push(sent(replay(alloc, movie, &cuts, keep, *number % 2)))?;
+            let piece = replay(alloc, movie, &cuts, keep, *number % 2, &NoProgress);
+            pieces.push(sent(piece))?;
         }
     }
     Ok(pieces)
@@ -41,7 +42,7 @@ fn pieces_of(alloc: Global, movie: &Movie, numbers: &[u32]) -> Result<Vec<Piece>
 
 /// The verdict of one replay that keeps all pictures.
 fn whole(alloc: Global, movie: &Movie) -> Result<Verdict, Fail> {
-    Ok(verify_one(alloc, movie, Keep::new(1, 600)?)?)
+    verdict_of(alloc, movie, Keep::new(1, 600)?)
 }
 
 /// What the pieces of these segments give.
@@ -161,7 +162,7 @@ fn cut_is_at_each_second_checkpoint(rt: HostRuntime) -> Result<(), Fail> {
     expect_equal(&rt, cuts.segments(), 3);
     assert!(rt; cuts.fits(&claims));
     for number in 0..cuts.segments() {
-        let piece = replay(rt.alloc(), &claims, &cuts, Keep::NONE, number);
+        let piece = replay(rt.alloc(), &claims, &cuts, Keep::NONE, number, &NoProgress);
         expect_equal(&rt, piece.passed(), number == 0);
     }
     Ok(())

@@ -2,8 +2,9 @@
 
 use crate::expectation::expect_equal;
 use crate::movies::two;
+use movie_file::{Movie, NoProgress};
 use replay_plan::{BadKeep, Keep};
-use replay_segments::{Verdict, verify_one};
+use replay_segments::{Cuts, Verdict, gather, replay};
 use std::alloc::Global;
 use std::test::Fail;
 use vcs_machine::FaultKind;
@@ -13,6 +14,14 @@ pub(crate) const FIRST_FALSE: Verdict = Verdict::FalseCheckpoint {
     number: 1,
     frame: 1,
 };
+
+/// The verdict of one replay.
+pub(crate) fn verdict_of(alloc: Global, movie: &Movie, keep: Keep) -> Result<Verdict, Fail> {
+    let cuts = Cuts::new(movie, Vec::new(alloc))?;
+    let mut pieces = Vec::new(alloc);
+    pieces.push(replay(alloc, movie, &cuts, keep, 0, &NoProgress))?;
+    Ok(gather(alloc, pieces, 1)?)
+}
 
 /// How many pictures a genuine movie has kept.
 pub(crate) fn picture_count(verdict: &Verdict) -> Option<usize> {
@@ -39,9 +48,9 @@ pub(crate) fn colours(alloc: Global, verdict: &Verdict) -> Result<Vec<u8>, Fail>
 #[test]
 fn verdicts_differ_in_their_pictures(rt: HostRuntime) -> Result<(), Fail> {
     let genuine = two(rt.alloc())?;
-    let verdict = verify_one(rt.alloc(), &genuine, Keep::new(1, 2)?)?;
+    let verdict = verdict_of(rt.alloc(), &genuine, Keep::new(1, 2)?)?;
     for (first, count, equals) in [(1, 2, true), (2, 1, false)] {
-        let other = verify_one(rt.alloc(), &genuine, Keep::new(first, count)?)?;
+        let other = verdict_of(rt.alloc(), &genuine, Keep::new(first, count)?)?;
         expect_equal(&rt, verdict.equals(&other), equals);
     }
     assert!(rt; matches!(&verdict, Verdict::Genuine { pictures } if !pictures.is_empty()));

@@ -7,7 +7,7 @@ use crate::movies::{
     going_on_at_no_opcode, read, run_of, two_frames_with_a_last_checkpoint,
 };
 use crate::verdicts::{FIRST_FALSE, colours, picture_count};
-use movie_file::Movie;
+use movie_file::{Movie, Progress};
 use replay_plan::{Keep, Workers};
 use replay_segments::{Cuts, Verdict};
 use std::alloc::Global;
@@ -19,7 +19,7 @@ use std::thread::Threads;
 use verify_pool::{Gate, verify};
 
 /// The verdict of workers, with cuts at these checkpoints.
-fn answer<G: Gate + Sync, R: Threads + Wait + Sync>(
+fn answer<G: Gate + Progress + Sync, R: Threads + Wait + Sync>(
     rt: &R,
     alloc: Global,
     movie: &Movie,
@@ -54,7 +54,7 @@ fn no_workers_and_65_are_refused(rt: HostRuntime) {
 }
 
 /// The verdict of workers who keep all pictures, with a cut at each checkpoint.
-fn answer_of_all<G: Gate + Sync, R: Threads + Wait + Sync>(
+fn answer_of_all<G: Gate + Progress + Sync, R: Threads + Wait + Sync>(
     rt: &R,
     alloc: Global,
     movie: &Movie,

@@ -1,6 +1,6 @@
 //! What is called around each replay.
 
-use movie_file::{Progress, Work};
+use movie_file::Progress;
 use replay_segments::Piece;
 use segment_desk::Ticket;
 
@@ -46,35 +46,4 @@ impl Gate for NoGate {
     fn leave(&self, _ticket: &Ticket, _piece: &Piece) {}
 }
 
-impl Progress for NoGate {
-    fn begin(&self, _work: Work) {}
-
-    fn advance(&self) {}
-
-    fn end(&self) {}
-}
-
-/// A gate whose progress is told to nobody.
-#[derive(Drop)]
-pub(crate) struct Untold<'a, G> {
-    /// What is called around each replay.
-    pub(crate) gate: &'a G,
-}
-
-impl<'a, G: Gate> Gate for Untold<'a, G> {
-    fn enter(&self, ticket: &Ticket, segment: u32) {
-        self.gate.enter(ticket, segment);
-    }
-
-    fn leave(&self, ticket: &Ticket, piece: &Piece) {
-        self.gate.leave(ticket, piece);
-    }
-}
-
-impl<'a, G> Progress for Untold<'a, G> {
-    fn begin(&self, _work: Work) {}
-
-    fn advance(&self) {}
-
-    fn end(&self) {}
-}
+impl Progress for NoGate {}

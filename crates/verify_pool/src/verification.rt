@@ -5,10 +5,10 @@ ghost use Rattle.replay_segments.specs.Verdicts.{IsVerdict};
 ghost use Rattle.verify_pool.specs.Crew.{AreReady, shares};
 ghost use Rattle.segment_desk.specs.Views.{first_ticket};
 
-use crate::gate::{Gate, Untold};
+use crate::gate::Gate;
 use crate::hand::Hand;
 use crate::work::work_of;
-use crate::workers::crew_with_progress;
+use crate::workers::crew;
 use movie_file::{Movie, Progress};
 use replay_plan::{Keep, Workers};
 use replay_segments::{Cuts, GatherError, Verdict, gather};
@@ -74,7 +74,7 @@ fn verdict_of<G: Gate + Progress + Sync, R: Threads + Wait + Sync>(
     let Ok(hands) = hands_of(alloc, &desk, segments, tickets) else {
         return Err(VerifyError::NoMemory);
     };
-    let Ok(hand) = crew_with_progress(rt, alloc, movie, cuts, keep, &desk, hands, gate) else {
+    let Ok(hand) = crew(rt, alloc, movie, cuts, keep, &desk, hands, gate) else {
         return Err(VerifyError::NoThread);
     };
     let Hand { ticket, pieces } = hand;
@@ -94,26 +94,11 @@ fn verdict_of<G: Gate + Progress + Sync, R: Threads + Wait + Sync>(
 /// It joins its threads, so it returns if each of them does. It is refused in this order:
 /// NoMemory for the desk or the lists of pieces; NoThread; and NoMemory, if that was the outcome
 /// of the first segment that did not pass, or for the list of all pictures.
-pub fn verify<G: Gate + Sync, R: Threads + Wait + Sync>(
-    rt: &R,
-    alloc: Global,
-    movie: &Movie,
-    cuts: &Cuts,
-    workers: Workers,
-    keep: Keep,
-    gate: &G,
-) -> Result<Verdict, VerifyError>
-    requires fit { Fits cuts.now movie.now }
-    ensures verdict { IfOk result (λ verdict. IsVerdict movie.now keep verdict) }
-    ensures no_thread { result ≡ Err VerifyError.NoThread → (2 ≤ workers.number) × (2 ≤ length cuts.now + 1) }
-{
-    verify_with_progress(rt, alloc, movie, cuts, workers, keep, &Untold { gate })
-}
-
-/// The same. It is a work: of the movie's frames if there are at most two segments, and else of its
-/// segments. A frame that is played is told between `enter` and `leave`, and a segment that is replayed
-/// after `leave`.
-pub fn verify_with_progress<G: Gate + Progress + Sync, R: Threads + Wait + Sync>(
+///
+/// It is a work: of the movie's frames if there are at most two segments, and else of its segments. A
+/// frame that is played is told between `enter` and `leave`, and a segment that is replayed after
+/// `leave`.
+pub fn verify<G: Gate + Progress + Sync, R: Threads + Wait + Sync>(
     rt: &R,
     alloc: Global,
     movie: &Movie,

@@ -15,9 +15,9 @@ ghost use Rattle.segment_desk.specs.Views.{IsOf};
 use crate::gate::Gate;
 use crate::hand::Hand;
 use crate::work::counts_frames;
-use movie_file::{Movie, Progress};
+use movie_file::{Movie, NoProgress, Progress};
 use replay_plan::Keep;
-use replay_segments::{Cuts, Piece, replay, replay_with_progress};
+use replay_segments::{Cuts, Piece, replay};
 use segment_desk::{Desk, Ticket};
 use std::alloc::Global;
 
@@ -66,11 +66,12 @@ impl<'s, G: Gate + Progress> Shared<'s, G> {
         ensures memory { result.outcome ≡ Outcome.NoMemory → HasKept (job_of self.now.movie.now self.now.cuts.now self.now.keep) number }
     {
         if counts_frames(self.cuts) {
-            return replay_with_progress(
+            return replay(
                 self.alloc, self.movie, self.cuts, self.keep, number, self.gate,
             );
         }
-        replay(self.alloc, self.movie, self.cuts, self.keep, number)
+        let untold = &NoProgress;
+        replay(self.alloc, self.movie, self.cuts, self.keep, number, untold)
     }
 
     /// Replays the segment that the ticket drew last, and reports it unless it passes. That it is

@@ -6,7 +6,7 @@ ghost use Rattle.replay_segments.specs.Pieces.{Job, job_of};
 ghost use Rattle.verify_pool.specs.Crew.{AreReady, IsReady, IsWorked, first_room, shares};
 ghost use Rattle.segment_desk.specs.Views.{IsOf};
 
-use crate::gate::{Gate, Untold};
+use crate::gate::Gate;
 use crate::hand::Hand;
 use crate::worker::Shared;
 use movie_file::{Movie, Progress};
@@ -161,27 +161,9 @@ fn crew_within<'s, E, G: Gate + Progress + Sync, R: Threads + Wait + Sync>(
 ///
 /// One hand is worked on by the calling thread, without another. NoThread comes if the start of
 /// a thread was refused, for any cause, after those that were started have ended.
-pub fn crew<G: Gate + Sync, R: Threads + Wait + Sync>(
-    rt: &R,
-    alloc: Global,
-    movie: &Movie,
-    cuts: &Cuts,
-    keep: Keep,
-    desk: &Desk,
-    hands: Vec<Hand>,
-    gate: &G,
-) -> Result<Hand, NoThread>
-    requires fit { Fits cuts.now movie.now }
-    requires desk { desk.now.segments ≡ length cuts.now + 1 }
-    requires ready { AreReady desk.now hands.items }
-    ensures worked { IfOk result (λ hand. IsWorked desk.now (job_of movie.now cuts.now keep) (shares hands.items) hand) }
-    ensures refused { OnErr result (2 ≤ length hands.items) }
-{
-    crew_with_progress(rt, alloc, movie, cuts, keep, desk, hands, &Untold { gate })
-}
-
-/// The same. What is replayed is told, as a part of a work that has begun.
-pub(crate) fn crew_with_progress<G: Gate + Progress + Sync, R: Threads + Wait + Sync>(
+///
+/// What is replayed is told, as a part of a work that has begun.
+pub fn crew<G: Gate + Progress + Sync, R: Threads + Wait + Sync>(
     rt: &R,
     alloc: Global,
     movie: &Movie,

@@ -8,12 +8,12 @@ use Rattle.verify_pool.proofs.verification.verdict_of.Goals as goal
 pub returns-in-Ok-gather-clause-verdict : goal.returns-in-Ok-gather-clause-verdict
 returns-in-Ok-gather-clause-verdict g c =
     let verdict = rw c.in-Ok-gather.verdict-is at c.in-Ok-gather.ensures.verdict in
-    verdict (job_of c.args.movie.now c.args.cuts.now c.args.keep) c.in-Ok-crew_with_progress.ensures.worked.exact.names c.segments-segments.ensures.value
+    verdict (job_of c.args.movie.now c.args.cuts.now c.args.keep) c.in-Ok-crew.ensures.worked.exact.names c.segments-segments.ensures.value
 
 pub unreachable-requires : goal.unreachable-requires
 unreachable-requires g c =
-    let job = job_of c.args.movie.now c.args.cuts.now c.args.keep in let desk = c.in-Ok.desk in let hand = c.in-Ok-crew_with_progress.hand in
-    let worked : IsWorked desk job desk.workers hand = subst (λ n. IsWorked desk job n hand) c.in-Ok-hands_of.ensures.shares c.in-Ok-crew_with_progress.ensures.worked in
+    let job = job_of c.args.movie.now c.args.cuts.now c.args.keep in let desk = c.in-Ok.desk in let hand = c.in-Ok-crew.hand in
+    let worked : IsWorked desk job desk.workers hand = subst (λ n. IsWorked desk job n hand) c.in-Ok-hands_of.ensures.shares c.in-Ok-crew.ensures.worked in
     let missing : IsFirstMissing hand.pieces.items c.segments-segments.result c.in-Err-Missing.field-0-0 =
     (c.in-Err-Missing.ensures.missing c.in-Err-Missing.field-0-0).0 cc in
     let segments : desk.segments ≡ c.segments-segments.result = c.in-Ok.ensures.0 in

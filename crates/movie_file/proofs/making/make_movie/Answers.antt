@@ -1,6 +1,6 @@
 use Rattle.std.proofs.Common.{◌≡◌, length, arith, rules}
 use Rattle.movie_file.proofs.MakingRuns.{explains}
-use Rattle.movie_file.proofs.making.make_movie_with_progress.Goals as goal
+use Rattle.movie_file.proofs.making.make_movie.Goals as goal
 
 pub returns-in-Err-clause-refused : goal.returns-in-Err-clause-refused
 returns-in-Err-clause-refused g c =
