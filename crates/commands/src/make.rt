@@ -1,5 +1,5 @@
 //! A movie that is made of a ROM and of inputs.
-ghost use Rattle.std.specs.Prelude.{◌≡◌, ◌≢◌, Err, IfOk, Some};
+ghost use Rattle.std.specs.Prelude.{◌≡◌, Err, IfOk, Some};
 ghost use Rattle.std.specs.NonZero.{non_zero_u32_get};
 ghost use Rattle.input_text.specs.Texts.{inputs_in};
 ghost use Rattle.movie_file.specs.Spelling.{spelling};
@@ -19,7 +19,7 @@ use crate::remark::{Cause, Remark, WhichInput};
 use crate::run_error::ReadError;
 use crate::streams::read_all;
 use input_text::{TextError, read_text};
-use movie_file::{MakeError, MovieError, Progress, read_inputs};
+use movie_file::{MakeError, MovieError, Progress, Refused, read_inputs};
 use movie_hints::{Hint, hint_of_counts, hint_of_storage};
 use replay_plan::{InputForm, Notation};
 use riot_map::Cart;
@@ -74,16 +74,13 @@ fn refused_inputs(alloc: Global, line: Line, cause: Cause) -> Result<Answer, All
 
 /// That bytes are no inputs, for this reason.
 fn no_inputs(alloc: Global, bytes: Vec<u8>, error: MovieError) -> Result<Answer, AllocError>
-    ensures { IfOk result (λ answer. (error ≢ MovieError.NoMemory) × RefusesInputs bytes.items (lines.Refused error) answer) }
+    ensures { IfOk result (RefusesInputs bytes.items (lines.Refused error)) }
 {
-    match error {
-        MovieError::NoMemory => Err(AllocError),
-        _ => refused_inputs(
-            alloc,
-            Line::Refused(error),
-            Cause::NoInputs { bytes, error },
-        ),
-    }
+    refused_inputs(
+        alloc,
+        Line::Refused(error),
+        Cause::NoInputs { bytes, error },
+    )
 }
 
 /// That the line of this number, from 1, is the first bad one of a text.
@@ -119,15 +116,15 @@ fn of_inputs<P: Progress>(
         progress,
     ) {
         Ok(made) => of_made(alloc, made, stored),
-        Err(MakeError::Fault { frame, kind }) => {
+        Err(Refused::Of(MakeError::Fault { frame, kind })) => {
             let line = Line::Fault { frame, kind };
             Answer::of_line(alloc, line)
         }
-        Err(MakeError::BadCounts) => {
+        Err(Refused::Of(MakeError::BadCounts)) => {
             let hint = stored.or(hint_of_counts(frames as u64, every, to_the_end));
             counts_refusal(alloc, WhichInput::Second, hint)
         }
-        Err(MakeError::NoMemory) => Err(AllocError),
+        Err(Refused::NoMemory) => Err(AllocError),
     }
 }
 
@@ -156,7 +153,8 @@ fn of_bytes<P: Progress>(
                 to_the_fault,
                 progress,
             ),
-            Err(error) => no_inputs(alloc, bytes, error),
+            Err(Refused::NoMemory) => Err(AllocError),
+            Err(Refused::Of(error)) => no_inputs(alloc, bytes, error),
         },
         InputForm::Text => match read_text(alloc, &bytes) {
             Ok(inputs) => of_inputs(

@@ -11,8 +11,8 @@ ghost use Rattle.commands.specs.Make.{IsMadeMovie, do_claims_fit, is_last_claime
 ghost use Rattle.commands.specs.Private.MadeRuns.{Explains, HasFault, HasRun, IsMadeRun, movie_up_to};
 
 use movie_file::{
-    Checkpoint, MOST_CHECKPOINTS, MakeError, Movie, Progress, Work, claim, do_counts_fit, movie_of,
-    version_made,
+    Checkpoint, MOST_CHECKPOINTS, MakeError, Movie, Progress, Refused, Work, claim, do_counts_fit,
+    movie_of, version_made,
 };
 use riot_map::Cart;
 use run_cursor::RunFault;
@@ -181,18 +181,18 @@ pub(crate) fn make_run<P: Progress>(
     to_the_end: bool,
     to_the_fault: bool,
     progress: &P,
-) -> Result<MadeMovie, MakeError>
+) -> Result<MadeMovie, Refused<MakeError>>
     ensures made { IfOk result (λ made. IsMadeRun cart inputs.items every to_the_end to_the_fault made.movie made.fault) }
     ensures fits { IfOk result (λ _. IsTrue (do_claims_fit (length inputs.items) every to_the_end)) }
     ensures refused { IfErr result (Explains cart inputs.items every to_the_end to_the_fault) }
 {
     let frames = inputs.len();
     if !do_claims_fit(frames, every, to_the_end) {
-        return Err(MakeError::BadCounts);
+        return Err(Refused::Of(MakeError::BadCounts));
     }
     let count = checkpoints_of(frames, every, to_the_end);
     let Ok(checkpoints) = Vec::with_capacity(alloc, count) else {
-        return Err(MakeError::NoMemory);
+        return Err(Refused::NoMemory);
     };
     let start = State::power_on(&cart);
     progress.begin(Work::Frames(frames as u32));
@@ -203,10 +203,10 @@ pub(crate) fn make_run<P: Progress>(
         return Ok(MadeMovie { movie, fault: None });
     };
     if !to_the_fault {
-        return Err(MakeError::Fault {
+        return Err(Refused::Of(MakeError::Fault {
             frame: fault.frame,
             kind: fault.kind,
-        });
+        }));
     }
     let movie = movie_to_the_fault(cart, start, inputs, run.checkpoints, fault.frame);
     let fault = Some(fault);

@@ -4,7 +4,7 @@ ghost use Rattle.movie_file.specs.Reading.{movie_at};
 ghost use Rattle.commands.specs.Streams.{ReadsAll, IsTooLong, input_limit};
 
 use crate::run_error::ReadError;
-use movie_file::{Movie, MovieError, read_movie};
+use movie_file::{Movie, MovieError, Refused, read_movie};
 use std::alloc::Global;
 use std::io::Read;
 
@@ -52,7 +52,8 @@ pub(crate) fn read_input<R: Read>(
 {
     let bytes = read_all(alloc, reader)?;
     match read_movie(alloc, &bytes) {
-        Err(MovieError::NoMemory) => Err(ReadError::NoMemory),
-        found => Ok((bytes, found)),
+        Ok(movie) => Ok((bytes, Ok(movie))),
+        Err(Refused::Of(error)) => Ok((bytes, Err(error))),
+        Err(Refused::NoMemory) => Err(ReadError::NoMemory),
     }
 }

@@ -5,13 +5,13 @@ ghost use Rattle.commands.specs.Verify.{Verifies};
 
 use crate::answer::Answer;
 use crate::run_error::JudgeError;
-use movie_file::{Movie, Progress};
+use movie_file::{Movie, Progress, Refused};
 use replay_plan::{Notation, Plan};
 use replay_segments::{Cuts, Verdict};
 use std::alloc::Global;
 use std::sync::Wait;
 use std::thread::Threads;
-use verify_pool::{Gate, VerifyError};
+use verify_pool::{Gate, NoThread};
 
 /// The verdict of a movie, by the workers of a plan. It is a work.
 pub(crate) fn verdict_of<T: Threads + Wait + Sync, G: Gate + Progress + Sync>(
@@ -29,8 +29,8 @@ pub(crate) fn verdict_of<T: Threads + Wait + Sync, G: Gate + Progress + Sync>(
     };
     match verify_pool::verify(rt, alloc, movie, &cuts, plan.workers, plan.keep, gate) {
         Ok(verdict) => Ok(verdict),
-        Err(VerifyError::NoMemory) => Err(JudgeError::NoMemory),
-        Err(VerifyError::NoThread) => Err(JudgeError::NoThread),
+        Err(Refused::NoMemory) => Err(JudgeError::NoMemory),
+        Err(Refused::Of(NoThread)) => Err(JudgeError::NoThread),
     }
 }
 

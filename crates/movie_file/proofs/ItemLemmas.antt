@@ -6,7 +6,6 @@ use Rattle.std.proofs.lemmas.List.{append-nil, drop_at, length-drop, take-append
 use Rattle.std.proofs.lemmas.List.Concat.{flat_map-cons}
 use Rattle.movie_file.specs.declared.error.MovieError.{MovieError}
 use Rattle.movie_file.specs.Reading.{◌>>=◌}
-use Rattle.movie_file.specs.MovieError.{Fails}
 use Rattle.movie_file.proofs.ByteLemmas.{IsBytes, IsBytes-drop}
 use Rattle.movie_file.proofs.ReadLemmas.{bind_ok, ok_is, Takes}
 
@@ -43,9 +42,9 @@ module _ {A S : Type 0} {item : S → List ℕ → Result A MovieError} {next : 
       rw (k, reads.more, is) (regroup prefix a (items (count - (i + 1)) (next s a) (drop size bytes)))
 
   -- an item that is refused ends it
-  pub ends : (e : MovieError) (prefix : List A) (count i : ℕ) (s : S) (bytes : List ℕ) → i < count → Fails e (item s bytes)
-      → Fails e (with_prefix prefix (items (count - i) s bytes))
-  ends e prefix count i s bytes lt fails = λ n. let k : count - i ≡ suc (count - (i + 1)) = omega arith in rw (k, reads.more, fails n) refl
+  pub ends : (e : MovieError) (prefix : List A) (count i : ℕ) (s : S) (bytes : List ℕ) → i < count → item s bytes ≡ Err e
+      → with_prefix prefix (items (count - i) s bytes) ≡ Err e
+  ends e prefix count i s bytes lt fails = let k : count - i ≡ suc (count - (i + 1)) = omega arith in rw (k, reads.more, fails n) refl
 
   -- and none are left at its end
   pub done : (prefix : List A) (count i : ℕ) (s : S) (bytes : List ℕ) → count ≤ i → with_prefix prefix (items (count - i) s bytes) ≡ Ok (prefix, bytes)

@@ -21,7 +21,8 @@ use Rattle.vcs_machine.specs.States.{state_at_power_on}
 use Rattle.vcs_machine.specs.declared.fields.StateFields.{StateFields}
 use Rattle.movie_file.specs.declared.checkpoint.Checkpoint.{Checkpoint}
 use Rattle.movie_file.specs.declared.error.MakeError.{MakeError}
-use Rattle.movie_file.specs.declared.error.MakeError.TheVariants.{Fault, BadCounts, NoMemory}
+use Rattle.movie_file.specs.declared.error.MakeError.TheVariants.{Fault, BadCounts}
+use Rattle.movie_file.specs.declared.refused.Refused.TheVariants.{Of}
 use Rattle.movie_file.specs.Format.{is_version, takes_cart, most_frames, most_checkpoints}
 use Rattle.movie_file.specs.Judgement.{AllSound, IsGenuine}
 use Rattle.movie_file.specs.Making.{bare, counts_fit, version_made, Explains, IsMadeOf}
@@ -203,7 +204,6 @@ made_movie cartridge inputs every cs fit sound far state all =
 
 -- why a run stopped is why no movie is made
 pub explains : (cartridge : List ℕ) (inputs : List InputData) (every : ℕ) (e : MakeError) → IsTrue (counts_fit (length inputs) every)
-    → RunFails cartridge inputs e → Explains cartridge inputs every e
+    → RunFails cartridge inputs e → Explains cartridge inputs every (Of e)
 explains cartridge inputs every (Fault frame kind) fit fails = (fit, fails)
 explains cartridge inputs every BadCounts fit fails = absurd fails
-explains cartridge inputs every NoMemory fit fails = absurd fails

@@ -7,7 +7,9 @@ use Rattle.vcs_machine.specs.States.{state_at_power_on}
 use Rattle.vcs_machine.specs.declared.fault.FaultKind.{FaultKind}
 use Rattle.movie_file.specs.declared.checkpoint.Checkpoint.{Checkpoint}
 use Rattle.movie_file.specs.declared.error.MakeError.{MakeError}
-use Rattle.movie_file.specs.declared.error.MakeError.TheVariants.{Fault, BadCounts, NoMemory}
+use Rattle.movie_file.specs.declared.error.MakeError.TheVariants.{Fault, BadCounts}
+use Rattle.movie_file.specs.declared.refused.Refused.{Refused}
+use Rattle.movie_file.specs.declared.refused.Refused.TheVariants.{NoMemory, Of}
 use Rattle.movie_file.specs.Format.{takes_cart, most_frames, most_checkpoints}
 use Rattle.movie_file.specs.Judgement.{AllSound, FaultsAt}
 use Rattle.movie_file.specs.Movie.{MovieData}
@@ -53,8 +55,8 @@ IsFirstFault cartridge inputs frame kind =
 
 -- Why no movie is made. The counts are looked at first, and memory is taken before the run, if
 -- there is a checkpoint.
-abbrev pub Explains : List ℕ → List InputData → ℕ → MakeError → Type 0
-Explains cartridge inputs every (Fault frame kind) =
+abbrev pub Explains : List ℕ → List InputData → ℕ → Refused MakeError → Type 0
+Explains cartridge inputs every (Of (Fault frame kind)) =
     IsTrue (counts_fit (length inputs) every) × IsFirstFault cartridge inputs frame kind
-Explains cartridge inputs every BadCounts = ¬ IsTrue (counts_fit (length inputs) every)
+Explains cartridge inputs every (Of BadCounts) = ¬ IsTrue (counts_fit (length inputs) every)
 Explains cartridge inputs every NoMemory = IsTrue (counts_fit (length inputs) every) × (0 < length inputs / every)

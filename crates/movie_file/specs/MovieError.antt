@@ -1,12 +1,13 @@
--- Refusals: their names, and what it is to answer what reading gives unless memory is refused. This
--- project's own.
-use Rattle.std.specs.Prelude.{◌≡◌, ◌≢◌, ℕ, List, ◌++◌, Result, Ok, Err, codes}
+-- Refusals: their names, and what it is to answer what reading gives, always or unless memory is
+-- refused. This project's own.
+use Rattle.std.specs.Prelude.{◌≡◌, ℕ, List, ◌++◌, Result, Ok, Err, codes}
 use Rattle.std.specs.Fmt.{decimal}
 use Rattle.movie_file.specs.declared.error.MovieError.{MovieError}
 use Rattle.movie_file.specs.declared.error.MovieError.TheVariants.{Short, BadMagic, BadVersion}
 use Rattle.movie_file.specs.declared.error.MovieError.TheVariants.{BadCartSize, BadCounts, BadState}
 use Rattle.movie_file.specs.declared.error.MovieError.TheVariants.{BadInput, BadOrder, Trailing}
-use Rattle.movie_file.specs.declared.error.MovieError.TheVariants.{NoMemory}
+use Rattle.movie_file.specs.declared.refused.Refused.{Refused}
+use Rattle.movie_file.specs.declared.refused.Refused.TheVariants.{NoMemory, Of}
 
 -- the name of a refusal, and its number if it has one
 abbrev pub refusal_text : MovieError → List ℕ
@@ -19,13 +20,14 @@ refusal_text (BadState k) = codes "BadState " ++ decimal k
 refusal_text (BadInput k) = codes "BadInput " ++ decimal k
 refusal_text (BadOrder k) = codes "BadOrder " ++ decimal k
 refusal_text Trailing = codes "Trailing"
-refusal_text NoMemory = codes "NoMemory"
 
--- reading ends with this refusal; nothing is said if memory was refused
-abbrev pub Fails : {Y : Type 0} → MovieError → Result Y MovieError → Type 0
-Fails e read = e ≢ NoMemory → read ≡ Err e
-
--- a call's answer, seen by `view`, is what reading gives, unless memory was refused
+-- a call's answer, seen by `view`, is what reading gives
 abbrev pub Gives : {X Y : Type 0} → (X → Y) → Result X MovieError → Result Y MovieError → Type 0
 Gives view (Ok x) read = read ≡ Ok (view x)
-Gives view (Err e) read = Fails e read
+Gives view (Err e) read = read ≡ Err e
+
+-- it is, unless memory was refused
+abbrev pub GivesUnlessRefused : {X Y : Type 0} → (X → Y) → Result X (Refused MovieError) → Result Y MovieError → Type 0
+GivesUnlessRefused view (Ok x) read = read ≡ Ok (view x)
+GivesUnlessRefused view (Err (Of e)) read = read ≡ Err e
+GivesUnlessRefused view (Err NoMemory) read = Unit {0}

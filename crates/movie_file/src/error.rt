@@ -1,8 +1,8 @@
 //! Refusals.
 ghost use Rattle.std.specs.Prelude.{◌≡◌};
-ghost use Rattle.movie_file.specs.declared.error.MovieError.TheVariants.{NoMemory as NoMemoryError};
+ghost use Rattle.movie_file.specs.declared.refused.Refused.TheVariants.{Of};
 
-use std::alloc::{AllocError, AllocFailed};
+use crate::refused::Refused;
 use std::fmt;
 use thiserror::Error;
 use vcs_machine::FaultKind;
@@ -32,8 +32,6 @@ pub enum MovieError {
     BadOrder(u16),
     /// Bytes follow the movie.
     Trailing,
-    /// An allocation for the movie was refused.
-    NoMemory,
 }
 
 impl fmt::Display for MovieError {
@@ -53,24 +51,15 @@ impl fmt::Display for MovieError {
             MovieError::BadInput(k) => write!(f, "BadInput {k}"),
             MovieError::BadOrder(k) => write!(f, "BadOrder {k}"),
             MovieError::Trailing => write!(f, "Trailing"),
-            MovieError::NoMemory => write!(f, "NoMemory"),
         }
     }
 }
 
-impl From<AllocError> for MovieError {
-    ghost from_gives = { λ _ e. e ≡ NoMemoryError };
+impl From<MovieError> for Refused<MovieError> {
+    ghost from_gives = { λ error e. e ≡ Of error };
 
-    fn from(_e: AllocError) -> MovieError {
-        MovieError::NoMemory
-    }
-}
-
-impl<T: Drop> From<AllocFailed<T>> for MovieError {
-    ghost from_gives = { λ _ e. e ≡ NoMemoryError };
-
-    fn from(_e: AllocFailed<T>) -> MovieError {
-        MovieError::NoMemory
+    fn from(error: MovieError) -> Refused<MovieError> {
+        Refused::Of(error)
     }
 }
 
@@ -81,6 +70,4 @@ pub enum MakeError {
     Fault { frame: u32, kind: FaultKind },
     /// No frame or too many, a checkpoint after each 0 frames, or too many checkpoints.
     BadCounts,
-    /// An allocation for the checkpoints was refused.
-    NoMemory,
 }

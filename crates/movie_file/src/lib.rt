@@ -17,6 +17,7 @@ mod parts;
 mod progress;
 mod reading;
 mod record;
+mod refused;
 mod writing;
 
 pub use assembling::movie_of;
@@ -39,4 +40,5 @@ pub use record::{
     BANK_NUMBERS, BANK_NUMBERS_AT, PROCESSOR_NUMBERS, RIOT_NUMBERS, RIOT_NUMBERS_AT, RecordNumber,
     TIA_NUMBERS, TIA_NUMBERS_AT, read_state, write_state,
 };
+pub use refused::Refused;
 pub use writing::write_movie;

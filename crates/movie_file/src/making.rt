@@ -16,6 +16,7 @@ use crate::error::MakeError;
 use crate::format::{MOST_CHECKPOINTS, MOST_FRAMES, most_frames, takes_cart};
 use crate::movie::Movie;
 use crate::progress::{Progress, Work};
+use crate::refused::Refused;
 use riot_map::Cart;
 use std::alloc::Global;
 use vcs_machine::{Input, State, halt};
@@ -107,17 +108,17 @@ pub fn make_movie<P: Progress>(
     inputs: Vec<Input>,
     every: u32,
     progress: &P,
-) -> Result<Movie, MakeError>
+) -> Result<Movie, Refused<MakeError>>
     ensures made { IfOk result (λ movie. IsMadeOf cart inputs.items every movie) }
     ensures genuine { IfOk result (λ movie. IsGenuine movie) }
     ensures refused { IfErr result (Explains cart inputs.items every) }
     ensures counts { IfOk result (λ movie. IsTrue (counts_fit (length inputs.items) every)) }
 {
     if !do_counts_fit(inputs.len(), every) {
-        return Err(MakeError::BadCounts);
+        return Err(Refused::Of(MakeError::BadCounts));
     }
     let Ok(checkpoints) = Vec::with_capacity(alloc, inputs.len() / every as usize) else {
-        return Err(MakeError::NoMemory);
+        return Err(Refused::NoMemory);
     };
     let start = State::power_on(&cart);
     progress.begin(Work::Frames(inputs.len() as u32));
@@ -125,7 +126,7 @@ pub fn make_movie<P: Progress>(
     progress.end();
     let checkpoints = match run {
         Ok(checkpoints) => checkpoints,
-        Err(e) => return Err(e),
+        Err(e) => return Err(Refused::Of(e)),
     };
     let version = version_made(&cart, inputs.len());
     Ok(movie_of(version, cart, start, inputs, checkpoints))

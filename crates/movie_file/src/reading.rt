@@ -1,9 +1,9 @@
 //! Reading movies.
-ghost use Rattle.std.specs.Prelude.{◌≡◌, ◌≢◌, ◌≤◌, [], length, take, IfErr, IfOk, IsOk, IsTrue, Ok};
+ghost use Rattle.std.specs.Prelude.{◌≡◌, ◌≤◌, [], length, take, Err, IfOk, IsOk, IsTrue, Ok};
 ghost use Rattle.std.specs.Prelude.{vec_capacity};
 ghost use Rattle.movie_file.specs.Format.{takes_cart, most_frames, most_checkpoints};
 ghost use Rattle.movie_file.specs.Movie.{MovieData};
-ghost use Rattle.movie_file.specs.MovieError.{Gives};
+ghost use Rattle.movie_file.specs.MovieError.{Gives, GivesUnlessRefused};
 ghost use Rattle.movie_file.specs.Private.MovieParts.{data_of};
 ghost use Rattle.movie_file.specs.Reading.{body_at, body_length, movie_at, sizes_at};
 ghost use Rattle.movie_file.specs.Spelling.{Spells};
@@ -19,6 +19,7 @@ use crate::format::record_length;
 use crate::movie::Movie;
 use crate::parts::MovieParts;
 use crate::record::movie_state_in;
+use crate::refused::Refused;
 use header::sizes_in;
 pub use inputs::read_inputs;
 use items::{checkpoints_in, inputs_in};
@@ -68,7 +69,6 @@ impl Reserved {
         requires checkpoints_room { (self.checkpoints.items ≡ [])
             × (sizes.checkpoints ≤ vec_capacity self.checkpoints) }
         ensures gives { Gives data_of result (body_at sizes bytes.now) }
-        ensures never { IfErr result (λ e. e ≢ MovieError.NoMemory) }
     {
         let (_, rest) = bytes.split_at(sizes.cartridge_length as usize);
         let (start, rest) = rest.split_at(record_length(sizes.version));
@@ -97,13 +97,13 @@ impl Reserved {
 /// format. `NoMemory` comes only if the header is good and enough bytes follow it, and then
 /// before any other refusal.
 #[tactic(auto, unfolding(crate::specs::Reading::movie_at))]
-pub fn read_movie(alloc: Global, bytes: &[u8]) -> Result<Movie, MovieError>
+pub fn read_movie(alloc: Global, bytes: &[u8]) -> Result<Movie, Refused<MovieError>>
     ensures found { IfOk result (λ m. Spells bytes.now m) }
     // What the bytes spell is read, unless memory was refused.
-    ensures only { (m : MovieData) → Spells bytes.now m → Gives (λ m. m) result (Ok m) }
-    ensures exact { Gives (λ m. m) result (movie_at bytes.now) }
-    ensures refused { IfErr result (λ e. e ≢ MovieError.NoMemory → movie_at bytes.now ≡ Err e) }
-    ensures memory { result ≡ Err MovieError.NoMemory → IsOk (sizes_at bytes.now) }
+    ensures only { (m : MovieData) → Spells bytes.now m → GivesUnlessRefused (λ m. m) result (Ok m) }
+    ensures exact { GivesUnlessRefused (λ m. m) result (movie_at bytes.now) }
+    ensures refused { (e : MovieError) → result ≡ Err (Refused.Of e) → movie_at bytes.now ≡ Err e }
+    ensures memory { result ≡ Err Refused.NoMemory → IsOk (sizes_at bytes.now) }
 {
     let (sizes, rest) = sizes_in(bytes)?;
     let reserved = Reserved::new(alloc, &rest[..sizes.cartridge_length as usize], sizes)?;

@@ -265,7 +265,6 @@ TellsMistake bytes (errors.BadOrder number) hint =
     ≡ of_field fields.FrameNumber (checkpoint_place bytes (number - 1)) (expected.FrameAfter (frame_before bytes number) (four_at bytes 8))
     (found.FourBytes (four_at bytes (checkpoint_place bytes (number - 1))))
 TellsMistake bytes errors.Trailing hint = TellsLength bytes hint
-TellsMistake bytes errors.NoMemory hint = ⊥
 
 -- By how many bytes the file is longer than its header says, where the refusal lets that be known.
 abbrev pub extra_of : List ℕ → MovieError → ℕ
@@ -281,7 +280,7 @@ Tells bytes error hint = (mistake : Hint) × TellsMistake bytes error mistake ×
 -- for a state of which it isn't known which number is wrong.
 abbrev pub Explains : List ℕ → MovieError → Option Hint → Type 0
 Explains bytes error hint =
-    IfSome hint (Tells bytes error) × (hint ≡ None → (error ≡ errors.NoMemory) ⊎ ((k : ℕ) × (error ≡ errors.BadState k)))
+    IfSome hint (Tells bytes error) × (hint ≡ None → (k : ℕ) × (error ≡ errors.BadState k))
 
 -- ---- why bytes are no ROM and no inputs
 
@@ -309,7 +308,6 @@ TellsTriples bytes errors.BadCounts hint = ⊥
 TellsTriples bytes (errors.BadState number) hint = ⊥
 TellsTriples bytes (errors.BadOrder number) hint = ⊥
 TellsTriples bytes errors.Trailing hint = ⊥
-TellsTriples bytes errors.NoMemory hint = ⊥
 
 abbrev pub TellsInputs : List ℕ → MovieError → Hint → Type 0
 TellsInputs bytes error hint = TellsOther bytes hint ⊎ TellsTexts bytes hint ⊎ TellsTriples bytes error hint

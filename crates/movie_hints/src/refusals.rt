@@ -144,7 +144,7 @@ fn wrong_order(bytes: &[u8], number: u16) -> Hint
 /// What is wrong with the bytes of a movie that is refused so, but for what follows the movie.
 fn mistake_of(bytes: &[u8], error: MovieError) -> Option<Hint>
     ensures some { IfSome result (TellsMistake bytes.now error) }
-    ensures none { result ≡ None → (error ≡ errors.NoMemory) ⊎ ((k : ℕ) × (error ≡ errors.BadState k)) }
+    ensures none { result ≡ None → (k : ℕ) × (error ≡ errors.BadState k) }
 {
     let places = Places::of(bytes);
     match error {
@@ -160,7 +160,6 @@ fn mistake_of(bytes: &[u8], error: MovieError) -> Option<Hint>
             Some(wrong_input(bytes, first))
         }
         MovieError::BadOrder(number) => Some(wrong_order(bytes, number)),
-        MovieError::NoMemory => None,
     }
 }
 

@@ -4,8 +4,9 @@ use Rattle.std.proofs.Common.{refl, arith, ap, ◌∙◌, subst, sym, add-one, �
 use Rattle.std.proofs.Common.{IsFalse}
 use Rattle.std.proofs.lemmas.Bool.{cases_lt}
 use Rattle.vcs_machine.specs.Pictures.{Rows}
-use Rattle.replay_segments.specs.declared.gathering.GatherError.{GatherError}
-use Rattle.replay_segments.specs.declared.gathering.GatherError.TheVariants.{Missing, NoMemory}
+use Rattle.movie_file.specs.declared.refused.Refused.{Refused}
+use Rattle.movie_file.specs.declared.refused.Refused.TheVariants.{Of, NoMemory}
+use Rattle.replay_segments.specs.declared.gathering.Missing.{Missing}
 use Rattle.replay_segments.specs.declared.outcome.Outcome.{Outcome}
 use Rattle.replay_segments.specs.declared.outcome.Outcome.TheVariants.{Judged}
 use Rattle.replay_segments.specs.declared.verdict.Verdict.{Verdict}
@@ -60,7 +61,7 @@ module _ (pieces : List PieceData) (n number : ℕ) (first : IsFirstUnpassed pie
   refused_is : (k : ℕ) → IsFirstRefused pieces n k → k ≡ number
   refused_is k (less, has, refused, below) = same_first k (refused_none pieces k refused) below
 
-  pub verdict-answer : (r : Result Verdict GatherError) → IsAnswer pieces number r
+  pub verdict-answer : (r : Result Verdict (Refused Missing)) → IsAnswer pieces number r
       → IfOk r (λ v. (job : Job) → NamesAll job pieces → n ≡ segments_of job → IsVerdict job.movie job.keep v)
   verdict-answer (Ok v) (i, p, at, is, judged, bad, lawful) = λ job names whole.
       let (kept, begun) = prefix_of job pieces names number first.below in
@@ -68,21 +69,21 @@ module _ (pieces : List PieceData) (n number : ℕ) (first : IsFirstUnpassed pie
       IsVerdict-bad job of.0 number of.1 kept begun v of.2 (subst (λ (o : Outcome). IsFalse (passed o)) judged bad)
   verdict-answer (Err e) answer = tt
 
-  pub missing-answer : (r : Result Verdict GatherError) → IsAnswer pieces number r → (k : ℕ) → (r ≡ Err (Missing k)) ↔ IsFirstMissing pieces n k
+  pub missing-answer : (r : Result Verdict (Refused Missing)) → IsAnswer pieces number r → (k : ℕ) → (r ≡ Err (Of (record { segment = k }))) ↔ IsFirstMissing pieces n k
   missing-answer (Ok v) (i, p, at, is, judged, bad, lawful) k = (λ e. absurd cc, λ first. absurd (first.1 i p at (is ∙ sym (missing_is k first))))
-  missing-answer (Err (Missing j)) (here, missing) k = (
+  missing-answer (Err (Of missing)) (here, missing) k = (
     λ e. let same : number ≡ k = cc in rw (← same) (first.within, missing, passed_below),
-    λ other. ap (λ (x : ℕ). Err (Missing x)) (here ∙ sym (missing_is k other)),
+    λ other. ap (λ (x : ℕ). Err (Of (record { segment = x }))) (here ∙ sym (missing_is k other)),
   )
   missing-answer (Err NoMemory) ((i, p, at, is), _) k = (λ e. absurd cc, λ first. absurd (first.1 i p at (is ∙ sym (missing_is k first))))
 
-  pub refused-answer : (r : Result Verdict GatherError) → IsAnswer pieces number r → (k : ℕ) → IsFirstRefused pieces n k → r ≡ Err NoMemory
+  pub refused-answer : (r : Result Verdict (Refused Missing)) → IsAnswer pieces number r → (k : ℕ) → IsFirstRefused pieces n k → r ≡ Err NoMemory
   refused-answer (Ok v) (i, p, at, is, judged, bad, lawful) k first = let none = first.2 i p at (is ∙ sym (refused_is k first)) in absurd cc
-  refused-answer (Err (Missing j)) (here, missing) k first = let (i, p, at, is) = first.1 in absurd (missing i p at (is ∙ refused_is k first))
+  refused-answer (Err (Of missing)) (here, missing) k first = let (i, p, at, is) = first.1 in absurd (missing i p at (is ∙ refused_is k first))
   refused-answer (Err NoMemory) answer k first = refl
 
-  pub memory-answer : (r : Result Verdict GatherError) → IsAnswer pieces number r → r ≡ Err NoMemory
+  pub memory-answer : (r : Result Verdict (Refused Missing)) → IsAnswer pieces number r → r ≡ Err NoMemory
       → ((k : ℕ) × IsFirstRefused pieces n k) ⊎ (PassedBelow pieces n × (0 < picture_count pieces))
   memory-answer (Ok v) answer e = absurd cc
-  memory-answer (Err (Missing j)) answer e = absurd cc
+  memory-answer (Err (Of missing)) answer e = absurd cc
   memory-answer (Err NoMemory) (has, refused) e = inl (number, (first.within, has, refused, passed_below))

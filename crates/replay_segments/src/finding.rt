@@ -4,9 +4,10 @@ ghost use Rattle.replay_segments.specs.Private.Finding.{IsPassedAt, ArePassedBel
 ghost use Rattle.replay_segments.specs.Private.Finding.{IsFirstUnpassed, IsAnswer};
 ghost use Rattle.replay_segments.specs.Gathering.{HasPassed};
 
-use crate::gathering::GatherError;
+use crate::gathering::Missing;
 use crate::piece::Piece;
 use crate::verdict::Verdict;
+use movie_file::Refused;
 
 /// Where a piece of this number stands that passed.
 pub(crate) fn find_passed(pieces: &[Piece], number: u32) -> Option<usize>
@@ -36,17 +37,17 @@ pub(crate) fn first_unpassed(pieces: &[Piece], n: u32) -> Option<u32>
 
 /// What a segment without a piece that passed answers: the verdict of a piece that was judged, or
 /// why there is none.
-pub(crate) fn answer_of(pieces: &[Piece], number: u32) -> Result<Verdict, GatherError>
+pub(crate) fn answer_of(pieces: &[Piece], number: u32) -> Result<Verdict, Refused<Missing>>
     requires { HasPassed pieces.now number → ⊥ }
     ensures { IsAnswer pieces.now number result }
 {
-    let mut answer = GatherError::Missing(number);
+    let mut answer = Refused::Of(Missing { segment: number });
     for (i, piece) in pieces.iter().enumerate() {
         if piece.number() == number {
             if let Some(verdict) = piece.bad() {
                 return Ok(verdict);
             }
-            answer = GatherError::NoMemory;
+            answer = Refused::NoMemory;
         }
     }
     Err(answer)

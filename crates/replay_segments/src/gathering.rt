@@ -9,16 +9,14 @@ use crate::finding::{answer_of, first_unpassed};
 use crate::joining::all_pictures;
 use crate::piece::Piece;
 use crate::verdict::Verdict;
+use movie_file::Refused;
 use std::alloc::{AllocError, Global};
 
-/// Why pieces give no verdict.
+/// The first segment without a piece that passed has no piece at all.
 #[derive(Clone, Copy, Debug, PartialEq, Eq)]
-pub enum GatherError {
-    /// The first segment without a piece that passed has pieces, all of them without memory; or the
-    /// allocation of the list of all pictures was refused.
-    NoMemory,
-    /// The first segment without a piece that passed, which is named, has no piece.
-    Missing(u32),
+pub struct Missing {
+    /// Its number, from 0.
+    pub segment: u32,
 }
 
 /// The verdict of the movie whose pieces these are, which has `n` segments. They come in any order,
@@ -26,15 +24,17 @@ pub enum GatherError {
 ///
 /// It is that of the first segment that did not pass, or genuine if each has a piece that did.
 /// If no piece has a picture no memory is taken; else there is one allocation, for all pictures.
-pub fn gather(alloc: Global, pieces: Vec<Piece>, n: u32) -> Result<Verdict, GatherError>
+/// NoMemory comes if that is refused, or if the first segment without a piece that passed has
+/// pieces, all of them without memory.
+pub fn gather(alloc: Global, pieces: Vec<Piece>, n: u32) -> Result<Verdict, Refused<Missing>>
     requires { 0 < n }
     ensures verdict { IfOk result (λ verdict. (job : Job) → NamesAll job pieces.items
         → n ≡ segments_of job → IsVerdict job.movie job.keep verdict) }
-    ensures missing { (k : ℕ) → (result ≡ Err (GatherError.Missing k))
+    ensures missing { (k : ℕ) → (result ≡ Err (Refused.Of (record { segment = k })))
         ↔ IsFirstMissing pieces.items n k }
     ensures refused { (k : ℕ) → IsFirstRefused pieces.items n k
-        → result ≡ Err GatherError.NoMemory }
-    ensures memory { result ≡ Err GatherError.NoMemory
+        → result ≡ Err Refused.NoMemory }
+    ensures memory { result ≡ Err Refused.NoMemory
         → ((k : ℕ) × IsFirstRefused pieces.items n k)
         ⊎ (PassedBelow pieces.items n × (0 < picture_count pieces.items)) }
 {
@@ -44,6 +44,6 @@ pub fn gather(alloc: Global, pieces: Vec<Piece>, n: u32) -> Result<Verdict, Gath
     }
     match all_pictures(alloc, pieces, n) {
         Ok(pictures) => Ok(Verdict::Genuine { pictures }),
-        Err(AllocError) => Err(GatherError::NoMemory),
+        Err(AllocError) => Err(Refused::NoMemory),
     }
 }

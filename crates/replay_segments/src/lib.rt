@@ -20,7 +20,7 @@ mod verdict;
 
 pub use checkpoints::checkpoints_before;
 pub use cuts::{BadCuts, Cuts};
-pub use gathering::{GatherError, gather};
+pub use gathering::{Missing, gather};
 pub use laws::{law_of_converted_verdicts, law_of_one_outcome, law_of_one_verdict};
 pub use outcome::Outcome;
 pub use piece::Piece;

@@ -2,12 +2,12 @@
 
 use command_line::LineFault;
 use commands::RunError;
-use movie_file::{MakeError, MovieError};
+use movie_file::{MakeError, MovieError, Refused};
 use replay_plan::BadKeep;
-use replay_segments::{BadCuts, GatherError};
+use replay_segments::{BadCuts, Missing};
 use std::alloc::{AllocError, AllocFailed};
 use thiserror::Error;
-use verify_pool::{NoThread, VerifyError};
+use verify_pool::NoThread;
 
 /// Why a call is not right, or not with a growth of its own refused.
 #[derive(Clone, Copy, Debug, Error)]
@@ -57,39 +57,30 @@ impl From<LineFault> for CallFailure {
     }
 }
 
-impl From<MovieError> for CallFailure {
-    fn from(error: MovieError) -> CallFailure {
+impl<E: Into<CallFailure>> From<Refused<E>> for CallFailure {
+    fn from(error: Refused<E>) -> CallFailure {
         match error {
-            MovieError::NoMemory => OUT_OF_MEMORY,
-            _ => CallFailure::Wrong,
+            Refused::NoMemory => OUT_OF_MEMORY,
+            Refused::Of(error) => error.into(),
         }
+    }
+}
+
+impl From<MovieError> for CallFailure {
+    fn from(_bad: MovieError) -> CallFailure {
+        CallFailure::Wrong
     }
 }
 
 impl From<MakeError> for CallFailure {
-    fn from(error: MakeError) -> CallFailure {
-        match error {
-            MakeError::NoMemory => OUT_OF_MEMORY,
-            _ => CallFailure::Wrong,
-        }
+    fn from(_bad: MakeError) -> CallFailure {
+        CallFailure::Wrong
     }
 }
 
-impl From<GatherError> for CallFailure {
-    fn from(error: GatherError) -> CallFailure {
-        match error {
-            GatherError::NoMemory => OUT_OF_MEMORY,
-            GatherError::Missing(_) => CallFailure::Wrong,
-        }
-    }
-}
-
-impl From<VerifyError> for CallFailure {
-    fn from(error: VerifyError) -> CallFailure {
-        match error {
-            VerifyError::NoMemory => OUT_OF_MEMORY,
-            VerifyError::NoThread => CallFailure::Run(RunError::NoThread),
-        }
+impl From<Missing> for CallFailure {
+    fn from(_missing: Missing) -> CallFailure {
+        CallFailure::Wrong
     }
 }
 

@@ -6,7 +6,7 @@ use crate::call_failure::{CallFailure, OUT_OF_MEMORY};
 use crate::movies::{LENGTH, cartridge, two_frames};
 use command_line::Command;
 use commands::Status;
-use movie_file::{MakeError, MovieError, NoProgress, make_movie, read_inputs, read_movie};
+use movie_file::{MakeError, MovieError, NoProgress, Refused, make_movie, read_inputs, read_movie};
 use replay_plan::Workers;
 use std::alloc::Global;
 use std::num::NonZeroU32;
@@ -26,8 +26,8 @@ pub(crate) fn is_bad_state(alloc: Global) -> Result<(), CallFailure> {
     let mut bytes = two_frames();
     bytes[2066] = 0x14;
     match read_movie(alloc, &bytes) {
-        Err(MovieError::BadState(0)) => Ok(()),
-        Err(MovieError::NoMemory) => Err(OUT_OF_MEMORY),
+        Err(Refused::Of(MovieError::BadState(0))) => Ok(()),
+        Err(Refused::NoMemory) => Err(OUT_OF_MEMORY),
         _ => Err(CallFailure::Wrong),
     }
 }
@@ -35,8 +35,8 @@ pub(crate) fn is_bad_state(alloc: Global) -> Result<(), CallFailure> {
 /// A list whose first input has a third button.
 pub(crate) fn is_bad_input(alloc: Global) -> Result<(), CallFailure> {
     match read_inputs(alloc, &[0xFF, 0x3F, 4]) {
-        Err(MovieError::BadInput(1)) => Ok(()),
-        Err(MovieError::NoMemory) => Err(OUT_OF_MEMORY),
+        Err(Refused::Of(MovieError::BadInput(1))) => Ok(()),
+        Err(Refused::NoMemory) => Err(OUT_OF_MEMORY),
         _ => Err(CallFailure::Wrong),
     }
 }
@@ -49,8 +49,8 @@ pub(crate) fn is_faulty_run(alloc: Global) -> Result<(), CallFailure> {
     let cart = cartridge(alloc, &without_opcode())?;
     let inputs = vec![in alloc; idle; 2]?;
     match make_movie(alloc, cart, inputs, 1, &NoProgress) {
-        Err(MakeError::Fault { frame: 1, kind: _ }) => Ok(()),
-        Err(MakeError::NoMemory) => Err(OUT_OF_MEMORY),
+        Err(Refused::Of(MakeError::Fault { frame: 1, kind: _ })) => Ok(()),
+        Err(Refused::NoMemory) => Err(OUT_OF_MEMORY),
         _ => Err(CallFailure::Wrong),
     }
 }

@@ -3,7 +3,9 @@
 use crate::expectation::expect_equal;
 use crate::movies::{ENDLESS_FRAMES, cartridge, power_on, read, two_frames};
 use input_text::write_numbered;
-use movie_file::{MakeError, NoProgress, make_movie, read_state, version_made, write_movie};
+use movie_file::{
+    MakeError, NoProgress, Refused, make_movie, read_state, version_made, write_movie,
+};
 use std::num::NonZeroU32;
 use std::test::Fail;
 use vcs_machine::Input;
@@ -37,8 +39,8 @@ fn movie_is_not_made_with_a_checkpoint_after_each_0_frames(rt: HostRuntime) -> R
     let inputs = vec![in rt.alloc(); idle; 2]?;
     let cart = cartridge(rt.alloc(), &ENDLESS_FRAMES)?;
     let refusal = make_movie(rt.alloc(), cart, inputs, 0, &NoProgress).err();
-    expect_equal(&rt, refusal, Some(MakeError::BadCounts));
-    assert!(rt; refusal != Some(MakeError::NoMemory));
+    expect_equal(&rt, refusal, Some(Refused::Of(MakeError::BadCounts)));
+    assert!(rt; refusal != Some(Refused::NoMemory));
     Ok(())
 }
 

@@ -6,9 +6,9 @@ use crate::movies::{
     two_frames_with_a_last_checkpoint,
 };
 use crate::verdicts::{FIRST_FALSE, picture_count, verdict_of};
-use movie_file::{Movie, NoProgress};
+use movie_file::{Movie, NoProgress, Refused};
 use replay_plan::Keep;
-use replay_segments::{BadCuts, Cuts, GatherError, Piece, Verdict, gather, replay};
+use replay_segments::{BadCuts, Cuts, Missing, Piece, Verdict, gather, replay};
 use std::alloc::Global;
 use std::num::NonZeroU16;
 use std::test::Fail;
@@ -50,7 +50,7 @@ fn gather_pieces(
     alloc: Global,
     movie: &Movie,
     numbers: &[u32],
-) -> Result<Result<Verdict, GatherError>, Fail> {
+) -> Result<Result<Verdict, Refused<Missing>>, Fail> {
     let pieces = pieces_of(alloc, movie, numbers)?;
     Ok(gather(alloc, pieces, 2))
 }
@@ -86,15 +86,16 @@ fn pieces_in_any_order_give_the_verdict_of_one_replay(rt: HostRuntime) -> Result
 #[test]
 fn first_missing_segment_is_named(rt: HostRuntime) -> Result<(), Fail> {
     let genuine = two(rt.alloc())?;
-    for (order, missing) in [
+    for (order, segment) in [
         ([1u32].as_slice(), 0),
         ([].as_slice(), 0),
         ([0].as_slice(), 1),
         ([1, 1].as_slice(), 0),
     ] {
         let verdict = gather_pieces(rt.alloc(), &genuine, order)?;
-        expect_equal(&rt, verdict.err(), Some(GatherError::Missing(missing)));
-        assert!(rt; GatherError::Missing(missing) != GatherError::NoMemory);
+        let missing = Refused::Of(Missing { segment });
+        expect_equal(&rt, verdict.err(), Some(missing));
+        assert!(rt; missing != Refused::NoMemory);
     }
     Ok(())
 }
@@ -107,7 +108,7 @@ fn bad_segment_that_came_first_is_no_verdict(rt: HostRuntime) -> Result<(), Fail
         assert!(rt; verdict.equals(&FIRST_FALSE));
     }
     let alone = gather_pieces(rt.alloc(), &claims, &[1])?;
-    assert!(rt; matches!(alone, Err(GatherError::Missing(0))));
+    assert!(rt; matches!(alone, Err(Refused::Of(Missing { segment: 0 }))));
     Ok(())
 }
 

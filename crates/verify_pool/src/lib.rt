@@ -11,5 +11,5 @@ mod workers;
 pub use gate::{Gate, NoGate};
 pub use hand::Hand;
 pub use segment_desk::{Desk, Ticket};
-pub use verification::{VerifyError, verify};
+pub use verification::verify;
 pub use workers::{NoThread, crew};

@@ -1,5 +1,5 @@
 //! The verdict of a movie, by workers.
-ghost use Rattle.std.specs.Prelude.{◌≡◌, ℕ, ◌+◌, ◌<◌, ◌≤◌, length, replicate, Err, IfOk};
+ghost use Rattle.std.specs.Prelude.{◌≡◌, ◌≢◌, ℕ, ◌+◌, ◌<◌, ◌≤◌, length, replicate, IfErr, IfOk};
 ghost use Rattle.replay_segments.specs.Cuts.{Fits};
 ghost use Rattle.replay_segments.specs.Verdicts.{IsVerdict};
 ghost use Rattle.verify_pool.specs.Crew.{AreReady, shares};
@@ -8,23 +8,14 @@ ghost use Rattle.segment_desk.specs.Views.{first_ticket};
 use crate::gate::Gate;
 use crate::hand::Hand;
 use crate::work::work_of;
-use crate::workers::crew;
-use movie_file::{Movie, Progress};
+use crate::workers::{NoThread, crew};
+use movie_file::{Movie, Progress, Refused};
 use replay_plan::{Keep, Workers};
-use replay_segments::{Cuts, GatherError, Verdict, gather};
+use replay_segments::{Cuts, Verdict, gather};
 use segment_desk::{Desk, Ticket};
 use std::alloc::{AllocError, Global};
 use std::sync::Wait;
 use std::thread::Threads;
-
-/// Why a movie gets no verdict.
-#[derive(Clone, Copy, Debug, PartialEq, Eq)]
-pub enum VerifyError {
-    /// The start of a thread was refused.
-    NoThread,
-    /// An allocation was refused: for the desk, for the lists of pieces, or for pictures.
-    NoMemory,
-}
 
 /// A hand for each ticket of a new desk: each has room for a piece of each segment, and the first
 /// has room for those of all.
@@ -61,28 +52,28 @@ fn verdict_of<G: Gate + Progress + Sync, R: Threads + Wait + Sync>(
     workers: Workers,
     keep: Keep,
     gate: &G,
-) -> Result<Verdict, VerifyError>
+) -> Result<Verdict, Refused<NoThread>>
     requires fit { Fits cuts.now movie.now }
     ensures verdict { IfOk result (λ verdict. IsVerdict movie.now keep verdict) }
-    ensures no_thread { result ≡ Err VerifyError.NoThread → (2 ≤ workers.number) × (2 ≤ length cuts.now + 1) }
+    ensures no_thread { IfErr result (λ e. e ≢ Refused.NoMemory → (2 ≤ workers.number) × (2 ≤ length cuts.now + 1)) }
 {
     let segments = cuts.segments();
     let workers = u32::from(workers.get()).min(segments) as u8;
     let Ok((desk, tickets)) = Desk::new(alloc, segments, workers) else {
-        return Err(VerifyError::NoMemory);
+        return Err(Refused::NoMemory);
     };
     let Ok(hands) = hands_of(alloc, &desk, segments, tickets) else {
-        return Err(VerifyError::NoMemory);
+        return Err(Refused::NoMemory);
     };
     let Ok(hand) = crew(rt, alloc, movie, cuts, keep, &desk, hands, gate) else {
-        return Err(VerifyError::NoThread);
+        return Err(Refused::Of(NoThread));
     };
     let Hand { ticket, pieces } = hand;
     drop(ticket);
     match gather(alloc, pieces, segments) {
         Ok(verdict) => Ok(verdict),
-        Err(GatherError::NoMemory) => Err(VerifyError::NoMemory),
-        Err(GatherError::Missing(_)) => unreachable!(),
+        Err(Refused::NoMemory) => Err(Refused::NoMemory),
+        Err(Refused::Of(_)) => unreachable!(),
     }
 }
 
@@ -106,10 +97,10 @@ pub fn verify<G: Gate + Progress + Sync, R: Threads + Wait + Sync>(
     workers: Workers,
     keep: Keep,
     gate: &G,
-) -> Result<Verdict, VerifyError>
+) -> Result<Verdict, Refused<NoThread>>
     requires fit { Fits cuts.now movie.now }
     ensures verdict { IfOk result (λ verdict. IsVerdict movie.now keep verdict) }
-    ensures no_thread { result ≡ Err VerifyError.NoThread → (2 ≤ workers.number) × (2 ≤ length cuts.now + 1) }
+    ensures no_thread { IfErr result (λ e. e ≢ Refused.NoMemory → (2 ≤ workers.number) × (2 ≤ length cuts.now + 1)) }
 {
     gate.begin(work_of(movie, cuts));
     let verdict = verdict_of(rt, alloc, movie, cuts, workers, keep, gate);

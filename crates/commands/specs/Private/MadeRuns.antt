@@ -13,7 +13,9 @@ use Rattle.movie_file.specs.Movie.{MovieData}
 use Rattle.movie_file.specs.Run.{run}
 use Rattle.movie_file.specs.declared.checkpoint.Checkpoint.{Checkpoint}
 use Rattle.movie_file.specs.declared.error.MakeError.{MakeError}
-use Rattle.movie_file.specs.declared.error.MakeError.TheVariants.{Fault, BadCounts, NoMemory}
+use Rattle.movie_file.specs.declared.error.MakeError.TheVariants.{Fault, BadCounts}
+use Rattle.movie_file.specs.declared.refused.Refused.{Refused}
+use Rattle.movie_file.specs.declared.refused.Refused.TheVariants.{NoMemory, Of}
 use Rattle.movie_hints.specs.declared.hint.Hint.{Hint}
 use Rattle.replay_plan.specs.declared.keep.Keep.{Keep}
 use Rattle.replay_segments.specs.Verdicts.{IsVerdict}
@@ -66,8 +68,8 @@ remark_of stored None = known_if Second stored
 remark_of stored (Some fault) = None
 
 -- The counts are looked at first.
-abbrev pub Explains : List ℕ → List InputData → ℕ → Bool → Bool → MakeError → Type 0
-Explains cartridge inputs every to_the_end to_the_fault (Fault frame kind) =
+abbrev pub Explains : List ℕ → List InputData → ℕ → Bool → Bool → Refused MakeError → Type 0
+Explains cartridge inputs every to_the_end to_the_fault (Of (Fault frame kind)) =
     IsTrue (do_claims_fit (length inputs) every to_the_end) × IsFirstFault cartridge inputs frame kind × (to_the_fault ≡ false)
-Explains cartridge inputs every to_the_end to_the_fault BadCounts = ¬ IsTrue (do_claims_fit (length inputs) every to_the_end)
+Explains cartridge inputs every to_the_end to_the_fault (Of BadCounts) = ¬ IsTrue (do_claims_fit (length inputs) every to_the_end)
 Explains cartridge inputs every to_the_end to_the_fault NoMemory = Unit {0}

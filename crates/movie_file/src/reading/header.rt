@@ -1,5 +1,5 @@
 //! Reading the header.
-ghost use Rattle.std.specs.Prelude.{◌≡◌, ◌≢◌, ◌≤◌, ◌==◌, IfErr, IfOk, IsTrue, length};
+ghost use Rattle.std.specs.Prelude.{◌≡◌, ◌≤◌, ◌==◌, IfOk, IsTrue, length};
 ghost use Rattle.std.specs.Int.{from_be_bytes, w16, w32};
 ghost use Rattle.movie_file.specs.declared.error.MovieError.TheVariants as errors;
 ghost use Rattle.movie_file.specs.Format.{is_version, length_width, magic};
@@ -17,7 +17,6 @@ use crate::format::{
 /// A number of two bytes, and what follows it.
 fn u16_at(bytes: &[u8]) -> Result<(u16, &[u8]), MovieError>
     ensures gives { Gives (λ x. (x.0, x.1.now)) result (number_at w16 bytes.now) }
-    ensures never { IfErr result (λ e. e ≢ MovieError.NoMemory) }
 {
     if bytes.len() < 2 {
         return Err(MovieError::Short);
@@ -29,7 +28,6 @@ fn u16_at(bytes: &[u8]) -> Result<(u16, &[u8]), MovieError>
 /// A number of four bytes, and what follows it.
 fn u32_at(bytes: &[u8]) -> Result<(u32, &[u8]), MovieError>
     ensures gives { Gives (λ x. (x.0, x.1.now)) result (number_at w32 bytes.now) }
-    ensures never { IfErr result (λ e. e ≢ MovieError.NoMemory) }
 {
     if bytes.len() < 4 {
         return Err(MovieError::Short);
@@ -44,7 +42,6 @@ fn u32_at(bytes: &[u8]) -> Result<(u32, &[u8]), MovieError>
 fn magic_in(bytes: &[u8]) -> Result<(u32, &[u8]), MovieError>
     ensures gives { Gives (λ x. (x.0, x.1.now)) result
         (tested_at w32 (λ n. n == from_be_bytes w32 magic) errors.BadMagic bytes.now) }
-    ensures never { IfErr result (λ e. e ≢ MovieError.NoMemory) }
 {
     let (magic, rest) = u32_at(bytes)?;
     if magic != MAGIC {
@@ -58,7 +55,6 @@ fn magic_in(bytes: &[u8]) -> Result<(u32, &[u8]), MovieError>
 fn version_in(bytes: &[u8]) -> Result<(u16, &[u8]), MovieError>
     ensures gives { Gives (λ x. (x.0, x.1.now)) result
         (tested_at w16 is_version errors.BadVersion bytes.now) }
-    ensures never { IfErr result (λ e. e ≢ MovieError.NoMemory) }
     ensures version { IfOk result (λ x. IsTrue (is_version x.0)) }
 {
     let (version, rest) = u16_at(bytes)?;
@@ -73,7 +69,6 @@ fn version_in(bytes: &[u8]) -> Result<(u16, &[u8]), MovieError>
 fn length_at(version: u16, bytes: &[u8]) -> Result<(u32, &[u8]), MovieError>
     ensures gives { Gives (λ x. (x.0, x.1.now)) result
         (number_at (length_width version) bytes.now) }
-    ensures never { IfErr result (λ e. e ≢ MovieError.NoMemory) }
 {
     if Version::of(version).has_wide_length {
         return u32_at(bytes);
@@ -87,7 +82,6 @@ fn length_at(version: u16, bytes: &[u8]) -> Result<(u32, &[u8]), MovieError>
 fn cart_length_in(version: u16, bytes: &[u8]) -> Result<(u32, &[u8]), MovieError>
     ensures gives { Gives (λ x. (x.0, x.1.now)) result
         (tested_at (length_width version) (takes_cart version) errors.BadCartSize bytes.now) }
-    ensures never { IfErr result (λ e. e ≢ MovieError.NoMemory) }
     ensures length { IfOk result (λ x. IsTrue (takes_cart version x.0)) }
 {
     let (length, rest) = length_at(version, bytes)?;
@@ -102,7 +96,6 @@ fn cart_length_in(version: u16, bytes: &[u8]) -> Result<(u32, &[u8]), MovieError
 #[tactic(auto, unfolding(crate::specs::Reading::counts_at))]
 fn counts_in(version: u16, bytes: &[u8]) -> Result<(u32, u16, &[u8]), MovieError>
     ensures gives { Gives (λ x. (x.0, x.1, x.2.now)) result (counts_at version bytes.now) }
-    ensures never { IfErr result (λ e. e ≢ MovieError.NoMemory) }
     ensures few { IfOk result (λ x. (x.0 ≤ most_frames version) × (x.1 ≤ most_checkpoints)) }
 {
     let (frames, rest) = u32_at(bytes)?;
@@ -130,7 +123,6 @@ fn body_length(sizes: Sizes) -> usize
 #[tactic(auto, unfolding(crate::specs::Reading::sizes_at))]
 pub(super) fn sizes_in(bytes: &[u8]) -> Result<(Sizes, &[u8]), MovieError>
     ensures gives { Gives (λ x. (x.0, x.1.now)) result (sizes_at bytes.now) }
-    ensures never { IfErr result (λ e. e ≢ MovieError.NoMemory) }
     ensures long { IfOk result (λ x. body_length x.0 ≤ length x.1.now) }
     ensures version { IfOk result (λ x. IsTrue (is_version x.0.version)) }
     ensures cartridge { IfOk result (λ x. IsTrue (takes_cart x.0.version x.0.cartridge_length)) }

@@ -1,5 +1,5 @@
 //! Reading inputs and checkpoints.
-ghost use Rattle.std.specs.Prelude.{◌≡◌, ◌≢◌, ◌≤◌, ◌+◌, ◌*◌, [], IfErr, IfOk, length, vec_capacity};
+ghost use Rattle.std.specs.Prelude.{◌≡◌, ◌≤◌, ◌+◌, ◌*◌, [], IfOk, length, vec_capacity};
 ghost use Rattle.movie_file.specs.Format.{input_length, record_length, checkpoint_length};
 ghost use Rattle.movie_file.specs.Format.{most_checkpoints};
 ghost use Rattle.movie_file.specs.MovieError.{Gives};
@@ -18,7 +18,6 @@ use vcs_machine::{Input, State};
 fn input_in(number: u64, bytes: &[u8]) -> Result<Input, MovieError>
     requires { input_length ≤ length bytes.now }
     ensures gives { Gives (λ x. x) result (input_at number bytes.now) }
-    ensures never { IfErr result (λ e. e ≢ MovieError.NoMemory) }
 {
     match Input::new(bytes[0], bytes[1], bytes[2]) {
         Some(input) => Ok(input),
@@ -36,7 +35,6 @@ pub(super) fn inputs_in(
     requires room { count ≤ vec_capacity inputs }
     requires long { input_length * count ≤ length bytes.now }
     ensures gives { Gives (λ x. (x.0.items, x.1.now)) result (inputs_at count 1 bytes.now) }
-    ensures never { IfErr result (λ e. e ≢ MovieError.NoMemory) }
     ensures rest { IfOk result (λ x. length x.1.now + input_length * count ≡ length bytes.now) }
 {
     let mut rest = bytes;
@@ -68,7 +66,6 @@ fn checkpoint_in(
 ) -> Result<Checkpoint, MovieError>
     requires { checkpoint_length sizes.version ≤ length bytes.now }
     ensures gives { Gives (λ x. x) result (claimed_checkpoint sizes number last bytes.now) }
-    ensures never { IfErr result (λ e. e ≢ MovieError.NoMemory) }
 {
     let frame = u32::from_be_bytes([bytes[0], bytes[1], bytes[2], bytes[3]]);
     if frame <= last || sizes.frames < frame {
@@ -93,7 +90,6 @@ pub(super) fn checkpoints_in(
     requires long { checkpoint_length sizes.version * sizes.checkpoints ≤ length bytes.now }
     ensures gives { Gives (λ x. (x.0.items, x.1.now)) result
         (checkpoints_at sizes sizes.checkpoints 1 0 bytes.now) }
-    ensures never { IfErr result (λ e. e ≢ MovieError.NoMemory) }
 {
     let mut rest = bytes;
     let mut last = 0;

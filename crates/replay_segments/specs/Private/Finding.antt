@@ -1,9 +1,10 @@
 -- Pieces that are looked for by number, and whose pictures are taken. This project's own.
 use Rattle.std.specs.Prelude.{ℕ, ◌+◌, ◌<◌, ◌≡◌, ◌≢◌, IsTrue, IsFalse, List, length, Some, Result}
 use Rattle.std.specs.Prelude.{Ok, Err, slice_get}
+use Rattle.movie_file.specs.declared.refused.Refused.{Refused}
+use Rattle.movie_file.specs.declared.refused.Refused.TheVariants.{Of, NoMemory}
 use Rattle.vcs_machine.specs.Pictures.{Rows}
-use Rattle.replay_segments.specs.declared.gathering.GatherError.{GatherError}
-use Rattle.replay_segments.specs.declared.gathering.GatherError.TheVariants.{Missing, NoMemory}
+use Rattle.replay_segments.specs.declared.gathering.Missing.{Missing}
 use Rattle.replay_segments.specs.declared.outcome.Outcome.TheVariants.{Judged}
 use Rattle.replay_segments.specs.declared.verdict.Verdict.{Verdict}
 use Rattle.replay_segments.specs.declared.verdict.Verdict.TheVariants.{Genuine}
@@ -29,10 +30,10 @@ pub record IsFirstUnpassed (pieces : List PieceData) (n number : ℕ) : Type 0 w
 
 -- What is answered of a number without a piece that passed: the verdict of one that was judged,
 -- else why there is none.
-abbrev pub IsAnswer : List PieceData → ℕ → Result Verdict GatherError → Type 0
+abbrev pub IsAnswer : List PieceData → ℕ → Result Verdict (Refused Missing) → Type 0
 IsAnswer pieces number (Ok v) =
     (i : ℕ) × (p : PieceData) × (slice_get pieces i ≡ Some p) × (p.number ≡ number) × (p.outcome ≡ Judged v) × IsFalse (passed p.outcome) × IsPiece p
-IsAnswer pieces number (Err (Missing k)) = (k ≡ number) × IsMissing pieces number
+IsAnswer pieces number (Err (Of missing)) = (missing.segment ≡ number) × IsMissing pieces number
 IsAnswer pieces number (Err NoMemory) = HasNumber pieces number × AllRefused pieces number
 
 -- The pictures of a piece of this number that passed were taken, and it is without memory now.

@@ -2,6 +2,6 @@ use Rattle.std.proofs.Common.{refl}
 use Rattle.std.proofs.lemmas.Result.{IfOk-weaker}
 use Rattle.commands.proofs.make.no_inputs.Goals as goal
 
-pub returns-in_default : goal.returns-in_default
-returns-in_default c =
-    IfOk-weaker c.refused_inputs.result _ _ (λ answer is. (c.in_default.not-NoMemory, rw is (refl, (refl, (refl, refl))))) c.refused_inputs.ensures
+pub returns : goal.returns
+returns c =
+    IfOk-weaker c.refused_inputs.result _ _ (λ answer is. rw is (refl, (refl, (refl, refl)))) c.refused_inputs.ensures

@@ -13,9 +13,9 @@ returns-in-Ok g c =
     made.movie made.fault run.made is)
     c.of_made.ensures
 
-pub returns-in-Err-BadCounts : goal.returns-in-Err-BadCounts
-returns-in-Err-BadCounts g c =
-    let refused = rw (c.get.ensures.value, c.in-Err-BadCounts.field-0-is) at c.in-Err-BadCounts.ensures.refused in
+pub returns-in-Err-Of-BadCounts : goal.returns-in-Err-Of-BadCounts
+returns-in-Err-Of-BadCounts g c =
+    let refused = rw (c.get.ensures.value, c.in-Err-Of-BadCounts.field-0-is) at c.in-Err-Of-BadCounts.ensures.refused in
     let count : c.len-frames.result ≡ length c.args.inputs.items = omega (arith, c.len-frames.ensures, c.args.inputs.ok.0) in
     let hint = rw count at c.hint_of_counts.ensures in
     IfOk-weaker c.counts_refusal.result _ _ (λ answer is. inr (refused, c.hint_of_counts.result, hint, is)) (rw c.or-hint.ensures at c.counts_refusal.ensures)

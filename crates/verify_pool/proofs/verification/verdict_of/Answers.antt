@@ -14,8 +14,8 @@ pub unreachable-requires : goal.unreachable-requires
 unreachable-requires g c =
     let job = job_of c.args.movie.now c.args.cuts.now c.args.keep in let desk = c.in-Ok.desk in let hand = c.in-Ok-crew.hand in
     let worked : IsWorked desk job desk.workers hand = subst (λ n. IsWorked desk job n hand) c.in-Ok-hands_of.ensures.shares c.in-Ok-crew.ensures.worked in
-    let missing : IsFirstMissing hand.pieces.items c.segments-segments.result c.in-Err-Missing.field-0-0 =
-    (c.in-Err-Missing.ensures.missing c.in-Err-Missing.field-0-0).0 cc in
+    let missing : IsFirstMissing hand.pieces.items c.segments-segments.result c.in-Err-Of.field-0-0.segment =
+    (c.in-Err-Of.ensures.missing c.in-Err-Of.field-0-0.segment).0 cc in
     let segments : desk.segments ≡ c.segments-segments.result = c.in-Ok.ensures.0 in
-    none_missing desk job hand c.in-Err-Missing.field-0-0 worked
-    (subst (λ n. IsFirstMissing hand.pieces.items n c.in-Err-Missing.field-0-0) (sym segments) missing)
+    none_missing desk job hand c.in-Err-Of.field-0-0.segment worked
+    (subst (λ n. IsFirstMissing hand.pieces.items n c.in-Err-Of.field-0-0.segment) (sym segments) missing)
