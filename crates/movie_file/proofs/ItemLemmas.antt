@@ -44,7 +44,7 @@ module _ {A S : Type 0} {item : S → List ℕ → Result A MovieError} {next : 
   -- an item that is refused ends it
   pub ends : (e : MovieError) (prefix : List A) (count i : ℕ) (s : S) (bytes : List ℕ) → i < count → item s bytes ≡ Err e
       → with_prefix prefix (items (count - i) s bytes) ≡ Err e
-  ends e prefix count i s bytes lt fails = let k : count - i ≡ suc (count - (i + 1)) = omega arith in rw (k, reads.more, fails n) refl
+  ends e prefix count i s bytes lt fails = let k : count - i ≡ suc (count - (i + 1)) = omega arith in rw (k, reads.more, fails) refl
 
   -- and none are left at its end
   pub done : (prefix : List A) (count i : ℕ) (s : S) (bytes : List ℕ) → count ≤ i → with_prefix prefix (items (count - i) s bytes) ≡ Ok (prefix, bytes)

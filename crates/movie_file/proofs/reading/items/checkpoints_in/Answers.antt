@@ -6,11 +6,12 @@ use Rattle.movie_file.proofs.CheckpointReads.{reads_checkpoints}
 use Rattle.movie_file.proofs.ItemLemmas.{go_on, ends, done}
 use Rattle.movie_file.proofs.reading.items.checkpoints_in.Goals as goal
 
-pub returns-in_err-checkpoint-clause-gives : goal.returns-in_err-checkpoint-clause-gives
-returns-in_err-checkpoint-clause-gives c =
+pub returns-in_err-checkpoint : goal.returns-in_err-checkpoint
+returns-in_err-checkpoint c =
     let p = err_from_is_err_and c.from_residual.result c.from_residual.ensures.1 in
-    rw (p.1, p.2, ← c.loop-i.invariant.so_far) (ends (reads_checkpoints c.args.sizes) _ _ c.args.sizes.checkpoints c.loop-i.i
-    (c.loop-i.i + 1, c.loop-i.last) _ c.loop-i-test.true c.in_err-checkpoint.ensures.gives)
+    let gives = ends (reads_checkpoints c.args.sizes) _ c.loop-i.checkpoints.items c.args.sizes.checkpoints c.loop-i.i
+    (c.loop-i.i + 1, c.loop-i.last) c.loop-i.rest.now c.loop-i-test.true c.in_err-checkpoint.ensures.gives in
+    rw (p.1, p.2, ← c.loop-i.invariant.so_far) (record { gives = gives })
 
 pub loop-i-preserved : goal.loop-i-preserved
 loop-i-preserved c =
@@ -23,7 +24,8 @@ loop-i-preserved c =
       long = omega (arith, length-drop (checkpoint_length c.args.sizes.version) c.loop-i.rest.now);
     }
 
-pub returns-clause-gives : goal.returns-clause-gives
-returns-clause-gives c =
-    sym c.loop-i.invariant.so_far ∙ done (reads_checkpoints c.args.sizes) c.loop-i.checkpoints.items c.args.sizes.checkpoints c.loop-i.i
-    (c.loop-i.i + 1, c.loop-i.last) _ c.loop-i-test.false
+pub returns : goal.returns
+returns c =
+    let gives = done (reads_checkpoints c.args.sizes) c.loop-i.checkpoints.items c.args.sizes.checkpoints c.loop-i.i
+    (c.loop-i.i + 1, c.loop-i.last) c.loop-i.rest.now c.loop-i-test.false in
+    record { gives = sym c.loop-i.invariant.so_far ∙ gives }
