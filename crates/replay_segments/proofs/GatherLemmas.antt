@@ -71,7 +71,7 @@ module _ (pieces : List PieceData) (n number : ℕ) (first : IsFirstUnpassed pie
 
   pub missing-answer : (r : Result Verdict (Refused Missing)) → IsAnswer pieces number r → (k : ℕ) → (r ≡ Err (Of (record { segment = k }))) ↔ IsFirstMissing pieces n k
   missing-answer (Ok v) (i, p, at, is, judged, bad, lawful) k = (λ e. absurd cc, λ first. absurd (first.1 i p at (is ∙ sym (missing_is k first))))
-  missing-answer (Err (Of missing)) (here, missing) k = (
+  missing-answer (Err (Of named)) (here, missing) k = (
     λ e. let same : number ≡ k = cc in rw (← same) (first.within, missing, passed_below),
     λ other. ap (λ (x : ℕ). Err (Of (record { segment = x }))) (here ∙ sym (missing_is k other)),
   )
@@ -79,11 +79,11 @@ module _ (pieces : List PieceData) (n number : ℕ) (first : IsFirstUnpassed pie
 
   pub refused-answer : (r : Result Verdict (Refused Missing)) → IsAnswer pieces number r → (k : ℕ) → IsFirstRefused pieces n k → r ≡ Err NoMemory
   refused-answer (Ok v) (i, p, at, is, judged, bad, lawful) k first = let none = first.2 i p at (is ∙ sym (refused_is k first)) in absurd cc
-  refused-answer (Err (Of missing)) (here, missing) k first = let (i, p, at, is) = first.1 in absurd (missing i p at (is ∙ refused_is k first))
+  refused-answer (Err (Of named)) (here, missing) k first = let (i, p, at, is) = first.1 in absurd (missing i p at (is ∙ refused_is k first))
   refused-answer (Err NoMemory) answer k first = refl
 
   pub memory-answer : (r : Result Verdict (Refused Missing)) → IsAnswer pieces number r → r ≡ Err NoMemory
       → ((k : ℕ) × IsFirstRefused pieces n k) ⊎ (PassedBelow pieces n × (0 < picture_count pieces))
   memory-answer (Ok v) answer e = absurd cc
-  memory-answer (Err (Of missing)) answer e = absurd cc
+  memory-answer (Err (Of named)) answer e = absurd cc
   memory-answer (Err NoMemory) (has, refused) e = inl (number, (first.within, has, refused, passed_below))
