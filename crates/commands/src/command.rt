@@ -27,6 +27,7 @@ use crate::pictures::pictures;
 use crate::refusal::refusal;
 use crate::remark::no_frame;
 use crate::report::report;
+use crate::request::Request;
 use crate::run_error::{JudgeError, ReadError, RunError};
 use crate::status::Status;
 use crate::streams::{read_all, read_input};
@@ -45,18 +46,17 @@ use verify_pool::Gate;
 /// The answer about a movie, which these bytes are, of a command that writes nothing before its
 /// answer is whole, where this ROM was read or none.
 fn answer<T: Threads + Wait + Sync + AllocGlobal, G: Gate + Progress + Sync>(
-    rt: &T,
-    line: &CommandLine,
+    request: &Request<'_, T, G>,
     bytes: &[u8],
     rom: Option<&[u8]>,
     movie: Movie,
-    gate: &G,
 ) -> Result<Answer, JudgeError>
-    requires about { IsAboutMovies line.now.command }
-    requires at_once { IsAtOnce (writing_of line.now.command) }
-    ensures answer { IfOk result (Answers line.now.command line.now.notation bytes.now (option_copied rom.entry) movie) }
-    ensures no_thread { result ≡ Err JudgeError.NoThread → StartsThreads line.now }
+    requires about { IsAboutMovies request.now.line.now.command }
+    requires at_once { IsAtOnce (writing_of request.now.line.now.command) }
+    ensures answer { IfOk result (Answers request.now.line.now.command request.now.line.now.notation bytes.now (option_copied rom.entry) movie) }
+    ensures no_thread { result ≡ Err JudgeError.NoThread → StartsThreads request.now.line.now }
 {
+    let Request { rt, line, gate } = *request;
     let alloc = rt.alloc();
     let notation = line.notation;
     match &line.command {
@@ -68,17 +68,7 @@ fn answer<T: Threads + Wait + Sync + AllocGlobal, G: Gate + Progress + Sync>(
             };
             verify(rt, alloc, &movie, &plan, notation, gate)
         }
-        Command::Report { expectations } => report(
-            rt,
-            alloc,
-            bytes,
-            &movie,
-            line.workers,
-            notation,
-            rom,
-            expectations,
-            gate,
-        ),
+        Command::Report { expectations } => report(request, bytes, &movie, rom, expectations),
         Command::Info => Ok(info(alloc, notation, &movie)?),
         Command::Claims => Ok(claims(alloc, notation, &movie)?),
         Command::Inputs {
@@ -114,27 +104,26 @@ fn answer_movie<
     P: Write,
     G: Gate + Progress + Sync,
 >(
-    rt: &T,
-    line: &CommandLine,
+    request: &Request<'_, T, G>,
     bytes: &[u8],
     rom: Option<&[u8]>,
     movie: Movie,
     text: &mut W,
     file: &mut P,
-    gate: &G,
 ) -> Result<Conclusion, RunError>
-    requires { IsAboutMovies line.now.command }
-    ensures ok { IfOk result (λ end. (answer : AnswerData) × Answers line.now.command line.now.notation bytes.now (option_copied rom.entry) movie answer × (end ≡ conclusion_of answer)
+    requires { IsAboutMovies request.now.line.now.command }
+    ensures ok { IfOk result (λ end. (answer : AnswerData) × Answers request.now.line.now.command request.now.line.now.notation bytes.now (option_copied rom.entry) movie answer × (end ≡ conclusion_of answer)
         × Appends (W.contents text.old) (W.contents text.new) answer.text × Appends (P.contents file.old) (P.contents file.new) answer.file) }
-    ensures write_fault { result ≡ Err RunError.WriteFault → (answer : AnswerData) × Answers line.now.command line.now.notation bytes.now (option_copied rom.entry) movie answer
-        × WritesSome (writing_of line.now.command) (W.contents text.old) (W.contents text.new) answer.text (P.contents file.old) (P.contents file.new) answer.file }
+    ensures write_fault { result ≡ Err RunError.WriteFault → (answer : AnswerData) × Answers request.now.line.now.command request.now.line.now.notation bytes.now (option_copied rom.entry) movie answer
+        × WritesSome (writing_of request.now.line.now.command) (W.contents text.old) (W.contents text.new) answer.text (P.contents file.old) (P.contents file.new) answer.file }
     ensures quiet { OnErr result (result ≢ Err RunError.WriteFault → result ≢ Err RunError.NoMemory
         → Keeps (W.contents text.old) (W.contents text.new) × Keeps (P.contents file.old) (P.contents file.new)) }
     ensures memory { result ≡ Err RunError.NoMemory → (Keeps (W.contents text.old) (W.contents text.new) × Keeps (P.contents file.old) (P.contents file.new))
-        ⊎ HasBegun line.now.command line.now.notation movie (W.contents text.old) (W.contents text.new) (P.contents file.old) (P.contents file.new) }
+        ⊎ HasBegun request.now.line.now.command request.now.line.now.notation movie (W.contents text.old) (W.contents text.new) (P.contents file.old) (P.contents file.new) }
     ensures read { result ≢ Err RunError.TooLong }
-    ensures no_thread { result ≡ Err RunError.NoThread → StartsThreads line.now }
+    ensures no_thread { result ≡ Err RunError.NoThread → StartsThreads request.now.line.now }
 {
+    let Request { rt, line, gate } = *request;
     let alloc = rt.alloc();
     match &line.command {
         Command::Frames {
@@ -163,9 +152,9 @@ fn answer_movie<
             Ok(of_frames(&movie, *frame, status))
         }
         Command::Verify { .. } => {
-            Ok(answer(rt, line, bytes, rom, movie, gate)?.write_text_first(text, file)?)
+            Ok(answer(request, bytes, rom, movie)?.write_text_first(text, file)?)
         }
-        _ => Ok(answer(rt, line, bytes, rom, movie, gate)?.write_file_first(file, text)?),
+        _ => Ok(answer(request, bytes, rom, movie)?.write_file_first(file, text)?),
     }
 }
 
@@ -205,61 +194,42 @@ pub fn run_command<
     P: Write,
     G: Gate + Progress + Sync,
 >(
-    rt: &T,
-    line: &CommandLine,
+    request: &Request<'_, T, G>,
     input: &mut R,
     inputs: &mut S,
     text: &mut W,
     file: &mut P,
-    gate: &G,
 ) -> Result<Conclusion, RunError>
     // The output is that of the bytes read, and nothing else.
     ensures ok { IfOk result (λ end. (bytes : List ℕ) × (told : List ℕ) × (made : List ℕ) × ReadsAll (R.remaining input.old) (R.remaining input.new) bytes
-        × IsAnswered line.now bytes (S.remaining inputs.old) (S.remaining inputs.new) end told made
+        × IsAnswered request.now.line.now bytes (S.remaining inputs.old) (S.remaining inputs.new) end told made
         × Appends (W.contents text.old) (W.contents text.new) told × Appends (P.contents file.old) (P.contents file.new) made) }
     ensures write_fault { result ≡ Err RunError.WriteFault → (bytes : List ℕ) × (end : Conclusion) × (told : List ℕ) × (made : List ℕ)
         × ReadsAll (R.remaining input.old) (R.remaining input.new) bytes
-        × IsAnswered line.now bytes (S.remaining inputs.old) (S.remaining inputs.new) end told made
-        × WritesSome (writing_of line.now.command) (W.contents text.old) (W.contents text.new) told (P.contents file.old) (P.contents file.new) made }
+        × IsAnswered request.now.line.now bytes (S.remaining inputs.old) (S.remaining inputs.new) end told made
+        × WritesSome (writing_of request.now.line.now.command) (W.contents text.old) (W.contents text.new) told (P.contents file.old) (P.contents file.new) made }
 
     // What was written after the other errors.
     ensures quiet { OnErr result (result ≢ Err RunError.WriteFault → result ≢ Err RunError.NoMemory
         → Keeps (W.contents text.old) (W.contents text.new) × Keeps (P.contents file.old) (P.contents file.new)) }
     ensures memory { result ≡ Err RunError.NoMemory → (Keeps (W.contents text.old) (W.contents text.new) × Keeps (P.contents file.old) (P.contents file.new))
         ⊎ ((bytes : List ℕ) × (m : MovieData) × ReadsAll (R.remaining input.old) (R.remaining input.new) bytes × (movie_at bytes ≡ Ok m)
-        × HasBegun line.now.command line.now.notation m (W.contents text.old) (W.contents text.new) (P.contents file.old) (P.contents file.new)) }
-    ensures too_long { result ≡ Err RunError.TooLong → IsTooLong (R.remaining input.old) ⊎ (ReadsInputs line.now × IsTooLong (S.remaining inputs.old)) }
-    ensures no_thread { result ≡ Err RunError.NoThread → StartsThreads line.now }
+        × HasBegun request.now.line.now.command request.now.line.now.notation m (W.contents text.old) (W.contents text.new) (P.contents file.old) (P.contents file.new)) }
+    ensures too_long { result ≡ Err RunError.TooLong → IsTooLong (R.remaining input.old) ⊎ (ReadsInputs request.now.line.now × IsTooLong (S.remaining inputs.old)) }
+    ensures no_thread { result ≡ Err RunError.NoThread → StartsThreads request.now.line.now }
 {
+    let Request { rt, line, gate } = *request;
     let alloc = rt.alloc();
     if let Command::Make { form, making } = &line.command {
         let rom = read_all(alloc, input)?;
-        let answer = make(
-            alloc,
-            rom,
-            *form,
-            inputs,
-            making.every,
-            making.to_the_end,
-            making.to_the_fault,
-            gate,
-        )?;
+        let answer = make(alloc, rom, *form, inputs, *making, gate)?;
         return Ok(answer.write_file_first(file, text)?);
     }
     let (bytes, found) = read_input(alloc, input)?;
     match found {
         Ok(movie) => {
             let expected = read_second(alloc, line, inputs)?;
-            answer_movie(
-                rt,
-                line,
-                &bytes,
-                expected.as_deref(),
-                movie,
-                text,
-                file,
-                gate,
-            )
+            answer_movie(request, &bytes, expected.as_deref(), movie, text, file)
         }
         Err(error) => {
             let answer = refusal(alloc, line.notation, &bytes, error)?;

@@ -18,6 +18,7 @@ use crate::refusal::{counts_refusal, remark_if, rom_refusal};
 use crate::remark::{Cause, Remark, WhichInput};
 use crate::run_error::ReadError;
 use crate::streams::read_all;
+use command_line::Making;
 use input_text::{TextError, read_text};
 use movie_file::{MakeError, MovieError, Progress, Refused, read_inputs};
 use movie_hints::{Hint, hint_of_counts, hint_of_storage};
@@ -25,7 +26,6 @@ use replay_plan::{InputForm, Notation};
 use riot_map::Cart;
 use std::alloc::{AllocError, Global};
 use std::io::Read;
-use std::num::NonZeroU32;
 use vcs_machine::Input;
 
 /// What is said of a movie that was made: how much it has, or its fault.
@@ -98,21 +98,19 @@ fn of_inputs<P: Progress>(
     cart: Cart,
     inputs: Vec<Input>,
     stored: Option<Hint>,
-    every: NonZeroU32,
-    to_the_end: bool,
-    to_the_fault: bool,
+    making: Making,
     progress: &P,
 ) -> Result<Answer, AllocError>
-    ensures { IfOk result (λ answer. MakesOf cart inputs.items stored (non_zero_u32_get every) to_the_end to_the_fault answer) }
+    ensures { IfOk result (λ answer. MakesOf cart inputs.items stored (non_zero_u32_get making.every) making.to_the_end making.to_the_fault answer) }
 {
     let frames = inputs.len();
     match make_run(
         alloc,
         cart,
         inputs,
-        every.get(),
-        to_the_end,
-        to_the_fault,
+        making.every.get(),
+        making.to_the_end,
+        making.to_the_fault,
         progress,
     ) {
         Ok(made) => of_made(alloc, made, stored),
@@ -121,7 +119,7 @@ fn of_inputs<P: Progress>(
             Answer::of_line(alloc, line)
         }
         Err(Refused::Of(MakeError::BadCounts)) => {
-            let hint = stored.or(hint_of_counts(frames as u64, every, to_the_end));
+            let hint = stored.or(hint_of_counts(frames as u64, making.every, making.to_the_end));
             counts_refusal(alloc, WhichInput::Second, hint)
         }
         Err(Refused::NoMemory) => Err(AllocError),
@@ -134,25 +132,14 @@ fn of_bytes<P: Progress>(
     cart: Cart,
     form: InputForm,
     bytes: Vec<u8>,
-    every: NonZeroU32,
-    to_the_end: bool,
-    to_the_fault: bool,
+    making: Making,
     progress: &P,
 ) -> Result<Answer, AllocError>
-    ensures { IfOk result (λ answer. MakesFrom cart form bytes.items (non_zero_u32_get every) to_the_end to_the_fault answer) }
+    ensures { IfOk result (λ answer. MakesFrom cart form bytes.items (non_zero_u32_get making.every) making.to_the_end making.to_the_fault answer) }
 {
     match form {
         InputForm::Bytes => match read_inputs(alloc, &bytes) {
-            Ok(inputs) => of_inputs(
-                alloc,
-                cart,
-                inputs,
-                None,
-                every,
-                to_the_end,
-                to_the_fault,
-                progress,
-            ),
+            Ok(inputs) => of_inputs(alloc, cart, inputs, None, making, progress),
             Err(Refused::NoMemory) => Err(AllocError),
             Err(Refused::Of(error)) => no_inputs(alloc, bytes, error),
         },
@@ -162,9 +149,7 @@ fn of_bytes<P: Progress>(
                 cart,
                 inputs,
                 hint_of_storage(&bytes),
-                every,
-                to_the_end,
-                to_the_fault,
+                making,
                 progress,
             ),
             Err(TextError::NoMemory) => Err(AllocError),
@@ -173,21 +158,18 @@ fn of_bytes<P: Progress>(
     }
 }
 
-/// A movie of the run from power-on with the cartridge of a ROM and these inputs, with a checkpoint
-/// after each `every` frames, and to the end after the last one too; or why none is made. Of a run that
-/// faults there is one to the fault. The inputs are read if the ROM is a cartridge.
+/// A movie of the run from power-on with the cartridge of a ROM and these inputs, which claims what is
+/// asked for; or why none is made. The inputs are read if the ROM is a cartridge.
 pub(crate) fn make<S: Read, P: Progress>(
     alloc: Global,
     rom: Vec<u8>,
     form: InputForm,
     inputs: &mut S,
-    every: NonZeroU32,
-    to_the_end: bool,
-    to_the_fault: bool,
+    making: Making,
     progress: &P,
 ) -> Result<Answer, ReadError>
     ensures makes { IfOk result (λ answer. Makes form rom.items (S.remaining inputs.old) (S.remaining inputs.new)
-        (non_zero_u32_get every) to_the_end to_the_fault answer) }
+        (non_zero_u32_get making.every) making.to_the_end making.to_the_fault answer) }
     ensures too_long { result ≡ Err ReadError.TooLong → IsTooLong (S.remaining inputs.old) }
 {
     if !Cart::is_length(rom.len()) {
@@ -197,14 +179,5 @@ pub(crate) fn make<S: Read, P: Progress>(
         unreachable!();
     };
     let bytes = read_all(alloc, inputs)?;
-    Ok(of_bytes(
-        alloc,
-        cart,
-        form,
-        bytes,
-        every,
-        to_the_end,
-        to_the_fault,
-        progress,
-    )?)
+    Ok(of_bytes(alloc, cart, form, bytes, making, progress)?)
 }

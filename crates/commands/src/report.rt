@@ -10,13 +10,14 @@ use crate::answer::Answer;
 use crate::line::Line;
 use crate::refusal::rom_refusal;
 use crate::remark::WhichInput;
+use crate::request::Request;
 use crate::run_error::JudgeError;
 use crate::status::Status;
 use crate::verify::verdict_of;
 use command_line::program_name;
 use movie_file::{Movie, Progress};
 use movie_report::Agreement;
-use replay_plan::{Expectations, Notation, Plan, Workers};
+use replay_plan::{Expectations, Notation, Plan};
 use replay_segments::Verdict;
 use riot_map::Cart;
 use std::alloc::{AllocError, Global};
@@ -59,38 +60,36 @@ fn status_with(agreement: Agreement, status: Status) -> Status
 /// The verdict of the movie that these bytes are, by so many workers, and facts about it: the line of
 /// the verdict and then a line for each fact, or an object of JSON. What is expected of it, beside the
 /// bytes of a cartridge if there is one, is among them.
-fn report_of<T: Threads + Wait + Sync, G: Gate + Progress + Sync>(
-    rt: &T,
-    alloc: Global,
+fn report_of<T: Threads + Wait + Sync + AllocGlobal, G: Gate + Progress + Sync>(
+    request: &Request<'_, T, G>,
     bytes: &[u8],
     movie: &Movie,
-    workers: Workers,
-    notation: Notation,
     rom: Option<&[u8]>,
     expectations: &Expectations,
-    gate: &G,
 ) -> Result<Answer, JudgeError>
-    ensures answer { IfOk result (ReportsMovie notation program_name (option_copied rom.entry) expectations.now bytes.now movie.now) }
-    ensures no_thread { result ≡ Err JudgeError.NoThread → 2 ≤ workers.number }
+    ensures answer { IfOk result (ReportsMovie request.now.line.now.notation program_name (option_copied rom.entry) expectations.now bytes.now movie.now) }
+    ensures no_thread { result ≡ Err JudgeError.NoThread → 2 ≤ request.now.line.now.workers.number }
 {
-    let plan = Plan::without_pictures(workers);
+    let Request { rt, line, gate } = *request;
+    let alloc = rt.alloc();
+    let plan = Plan::without_pictures(line.workers);
     let verdict = verdict_of(rt, alloc, movie, &plan, gate)?;
     let agreement = Agreement::of(movie, rom, expectations);
     let facts = movie_report::report(
         rt,
         alloc,
-        notation,
+        line.notation,
         program_name(),
         bytes,
         movie,
         &verdict,
         rom,
         agreement,
-        workers,
+        line.workers,
         gate,
     )?;
     let status = status_with(agreement, Line::of_verdict(movie, &verdict).status());
-    let text = text_of(alloc, movie, &verdict, notation, facts)?;
+    let text = text_of(alloc, movie, &verdict, line.notation, facts)?;
     Ok(Answer::of_text(alloc, status, text))
 }
 
@@ -106,32 +105,21 @@ fn no_cartridge(rom: Option<&[u8]>) -> Option<&[u8]>
 }
 
 /// The same, where the ROM may be no cartridge. Then that is said, and the movie isn't judged.
-pub(crate) fn report<T: Threads + Wait + Sync, G: Gate + Progress + Sync>(
-    rt: &T,
-    alloc: Global,
+pub(crate) fn report<T: Threads + Wait + Sync + AllocGlobal, G: Gate + Progress + Sync>(
+    request: &Request<'_, T, G>,
     bytes: &[u8],
     movie: &Movie,
-    workers: Workers,
-    notation: Notation,
     rom: Option<&[u8]>,
     expectations: &Expectations,
-    gate: &G,
 ) -> Result<Answer, JudgeError>
-    ensures answer { IfOk result (Reports notation program_name (option_copied rom.entry) expectations.now bytes.now movie.now) }
-    ensures no_thread { result ≡ Err JudgeError.NoThread → 2 ≤ workers.number }
+    ensures answer { IfOk result (Reports request.now.line.now.notation program_name (option_copied rom.entry) expectations.now bytes.now movie.now) }
+    ensures no_thread { result ≡ Err JudgeError.NoThread → 2 ≤ request.now.line.now.workers.number }
 {
     match no_cartridge(rom) {
-        Some(other) => Ok(rom_refusal(alloc, WhichInput::Second, notation, other)?),
-        None => report_of(
-            rt,
-            alloc,
-            bytes,
-            movie,
-            workers,
-            notation,
-            rom,
-            expectations,
-            gate,
-        ),
+        Some(other) => {
+            let notation = request.line.notation;
+            Ok(rom_refusal(request.rt.alloc(), WhichInput::Second, notation, other)?)
+        }
+        None => report_of(request, bytes, movie, rom, expectations),
     }
 }

@@ -3,7 +3,7 @@
 use crate::case::Case;
 use crate::named_bytes::malformed;
 use command_line::{CommandLine, LineFault, parse_line};
-use commands::{Conclusion, NoGate, RunError, Status, run_command};
+use commands::{Conclusion, NoGate, Request, RunError, Status, run_command};
 use std::alloc::{AllocError, Global};
 use std::sync::Wait;
 use std::thread::Threads;
@@ -88,14 +88,13 @@ fn answer_to_line<R: Threads + Wait + Sync + AllocGlobal>(
     let alloc = rt.alloc();
     let mut text = Vec::new(alloc);
     let mut file = Vec::new(alloc);
+    let gate = &NoGate;
     let answer = run_command(
-        rt,
-        line,
+        &Request { rt, line, gate },
         &mut case.first.as_slice(),
         &mut case.second.as_slice(),
         &mut text,
         &mut file,
-        &NoGate,
     );
     let remark = remark_of(alloc, line, &answer)?;
     text.extend_from_slice(remark.as_bytes())?;

@@ -4,7 +4,7 @@ use crate::call_failure::{CallFailure, right};
 use crate::gate::Counting;
 use arrayvec::ArrayVec;
 use command_line::{Command, CommandLine, parse_line};
-use commands::{RunError, Status, run_command};
+use commands::{Request, RunError, Status, run_command};
 use replay_plan::Workers;
 use std::alloc::Global;
 use std::io::{self, Read};
@@ -83,7 +83,12 @@ fn answer_of<T: Threads + Wait + Sync + AllocGlobal, R: Read, S: Read>(
     let mut text = Text::new();
     let mut file = File::new();
     let gate = Counting::new();
-    let end = run_command(rt, line, input, inputs, &mut text, &mut file, &gate);
+    let request = Request {
+        rt,
+        line,
+        gate: &gate,
+    };
+    let end = run_command(&request, input, inputs, &mut text, &mut file);
     Answer {
         status: end.map(|end| end.status),
         text,

@@ -3,7 +3,7 @@
 use crate::devices::FailingWriter;
 use crate::expectation::expect_equal;
 use command_line::{CommandLine, parse_line};
-use commands::{NoGate, RunError, Status, run_command};
+use commands::{NoGate, Request, RunError, Status, run_command};
 use std::alloc::Global;
 use std::io::{self, Read};
 use std::process::Abort;
@@ -38,7 +38,9 @@ pub(crate) fn answer_over<T: Threads + Wait + Sync + AllocGlobal, R: Read, S: Re
 ) -> Answer {
     let mut text = FailingWriter::new(rt.alloc(), text);
     let mut file = FailingWriter::new(rt.alloc(), file);
-    let end = run_command(rt, line, input, inputs, &mut text, &mut file, &NoGate);
+    let gate = &NoGate;
+    let request = Request { rt, line, gate };
+    let end = run_command(&request, input, inputs, &mut text, &mut file);
     Answer {
         status: end.map(|end| end.status),
         text: text.taken,

@@ -8,7 +8,7 @@ use crate::gates::Counting;
 use crate::movies::{
     ENDLESS_FRAMES, SEVEN_FRAMES, first_of_two_false, movie, power_on, rom, run_of, two,
 };
-use commands::run_command;
+use commands::{Request, run_command};
 use movie_file::write_movie;
 use replay_plan::{Keep, Workers};
 use replay_segments::{Cuts, replay};
@@ -34,15 +34,12 @@ fn told_over<T: Threads + Wait + Sync + AllocGlobal>(
     let mut text = FailingWriter::new(rt.alloc(), text);
     let mut file = FailingWriter::new(rt.alloc(), usize::MAX);
     let gate = Counting::new();
-    let _end = run_command(
+    let request = Request {
         rt,
-        &line,
-        &mut input,
-        &mut inputs,
-        &mut text,
-        &mut file,
-        &gate,
-    );
+        line: &line,
+        gate: &gate,
+    };
+    let _end = run_command(&request, &mut input, &mut inputs, &mut text, &mut file);
     Ok(gate.counts())
 }
 

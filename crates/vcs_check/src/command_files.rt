@@ -18,7 +18,7 @@ ghost use Rattle.vcs_check.specs.Private.Inputs.{ReadsBoth, ReadsFirstly, ReadsW
 use crate::answered::Answered;
 use crate::failure::Failure;
 use command_line::{Command, CommandLine, Writing};
-use commands::{Gate, Progress, RunError, Status, run_command};
+use commands::{Gate, Progress, Request, RunError, Status, run_command};
 use named_files::{
     FileError, Identity, Named, Whole, check_standard_output, check_streams, create, open,
     open_beside,
@@ -83,29 +83,27 @@ fn run<
     W: Write,
     G: Gate + Progress + Sync,
 >(
-    rt: &T,
-    line: &CommandLine,
+    request: &Request<'_, T, G>,
     input: &mut M,
     inputs: &mut S,
     output: &mut P,
     text: &mut W,
-    gate: &G,
 ) -> Result<Answered, RunError>
     ensures ok { IfOk result (λ answered. (bytes : List ℕ) × (told : List ℕ) × ReadsAll (M.remaining input.old) (M.remaining input.new) bytes
-        × IsText line.now bytes (S.remaining inputs.old) (S.remaining inputs.new) answered.status told × Appends (W.contents text.old) (W.contents text.new) told) }
+        × IsText request.now.line.now bytes (S.remaining inputs.old) (S.remaining inputs.new) answered.status told × Appends (W.contents text.old) (W.contents text.new) told) }
     ensures write_fault { result ≡ Err RunError.WriteFault → (bytes : List ℕ) × (status : Status) × (told : List ℕ)
         × ReadsAll (M.remaining input.old) (M.remaining input.new) bytes
-        × IsText line.now bytes (S.remaining inputs.old) (S.remaining inputs.new) status told
+        × IsText request.now.line.now bytes (S.remaining inputs.old) (S.remaining inputs.new) status told
         × AppendsPrefix (W.contents text.old) (W.contents text.new) told }
     ensures memory { result ≡ Err RunError.NoMemory → Keeps (W.contents text.old) (W.contents text.new)
         ⊎ ((bytes : List ℕ) × (m : MovieData) × ReadsAll (M.remaining input.old) (M.remaining input.new) bytes × (movie_at bytes ≡ Ok m)
-        × (file_old file_new : Option (List ℕ)) × HasBegun line.now.command line.now.notation m (W.contents text.old) (W.contents text.new) file_old file_new) }
-    ensures quiet { OnErr result (result ≢ Err RunError.WriteFault → (result ≡ Err RunError.NoMemory → IsGradual (writing_of line.now.command) → ⊥)
+        × (file_old file_new : Option (List ℕ)) × HasBegun request.now.line.now.command request.now.line.now.notation m (W.contents text.old) (W.contents text.new) file_old file_new) }
+    ensures quiet { OnErr result (result ≢ Err RunError.WriteFault → (result ≡ Err RunError.NoMemory → IsGradual (writing_of request.now.line.now.command) → ⊥)
         → Keeps (W.contents text.old) (W.contents text.new)) }
-    ensures no_thread { result ≡ Err RunError.NoThread → StartsThreads line.now }
+    ensures no_thread { result ≡ Err RunError.NoThread → StartsThreads request.now.line.now }
 {
-    match run_command(rt, line, input, inputs, text, output, gate) {
-        Ok(end) => Ok(Answered::of(rt, line, &end)),
+    match run_command(request, input, inputs, text, output) {
+        Ok(end) => Ok(Answered::of(request.rt, request.line, &end)),
         Err(error) => Err(error),
     }
 }
@@ -119,29 +117,27 @@ fn run_into<
     W: Write,
     G: Gate + Progress + Sync,
 >(
-    rt: &T,
-    line: &CommandLine,
+    request: &Request<'_, T, G>,
     input: &mut M,
     inputs: &mut S,
     output: &mut P,
     text: &mut W,
-    gate: &G,
 ) -> Result<Answered, RunError>
     ensures ok { IfOk result (λ answered. (bytes : List ℕ) × (made : List ℕ) × ReadsAll (M.remaining input.old) (M.remaining input.new) bytes
-        × IsFile line.now bytes (S.remaining inputs.old) (S.remaining inputs.new) answered.status made × Appends (P.contents output.old) (P.contents output.new) made) }
+        × IsFile request.now.line.now bytes (S.remaining inputs.old) (S.remaining inputs.new) answered.status made × Appends (P.contents output.old) (P.contents output.new) made) }
     ensures write_fault { result ≡ Err RunError.WriteFault → (bytes : List ℕ) × (status : Status) × (made : List ℕ)
         × ReadsAll (M.remaining input.old) (M.remaining input.new) bytes
-        × IsFile line.now bytes (S.remaining inputs.old) (S.remaining inputs.new) status made
+        × IsFile request.now.line.now bytes (S.remaining inputs.old) (S.remaining inputs.new) status made
         × AppendsPrefix (P.contents output.old) (P.contents output.new) made }
     ensures memory { result ≡ Err RunError.NoMemory → Keeps (P.contents output.old) (P.contents output.new)
         ⊎ ((bytes : List ℕ) × (m : MovieData) × ReadsAll (M.remaining input.old) (M.remaining input.new) bytes × (movie_at bytes ≡ Ok m)
-        × (text_old text_new : Option (List ℕ)) × HasBegun line.now.command line.now.notation m text_old text_new (P.contents output.old) (P.contents output.new)) }
+        × (text_old text_new : Option (List ℕ)) × HasBegun request.now.line.now.command request.now.line.now.notation m text_old text_new (P.contents output.old) (P.contents output.new)) }
     ensures quiet { OnErr result (result ≢ Err RunError.WriteFault → result ≢ Err RunError.NoMemory
         → Keeps (P.contents output.old) (P.contents output.new)) }
-    ensures no_thread { result ≡ Err RunError.NoThread → StartsThreads line.now }
+    ensures no_thread { result ≡ Err RunError.NoThread → StartsThreads request.now.line.now }
 {
-    match run_command(rt, line, input, inputs, text, output, gate) {
-        Ok(end) => Ok(Answered::of(rt, line, &end)),
+    match run_command(request, input, inputs, text, output) {
+        Ok(end) => Ok(Answered::of(request.rt, request.line, &end)),
         Err(error) => Err(error),
     }
 }
@@ -155,32 +151,30 @@ fn write<
     W: Write,
     G: Gate + Progress + Sync,
 >(
-    rt: &T,
-    line: &CommandLine,
+    request: &Request<'_, T, G>,
     input: &mut M,
     inputs: &mut S,
     output: &mut P,
     text: &mut W,
-    gate: &G,
 ) -> Result<Answered, RunError>
     ensures ok { IfOk result (λ answered. (bytes : List ℕ) × (told : List ℕ) × ReadsAll (M.remaining input.old) (M.remaining input.new) bytes
-        × IsText line.now bytes (S.remaining inputs.old) (S.remaining inputs.new) answered.status told × Appends (W.contents text.old) (W.contents text.new) told) }
+        × IsText request.now.line.now bytes (S.remaining inputs.old) (S.remaining inputs.new) answered.status told × Appends (W.contents text.old) (W.contents text.new) told) }
     ensures write_fault { result ≡ Err RunError.WriteFault → (bytes : List ℕ) × (status : Status) × (told : List ℕ)
         × ReadsAll (M.remaining input.old) (M.remaining input.new) bytes
-        × IsText line.now bytes (S.remaining inputs.old) (S.remaining inputs.new) status told
+        × IsText request.now.line.now bytes (S.remaining inputs.old) (S.remaining inputs.new) status told
         × AppendsPrefix (W.contents text.old) (W.contents text.new) told }
     ensures memory { result ≡ Err RunError.NoMemory → Keeps (W.contents text.old) (W.contents text.new)
         ⊎ ((bytes : List ℕ) × (m : MovieData) × ReadsAll (M.remaining input.old) (M.remaining input.new) bytes × (movie_at bytes ≡ Ok m)
-        × (file_old file_new : Option (List ℕ)) × HasBegun line.now.command line.now.notation m (W.contents text.old) (W.contents text.new) file_old file_new) }
-    ensures quiet { OnErr result (result ≢ Err RunError.WriteFault → (result ≡ Err RunError.NoMemory → IsGradual (writing_of line.now.command) → ⊥)
+        × (file_old file_new : Option (List ℕ)) × HasBegun request.now.line.now.command request.now.line.now.notation m (W.contents text.old) (W.contents text.new) file_old file_new) }
+    ensures quiet { OnErr result (result ≢ Err RunError.WriteFault → (result ≡ Err RunError.NoMemory → IsGradual (writing_of request.now.line.now.command) → ⊥)
         → Keeps (W.contents text.old) (W.contents text.new)) }
-    ensures no_thread { result ≡ Err RunError.NoThread → StartsThreads line.now }
+    ensures no_thread { result ≡ Err RunError.NoThread → StartsThreads request.now.line.now }
 {
-    if !draws(&line.command) {
-        return run(rt, line, input, inputs, output, text, gate);
+    if !draws(&request.line.command) {
+        return run(request, input, inputs, output, text);
     }
-    let mut pictures = with_buffer(rt.alloc(), output)?;
-    let answered = run(rt, line, input, inputs, &mut pictures, text, gate)?;
+    let mut pictures = with_buffer(request.rt.alloc(), output)?;
+    let answered = run(request, input, inputs, &mut pictures, text)?;
     flush(&mut pictures)?;
     Ok(answered)
 }
@@ -194,22 +188,20 @@ fn tell<
     W: Write,
     G: Gate + Progress + Sync,
 >(
-    rt: &R,
-    line: &'a CommandLine,
+    request: &Request<'a, R, G>,
     input: &mut M,
     inputs: &mut S,
     text: &mut W,
-    gate: &G,
 ) -> Result<Answered, Failure<'a>>
-    requires { TakesFile line.now → ⊥ }
-    ensures ok { Writes line.now (ReadsBoth (M.remaining input.old) (M.remaining input.new) (S.remaining inputs.old) (S.remaining inputs.new))
+    requires { TakesFile request.now.line.now → ⊥ }
+    ensures ok { Writes request.now.line.now (ReadsBoth (M.remaining input.old) (M.remaining input.new) (S.remaining inputs.old) (S.remaining inputs.new))
         (W.contents text.old) (W.contents text.new) result }
-    ensures quiet { KeepsQuiet line.now (W.contents text.old) (W.contents text.new) result }
-    ensures part { LeavesPart line.now (ReadsBoth (M.remaining input.old) (M.remaining input.new) (S.remaining inputs.old) (S.remaining inputs.new))
+    ensures quiet { KeepsQuiet request.now.line.now (W.contents text.old) (W.contents text.new) result }
+    ensures part { LeavesPart request.now.line.now (ReadsBoth (M.remaining input.old) (M.remaining input.new) (S.remaining inputs.old) (S.remaining inputs.new))
         (W.contents text.old) (W.contents text.new) result }
-    ensures no_thread { IfErr result (λ failure. IsNoThread failure → StartsThreads line.now) }
+    ensures no_thread { IfErr result (λ failure. IsNoThread failure → StartsThreads request.now.line.now) }
 {
-    match run(rt, line, input, inputs, &mut io::sink(), text, gate) {
+    match run(request, input, inputs, &mut io::sink(), text) {
         Ok(answered) => Ok(answered),
         Err(error) => Err(Failure::Run(error, None)),
     }
@@ -225,25 +217,23 @@ fn write_to<
     W: Write,
     G: Gate + Progress + Sync,
 >(
-    rt: &R,
-    line: &'a CommandLine,
+    request: &Request<'a, R, G>,
     input: &mut M,
     inputs: &mut S,
     identities: &[Option<Identity>],
     output: &'a str,
     text: &mut W,
-    gate: &G,
 ) -> Result<Answered, Failure<'a>>
-    requires { TakesFile line.now → ⊥ }
-    ensures ok { Writes line.now (ReadsBoth (M.remaining input.old) (M.remaining input.new) (S.remaining inputs.old) (S.remaining inputs.new))
+    requires { TakesFile request.now.line.now → ⊥ }
+    ensures ok { Writes request.now.line.now (ReadsBoth (M.remaining input.old) (M.remaining input.new) (S.remaining inputs.old) (S.remaining inputs.new))
         (W.contents text.old) (W.contents text.new) result }
-    ensures quiet { KeepsQuiet line.now (W.contents text.old) (W.contents text.new) result }
-    ensures part { LeavesPart line.now (ReadsBoth (M.remaining input.old) (M.remaining input.new) (S.remaining inputs.old) (S.remaining inputs.new))
+    ensures quiet { KeepsQuiet request.now.line.now (W.contents text.old) (W.contents text.new) result }
+    ensures part { LeavesPart request.now.line.now (ReadsBoth (M.remaining input.old) (M.remaining input.new) (S.remaining inputs.old) (S.remaining inputs.new))
         (W.contents text.old) (W.contents text.new) result }
-    ensures no_thread { IfErr result (λ failure. IsNoThread failure → StartsThreads line.now) }
+    ensures no_thread { IfErr result (λ failure. IsNoThread failure → StartsThreads request.now.line.now) }
 {
-    let mut output = create(rt, output, identities, whole(&line.command))?;
-    let answered = match write(rt, line, input, inputs, &mut output, text, gate) {
+    let mut output = create(request.rt, output, identities, whole(&request.line.command))?;
+    let answered = match write(request, input, inputs, &mut output, text) {
         Ok(answered) => answered,
         Err(error) => return Err(Failure::Run(error, None).by_output(output.output_error())),
     };
@@ -263,24 +253,22 @@ fn write_to_standard_output<
     E: Write,
     G: Gate + Progress + Sync,
 >(
-    rt: &R,
-    line: &'a CommandLine,
+    request: &Request<'a, R, G>,
     input: &mut M,
     inputs: &mut S,
     output: &mut W,
     text: &mut E,
-    gate: &G,
 ) -> Result<Answered, Failure<'a>>
-    requires { TakesFile line.now }
-    ensures ok { Writes line.now (ReadsBoth (M.remaining input.old) (M.remaining input.new) (S.remaining inputs.old) (S.remaining inputs.new))
+    requires { TakesFile request.now.line.now }
+    ensures ok { Writes request.now.line.now (ReadsBoth (M.remaining input.old) (M.remaining input.new) (S.remaining inputs.old) (S.remaining inputs.new))
         (W.contents output.old) (W.contents output.new) result }
-    ensures quiet { KeepsQuiet line.now (W.contents output.old) (W.contents output.new) result }
-    ensures part { LeavesPart line.now (ReadsBoth (M.remaining input.old) (M.remaining input.new) (S.remaining inputs.old) (S.remaining inputs.new))
+    ensures quiet { KeepsQuiet request.now.line.now (W.contents output.old) (W.contents output.new) result }
+    ensures part { LeavesPart request.now.line.now (ReadsBoth (M.remaining input.old) (M.remaining input.new) (S.remaining inputs.old) (S.remaining inputs.new))
         (W.contents output.old) (W.contents output.new) result }
-    ensures no_thread { IfErr result (λ failure. IsNoThread failure → StartsThreads line.now) }
+    ensures no_thread { IfErr result (λ failure. IsNoThread failure → StartsThreads request.now.line.now) }
 {
-    check_standard_output(rt)?;
-    match run_into(rt, line, input, inputs, output, text, gate) {
+    check_standard_output(request.rt)?;
+    match run_into(request, input, inputs, output, text) {
         Ok(answered) => Ok(answered),
         Err(error) => Err(Failure::Run(error, None)),
     }
@@ -307,28 +295,26 @@ fn answer<
     E: Write,
     G: Gate + Progress + Sync,
 >(
-    rt: &R,
-    line: &'a CommandLine,
+    request: &Request<'a, R, G>,
     input: &mut M,
     inputs: &mut S,
     identities: &[Option<Identity>],
     output: &mut W,
     error: &mut E,
-    gate: &G,
 ) -> Result<Answered, Failure<'a>>
-    ensures ok { Writes line.now (ReadsBoth (M.remaining input.old) (M.remaining input.new) (S.remaining inputs.old) (S.remaining inputs.new))
+    ensures ok { Writes request.now.line.now (ReadsBoth (M.remaining input.old) (M.remaining input.new) (S.remaining inputs.old) (S.remaining inputs.new))
         (W.contents output.old) (W.contents output.new) result }
-    ensures quiet { KeepsQuiet line.now (W.contents output.old) (W.contents output.new) result }
-    ensures part { LeavesPart line.now (ReadsBoth (M.remaining input.old) (M.remaining input.new) (S.remaining inputs.old) (S.remaining inputs.new))
+    ensures quiet { KeepsQuiet request.now.line.now (W.contents output.old) (W.contents output.new) result }
+    ensures part { LeavesPart request.now.line.now (ReadsBoth (M.remaining input.old) (M.remaining input.new) (S.remaining inputs.old) (S.remaining inputs.new))
         (W.contents output.old) (W.contents output.new) result }
-    ensures no_thread { IfErr result (λ failure. IsNoThread failure → StartsThreads line.now) }
+    ensures no_thread { IfErr result (λ failure. IsNoThread failure → StartsThreads request.now.line.now) }
 {
-    if takes_file(line) {
-        return write_to_standard_output(rt, line, input, inputs, output, error, gate);
+    if takes_file(request.line) {
+        return write_to_standard_output(request, input, inputs, output, error);
     }
-    match line.output.as_deref() {
-        Some(name) => write_to(rt, line, input, inputs, identities, name, output, gate),
-        None => tell(rt, line, input, inputs, output, gate),
+    match request.line.output.as_deref() {
+        Some(name) => write_to(request, input, inputs, identities, name, output),
+        None => tell(request, input, inputs, output),
     }
 }
 
@@ -381,32 +367,21 @@ fn answer_with_file<
     E: Write,
     G: Gate + Progress + Sync,
 >(
-    rt: &R,
-    line: &'a CommandLine,
+    request: &Request<'a, R, G>,
     input: &mut M,
     identity: Option<Identity>,
     second: &'a str,
     output: &mut W,
     error: &mut E,
-    gate: &G,
 ) -> Result<Answered, Failure<'a>>
-    ensures ok { Writes line.now (ReadsFirstly (M.remaining input.old) (M.remaining input.new)) (W.contents output.old) (W.contents output.new) result }
-    ensures quiet { KeepsQuiet line.now (W.contents output.old) (W.contents output.new) result }
-    ensures part { LeavesPart line.now (ReadsFirstly (M.remaining input.old) (M.remaining input.new)) (W.contents output.old) (W.contents output.new) result }
-    ensures no_thread { IfErr result (λ failure. IsNoThread failure → StartsThreads line.now) }
+    ensures ok { Writes request.now.line.now (ReadsFirstly (M.remaining input.old) (M.remaining input.new)) (W.contents output.old) (W.contents output.new) result }
+    ensures quiet { KeepsQuiet request.now.line.now (W.contents output.old) (W.contents output.new) result }
+    ensures part { LeavesPart request.now.line.now (ReadsFirstly (M.remaining input.old) (M.remaining input.new)) (W.contents output.old) (W.contents output.new) result }
+    ensures no_thread { IfErr result (λ failure. IsNoThread failure → StartsThreads request.now.line.now) }
 {
-    let mut inputs = open_input(rt, line, second)?;
-    let identities = [identity, Some(identity_of(rt, &inputs)?)];
-    match answer(
-        rt,
-        line,
-        input,
-        &mut inputs,
-        &identities,
-        output,
-        error,
-        gate,
-    ) {
+    let mut inputs = open_input(request.rt, request.line, second)?;
+    let identities = [identity, Some(identity_of(request.rt, &inputs)?)];
+    match answer(request, input, &mut inputs, &identities, output, error) {
         Ok(answered) => Ok(answered),
         Err(failure) => Err(failure.by_input(inputs.file_error())),
     }
@@ -423,72 +398,30 @@ fn answer_with<
     E: Write,
     G: Gate + Progress + Sync,
 >(
-    rt: &R,
-    line: &'a CommandLine,
+    request: &Request<'a, R, G>,
     input: &mut M,
     identity: Option<Identity>,
     standard: &mut I,
     output: &mut W,
     error: &mut E,
-    gate: &G,
 ) -> Result<Answered, Failure<'a>>
-    ensures ok { Writes line.now (ReadsWith line.now (M.remaining input.old) (M.remaining input.new) (I.remaining standard.old) (I.remaining standard.new))
+    ensures ok { Writes request.now.line.now (ReadsWith request.now.line.now (M.remaining input.old) (M.remaining input.new) (I.remaining standard.old) (I.remaining standard.new))
         (W.contents output.old) (W.contents output.new) result }
-    ensures quiet { KeepsQuiet line.now (W.contents output.old) (W.contents output.new) result }
-    ensures part { LeavesPart line.now (ReadsWith line.now (M.remaining input.old) (M.remaining input.new) (I.remaining standard.old) (I.remaining standard.new))
+    ensures quiet { KeepsQuiet request.now.line.now (W.contents output.old) (W.contents output.new) result }
+    ensures part { LeavesPart request.now.line.now (ReadsWith request.now.line.now (M.remaining input.old) (M.remaining input.new) (I.remaining standard.old) (I.remaining standard.new))
         (W.contents output.old) (W.contents output.new) result }
-    ensures no_thread { IfErr result (λ failure. IsNoThread failure → StartsThreads line.now) }
+    ensures no_thread { IfErr result (λ failure. IsNoThread failure → StartsThreads request.now.line.now) }
 {
-    if reads_second(line) {
-        let identities = [identity, identity_of_standard_input(rt, line)?];
-        return answer(rt, line, input, standard, &identities, output, error, gate);
+    if reads_second(request.line) {
+        let identities = [
+            identity,
+            identity_of_standard_input(request.rt, request.line)?,
+        ];
+        return answer(request, input, standard, &identities, output, error);
     }
-    match line.second.as_deref() {
-        Some(second) => answer_with_file(rt, line, input, identity, second, output, error, gate),
-        None => answer(
-            rt,
-            line,
-            input,
-            &mut io::empty(),
-            &[identity],
-            output,
-            error,
-            gate,
-        ),
-    }
-}
-
-/// Does what a command line asks for with the file of its first input.
-fn answer_file<
-    'a,
-    R: Files + Threads + Wait + Sync + AllocGlobal,
-    I: Read,
-    W: Write,
-    E: Write,
-    G: Gate + Progress + Sync,
->(
-    rt: &R,
-    line: &'a CommandLine,
-    standard: &mut I,
-    output: &mut W,
-    error: &mut E,
-    gate: &G,
-) -> Result<Answered, Failure<'a>>
-    requires { ReadsFirst line.now → ⊥ }
-    ensures ok { Writes line.now (ReadsInputs line.now (I.remaining standard.old) (I.remaining standard.new))
-        (W.contents output.old) (W.contents output.new) result }
-    ensures quiet { KeepsQuiet line.now (W.contents output.old) (W.contents output.new) result }
-    ensures part { LeavesPart line.now (ReadsInputs line.now (I.remaining standard.old) (I.remaining standard.new))
-        (W.contents output.old) (W.contents output.new) result }
-    ensures no_thread { IfErr result (λ failure. IsNoThread failure → StartsThreads line.now) }
-{
-    let mut input = open_input(rt, line, &line.input)?;
-    let identity = Some(identity_of(rt, &input)?);
-    match answer_with(
-        rt, line, &mut input, identity, standard, output, error, gate,
-    ) {
-        Ok(answered) => Ok(answered),
-        Err(failure) => Err(failure.by_input(input.file_error())),
+    match request.line.second.as_deref() {
+        Some(second) => answer_with_file(request, input, identity, second, output, error),
+        None => answer(request, input, &mut io::empty(), &[identity], output, error),
     }
 }
 
@@ -519,31 +452,25 @@ pub(crate) fn answer_line<
     E: Write,
     G: Gate + Progress + Sync,
 >(
-    rt: &R,
-    line: &'a CommandLine,
-    input: &mut I,
+    request: &Request<'a, R, G>,
+    standard: &mut I,
     output: &mut W,
     error: &mut E,
-    gate: &G,
 ) -> Result<Answered, Failure<'a>>
-    requires { ReadsTwice line.now → ⊥ }
-    ensures ok { Writes line.now (ReadsInputs line.now (I.remaining input.old) (I.remaining input.new)) (W.contents output.old) (W.contents output.new) result }
-    ensures quiet { KeepsQuiet line.now (W.contents output.old) (W.contents output.new) result }
-    ensures part { LeavesPart line.now (ReadsInputs line.now (I.remaining input.old) (I.remaining input.new)) (W.contents output.old) (W.contents output.new) result }
-    ensures no_thread { IfErr result (λ failure. IsNoThread failure → StartsThreads line.now) }
+    requires { ReadsTwice request.now.line.now → ⊥ }
+    ensures ok { Writes request.now.line.now (ReadsInputs request.now.line.now (I.remaining standard.old) (I.remaining standard.new)) (W.contents output.old) (W.contents output.new) result }
+    ensures quiet { KeepsQuiet request.now.line.now (W.contents output.old) (W.contents output.new) result }
+    ensures part { LeavesPart request.now.line.now (ReadsInputs request.now.line.now (I.remaining standard.old) (I.remaining standard.new)) (W.contents output.old) (W.contents output.new) result }
+    ensures no_thread { IfErr result (λ failure. IsNoThread failure → StartsThreads request.now.line.now) }
 {
-    if !reads_first(line) {
-        return answer_file(rt, line, input, output, error, gate);
+    if reads_first(request.line) {
+        let identity = identity_of_standard_input(request.rt, request.line)?;
+        return answer_with(request, standard, identity, &mut io::empty(), output, error);
     }
-    let identity = identity_of_standard_input(rt, line)?;
-    answer_with(
-        rt,
-        line,
-        input,
-        identity,
-        &mut io::empty(),
-        output,
-        error,
-        gate,
-    )
+    let mut input = open_input(request.rt, request.line, &request.line.input)?;
+    let identity = Some(identity_of(request.rt, &input)?);
+    match answer_with(request, &mut input, identity, standard, output, error) {
+        Ok(answered) => Ok(answered),
+        Err(failure) => Err(failure.by_input(input.file_error())),
+    }
 }

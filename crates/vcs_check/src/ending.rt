@@ -156,13 +156,3 @@ impl From<LineFault> for Ending<'_> {
         }
     }
 }
-
-impl<'a> From<Failure<'a>> for Ending<'a> {
-    ghost use Rattle.vcs_check.specs.declared.ending.Ending.TheVariants.{Failed};
-
-    ghost from_gives = { λ failure ending. ending ≡ Failed failure };
-
-    fn from(failure: Failure<'a>) -> Ending<'a> {
-        Ending::Failed(failure)
-    }
-}

@@ -97,14 +97,3 @@ impl<'a> From<CreateError<'a>> for Failure<'a> {
         }
     }
 }
-
-impl<'a> From<RunError> for Failure<'a> {
-    ghost use Rattle.std.specs.Prelude.{None};
-    ghost use Rattle.vcs_check.specs.declared.failure.Failure.TheVariants.{Run};
-
-    ghost from_gives = { λ error failure. failure ≡ Run error None };
-
-    fn from(error: RunError) -> Failure<'a> {
-        Failure::Run(error, None)
-    }
-}

@@ -41,7 +41,7 @@ use answered::Answered;
 use clap::error::ErrorKind;
 use command_files::{answer_line, draws, reads_first, reads_second, takes_file};
 use command_line::{CommandLine, LineFault, parse_line};
-use commands::{Gate, Progress, RunError};
+use commands::{Gate, Progress, Request, RunError};
 use ending::{Ending, not_written};
 use error_object::{says_errors, write_error_object};
 use failure::Failure;
@@ -200,23 +200,21 @@ fn carry_out<
     E: Write,
     G: Gate + Progress + Sync,
 >(
-    rt: &R,
+    request: &Request<'_, R, G>,
     input: &mut Named<'_, I>,
     output: &mut Named<'_, W>,
     error: &mut Named<'_, E>,
-    line: &CommandLine,
-    gate: &G,
 ) -> ExitCode
-    requires { ReadsTwice line.now → ⊥ }
+    requires { ReadsTwice request.now.line.now → ⊥ }
     // An answer, and what stands on standard output after it.
     ensures { (answer : Result Told WhyNot) × (told : Option (List ℕ))
-        × Writes line.now (ReadsInputs line.now (I.remaining input.old.stream) (I.remaining input.new.stream)) (W.contents output.old.stream) told answer
-        × KeepsQuiet line.now (W.contents output.old.stream) told answer
-        × LeavesPart line.now (ReadsInputs line.now (I.remaining input.old.stream) (I.remaining input.new.stream)) (W.contents output.old.stream) told answer
-        × Concludes line.now told (W.contents output.new.stream) answer (exit_status result) }
+        × Writes request.now.line.now (ReadsInputs request.now.line.now (I.remaining input.old.stream) (I.remaining input.new.stream)) (W.contents output.old.stream) told answer
+        × KeepsQuiet request.now.line.now (W.contents output.old.stream) told answer
+        × LeavesPart request.now.line.now (ReadsInputs request.now.line.now (I.remaining input.old.stream) (I.remaining input.new.stream)) (W.contents output.old.stream) told answer
+        × Concludes request.now.line.now told (W.contents output.new.stream) answer (exit_status result) }
 {
-    let answer = answer_line(rt, line, input, output, error, gate);
-    conclude(rt, line, input, output, error, answer)
+    let answer = answer_line(request, input, output, error);
+    conclude(request.rt, request.line, input, output, error, answer)
 }
 
 /// The program's arguments.
@@ -225,7 +223,7 @@ fn words_of_program<R: Env + AllocGlobal>(rt: &R) -> Result<Vec<String>, Ending<
     let words: Result<Vec<String>, AllocError> = arguments.collect(rt.alloc());
     match words {
         Ok(words) => Ok(words),
-        Err(_) => Err(Ending::Failed(Failure::from(RunError::NoMemory))),
+        Err(_) => Err(Ending::Failed(Failure::Run(RunError::NoMemory, None))),
     }
 }
 
@@ -291,16 +289,21 @@ fn main(rt: HostRuntime) -> ExitCode {
     let error = Limited::new(rt.stderr(), Quota::of_standard_error(&rt));
     let mut error = Named::new(STANDARD_ERROR, error);
     let progress = ProgressLine::new(&rt, is_terminal, rt.stdout().is_terminal());
+    let request = Request {
+        rt: &rt,
+        line: &line,
+        gate: &progress,
+    };
     if !takes_file(&line) || !draws(&line.command) {
         let mut output = Named::new(STANDARD_OUTPUT, output);
-        return carry_out(&rt, &mut input, &mut output, &mut error, &line, &progress);
+        return carry_out(&request, &mut input, &mut output, &mut error);
     }
     // Pictures go through a buffer.
     match BufWriter::new(rt.alloc(), output) {
         Ok(output) => {
             let mut output = Named::new(STANDARD_OUTPUT, output);
-            carry_out(&rt, &mut input, &mut output, &mut error, &line, &progress)
+            carry_out(&request, &mut input, &mut output, &mut error)
         }
-        Err(_) => Ending::Failed(Failure::from(RunError::NoMemory)).report(&rt, line.explain),
+        Err(_) => Ending::Failed(Failure::Run(RunError::NoMemory, None)).report(&rt, line.explain),
     }
 }

@@ -24,21 +24,21 @@ returns-in_err-expected-in-Ok-clause-too_long g c = λ is.
 pub returns-in-Ok-clause-ok : goal.returns-in-Ok-clause-ok
 returns-in-Ok-clause-ok g c =
     let bytes = c.in_ok-bytes.bytes.items in
-    let about : IsAboutMovies c.args.line.now.command = search rules in
+    let about : IsAboutMovies c.args.request.now.line.now.command = search rules in
     let read : movie_at bytes ≡ Ok c.in-Ok.movie = rw c.in-Ok.is at (sym c.in_ok-bytes.ensures.found) in
     let reads = rw (← c.as_deref.ensures.value) at c.in_ok-expected-in-Ok.ensures.reads in
     IfOk-weaker c.answer_movie.result _ _
-    (λ end h. (bytes, h.0.text, h.0.file, c.in_ok-bytes.ensures.all, of_movie c.args.line.now bytes _ _ end h.0 about h.2 _ _ read reads h.1, h.3, h.4))
+    (λ end h. (bytes, h.0.text, h.0.file, c.in_ok-bytes.ensures.all, of_movie c.args.request.now.line.now bytes _ _ end h.0 about h.2 _ _ read reads h.1, h.3, h.4))
     (rw c.deref.ensures.value at c.answer_movie.ensures.ok)
 
 pub returns-in-Ok-clause-write_fault : goal.returns-in-Ok-clause-write_fault
 returns-in-Ok-clause-write_fault g c = λ is.
     let bytes = c.in_ok-bytes.bytes.items in
-    let about : IsAboutMovies c.args.line.now.command = search rules in
+    let about : IsAboutMovies c.args.request.now.line.now.command = search rules in
     let read : movie_at bytes ≡ Ok c.in-Ok.movie = rw c.in-Ok.is at (sym c.in_ok-bytes.ensures.found) in
     let reads = rw (← c.as_deref.ensures.value) at c.in_ok-expected-in-Ok.ensures.reads in
     let h = (rw c.deref.ensures.value at c.answer_movie.ensures.write_fault) is in
-    (bytes, conclusion_of h.0, h.0.text, h.0.file, c.in_ok-bytes.ensures.all, of_movie c.args.line.now bytes _ _ _ h.0 about refl _ _ read reads h.1, h.2)
+    (bytes, conclusion_of h.0, h.0.text, h.0.file, c.in_ok-bytes.ensures.all, of_movie c.args.request.now.line.now bytes _ _ _ h.0 about refl _ _ read reads h.1, h.2)
 
 pub returns-in-Ok-clause-memory : goal.returns-in-Ok-clause-memory
 returns-in-Ok-clause-memory g c = λ is.
@@ -50,7 +50,7 @@ pub returns-in_err-write_text-in-Err-clause-write_fault : goal.returns-in_err-wr
 returns-in_err-write_text-in-Err-clause-write_fault g c = λ is.
     let bytes = c.in_ok-bytes.bytes.items in
     let answer = c.in_ok-answer-in-Err.answer in
-    let about : IsAboutMovies c.args.line.now.command = search rules in
+    let about : IsAboutMovies c.args.request.now.line.now.command = search rules in
     let read : movie_at bytes ≡ Err c.in-Err.error = rw c.in-Err.is at (sym c.in_ok-bytes.ensures.found) in
     let told = rw c.deref-in-Err.ensures.value at c.in_ok-answer-in-Err.ensures in (
       bytes,
@@ -58,16 +58,16 @@ returns-in_err-write_text-in-Err-clause-write_fault g c = λ is.
       answer.text,
       _,
       c.in_ok-bytes.ensures.all,
-      of_refusal c.args.line.now bytes _ _ _ answer about refl _ read (keeps_same _) told,
-      text_in_part (writing_of c.args.line.now.command) _ _ _ _ c.in_err-write_text-in-Err.ensures.fault,
+      of_refusal c.args.request.now.line.now bytes _ _ _ answer about refl _ read (keeps_same _) told,
+      text_in_part (writing_of c.args.request.now.line.now.command) _ _ _ _ c.in_err-write_text-in-Err.ensures.fault,
     )
 
 pub returns-clause-ok : goal.returns-clause-ok
 returns-clause-ok g c =
     let bytes = c.in_ok-bytes.bytes.items in
     let answer = c.in_ok-answer-in-Err.answer in
-    let about : IsAboutMovies c.args.line.now.command = search rules in
+    let about : IsAboutMovies c.args.request.now.line.now.command = search rules in
     let read : movie_at bytes ≡ Err c.in-Err.error = rw c.in-Err.is at (sym c.in_ok-bytes.ensures.found) in
     let told = rw c.deref-in-Err.ensures.value at c.in_ok-answer-in-Err.ensures in
     let wrote = c.in_ok-write_text-in-Err.ensures.ok in
-    (bytes, answer.text, _, c.in_ok-bytes.ensures.all, of_refusal c.args.line.now bytes _ _ _ answer about wrote.0 _ read (keeps_same _) told, wrote.1, appends_nothing _)
+    (bytes, answer.text, _, c.in_ok-bytes.ensures.all, of_refusal c.args.request.now.line.now bytes _ _ _ answer about wrote.0 _ read (keeps_same _) told, wrote.1, appends_nothing _)

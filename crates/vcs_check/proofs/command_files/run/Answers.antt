@@ -12,7 +12,7 @@ pub returns-in-Err-clause-write_fault : goal.returns-in-Err-clause-write_fault
 returns-in-Err-clause-write_fault g c = λ is.
     let error : c.in-Err.error ≡ WriteFault = cc in
     let h = c.in-Err.ensures.write_fault (rw error refl) in
-    (h.0, h.1.status, h.2, h.4, (h.1.remark, h.3, h.5), text_in_part (writing_of c.args.line.now.command) _ _ h.2 _ _ h.3 h.6)
+    (h.0, h.1.status, h.2, h.4, (h.1.remark, h.3, h.5), text_in_part (writing_of c.args.request.now.line.now.command) _ _ h.2 _ _ h.3 h.6)
 
 pub returns-in-Err-clause-memory : goal.returns-in-Err-clause-memory
 returns-in-Err-clause-memory g c = λ is.

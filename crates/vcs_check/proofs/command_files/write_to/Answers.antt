@@ -8,9 +8,9 @@ use Rattle.vcs_check.proofs.command_files.write_to.Goals as goal
 pub returns-in-Err-clause-part : goal.returns-in-Err-clause-part
 returns-in-Err-clause-part g c =
     let failed : RunError → Result Answered RunError = λ error. Err error in
-    rw c.by_output.ensures (part_by_output c.args.line.now _ _ _ (Run c.in-Err.error None) c.output_error.result
-    (part_of_text c.args.line.now _ _ _ _ _ _ c.in-Err.error (λ is. c.in-Err.ensures.write_fault (ap failed is))
+    rw c.by_output.ensures (part_by_output c.args.request.now.line.now _ _ _ (Run c.in-Err.error None) c.output_error.result
+    (part_of_text c.args.request.now.line.now _ _ _ _ _ _ c.in-Err.error (λ is. c.in-Err.ensures.write_fault (ap failed is))
     (λ is. c.in-Err.ensures.memory (ap failed is)) c.requires))
 
 pub returns-then-is_err-clause-part : goal.returns-then-is_err-clause-part
-returns-then-is_err-clause-part g c = part_of_whole c.args.line.now _ _ _ _ _ _ c.in-Ok.answered.status None c.in-Ok.ensures.ok c.requires
+returns-then-is_err-clause-part g c = part_of_whole c.args.request.now.line.now _ _ _ _ _ _ c.in-Ok.answered.status None c.in-Ok.ensures.ok c.requires

@@ -7,5 +7,5 @@ use Rattle.vcs_check.proofs.command_files.write_to_standard_output.Goals as goal
 pub returns-in-Err-clause-part : goal.returns-in-Err-clause-part
 returns-in-Err-clause-part g c =
     let failed : RunError → Result Answered RunError = λ error. Err error in
-    part_of_run c.args.line.now _ _ _ _ _ _ c.in-Err.error (λ is. c.in-Err.ensures.write_fault (ap failed is)) (λ is. c.in-Err.ensures.memory (ap failed is))
+    part_of_run c.args.request.now.line.now _ _ _ _ _ _ c.in-Err.error (λ is. c.in-Err.ensures.write_fault (ap failed is)) (λ is. c.in-Err.ensures.memory (ap failed is))
     c.requires
