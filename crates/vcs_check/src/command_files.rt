@@ -1,56 +1,29 @@
 //! A command and its files.
-ghost use Rattle.std.specs.Prelude.{◌≡◌, ◌≢◌, ◌⊎◌, ◌↔◌, List, ℕ, Option, Ok, true, Err, IfErr, IfOk, OnErr};
-ghost use Rattle.std.specs.Prelude.{IsSome, None, codes, option_copied, option_map, string_bytes};
-ghost use Rattle.std.specs.Io.KnownBytes.{Appends, Keeps};
+ghost use Rattle.std.specs.Prelude.{◌≡◌, ◌⊎◌, ◌↔◌, None, codes, IfErr, IfOk, IsSome, true};
 ghost use Rattle.command_line.specs.Writing.{writing_of};
-ghost use Rattle.commands.specs.Commands.{HasBegun, IsGradual, StartsThreads};
-ghost use Rattle.commands.specs.Streams.{ReadsAll};
-ghost use Rattle.movie_file.specs.Movie.{MovieData};
-ghost use Rattle.movie_file.specs.Reading.{movie_at};
-ghost use Rattle.picture_file.specs.Prefixes.{AppendsPrefix};
-ghost use Rattle.vcs_check.specs.Commands.{IsFile, IsText, KeepsQuiet, LeavesPart, ReadsFirst, ReadsInputs, ReadsSecond};
+ghost use Rattle.commands.specs.Commands.{StartsThreads};
+ghost use Rattle.vcs_check.specs.Commands.{KeepsQuiet, LeavesPart, ReadsFirst, ReadsInputs, ReadsSecond};
 ghost use Rattle.vcs_check.specs.Commands.{ReadsTwice, TakesFile, Writes, WritesPictures};
 ghost use Rattle.named_files.specs.FileErrors.{IsInputStream, Names};
 ghost use Rattle.named_files.specs.declared.replacing.Whole.TheVariants.{Flushed, Written};
 ghost use Rattle.vcs_check.specs.Failures.{IsNoThread};
 ghost use Rattle.vcs_check.specs.Private.Inputs.{ReadsBoth, ReadsFirstly, ReadsWith};
 
-use crate::answered::Answered;
 use crate::failure::Failure;
+use crate::gathered::Gathered;
 use command_line::{Command, CommandLine, Writing};
-use commands::{Gate, Progress, Request, RunError, Status, run_command};
+use commands::{Conclusion, Gate, Progress, Request, RunError, Status, run_command};
 use named_files::{
     FileError, Identity, Named, Whole, check_standard_output, check_streams, create, open,
     open_beside,
 };
-use std::alloc::Global;
-use std::io::{self, BufWriter, Read, Write};
+use std::io::{self, Read, Write};
 use std::rt::Files;
 use std::sync::Wait;
 use std::thread::Threads;
 
 /// The name of an input that is standard input, and of an output that is standard output.
 pub(crate) const STANDARD: &str = "-";
-
-/// A writer that gathers small writes.
-fn with_buffer<W: Write + Drop>(alloc: Global, writer: W) -> Result<BufWriter<W>, RunError>
-    ensures { OnErr result (result ≡ Err RunError.NoMemory) }
-{
-    match BufWriter::new(alloc, writer) {
-        Ok(writer) => Ok(writer),
-        Err(_) => Err(RunError::NoMemory),
-    }
-}
-
-/// Empties a buffer. That its last write failed shows only here.
-fn flush<W: Write>(writer: &mut W) -> Result<(), RunError>
-    ensures { OnErr result (result ≡ Err RunError.WriteFault) }
-{
-    match writer.flush() {
-        Ok(()) => Ok(()),
-        Err(_) => Err(RunError::WriteFault),
-    }
-}
 
 /// Whether pictures are what a command writes to a file.
 pub(crate) fn draws(command: &Command) -> bool
@@ -74,139 +47,6 @@ fn whole(command: &Command) -> Whole
     }
 }
 
-/// Does what a command line asks for with these streams.
-fn run<
-    T: Files + Threads + Wait + Sync + AllocGlobal,
-    M: Read,
-    S: Read,
-    P: Write,
-    W: Write,
-    G: Gate + Progress + Sync,
->(
-    request: &Request<'_, T, G>,
-    input: &mut M,
-    inputs: &mut S,
-    output: &mut P,
-    text: &mut W,
-) -> Result<Answered, RunError>
-    ensures ok { IfOk result (λ answered. (bytes : List ℕ) × (told : List ℕ) × ReadsAll (M.remaining input.old) (M.remaining input.new) bytes
-        × IsText request.now.line.now bytes (S.remaining inputs.old) (S.remaining inputs.new) answered.status told × Appends (W.contents text.old) (W.contents text.new) told) }
-    ensures write_fault { result ≡ Err RunError.WriteFault → (bytes : List ℕ) × (status : Status) × (told : List ℕ)
-        × ReadsAll (M.remaining input.old) (M.remaining input.new) bytes
-        × IsText request.now.line.now bytes (S.remaining inputs.old) (S.remaining inputs.new) status told
-        × AppendsPrefix (W.contents text.old) (W.contents text.new) told }
-    ensures memory { result ≡ Err RunError.NoMemory → Keeps (W.contents text.old) (W.contents text.new)
-        ⊎ ((bytes : List ℕ) × (m : MovieData) × ReadsAll (M.remaining input.old) (M.remaining input.new) bytes × (movie_at bytes ≡ Ok m)
-        × (file_old file_new : Option (List ℕ)) × HasBegun request.now.line.now.command request.now.line.now.notation m (W.contents text.old) (W.contents text.new) file_old file_new) }
-    ensures quiet { OnErr result (result ≢ Err RunError.WriteFault → (result ≡ Err RunError.NoMemory → IsGradual (writing_of request.now.line.now.command) → ⊥)
-        → Keeps (W.contents text.old) (W.contents text.new)) }
-    ensures no_thread { result ≡ Err RunError.NoThread → StartsThreads request.now.line.now }
-{
-    match run_command(request, input, inputs, text, output) {
-        Ok(end) => Ok(Answered::of(request.rt, request.line, &end)),
-        Err(error) => Err(error),
-    }
-}
-
-/// The same, where what counts is what a file gets.
-fn run_into<
-    T: Files + Threads + Wait + Sync + AllocGlobal,
-    M: Read,
-    S: Read,
-    P: Write,
-    W: Write,
-    G: Gate + Progress + Sync,
->(
-    request: &Request<'_, T, G>,
-    input: &mut M,
-    inputs: &mut S,
-    output: &mut P,
-    text: &mut W,
-) -> Result<Answered, RunError>
-    ensures ok { IfOk result (λ answered. (bytes : List ℕ) × (made : List ℕ) × ReadsAll (M.remaining input.old) (M.remaining input.new) bytes
-        × IsFile request.now.line.now bytes (S.remaining inputs.old) (S.remaining inputs.new) answered.status made × Appends (P.contents output.old) (P.contents output.new) made) }
-    ensures write_fault { result ≡ Err RunError.WriteFault → (bytes : List ℕ) × (status : Status) × (made : List ℕ)
-        × ReadsAll (M.remaining input.old) (M.remaining input.new) bytes
-        × IsFile request.now.line.now bytes (S.remaining inputs.old) (S.remaining inputs.new) status made
-        × AppendsPrefix (P.contents output.old) (P.contents output.new) made }
-    ensures memory { result ≡ Err RunError.NoMemory → Keeps (P.contents output.old) (P.contents output.new)
-        ⊎ ((bytes : List ℕ) × (m : MovieData) × ReadsAll (M.remaining input.old) (M.remaining input.new) bytes × (movie_at bytes ≡ Ok m)
-        × (text_old text_new : Option (List ℕ)) × HasBegun request.now.line.now.command request.now.line.now.notation m text_old text_new (P.contents output.old) (P.contents output.new)) }
-    ensures quiet { OnErr result (result ≢ Err RunError.WriteFault → result ≢ Err RunError.NoMemory
-        → Keeps (P.contents output.old) (P.contents output.new)) }
-    ensures no_thread { result ≡ Err RunError.NoThread → StartsThreads request.now.line.now }
-{
-    match run_command(request, input, inputs, text, output) {
-        Ok(end) => Ok(Answered::of(request.rt, request.line, &end)),
-        Err(error) => Err(error),
-    }
-}
-
-/// The same as `run`. Pictures go through a buffer.
-fn write<
-    T: Files + Threads + Wait + Sync + AllocGlobal,
-    M: Read,
-    S: Read,
-    P: Write + Drop,
-    W: Write,
-    G: Gate + Progress + Sync,
->(
-    request: &Request<'_, T, G>,
-    input: &mut M,
-    inputs: &mut S,
-    output: &mut P,
-    text: &mut W,
-) -> Result<Answered, RunError>
-    ensures ok { IfOk result (λ answered. (bytes : List ℕ) × (told : List ℕ) × ReadsAll (M.remaining input.old) (M.remaining input.new) bytes
-        × IsText request.now.line.now bytes (S.remaining inputs.old) (S.remaining inputs.new) answered.status told × Appends (W.contents text.old) (W.contents text.new) told) }
-    ensures write_fault { result ≡ Err RunError.WriteFault → (bytes : List ℕ) × (status : Status) × (told : List ℕ)
-        × ReadsAll (M.remaining input.old) (M.remaining input.new) bytes
-        × IsText request.now.line.now bytes (S.remaining inputs.old) (S.remaining inputs.new) status told
-        × AppendsPrefix (W.contents text.old) (W.contents text.new) told }
-    ensures memory { result ≡ Err RunError.NoMemory → Keeps (W.contents text.old) (W.contents text.new)
-        ⊎ ((bytes : List ℕ) × (m : MovieData) × ReadsAll (M.remaining input.old) (M.remaining input.new) bytes × (movie_at bytes ≡ Ok m)
-        × (file_old file_new : Option (List ℕ)) × HasBegun request.now.line.now.command request.now.line.now.notation m (W.contents text.old) (W.contents text.new) file_old file_new) }
-    ensures quiet { OnErr result (result ≢ Err RunError.WriteFault → (result ≡ Err RunError.NoMemory → IsGradual (writing_of request.now.line.now.command) → ⊥)
-        → Keeps (W.contents text.old) (W.contents text.new)) }
-    ensures no_thread { result ≡ Err RunError.NoThread → StartsThreads request.now.line.now }
-{
-    if !draws(&request.line.command) {
-        return run(request, input, inputs, output, text);
-    }
-    let mut pictures = with_buffer(request.rt.alloc(), output)?;
-    let answered = run(request, input, inputs, &mut pictures, text)?;
-    flush(&mut pictures)?;
-    Ok(answered)
-}
-
-/// Does what a command line without an output asks for with these inputs.
-fn tell<
-    'a,
-    R: Files + Threads + Wait + Sync + AllocGlobal,
-    M: Read,
-    S: Read,
-    W: Write,
-    G: Gate + Progress + Sync,
->(
-    request: &Request<'a, R, G>,
-    input: &mut M,
-    inputs: &mut S,
-    text: &mut W,
-) -> Result<Answered, Failure<'a>>
-    requires { TakesFile request.now.line.now → ⊥ }
-    ensures ok { Writes request.now.line.now (ReadsBoth (M.remaining input.old) (M.remaining input.new) (S.remaining inputs.old) (S.remaining inputs.new))
-        (W.contents text.old) (W.contents text.new) result }
-    ensures quiet { KeepsQuiet request.now.line.now (W.contents text.old) (W.contents text.new) result }
-    ensures part { LeavesPart request.now.line.now (ReadsBoth (M.remaining input.old) (M.remaining input.new) (S.remaining inputs.old) (S.remaining inputs.new))
-        (W.contents text.old) (W.contents text.new) result }
-    ensures no_thread { IfErr result (λ failure. IsNoThread failure → StartsThreads request.now.line.now) }
-{
-    match run(request, input, inputs, &mut io::sink(), text) {
-        Ok(answered) => Ok(answered),
-        Err(error) => Err(Failure::Run(error, None)),
-    }
-}
-
 /// Does what a command line asks for with these inputs, and a file that takes what it writes. If all
 /// is done no bytes of before stay in that, though nothing was written.
 fn write_to<
@@ -223,7 +63,7 @@ fn write_to<
     identities: &[Option<Identity>],
     output: &'a str,
     text: &mut W,
-) -> Result<Answered, Failure<'a>>
+) -> Result<Conclusion, Failure<'a>>
     requires { TakesFile request.now.line.now → ⊥ }
     ensures ok { Writes request.now.line.now (ReadsBoth (M.remaining input.old) (M.remaining input.new) (S.remaining inputs.old) (S.remaining inputs.new))
         (W.contents text.old) (W.contents text.new) result }
@@ -232,15 +72,20 @@ fn write_to<
         (W.contents text.old) (W.contents text.new) result }
     ensures no_thread { IfErr result (λ failure. IsNoThread failure → StartsThreads request.now.line.now) }
 {
-    let mut output = create(request.rt, output, identities, whole(&request.line.command))?;
-    let answered = match write(request, input, inputs, &mut output, text) {
-        Ok(answered) => answered,
+    let command = &request.line.command;
+    let mut output = create(request.rt, output, identities, whole(command))?;
+    let Ok(mut file) = Gathered::new(request.rt.alloc(), &mut output, draws(command)) else {
+        return Err(Failure::Run(RunError::NoMemory, None));
+    };
+    let answer = run_command(request, input, inputs, text, &mut file);
+    let end = match file.end(answer) {
+        Ok(end) => end,
         Err(error) => return Err(Failure::Run(error, None).by_output(output.output_error())),
     };
-    if answered.status == Status::Done && output.finish().is_err() {
+    if end.status == Status::Done && output.finish().is_err() {
         return Err(Failure::Run(RunError::WriteFault, output.output_error()));
     }
-    Ok(answered)
+    Ok(end)
 }
 
 /// Does what a command line asks for with these inputs, and standard output as what takes the file.
@@ -258,7 +103,7 @@ fn write_to_standard_output<
     inputs: &mut S,
     output: &mut W,
     text: &mut E,
-) -> Result<Answered, Failure<'a>>
+) -> Result<Conclusion, Failure<'a>>
     requires { TakesFile request.now.line.now }
     ensures ok { Writes request.now.line.now (ReadsBoth (M.remaining input.old) (M.remaining input.new) (S.remaining inputs.old) (S.remaining inputs.new))
         (W.contents output.old) (W.contents output.new) result }
@@ -268,8 +113,8 @@ fn write_to_standard_output<
     ensures no_thread { IfErr result (λ failure. IsNoThread failure → StartsThreads request.now.line.now) }
 {
     check_standard_output(request.rt)?;
-    match run_into(request, input, inputs, output, text) {
-        Ok(answered) => Ok(answered),
+    match run_command(request, input, inputs, text, output) {
+        Ok(end) => Ok(end),
         Err(error) => Err(Failure::Run(error, None)),
     }
 }
@@ -301,7 +146,7 @@ fn answer<
     identities: &[Option<Identity>],
     output: &mut W,
     error: &mut E,
-) -> Result<Answered, Failure<'a>>
+) -> Result<Conclusion, Failure<'a>>
     ensures ok { Writes request.now.line.now (ReadsBoth (M.remaining input.old) (M.remaining input.new) (S.remaining inputs.old) (S.remaining inputs.new))
         (W.contents output.old) (W.contents output.new) result }
     ensures quiet { KeepsQuiet request.now.line.now (W.contents output.old) (W.contents output.new) result }
@@ -312,9 +157,12 @@ fn answer<
     if takes_file(request.line) {
         return write_to_standard_output(request, input, inputs, output, error);
     }
-    match request.line.output.as_deref() {
-        Some(name) => write_to(request, input, inputs, identities, name, output),
-        None => tell(request, input, inputs, output),
+    if let Some(name) = request.line.output.as_deref() {
+        return write_to(request, input, inputs, identities, name, output);
+    }
+    match run_command(request, input, inputs, output, &mut io::sink()) {
+        Ok(end) => Ok(end),
+        Err(error) => Err(Failure::Run(error, None)),
     }
 }
 
@@ -373,7 +221,7 @@ fn answer_with_file<
     second: &'a str,
     output: &mut W,
     error: &mut E,
-) -> Result<Answered, Failure<'a>>
+) -> Result<Conclusion, Failure<'a>>
     ensures ok { Writes request.now.line.now (ReadsFirstly (M.remaining input.old) (M.remaining input.new)) (W.contents output.old) (W.contents output.new) result }
     ensures quiet { KeepsQuiet request.now.line.now (W.contents output.old) (W.contents output.new) result }
     ensures part { LeavesPart request.now.line.now (ReadsFirstly (M.remaining input.old) (M.remaining input.new)) (W.contents output.old) (W.contents output.new) result }
@@ -382,7 +230,7 @@ fn answer_with_file<
     let mut inputs = open_input(request.rt, request.line, second)?;
     let identities = [identity, Some(identity_of(request.rt, &inputs)?)];
     match answer(request, input, &mut inputs, &identities, output, error) {
-        Ok(answered) => Ok(answered),
+        Ok(end) => Ok(end),
         Err(failure) => Err(failure.by_input(inputs.file_error())),
     }
 }
@@ -404,7 +252,7 @@ fn answer_with<
     standard: &mut I,
     output: &mut W,
     error: &mut E,
-) -> Result<Answered, Failure<'a>>
+) -> Result<Conclusion, Failure<'a>>
     ensures ok { Writes request.now.line.now (ReadsWith request.now.line.now (M.remaining input.old) (M.remaining input.new) (I.remaining standard.old) (I.remaining standard.new))
         (W.contents output.old) (W.contents output.new) result }
     ensures quiet { KeepsQuiet request.now.line.now (W.contents output.old) (W.contents output.new) result }
@@ -456,7 +304,7 @@ pub(crate) fn answer_line<
     standard: &mut I,
     output: &mut W,
     error: &mut E,
-) -> Result<Answered, Failure<'a>>
+) -> Result<Conclusion, Failure<'a>>
     requires { ReadsTwice request.now.line.now → ⊥ }
     ensures ok { Writes request.now.line.now (ReadsInputs request.now.line.now (I.remaining standard.old) (I.remaining standard.new)) (W.contents output.old) (W.contents output.new) result }
     ensures quiet { KeepsQuiet request.now.line.now (W.contents output.old) (W.contents output.new) result }
@@ -470,7 +318,7 @@ pub(crate) fn answer_line<
     let mut input = open_input(request.rt, request.line, &request.line.input)?;
     let identity = Some(identity_of(request.rt, &input)?);
     match answer_with(request, &mut input, identity, standard, output, error) {
-        Ok(answered) => Ok(answered),
+        Ok(end) => Ok(end),
         Err(failure) => Err(failure.by_input(input.file_error())),
     }
 }

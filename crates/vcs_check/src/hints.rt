@@ -1,11 +1,10 @@
 //! What is told after an answer where reasons are wanted: why something was refused, and what no
 //! checkpoint claims.
 
-use crate::answered::Answered;
 use crate::command_files::{STANDARD, takes_file};
 use crate::reasons::write_reason;
 use command_line::{Command, CommandLine};
-use commands::{Cause, Remark, Status, WhichInput, read_all};
+use commands::{Cause, Conclusion, Remark, Status, WhichInput, read_all};
 use movie_hints::{Hint, TextHint, hint_of_claims};
 use named_files::STANDARD_INPUT;
 use riot_map::Cart;
@@ -62,7 +61,7 @@ fn is_cartridge<R: Files>(rt: &R, input: &str) -> bool {
 
 /// What is to be said of an input, if anything is known and there is memory for it; of a ROM that is
 /// none, and comes first, that the inputs are one, if they are.
-pub(crate) fn reason_of<R: Files + AllocGlobal>(
+fn reason_of<R: Files + AllocGlobal>(
     rt: &R,
     line: &CommandLine,
     remark: &Remark,
@@ -119,12 +118,14 @@ fn tell_of_output<R: Files + AllocGlobal + Eprint>(rt: &R, line: &CommandLine) {
 pub(crate) fn tell_hints<R: Files + AllocGlobal + Eprint>(
     rt: &R,
     line: &CommandLine,
-    answered: &Answered,
+    end: &Conclusion,
 ) {
-    if let Some(reason) = &answered.reason {
-        write_reason(rt, reason.as_str());
+    if let Some(remark) = &end.remark {
+        if let Some(reason) = reason_of(rt, line, remark) {
+            write_reason(rt, reason.as_str());
+        }
     }
-    if answered.status == Status::Done {
+    if end.status == Status::Done {
         tell_of_output(rt, line);
     }
 }

@@ -7,11 +7,11 @@
 #![tactic(auto)]
 
 mod advice;
-mod answered;
 mod command_files;
 mod ending;
 mod error_object;
 mod failure;
+mod gathered;
 mod hints;
 mod progress;
 mod reasons;
@@ -25,7 +25,7 @@ ghost use Rattle.command_line.specs.Faults.{IsRefusal};
 ghost use Rattle.command_line.specs.declared.command.LineFault.{LineFault as Refused};
 ghost use Rattle.terminal_text.specs.Names.{shown_text};
 ghost use Rattle.vcs_check.specs.declared.failure.Failure.{Failure as WhyNot};
-ghost use Rattle.vcs_check.specs.declared.answered.Answered.{Answered as Told};
+ghost use Rattle.commands.specs.declared.conclusion.Conclusion.{Conclusion as End};
 ghost use Rattle.named_files.specs.FileErrors.{IsAbout, IsErrorOf};
 ghost use Rattle.named_files.specs.declared.file_error.FileError.{FileError as FailedFile};
 ghost use Rattle.named_files.specs.declared.file_error.Reason.TheVariants.{IsTerminal as IsTerminalOutput};
@@ -37,11 +37,10 @@ ghost use Rattle.std.specs.Io.KnownBytes.{Keeps};
 ghost use Rattle.std.specs.Process.{exit_status};
 
 use advice::{advised, help_without_explain, tell_remark};
-use answered::Answered;
 use clap::error::ErrorKind;
 use command_files::{answer_line, draws, reads_first, reads_second, takes_file};
 use command_line::{CommandLine, LineFault, parse_line};
-use commands::{Gate, Progress, Request, RunError};
+use commands::{Conclusion, Gate, Progress, Request, RunError};
 use ending::{Ending, not_written};
 use error_object::{says_errors, write_error_object};
 use failure::Failure;
@@ -170,17 +169,17 @@ fn conclude<R: Files + AllocGlobal + Print + Eprint, I, W: Write, E>(
     input: &Named<'_, I>,
     output: &mut Named<'_, W>,
     error: &Named<'_, E>,
-    answer: Result<Answered, Failure<'_>>,
+    answer: Result<Conclusion, Failure<'_>>,
 ) -> ExitCode
     ensures { Concludes line.now (W.contents output.old.stream) (W.contents output.new.stream) answer.entry (exit_status result) }
 {
     match answer {
-        Ok(answered) => match settle(rt, output) {
+        Ok(end) => match settle(rt, output) {
             Ok(()) => {
                 if line.explain {
-                    tell_hints(rt, line, &answered);
+                    tell_hints(rt, line, &end);
                 }
-                ExitCode::from(answered.status.code())
+                ExitCode::from(end.status.code())
             }
             Err(error) => not_written(error).report(rt, line.explain),
         },
@@ -207,7 +206,7 @@ fn carry_out<
 ) -> ExitCode
     requires { ReadsTwice request.now.line.now → ⊥ }
     // An answer, and what stands on standard output after it.
-    ensures { (answer : Result Told WhyNot) × (told : Option (List ℕ))
+    ensures { (answer : Result End WhyNot) × (told : Option (List ℕ))
         × Writes request.now.line.now (ReadsInputs request.now.line.now (I.remaining input.old.stream) (I.remaining input.new.stream)) (W.contents output.old.stream) told answer
         × KeepsQuiet request.now.line.now (W.contents output.old.stream) told answer
         × LeavesPart request.now.line.now (ReadsInputs request.now.line.now (I.remaining input.old.stream) (I.remaining input.new.stream)) (W.contents output.old.stream) told answer

@@ -1,16 +1,26 @@
-use Rattle.std.proofs.Common.{Err, None, Result, ap}
-use Rattle.commands.specs.declared.run_error.RunError.{RunError}
-use Rattle.vcs_check.specs.declared.answered.Answered.{Answered}
-use Rattle.vcs_check.proofs.InputLemmas.{part_by_output, part_of_text, part_of_whole}
-use Rattle.vcs_check.specs.declared.failure.Failure.TheVariants.{Run}
+use Rattle.std.proofs.Common.{None}
+use Rattle.vcs_check.proofs.FileParts.{end_no_thread, end_part, end_quiet, text_whole, text_written}
 use Rattle.vcs_check.proofs.command_files.write_to.Goals as goal
+
+pub returns-in-Err-clause-quiet : goal.returns-in-Err-clause-quiet
+returns-in-Err-clause-quiet g c =
+    let ran = c.run_command-answer.ensures in
+    rw c.by_output.ensures (end_quiet c.args.request.now.line.now _ c.in-Err.error c.output_error.result c.in-Err.ensures.err _ _ _ _ _ _ ran.quiet ran.memory)
 
 pub returns-in-Err-clause-part : goal.returns-in-Err-clause-part
 returns-in-Err-clause-part g c =
-    let failed : RunError → Result Answered RunError = λ error. Err error in
-    rw c.by_output.ensures (part_by_output c.args.request.now.line.now _ _ _ (Run c.in-Err.error None) c.output_error.result
-    (part_of_text c.args.request.now.line.now _ _ _ _ _ _ c.in-Err.error (λ is. c.in-Err.ensures.write_fault (ap failed is))
-    (λ is. c.in-Err.ensures.memory (ap failed is)) c.requires))
+    let ran = c.run_command-answer.ensures in
+    rw c.by_output.ensures
+    (end_part c.args.request.now.line.now _ c.in-Err.error c.output_error.result c.in-Err.ensures.err _ _ _ _ _ _ _ _ c.requires ran.ok ran.write_fault ran.memory)
+
+pub returns-in-Err-clause-no_thread : goal.returns-in-Err-clause-no_thread
+returns-in-Err-clause-no_thread g c =
+    rw c.by_output.ensures (end_no_thread c.args.request.now.line.now _ c.in-Err.error c.output_error.result c.in-Err.ensures.err c.run_command-answer.ensures.no_thread)
 
 pub returns-then-is_err-clause-part : goal.returns-then-is_err-clause-part
-returns-then-is_err-clause-part g c = part_of_whole c.args.request.now.line.now _ _ _ _ _ _ c.in-Ok.answered.status None c.in-Ok.ensures.ok c.requires
+returns-then-is_err-clause-part g c =
+    text_whole c.args.request.now.line.now _ _ _ _ _ _ _ _ c.requires c.in-Ok.end None (rw c.in-Ok.ensures.ok at c.run_command-answer.ensures.ok)
+
+pub returns-clause-ok : goal.returns-clause-ok
+returns-clause-ok g c =
+    text_written c.args.request.now.line.now _ _ _ _ _ _ _ _ c.requires c.in-Ok.end (rw c.in-Ok.ensures.ok at c.run_command-answer.ensures.ok)
