@@ -16,13 +16,9 @@ use Rattle.replay_plan.specs.declared.notation.Notation.{Notation}
 use Rattle.commands.specs.Answers.{AnswerData, conclusion_of}
 use Rattle.commands.specs.Commands.{Answers, AnswersBytes, AnswersFound, IsAboutMovies, IsAnswered, ReadsFor, ReadsNamed, WritesSome}
 use Rattle.commands.specs.Pictures.{Draws}
-use Rattle.commands.specs.Private.Errors.{of_reading}
 use Rattle.commands.specs.Refusals.{Refuses}
 use Rattle.commands.specs.Remarks.{no_frame}
 use Rattle.commands.specs.declared.conclusion.Conclusion.{Conclusion}
-use Rattle.commands.specs.declared.run_error.ReadError.{ReadError}
-use Rattle.commands.specs.declared.run_error.ReadError.TheVariants as reads
-use Rattle.commands.specs.declared.run_error.RunError.TheVariants as runs
 
 module _ (line : CommandLine) (bytes : List ℕ) (a b : Option (List ℕ)) (end : Conclusion) (answer : AnswerData)
     (about : IsAboutMovies line.command) (same : end ≡ conclusion_of answer) where
@@ -47,12 +43,6 @@ module _ (line : CommandLine) (bytes : List ℕ) (a b : Option (List ℕ)) (end 
 pub text_in_part : (writing : Writing) (a b c : Option (List ℕ)) (text : List ℕ) → AppendsPrefix a b text → WritesSome writing a b text c c []
 text_in_part TextFirst a b c text part = inl (part, keeps_same c)
 text_in_part other a b c text part = inr (appends_nothing c, part)
-
--- The error of an input that is too long.
-pub only_too_long : (e : ReadError) → of_reading e ≡ runs.TooLong → e ≡ reads.TooLong
-only_too_long reads.Fault is = absurd (cc)
-only_too_long reads.TooLong is = refl
-only_too_long reads.NoMemory is = absurd (cc)
 
 -- The remark of the pictures that are asked for.
 pub drawn_remark : (m : MovieData) (first count : ℕ) (answer : AnswerData) → Draws m first count answer → answer.remark ≡ no_frame m first

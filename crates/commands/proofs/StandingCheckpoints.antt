@@ -59,5 +59,5 @@ module _ (m : MovieData) (movie : IsMovie m) (next frame : ℕ) (c : Checkpoint)
       (λ d there. grind (arith, in_order m movie next next c d here there)) in
       rw (place, here) refl
 
--- what is told of the checkpoint after a frame
+-- the text of a checkpoint after a frame: none is left, the next one is of this frame, or it is of a later one
 pub ruleset what_is_told = (no_more, stands_here, stands_later)

@@ -1,5 +1,5 @@
 -- What is written of a frame that is traced.
-use Rattle.std.proofs.Common.{◌≡◌, ℕ, ◌-◌, ◌≤◌, List, ◌++◌, length, Option, refl, append_assoc, inl, inr}
+use Rattle.std.proofs.Common.{ℕ, ◌-◌, ◌≤◌, List, ◌++◌, length, Option, refl, append_assoc, inl, inr}
 use Rattle.picture_file.specs.Prefixes.{AppendsPrefix}
 use Rattle.picture_file.proofs.BytesWritten.{prefix_longer}
 use Rattle.riot_map.specs.Cart.{has_banks}
@@ -15,11 +15,7 @@ use Rattle.movie_file.specs.Movie.{MovieData}
 use Rattle.commands.specs.declared.status.Status.{Status}
 use Rattle.commands.specs.declared.status.Status.TheVariants as statuses
 use Rattle.commands.specs.Lines.{line_bytes}
-use Rattle.commands.specs.declared.run_error.RunError.TheVariants as runs
-use Rattle.commands.specs.Private.Stops.{of_writing}
 use Rattle.run_cursor.specs.RunFaults.{FaultsWithin}
-use Rattle.commands.specs.declared.stop.WriteError.{WriteError}
-use Rattle.commands.specs.declared.stop.WriteError.TheVariants as writes
 use Rattle.commands.specs.Trace.{BeginsIn, Traces, instructions, last_line, status_of}
 use Rattle.commands.specs.declared.line.Line.TheVariants as lines
 use Rattle.commands.proofs.TraceSteps.{lines_begin, stops_later}
@@ -52,7 +48,3 @@ module _ (m : MovieData) (frame : ℕ) (state : StateFields) (input : InputData)
 pub fault_before : (m : MovieData) (frame earlier : ℕ) (kind : FaultKind) → frame ≤ length m.inputs → FaultsWithin m (frame - 1) earlier kind
     → Traces m frame statuses.Fault (line_bytes (lines.Fault earlier kind))
 fault_before m frame earlier kind there within = inr (inl (earlier, kind, there, within, refl, refl))
-
-pub only_write_fault : (e : WriteError) → of_writing e ≡ runs.WriteFault → e ≡ writes.WriteFault
-only_write_fault writes.NoMemory is = absurd (cc)
-only_write_fault writes.WriteFault is = refl

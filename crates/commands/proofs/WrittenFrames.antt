@@ -5,16 +5,12 @@ use Rattle.std.proofs.lemmas.List.{append-nil}
 use Rattle.std.proofs.lemmas.Result.{err_from_is_err_and}
 use Rattle.std.specs.Io.KnownBytes.{Appends}
 use Rattle.vcs_machine.specs.declared.fault.FaultKind.{FaultKind}
-use Rattle.vcs_machine.specs.declared.fault.FrameError.{FrameError}
-use Rattle.vcs_machine.specs.declared.fault.FrameError.TheVariants as frames
 use Rattle.movie_file.specs.Judgement.{FaultsAt}
 use Rattle.movie_file.specs.Movie.{MovieData}
 use Rattle.picture_file.specs.Prefixes.{AppendsPrefix}
 use Rattle.picture_file.proofs.BytesWritten.{appends_nothing, appends_then, prefix_after, prefix_longer}
-use Rattle.commands.specs.Private.Stops.{StopsWriting, stop_of}
-use Rattle.run_cursor.specs.RunFaults.{FaultsWithin, FrameFails}
+use Rattle.run_cursor.specs.RunFaults.{FaultsWithin}
 use Rattle.commands.specs.AskedFrames.{Ends, frames_asked, from_frames, last_asked}
-use Rattle.commands.specs.declared.stop.Stop.TheVariants.{Fault}
 use Rattle.commands.proofs.RunFrames.{EndsAtFault, frames_begin, frames_none}
 use Rattle.commands.proofs.RunSteps.{ends_or_faults, faults_sooner, frames_asked-min}
 
@@ -50,17 +46,16 @@ module _ (m : MovieData) (text : ℕ → List ℕ) (ends : EndsAtFault m text) (
   all_before k f kind a b fault le within written =
       rw (frames_begin text from k len within, frames_none text (from + k) (len - k) (λ x later. ends f kind fault x (omega arith)), append-nil) written
 
-  -- what a writer has got where a frame isn't played
-  pub stops_here : (k : ℕ) (a b : Option (List ℕ)) (error : FrameError) → k < len → FrameFails m (from + k) error
-      → Appends a b (from_frames text from k) → StopsWriting m text (from + len) from len a b (stop_of (from + k + 1) error)
-  stops_here k a b (frames.Fault kind) less fault written =
+  -- what a writer has got where one faults
+  pub faults_here : (k : ℕ) (kind : FaultKind) (a b : Option (List ℕ)) → k < len → FaultsAt m m.start 0 (from + k) kind
+      → Appends a b (from_frames text from k) → FaultsWithin m (from + len) (from + k + 1) kind × Appends a b (from_frames text from len)
+  faults_here k kind a b less fault written =
       ((from + k, omega arith, refl, fault), all_before k (from + k) kind a b fault (omega arith) (omega arith) written)
-  stops_here k a b frames.NoMemory less fault written = (k, omega arith, written)
 
   -- a fault before the first one leaves none
-  pub stops_before : (frame : ℕ) (kind : FaultKind) (a : Option (List ℕ)) → FaultsWithin m from frame kind
-      → StopsWriting m text (from + len) from len a a (Fault frame kind)
-  stops_before frame kind a (f, less, is, fault) = (
+  pub faults_before : (frame : ℕ) (kind : FaultKind) (a : Option (List ℕ)) → FaultsWithin m from frame kind
+      → FaultsWithin m (from + len) frame kind × Appends a a (from_frames text from len)
+  faults_before frame kind a (f, less, is, fault) = (
     faults_sooner m from (from + len) frame kind (omega arith) (f, less, is, fault),
     all_before 0 f kind a a fault (omega arith) (omega arith) (appends_nothing a),
   )

@@ -17,6 +17,7 @@ pub mod Private
 pub mod Refusals
 pub mod Remarks
 pub mod Report
+pub mod RunErrors
 pub mod Status
 pub mod Streams
 pub mod Trace

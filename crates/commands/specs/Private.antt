@@ -1,8 +1,6 @@
 -- Definitions of how things are kept. Only private contracts and proofs cite them: what is promised
 -- can be read without them.
 pub mod Contents
-pub mod CutErrors
-pub mod Errors
 pub mod Groups
 pub mod MadeRuns
 pub mod Stops

@@ -1,5 +1,5 @@
 //! The frames of a movie that a command asks for, and what is written of each.
-ghost use Rattle.std.specs.Prelude.{◌≡◌, ◌≤◌, ◌<◌, ◌+◌, ◌-◌, ◌^◌, length, IfOk, IfErr, OnOk, OnErr};
+ghost use Rattle.std.specs.Prelude.{◌≡◌, ◌≤◌, ◌<◌, ◌+◌, ◌-◌, ◌^◌, length, IfOk, IfErr, IfSome, None, Ok, OnOk, OnErr};
 ghost use Rattle.std.specs.Io.KnownBytes.{Appends};
 ghost use Rattle.std.specs.NonZero.{non_zero_u32_get};
 ghost use Rattle.movie_file.specs.Movie.{IsMovie};
@@ -13,7 +13,7 @@ ghost use Rattle.commands.specs.Private.Stops.{StopsWriting};
 ghost use Rattle.commands.specs.Private.Views.{bytes_shown, picture_of_frame, shown_bytes};
 
 use crate::frame_line::played_line;
-use crate::stop::Stop;
+use crate::run_error::RunError;
 use movie_file::{Movie, Progress, Work};
 use picture_file::{WriteFault, ppm, write_bytes};
 use replay_plan::{Details, Notation};
@@ -140,8 +140,9 @@ fn play(
     }
 }
 
-/// Writes what is asked of the frames that follow, each as soon as it is played. It takes the memory
-/// of one frame at a time. Each frame is told, as a part of a work that has begun.
+/// Writes what is asked of the frames that follow, each as soon as it is played, up to a fault, which
+/// is the answer. It takes the memory of one frame at a time. Each frame is told, as a part of a work
+/// that has begun.
 fn write_frames<W: Write, P: Progress>(
     alloc: Global,
     view: View<'_>,
@@ -149,13 +150,14 @@ fn write_frames<W: Write, P: Progress>(
     frames: u32,
     writer: &mut W,
     progress: &P,
-) -> Result<(), Stop>
+) -> Result<Option<RunFault>, RunError>
     requires within { cursor.old.frame + frames ≤ length cursor.old.movie.inputs }
-    ensures ends { OnOk result (Ends cursor.old.movie (cursor.old.frame + frames)) }
+    ensures ends { result ≡ Ok None → Ends cursor.old.movie (cursor.old.frame + frames) }
+    ensures faults { IfOk result (λ fault. IfSome fault (λ at. FaultsWithin cursor.old.movie (cursor.old.frame + frames) at.frame at.kind)) }
     ensures ok { OnOk result (Appends (W.contents writer.old) (W.contents writer.new)
         (from_frames (bytes_shown cursor.old.movie view.entry) cursor.old.frame frames)) }
-    ensures err { IfErr result (StopsWriting cursor.old.movie (bytes_shown cursor.old.movie view.entry) (cursor.old.frame + frames)
-        cursor.old.frame frames (W.contents writer.old) (W.contents writer.new)) }
+    ensures err { IfErr result (StopsWriting (bytes_shown cursor.old.movie view.entry) cursor.old.frame frames
+        (W.contents writer.old) (W.contents writer.new)) }
 {
     let movie = cursor.movie();
     let from = cursor.frame();
@@ -165,16 +167,17 @@ fn write_frames<W: Write, P: Progress>(
         next = checkpoints_before(movie, next, frame);
         match play(alloc, view, next, cursor) {
             Ok(shown) => shown.write(writer)?,
-            Err(error) => return Err(Stop::of_frame(frame, error)),
+            Err(FrameError::Fault(kind)) => return Ok(Some(RunFault { frame, kind })),
+            Err(FrameError::NoMemory) => return Err(RunError::NoMemory),
         }
         progress.advance();
     }
-    Ok(())
+    Ok(None)
 }
 
 /// Runs a movie up to the last of the frames that are asked for, `count` from `first` on, as many as
-/// it has, and writes what is asked of them. The answer is how many they are. The frames before them
-/// are one work and they are another, if there are some.
+/// it has, or up to a fault, which is the answer, and writes what is asked of them. The frames before
+/// them are one work and they are another, if there are some.
 pub(crate) fn write_asked<W: Write, P: Progress>(
     alloc: Global,
     movie: &Movie,
@@ -183,25 +186,24 @@ pub(crate) fn write_asked<W: Write, P: Progress>(
     count: u32,
     writer: &mut W,
     progress: &P,
-) -> Result<u32, Stop>
-    ensures frames { IfOk result (λ frames. frames ≡ frames_asked movie.now (non_zero_u32_get first) count) }
-    ensures ends { OnOk result (Ends movie.now (last_asked movie.now (non_zero_u32_get first) count)) }
+) -> Result<Option<RunFault>, RunError>
+    ensures ends { result ≡ Ok None → Ends movie.now (last_asked movie.now (non_zero_u32_get first) count) }
+    ensures faults { IfOk result (λ fault. IfSome fault (λ at. FaultsWithin movie.now (last_asked movie.now (non_zero_u32_get first) count) at.frame at.kind)) }
     ensures ok { OnOk result (Appends (W.contents writer.old) (W.contents writer.new)
         (from_frames (bytes_shown movie.now view.entry) (non_zero_u32_get first - 1) (frames_asked movie.now (non_zero_u32_get first) count))) }
-    ensures err { IfErr result (StopsWriting movie.now (bytes_shown movie.now view.entry)
-        (last_asked movie.now (non_zero_u32_get first) count) (non_zero_u32_get first - 1)
+    ensures err { IfErr result (StopsWriting (bytes_shown movie.now view.entry) (non_zero_u32_get first - 1)
         (frames_asked movie.now (non_zero_u32_get first) count) (W.contents writer.old) (W.contents writer.new)) }
 {
     let frames = frames_asked(movie, first, count);
     if frames == 0 {
-        return Ok(frames);
+        return Ok(None);
     }
-    let mut cursor = cursor_after(movie, first.get() - 1, progress)?;
+    let mut cursor = match cursor_after(movie, first.get() - 1, progress) {
+        Ok(cursor) => cursor,
+        Err(fault) => return Ok(Some(fault)),
+    };
     progress.begin(view.work(frames));
     let written = write_frames(alloc, view, &mut cursor, frames, writer, progress);
     progress.end();
-    match written {
-        Ok(()) => Ok(frames),
-        Err(stop) => Err(stop),
-    }
+    written
 }

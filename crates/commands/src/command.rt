@@ -1,5 +1,5 @@
 //! From a command to its answer.
-ghost use Rattle.std.specs.Prelude.{◌≡◌, ◌≢◌, ◌⊎◌, List, ℕ, IfOk, IsSome, OnErr};
+ghost use Rattle.std.specs.Prelude.{◌≡◌, ◌≢◌, ◌⊎◌, List, ℕ, IfErr, IfOk, IsSome, OnErr};
 ghost use Rattle.std.specs.NonZero.{non_zero_u32_get};
 ghost use Rattle.std.specs.Option.{option_copied, option_map};
 ghost use Rattle.std.specs.Io.KnownBytes.{Appends, Keeps};
@@ -11,6 +11,7 @@ ghost use Rattle.commands.specs.Commands.{Answers, HasBegun, IsAboutMovies, IsAn
 ghost use Rattle.commands.specs.Commands.{StartsThreads, WritesSome};
 ghost use Rattle.commands.specs.Private.Groups.{IsAtOnce};
 ghost use Rattle.commands.specs.Remarks.{no_frame};
+ghost use Rattle.commands.specs.RunErrors.{IsOfJudging, IsOfReading};
 ghost use Rattle.commands.specs.Streams.{IsTooLong, ReadsAll};
 
 use crate::answer::Answer;
@@ -28,7 +29,7 @@ use crate::refusal::refusal;
 use crate::remark::no_frame;
 use crate::report::report;
 use crate::request::Request;
-use crate::run_error::{JudgeError, ReadError, RunError};
+use crate::run_error::RunError;
 use crate::status::Status;
 use crate::streams::{read_all, read_input};
 use crate::trace::trace;
@@ -50,11 +51,12 @@ fn answer<T: Threads + Wait + Sync + AllocGlobal, G: Gate + Progress + Sync>(
     bytes: &[u8],
     rom: Option<&[u8]>,
     movie: Movie,
-) -> Result<Answer, JudgeError>
+) -> Result<Answer, RunError>
     requires about { IsAboutMovies request.now.line.now.command }
     requires at_once { IsAtOnce (writing_of request.now.line.now.command) }
     ensures answer { IfOk result (Answers request.now.line.now.command request.now.line.now.notation bytes.now (option_copied rom.entry) movie) }
-    ensures no_thread { result ≡ Err JudgeError.NoThread → StartsThreads request.now.line.now }
+    ensures only { IfErr result IsOfJudging }
+    ensures no_thread { result ≡ Err RunError.NoThread → StartsThreads request.now.line.now }
 {
     let Request { rt, line, gate } = *request;
     let alloc = rt.alloc();
@@ -163,10 +165,11 @@ fn read_second<S: Read>(
     alloc: Global,
     line: &CommandLine,
     inputs: &mut S,
-) -> Result<Option<Vec<u8>>, ReadError>
+) -> Result<Option<Vec<u8>>, RunError>
     ensures reads { IfOk result (λ bytes. ReadsNamed line.now.second (S.remaining inputs.old) (S.remaining inputs.new) (option_map (λ bytes. bytes.items) bytes)) }
-    ensures named { result ≡ Err ReadError.TooLong → IsSome line.now.second }
-    ensures too_long { result ≡ Err ReadError.TooLong → IsTooLong (S.remaining inputs.old) }
+    ensures only { IfErr result IsOfReading }
+    ensures named { result ≡ Err RunError.TooLong → IsSome line.now.second }
+    ensures too_long { result ≡ Err RunError.TooLong → IsTooLong (S.remaining inputs.old) }
 {
     match line.second {
         Some(_) => Ok(Some(read_all(alloc, inputs)?)),

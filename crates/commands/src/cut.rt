@@ -7,12 +7,13 @@ ghost use Rattle.commands.specs.Cut.{Cuts, IsCutHint};
 
 use crate::answer::Answer;
 use crate::asked_frames::frames_asked;
-use crate::cut_movie::{CutError, cut_movie};
+use crate::cut_movie::cut_movie;
 use crate::line::Line;
 use crate::refusal::counts_refusal;
 use crate::remark::WhichInput;
-use movie_file::{Movie, Progress};
+use movie_file::{Movie, Progress, do_counts_fit};
 use movie_hints::{Hint, hint_of_counts};
+use run_cursor::RunFault;
 use std::alloc::{AllocError, Global};
 use std::num::NonZeroU32;
 
@@ -55,15 +56,12 @@ pub(crate) fn cut<P: Progress>(
 ) -> Result<Answer, AllocError>
     ensures { IfOk result (Cuts movie.now (non_zero_u32_get first) count (non_zero_u32_get every)) }
 {
-    match cut_movie(alloc, movie, first, count, every.get(), progress) {
+    if !do_counts_fit(frames_asked(movie, first, count) as usize, every.get()) {
+        let hint = hint_of_part(movie, first, count, every);
+        return counts_refusal(alloc, WhichInput::First, hint);
+    }
+    match cut_movie(alloc, movie, first, count, every.get(), progress)? {
         Ok(cut) => of_cut(alloc, &cut),
-        Err(CutError::BadCounts) => {
-            let hint = hint_of_part(movie, first, count, every);
-            counts_refusal(alloc, WhichInput::First, hint)
-        }
-        Err(CutError::Fault { frame, kind }) => {
-            Answer::of_line(alloc, Line::Fault { frame, kind })
-        }
-        Err(CutError::NoMemory) => Err(AllocError),
+        Err(RunFault { frame, kind }) => Answer::of_line(alloc, Line::Fault { frame, kind }),
     }
 }

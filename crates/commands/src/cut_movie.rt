@@ -7,49 +7,14 @@ ghost use Rattle.movie_file.specs.Movie.{IsMovie};
 ghost use Rattle.movie_file.specs.ClaimedStates.{Claims};
 ghost use Rattle.run_cursor.specs.RunFaults.{FaultsWithin};
 ghost use Rattle.commands.specs.Cut.{IsCutOf};
-ghost use Rattle.commands.specs.Private.CutErrors.{Explains};
 ghost use Rattle.commands.specs.AskedFrames.{Ends, frames_asked};
 
 use crate::asked_frames::{cursor_in_work, frames_asked};
-use movie_file::{Checkpoint, Movie, Progress, Work, claim, do_counts_fit, movie_of, version_made};
+use movie_file::{Checkpoint, Movie, Progress, Work, claim, movie_of, version_made};
 use riot_map::Cart;
 use run_cursor::{Cursor, RunFault};
 use std::alloc::{AllocError, Global};
 use std::num::NonZeroU32;
-use vcs_machine::FaultKind;
-
-/// Why a movie is not cut.
-#[derive(Clone, Copy)]
-pub(crate) enum CutError {
-    /// No frame is left, or there would be too many checkpoints.
-    BadCounts,
-    /// This frame of the movie, counted from 1, faults.
-    Fault { frame: u32, kind: FaultKind },
-    NoMemory,
-}
-
-impl From<RunFault> for CutError {
-    ghost use Rattle.commands.specs.declared.cut_movie.CutError.TheVariants.{Fault};
-
-    ghost from_gives = { λ fault error. error ≡ Fault fault.frame fault.kind };
-
-    fn from(fault: RunFault) -> CutError {
-        CutError::Fault {
-            frame: fault.frame,
-            kind: fault.kind,
-        }
-    }
-}
-
-impl From<AllocError> for CutError {
-    ghost use Rattle.commands.specs.declared.cut_movie.CutError.TheVariants.{NoMemory};
-
-    ghost from_gives = { λ _ error. error ≡ NoMemory };
-
-    fn from(_refused: AllocError) -> CutError {
-        CutError::NoMemory
-    }
-}
 
 /// A cartridge with the same bytes.
 fn copy_of(alloc: Global, cart: &Cart) -> Result<Cart, AllocError>
@@ -94,8 +59,8 @@ fn checkpoints_after<P: Progress>(
 }
 
 /// The movie of `count` frames from `first` on, as many as the movie has, with a checkpoint after
-/// each `every` of them. Each frame up to the last of them is told, as a part of a work that has
-/// begun.
+/// each `every` of them; or the first fault of a frame up to the last of them. Each of these is told,
+/// as a part of a work that has begun.
 fn cut_of<P: Progress>(
     alloc: Global,
     movie: &Movie,
@@ -103,32 +68,35 @@ fn cut_of<P: Progress>(
     count: u32,
     every: u32,
     progress: &P,
-) -> Result<Movie, CutError>
+) -> Result<Result<Movie, RunFault>, AllocError>
     requires { IsTrue (counts_fit (frames_asked movie.now (non_zero_u32_get first) count) every) }
-    ensures lawful { IfOk result (λ cut. IsMovie cut) }
-    ensures cut { IfOk result (λ cut.
-        IsCutOf movie.now (non_zero_u32_get first) count every cut) }
-    ensures refused { IfErr result (Explains movie.now (non_zero_u32_get first) count every) }
+    ensures lawful { IfOk result (λ made. IfOk made (λ cut. IsMovie cut)) }
+    ensures cut { IfOk result (λ made. IfOk made (λ cut. IsCutOf movie.now (non_zero_u32_get first) count every cut)) }
+    ensures faults { IfOk result (λ made. IfErr made (λ fault.
+        FaultsWithin movie.now (non_zero_u32_get first - 1 + frames_asked movie.now (non_zero_u32_get first) count) fault.frame fault.kind)) }
 {
     let from = first.get() - 1;
     let frames = frames_asked(movie, first, count);
-    let mut cursor = cursor_in_work(movie, from, progress)?;
+    let mut cursor = match cursor_in_work(movie, from, progress) {
+        Ok(cursor) => cursor,
+        Err(fault) => return Ok(Err(fault)),
+    };
     let start = cursor.state().copy();
     let Ok(checkpoints) = Vec::with_capacity(alloc, (frames / every) as usize) else {
-        return Err(CutError::NoMemory);
+        return Err(AllocError);
     };
-    let checkpoints = checkpoints_after(checkpoints, &mut cursor, frames, every, progress)?;
+    let checkpoints = match checkpoints_after(checkpoints, &mut cursor, frames, every, progress) {
+        Ok(checkpoints) => checkpoints,
+        Err(fault) => return Ok(Err(fault)),
+    };
     let asked = &movie.inputs()[from as usize..(from + frames) as usize];
     let inputs = Vec::from_slice(alloc, asked)?;
     let cart = copy_of(alloc, movie.cart())?;
     let version = version_made(&cart, frames as usize);
-    Ok(movie_of(version, cart, start, inputs, checkpoints))
+    Ok(Ok(movie_of(version, cart, start, inputs, checkpoints)))
 }
 
-/// The same of any counts. The frames up to the last of the cut are told as one work.
-///
-/// `BadCounts` comes first, before any frame is run. `Fault` names the first of the frames up to
-/// the last one of the cut that faults, with its number in the movie.
+/// The same, where the frames up to the last of the cut are a work of their own.
 pub(crate) fn cut_movie<P: Progress>(
     alloc: Global,
     movie: &Movie,
@@ -136,18 +104,14 @@ pub(crate) fn cut_movie<P: Progress>(
     count: u32,
     every: u32,
     progress: &P,
-) -> Result<Movie, CutError>
-    ensures lawful { IfOk result (λ cut. IsMovie cut) }
-    ensures cut { IfOk result (λ cut.
-        IsCutOf movie.now (non_zero_u32_get first) count every cut) }
-    ensures counts { OnOk result (IsTrue
-        (counts_fit (frames_asked movie.now (non_zero_u32_get first) count) every)) }
-    ensures refused { IfErr result (Explains movie.now (non_zero_u32_get first) count every) }
+) -> Result<Result<Movie, RunFault>, AllocError>
+    requires { IsTrue (counts_fit (frames_asked movie.now (non_zero_u32_get first) count) every) }
+    ensures lawful { IfOk result (λ made. IfOk made (λ cut. IsMovie cut)) }
+    ensures cut { IfOk result (λ made. IfOk made (λ cut. IsCutOf movie.now (non_zero_u32_get first) count every cut)) }
+    ensures faults { IfOk result (λ made. IfErr made (λ fault.
+        FaultsWithin movie.now (non_zero_u32_get first - 1 + frames_asked movie.now (non_zero_u32_get first) count) fault.frame fault.kind)) }
 {
     let frames = frames_asked(movie, first, count);
-    if !do_counts_fit(frames as usize, every) {
-        return Err(CutError::BadCounts);
-    }
     progress.begin(Work::Frames(first.get() - 1 + frames));
     let cut = cut_of(alloc, movie, first, count, every, progress);
     progress.end();

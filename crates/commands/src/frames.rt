@@ -1,16 +1,18 @@
 //! A line for each of some frames of a movie.
-ghost use Rattle.std.specs.Prelude.{◌≡◌, List, ℕ, IfOk};
+ghost use Rattle.std.specs.Prelude.{◌≡◌, List, ℕ, IfErr, IfOk};
 ghost use Rattle.std.specs.Io.KnownBytes.{Appends};
 ghost use Rattle.std.specs.NonZero.{non_zero_u32_get};
 ghost use Rattle.picture_file.specs.Prefixes.{AppendsPrefix};
 ghost use Rattle.commands.specs.Frames.{AppendsLines, Describes};
+ghost use Rattle.commands.specs.RunErrors.{IsOfWriting};
 
 use crate::asked_frames::{View, write_asked};
 use crate::last_line::write_fault;
+use crate::run_error::RunError;
 use crate::status::Status;
-use crate::stop::{Stop, WriteError};
 use movie_file::{Movie, Progress};
 use replay_plan::{Details, Notation};
+use run_cursor::RunFault;
 use std::alloc::Global;
 use std::io::Write;
 use std::num::NonZeroU32;
@@ -31,12 +33,13 @@ pub(crate) fn frames<L: Write, P: Progress>(
     count: u32,
     lines: &mut L,
     progress: &P,
-) -> Result<Status, WriteError>
+) -> Result<Status, RunError>
     ensures ok { IfOk result (λ status. (text : List ℕ) × Describes movie.now notation details.now (non_zero_u32_get first) count status text
         × Appends (L.contents lines.old) (L.contents lines.new) text) }
-    ensures memory { result ≡ Err WriteError.NoMemory →
+    ensures only { IfErr result IsOfWriting }
+    ensures memory { result ≡ Err RunError.NoMemory →
         AppendsLines movie.now notation details.now (non_zero_u32_get first) count (L.contents lines.old) (L.contents lines.new) }
-    ensures fault { result ≡ Err WriteError.WriteFault → (status : Status) × (text : List ℕ)
+    ensures fault { result ≡ Err RunError.WriteFault → (status : Status) × (text : List ℕ)
         × Describes movie.now notation details.now (non_zero_u32_get first) count status text
         × AppendsPrefix (L.contents lines.old) (L.contents lines.new) text }
 {
@@ -48,13 +51,11 @@ pub(crate) fn frames<L: Write, P: Progress>(
         count,
         lines,
         progress,
-    ) {
-        Ok(_) => Ok(Status::Done),
-        Err(Stop::Fault { frame, kind }) => {
+    )? {
+        None => Ok(Status::Done),
+        Some(RunFault { frame, kind }) => {
             write_fault(alloc, notation, frame, kind, lines)?;
             Ok(Status::Fault)
         }
-        Err(Stop::NoMemory) => Err(WriteError::NoMemory),
-        Err(Stop::WriteFault) => Err(WriteError::WriteFault),
     }
 }

@@ -1,12 +1,13 @@
 //! The last line of what a command writes.
-ghost use Rattle.std.specs.Prelude.{◌≡◌, Err, IfOk, OnOk, string_bytes};
+ghost use Rattle.std.specs.Prelude.{◌≡◌, Err, IfErr, IfOk, OnOk, string_bytes};
 ghost use Rattle.std.specs.Io.KnownBytes.{Appends, Keeps};
 ghost use Rattle.picture_file.specs.Prefixes.{AppendsPrefix};
 ghost use Rattle.commands.specs.Frames.{fault_line};
 ghost use Rattle.commands.specs.Lines.{line_bytes};
+ghost use Rattle.commands.specs.RunErrors.{IsOfWriting};
 
 use crate::line::Line;
-use crate::stop::WriteError;
+use crate::run_error::RunError;
 use movie_report::FaultMembers;
 use picture_file::write_bytes;
 use replay_plan::Notation;
@@ -15,14 +16,15 @@ use std::io::Write;
 use vcs_machine::FaultKind;
 
 /// Writes a text with its end.
-fn write_whole<L: Write>(text: &str, lines: &mut L) -> Result<(), WriteError>
+fn write_whole<L: Write>(text: &str, lines: &mut L) -> Result<(), RunError>
     ensures ok { OnOk result (Appends (L.contents lines.old) (L.contents lines.new) text.now) }
-    ensures memory { result ≡ Err WriteError.NoMemory → Keeps (L.contents lines.old) (L.contents lines.new) }
-    ensures fault { result ≡ Err WriteError.WriteFault → AppendsPrefix (L.contents lines.old) (L.contents lines.new) text.now }
+    ensures only { IfErr result IsOfWriting }
+    ensures memory { result ≡ Err RunError.NoMemory → Keeps (L.contents lines.old) (L.contents lines.new) }
+    ensures fault { result ≡ Err RunError.WriteFault → AppendsPrefix (L.contents lines.old) (L.contents lines.new) text.now }
 {
     match write_bytes(text.as_bytes(), lines) {
         Ok(()) => Ok(()),
-        Err(_) => Err(WriteError::WriteFault),
+        Err(_) => Err(RunError::WriteFault),
     }
 }
 
@@ -31,13 +33,14 @@ pub(crate) fn write_last<L: Write>(
     alloc: Global,
     line: Line,
     lines: &mut L,
-) -> Result<(), WriteError>
+) -> Result<(), RunError>
     ensures ok { OnOk result (Appends (L.contents lines.old) (L.contents lines.new) (line_bytes line)) }
-    ensures memory { result ≡ Err WriteError.NoMemory → Keeps (L.contents lines.old) (L.contents lines.new) }
-    ensures fault { result ≡ Err WriteError.WriteFault → AppendsPrefix (L.contents lines.old) (L.contents lines.new) (line_bytes line) }
+    ensures only { IfErr result IsOfWriting }
+    ensures memory { result ≡ Err RunError.NoMemory → Keeps (L.contents lines.old) (L.contents lines.new) }
+    ensures fault { result ≡ Err RunError.WriteFault → AppendsPrefix (L.contents lines.old) (L.contents lines.new) (line_bytes line) }
 {
     let Ok(text) = line.text(alloc) else {
-        return Err(WriteError::NoMemory);
+        return Err(RunError::NoMemory);
     };
     write_whole(&text, lines)
 }
@@ -64,13 +67,14 @@ pub(crate) fn write_fault<L: Write>(
     frame: u32,
     kind: FaultKind,
     lines: &mut L,
-) -> Result<(), WriteError>
+) -> Result<(), RunError>
     ensures ok { OnOk result (Appends (L.contents lines.old) (L.contents lines.new) (fault_line notation frame kind)) }
-    ensures memory { result ≡ Err WriteError.NoMemory → Keeps (L.contents lines.old) (L.contents lines.new) }
-    ensures fault { result ≡ Err WriteError.WriteFault → AppendsPrefix (L.contents lines.old) (L.contents lines.new) (fault_line notation frame kind) }
+    ensures only { IfErr result IsOfWriting }
+    ensures memory { result ≡ Err RunError.NoMemory → Keeps (L.contents lines.old) (L.contents lines.new) }
+    ensures fault { result ≡ Err RunError.WriteFault → AppendsPrefix (L.contents lines.old) (L.contents lines.new) (fault_line notation frame kind) }
 {
     let Ok(text) = fault_line(alloc, notation, frame, kind) else {
-        return Err(WriteError::NoMemory);
+        return Err(RunError::NoMemory);
     };
     write_whole(&text, lines)
 }

@@ -1,10 +1,11 @@
 //! A movie that is made of a ROM and of inputs.
-ghost use Rattle.std.specs.Prelude.{◌≡◌, Err, IfOk, Some};
+ghost use Rattle.std.specs.Prelude.{◌≡◌, Err, IfErr, IfOk, Some};
 ghost use Rattle.std.specs.NonZero.{non_zero_u32_get};
 ghost use Rattle.input_text.specs.Texts.{inputs_in};
 ghost use Rattle.movie_file.specs.Spelling.{spelling};
 ghost use Rattle.commands.specs.Answers.{line_answer};
 ghost use Rattle.commands.specs.Make.{Makes, MakesFrom, MakesOf, RefusesInputs};
+ghost use Rattle.commands.specs.RunErrors.{IsOfReading};
 ghost use Rattle.commands.specs.Private.MadeRuns.{line_of, remark_of};
 ghost use Rattle.commands.specs.declared.line.Line.TheVariants as lines;
 ghost use Rattle.commands.specs.declared.remark.WhichInput.TheVariants.{Second};
@@ -16,7 +17,7 @@ use crate::line::Line;
 use crate::make_run::{MadeMovie, make_run};
 use crate::refusal::{counts_refusal, remark_if, rom_refusal};
 use crate::remark::{Cause, Remark, WhichInput};
-use crate::run_error::ReadError;
+use crate::run_error::RunError;
 use crate::streams::read_all;
 use command_line::Making;
 use input_text::{TextError, read_text};
@@ -167,10 +168,11 @@ pub(crate) fn make<S: Read, P: Progress>(
     inputs: &mut S,
     making: Making,
     progress: &P,
-) -> Result<Answer, ReadError>
+) -> Result<Answer, RunError>
     ensures makes { IfOk result (λ answer. Makes form rom.items (S.remaining inputs.old) (S.remaining inputs.new)
         (non_zero_u32_get making.every) making.to_the_end making.to_the_fault answer) }
-    ensures too_long { result ≡ Err ReadError.TooLong → IsTooLong (S.remaining inputs.old) }
+    ensures only { IfErr result IsOfReading }
+    ensures too_long { result ≡ Err RunError.TooLong → IsTooLong (S.remaining inputs.old) }
 {
     if !Cart::is_length(rom.len()) {
         return Ok(rom_refusal(alloc, WhichInput::First, Notation::Lines, &rom)?);

@@ -1,19 +1,21 @@
 //! The pictures of some frames of a movie.
-ghost use Rattle.std.specs.Prelude.{◌≡◌, Err, IfOk, OnErr};
+ghost use Rattle.std.specs.Prelude.{◌≡◌, Err, IfErr, IfOk, OnErr};
 ghost use Rattle.std.specs.Io.KnownBytes.{Appends, Keeps};
 ghost use Rattle.std.specs.NonZero.{non_zero_u32_get};
 ghost use Rattle.picture_file.specs.Prefixes.{AppendsPrefix};
 ghost use Rattle.commands.specs.Answers.{AnswerData};
 ghost use Rattle.commands.specs.Lines.{line_bytes, status_of};
 ghost use Rattle.commands.specs.Pictures.{AppendsPictures, Draws};
+ghost use Rattle.commands.specs.RunErrors.{IsOfWriting};
 ghost use Rattle.commands.specs.Streams.{WritesPart};
 
-use crate::asked_frames::{View, write_asked};
+use crate::asked_frames::{View, frames_asked, write_asked};
 use crate::last_line::write_last;
 use crate::line::Line;
+use crate::run_error::RunError;
 use crate::status::Status;
-use crate::stop::{Stop, WriteError};
 use movie_file::{Movie, Progress};
+use run_cursor::RunFault;
 use std::alloc::Global;
 use std::io::Write;
 use std::num::NonZeroU32;
@@ -26,12 +28,13 @@ fn draw<P: Write, G: Progress>(
     count: u32,
     pictures: &mut P,
     progress: &G,
-) -> Result<Line, WriteError>
+) -> Result<Line, RunError>
     ensures ok { IfOk result (λ told. (answer : AnswerData) × Draws movie.now (non_zero_u32_get first) count answer × (status_of told ≡ answer.status)
         × (line_bytes told ≡ answer.text) × Appends (P.contents pictures.old) (P.contents pictures.new) answer.file) }
-    ensures memory { result ≡ Err WriteError.NoMemory →
+    ensures only { IfErr result IsOfWriting }
+    ensures memory { result ≡ Err RunError.NoMemory →
         AppendsPictures movie.now (non_zero_u32_get first) count (P.contents pictures.old) (P.contents pictures.new) }
-    ensures fault { result ≡ Err WriteError.WriteFault → (answer : AnswerData) × Draws movie.now (non_zero_u32_get first) count answer
+    ensures fault { result ≡ Err RunError.WriteFault → (answer : AnswerData) × Draws movie.now (non_zero_u32_get first) count answer
         × AppendsPrefix (P.contents pictures.old) (P.contents pictures.new) answer.file }
 {
     match write_asked(
@@ -42,22 +45,20 @@ fn draw<P: Write, G: Progress>(
         count,
         pictures,
         progress,
-    ) {
-        Ok(frames) => Ok(Line::Pictures { frames }),
-        Err(Stop::Fault { frame, kind }) => Ok(Line::Fault { frame, kind }),
-        Err(Stop::NoMemory) => Err(WriteError::NoMemory),
-        Err(Stop::WriteFault) => Err(WriteError::WriteFault),
+    )? {
+        None => Ok(Line::Pictures { frames: frames_asked(movie, first, count) }),
+        Some(RunFault { frame, kind }) => Ok(Line::Fault { frame, kind }),
     }
 }
 
 /// Hands on what a writer has gathered.
-fn flush<P: Write>(writer: &mut P) -> Result<(), WriteError>
+fn flush<P: Write>(writer: &mut P) -> Result<(), RunError>
     ensures kept { Keeps (P.contents writer.old) (P.contents writer.new) }
-    ensures fault { OnErr result (result ≡ Err WriteError.WriteFault) }
+    ensures fault { OnErr result (result ≡ Err RunError.WriteFault) }
 {
     match writer.flush() {
         Ok(()) => Ok(()),
-        Err(_) => Err(WriteError::WriteFault),
+        Err(_) => Err(RunError::WriteFault),
     }
 }
 
@@ -74,12 +75,13 @@ pub(crate) fn pictures<P: Write, L: Write, G: Progress>(
     file: &mut P,
     text: &mut L,
     progress: &G,
-) -> Result<Status, WriteError>
+) -> Result<Status, RunError>
     ensures ok { IfOk result (λ status. (answer : AnswerData) × Draws movie.now (non_zero_u32_get first) count answer × (status ≡ answer.status)
         × Appends (P.contents file.old) (P.contents file.new) answer.file × Appends (L.contents text.old) (L.contents text.new) answer.text) }
-    ensures memory { result ≡ Err WriteError.NoMemory →
+    ensures only { IfErr result IsOfWriting }
+    ensures memory { result ≡ Err RunError.NoMemory →
         AppendsPictures movie.now (non_zero_u32_get first) count (P.contents file.old) (P.contents file.new) × Keeps (L.contents text.old) (L.contents text.new) }
-    ensures fault { result ≡ Err WriteError.WriteFault → (answer : AnswerData) × Draws movie.now (non_zero_u32_get first) count answer
+    ensures fault { result ≡ Err RunError.WriteFault → (answer : AnswerData) × Draws movie.now (non_zero_u32_get first) count answer
         × WritesPart (P.contents file.old) (P.contents file.new) answer.file (L.contents text.old) (L.contents text.new) answer.text }
 {
     let last = draw(alloc, movie, first, count, file, progress)?;

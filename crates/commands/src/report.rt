@@ -1,9 +1,10 @@
 //! The verdict of a movie, and facts about it.
-ghost use Rattle.std.specs.Prelude.{◌≡◌, ◌≤◌, ◌++◌, List, ℕ, Err, IfOk, IfSome, None, string_bytes};
+ghost use Rattle.std.specs.Prelude.{◌≡◌, ◌≤◌, ◌++◌, List, ℕ, Err, IfErr, IfOk, IfSome, None, string_bytes};
 ghost use Rattle.std.specs.Option.{option_copied};
 ghost use Rattle.command_line.specs.Program.{program_name};
 ghost use Rattle.commands.specs.Lines.{line_bytes};
 ghost use Rattle.commands.specs.Report.{IsNoCartridge, Reports, ReportsMovie, line_in, status_with};
+ghost use Rattle.commands.specs.RunErrors.{IsOfJudging};
 ghost use Rattle.commands.specs.Verify.{verdict_line};
 
 use crate::answer::Answer;
@@ -11,7 +12,7 @@ use crate::line::Line;
 use crate::refusal::rom_refusal;
 use crate::remark::WhichInput;
 use crate::request::Request;
-use crate::run_error::JudgeError;
+use crate::run_error::RunError;
 use crate::status::Status;
 use crate::verify::verdict_of;
 use command_line::program_name;
@@ -66,9 +67,10 @@ fn report_of<T: Threads + Wait + Sync + AllocGlobal, G: Gate + Progress + Sync>(
     movie: &Movie,
     rom: Option<&[u8]>,
     expectations: &Expectations,
-) -> Result<Answer, JudgeError>
+) -> Result<Answer, RunError>
     ensures answer { IfOk result (ReportsMovie request.now.line.now.notation program_name (option_copied rom.entry) expectations.now bytes.now movie.now) }
-    ensures no_thread { result ≡ Err JudgeError.NoThread → 2 ≤ request.now.line.now.workers.number }
+    ensures only { IfErr result IsOfJudging }
+    ensures no_thread { result ≡ Err RunError.NoThread → 2 ≤ request.now.line.now.workers.number }
 {
     let Request { rt, line, gate } = *request;
     let alloc = rt.alloc();
@@ -111,9 +113,10 @@ pub(crate) fn report<T: Threads + Wait + Sync + AllocGlobal, G: Gate + Progress 
     movie: &Movie,
     rom: Option<&[u8]>,
     expectations: &Expectations,
-) -> Result<Answer, JudgeError>
+) -> Result<Answer, RunError>
     ensures answer { IfOk result (Reports request.now.line.now.notation program_name (option_copied rom.entry) expectations.now bytes.now movie.now) }
-    ensures no_thread { result ≡ Err JudgeError.NoThread → 2 ≤ request.now.line.now.workers.number }
+    ensures only { IfErr result IsOfJudging }
+    ensures no_thread { result ≡ Err RunError.NoThread → 2 ≤ request.now.line.now.workers.number }
 {
     match no_cartridge(rom) {
         Some(other) => {

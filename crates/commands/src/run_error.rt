@@ -25,24 +25,6 @@ pub enum RunError {
     WriteFault,
 }
 
-/// Why an input was not read to its end.
-#[derive(Clone, Copy)]
-pub enum ReadError {
-    /// A read answered an error.
-    Fault,
-    /// The input has more than 16,777,216 bytes.
-    TooLong,
-    /// An allocation was refused.
-    NoMemory,
-}
-
-/// Why a movie was not judged.
-#[derive(Clone, Copy)]
-pub(crate) enum JudgeError {
-    NoMemory,
-    NoThread,
-}
-
 impl From<AllocError> for RunError {
     ghost use Rattle.commands.specs.declared.run_error.RunError.TheVariants.{NoMemory};
 
@@ -53,33 +35,6 @@ impl From<AllocError> for RunError {
     }
 }
 
-impl From<ReadError> for RunError {
-    ghost use Rattle.commands.specs.Private.Errors.{of_reading};
-
-    ghost from_gives = { λ error e. e ≡ of_reading error };
-
-    fn from(error: ReadError) -> RunError {
-        match error {
-            ReadError::Fault => RunError::ReadFault,
-            ReadError::TooLong => RunError::TooLong,
-            ReadError::NoMemory => RunError::NoMemory,
-        }
-    }
-}
-
-impl From<JudgeError> for RunError {
-    ghost use Rattle.commands.specs.Private.Errors.{of_judging};
-
-    ghost from_gives = { λ error e. e ≡ of_judging error };
-
-    fn from(error: JudgeError) -> RunError {
-        match error {
-            JudgeError::NoMemory => RunError::NoMemory,
-            JudgeError::NoThread => RunError::NoThread,
-        }
-    }
-}
-
 impl From<WriteFault> for RunError {
     ghost use Rattle.commands.specs.declared.run_error.RunError.TheVariants.{WriteFault};
 
@@ -87,25 +42,5 @@ impl From<WriteFault> for RunError {
 
     fn from(_fault: WriteFault) -> RunError {
         RunError::WriteFault
-    }
-}
-
-impl From<AllocError> for JudgeError {
-    ghost use Rattle.commands.specs.declared.run_error.JudgeError.TheVariants.{NoMemory};
-
-    ghost from_gives = { λ _ e. e ≡ NoMemory };
-
-    fn from(_refused: AllocError) -> JudgeError {
-        JudgeError::NoMemory
-    }
-}
-
-impl From<AllocError> for ReadError {
-    ghost use Rattle.commands.specs.declared.run_error.ReadError.TheVariants.{NoMemory};
-
-    ghost from_gives = { λ _ e. e ≡ NoMemory };
-
-    fn from(_refused: AllocError) -> ReadError {
-        ReadError::NoMemory
     }
 }

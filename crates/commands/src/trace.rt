@@ -1,9 +1,10 @@
 //! The instructions of a frame of a movie.
-ghost use Rattle.std.specs.Prelude.{◌≡◌, ◌≤◌, ◌<◌, ◌-◌, ◌⊎◌, List, ℕ, false, length, Some, IfOk, OnOk};
+ghost use Rattle.std.specs.Prelude.{◌≡◌, ◌≤◌, ◌<◌, ◌-◌, ◌⊎◌, List, ℕ, false, length, Some, IfErr, IfOk, OnOk};
 ghost use Rattle.std.specs.Io.KnownBytes.{Appends, Keeps};
 ghost use Rattle.std.specs.NonZero.{non_zero_u32_get};
 ghost use Rattle.movie_file.specs.Run.{run};
 ghost use Rattle.picture_file.specs.Prefixes.{AppendsPrefix};
+ghost use Rattle.commands.specs.RunErrors.{IsOfWriting};
 ghost use Rattle.commands.specs.TraceLines.{trace_line};
 ghost use Rattle.vcs_machine.specs.Frame.{Machine, Reaches};
 ghost use Rattle.vcs_machine.specs.Instructions.{StopsAfter, Undrawn, begun, undrawn_meaning};
@@ -13,8 +14,8 @@ ghost use Rattle.commands.specs.Trace.{AppendsInstructions, Traces, lines_of};
 use crate::asked_frames::cursor_after;
 use crate::last_line::write_last;
 use crate::line::Line;
+use crate::run_error::RunError;
 use crate::status::Status;
-use crate::stop::WriteError;
 use crate::trace_line::trace_line;
 use movie_file::{Movie, Progress};
 use picture_file::write_bytes;
@@ -29,17 +30,18 @@ fn write_instruction<L: Write>(
     executed: &Executed,
     has_banks: bool,
     lines: &mut L,
-) -> Result<(), WriteError>
+) -> Result<(), RunError>
     ensures ok { OnOk result (Appends (L.contents lines.old) (L.contents lines.new) (trace_line has_banks executed.now)) }
-    ensures memory { result ≡ Err WriteError.NoMemory → Keeps (L.contents lines.old) (L.contents lines.new) }
-    ensures fault { result ≡ Err WriteError.WriteFault → AppendsPrefix (L.contents lines.old) (L.contents lines.new) (trace_line has_banks executed.now) }
+    ensures only { IfErr result IsOfWriting }
+    ensures memory { result ≡ Err RunError.NoMemory → Keeps (L.contents lines.old) (L.contents lines.new) }
+    ensures fault { result ≡ Err RunError.WriteFault → AppendsPrefix (L.contents lines.old) (L.contents lines.new) (trace_line has_banks executed.now) }
 {
     let Ok(text) = trace_line(alloc, executed, has_banks) else {
-        return Err(WriteError::NoMemory);
+        return Err(RunError::NoMemory);
     };
     match write_bytes(text.as_bytes(), lines) {
         Ok(()) => Ok(()),
-        Err(_) => Err(WriteError::WriteFault),
+        Err(_) => Err(RunError::WriteFault),
     }
 }
 
@@ -50,14 +52,15 @@ fn write_instructions<L: Write>(
     stepping: &mut Stepping<'_>,
     has_banks: bool,
     lines: &mut L,
-) -> Result<Option<FaultKind>, WriteError>
+) -> Result<Option<FaultKind>, RunError>
     requires fresh { stepping.old.cycles ≡ 0 }
     requires unended { stepping.old.bus.ended ≡ false }
     ensures ok { IfOk result (λ fault. (count : ℕ) × StopsAfter undrawn_meaning stepping.old count (stop_at fault stepping.new)
         × Appends (L.contents lines.old) (L.contents lines.new) (lines_of has_banks (begun undrawn_meaning stepping.old count))) }
-    ensures memory { result ≡ Err WriteError.NoMemory → (count : ℕ) × (here : Machine Undrawn) × Reaches undrawn_meaning stepping.old count here
+    ensures only { IfErr result IsOfWriting }
+    ensures memory { result ≡ Err RunError.NoMemory → (count : ℕ) × (here : Machine Undrawn) × Reaches undrawn_meaning stepping.old count here
         × Appends (L.contents lines.old) (L.contents lines.new) (lines_of has_banks (begun undrawn_meaning stepping.old count)) }
-    ensures fault { result ≡ Err WriteError.WriteFault → (count : ℕ) × (here : Machine Undrawn) × Reaches undrawn_meaning stepping.old count here
+    ensures fault { result ≡ Err RunError.WriteFault → (count : ℕ) × (here : Machine Undrawn) × Reaches undrawn_meaning stepping.old count here
         × AppendsPrefix (L.contents lines.old) (L.contents lines.new) (lines_of has_banks (begun undrawn_meaning stepping.old count)) }
 {
     while !stepping.is_over() {
@@ -80,14 +83,15 @@ fn trace_frame<L: Write>(
     frame: u32,
     state: &State,
     lines: &mut L,
-) -> Result<Status, WriteError>
+) -> Result<Status, RunError>
     requires first { 0 < frame }
     requires last { frame ≤ length movie.now.inputs }
     requires ran { run movie.now movie.now.start 0 (frame - 1) ≡ Some state.now }
     ensures ok { IfOk result (λ status. (text : List ℕ) × Traces movie.now frame status text
         × Appends (L.contents lines.old) (L.contents lines.new) text) }
-    ensures memory { result ≡ Err WriteError.NoMemory → AppendsInstructions movie.now frame (L.contents lines.old) (L.contents lines.new) }
-    ensures fault { result ≡ Err WriteError.WriteFault → (status : Status) × (text : List ℕ) × Traces movie.now frame status text
+    ensures only { IfErr result IsOfWriting }
+    ensures memory { result ≡ Err RunError.NoMemory → AppendsInstructions movie.now frame (L.contents lines.old) (L.contents lines.new) }
+    ensures fault { result ≡ Err RunError.WriteFault → (status : Status) × (text : List ℕ) × Traces movie.now frame status text
         × AppendsPrefix (L.contents lines.old) (L.contents lines.new) text }
 {
     let cart = movie.cart();
@@ -122,12 +126,13 @@ pub(crate) fn trace<L: Write, P: Progress>(
     frame: NonZeroU32,
     lines: &mut L,
     progress: &P,
-) -> Result<Status, WriteError>
+) -> Result<Status, RunError>
     ensures ok { IfOk result (λ status. (text : List ℕ) × Traces movie.now (non_zero_u32_get frame) status text
         × Appends (L.contents lines.old) (L.contents lines.new) text) }
-    ensures memory { result ≡ Err WriteError.NoMemory → Keeps (L.contents lines.old) (L.contents lines.new)
+    ensures only { IfErr result IsOfWriting }
+    ensures memory { result ≡ Err RunError.NoMemory → Keeps (L.contents lines.old) (L.contents lines.new)
         ⊎ AppendsInstructions movie.now (non_zero_u32_get frame) (L.contents lines.old) (L.contents lines.new) }
-    ensures fault { result ≡ Err WriteError.WriteFault → (status : Status) × (text : List ℕ) × Traces movie.now (non_zero_u32_get frame) status text
+    ensures fault { result ≡ Err RunError.WriteFault → (status : Status) × (text : List ℕ) × Traces movie.now (non_zero_u32_get frame) status text
         × AppendsPrefix (L.contents lines.old) (L.contents lines.new) text }
 {
     let frame = frame.get();

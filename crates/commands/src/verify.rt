@@ -1,10 +1,11 @@
 //! The verdict of a movie.
-ghost use Rattle.std.specs.Prelude.{◌≡◌, ◌≤◌, Err, IfOk};
+ghost use Rattle.std.specs.Prelude.{◌≡◌, ◌≤◌, Err, IfErr, IfOk};
 ghost use Rattle.replay_segments.specs.Verdicts.{IsVerdict};
+ghost use Rattle.commands.specs.RunErrors.{IsOfJudging};
 ghost use Rattle.commands.specs.Verify.{Verifies};
 
 use crate::answer::Answer;
-use crate::run_error::JudgeError;
+use crate::run_error::RunError;
 use movie_file::{Movie, Progress, Refused};
 use replay_plan::{Notation, Plan};
 use replay_segments::{Cuts, Verdict};
@@ -20,17 +21,18 @@ pub(crate) fn verdict_of<T: Threads + Wait + Sync, G: Gate + Progress + Sync>(
     movie: &Movie,
     plan: &Plan,
     gate: &G,
-) -> Result<Verdict, JudgeError>
+) -> Result<Verdict, RunError>
     ensures verdict { IfOk result (λ verdict. IsVerdict movie.now plan.now.keep verdict) }
-    ensures no_thread { result ≡ Err JudgeError.NoThread → 2 ≤ plan.now.workers.number }
+    ensures only { IfErr result IsOfJudging }
+    ensures no_thread { result ≡ Err RunError.NoThread → 2 ≤ plan.now.workers.number }
 {
     let Ok(cuts) = Cuts::every(alloc, movie, plan.every) else {
-        return Err(JudgeError::NoMemory);
+        return Err(RunError::NoMemory);
     };
     match verify_pool::verify(rt, alloc, movie, &cuts, plan.workers, plan.keep, gate) {
         Ok(verdict) => Ok(verdict),
-        Err(Refused::NoMemory) => Err(JudgeError::NoMemory),
-        Err(Refused::Of(NoThread)) => Err(JudgeError::NoThread),
+        Err(Refused::NoMemory) => Err(RunError::NoMemory),
+        Err(Refused::Of(NoThread)) => Err(RunError::NoThread),
     }
 }
 
@@ -42,9 +44,10 @@ pub(crate) fn verify<T: Threads + Wait + Sync, G: Gate + Progress + Sync>(
     plan: &Plan,
     notation: Notation,
     gate: &G,
-) -> Result<Answer, JudgeError>
+) -> Result<Answer, RunError>
     ensures answer { IfOk result (Verifies notation plan.now.keep movie.now) }
-    ensures no_thread { result ≡ Err JudgeError.NoThread → 2 ≤ plan.now.workers.number }
+    ensures only { IfErr result IsOfJudging }
+    ensures no_thread { result ≡ Err RunError.NoThread → 2 ≤ plan.now.workers.number }
 {
     let verdict = verdict_of(rt, alloc, movie, plan, gate)?;
     Ok(Answer::of_verdict(alloc, notation, movie, verdict)?)

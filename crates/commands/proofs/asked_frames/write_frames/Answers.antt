@@ -5,7 +5,7 @@ use Rattle.commands.specs.Private.Views.{bytes_shown}
 use Rattle.replay_segments.proofs.CheckpointLemmas.{none_before}
 use Rattle.commands.proofs.StandingCheckpoints.{stand_before}
 use Rattle.commands.proofs.RunFrames.{nothing_shown}
-use Rattle.commands.proofs.WrittenFrames.{one_more, part_of_one, stops_here}
+use Rattle.commands.proofs.WrittenFrames.{faults_here, one_more, part_of_one}
 use Rattle.commands.proofs.asked_frames.write_frames.Goals as goal
 
 pub loop-k-init : goal.loop-k-init
@@ -32,12 +32,21 @@ returns-in_err-write-in-Ok-clause-err g c =
     line c.loop-k.invariant.written _ c.loop-k-test.true
     c.in_err-write-in-Ok.ensures.err)
 
-pub returns-in-Err-clause-err : goal.returns-in-Err-clause-err
-returns-in-Err-clause-err g c =
-    rw (c.of_frame.ensures, c.frame-from.ensures.value)
-    (stops_here c.args.cursor.now.movie (bytes_shown c.args.cursor.now.movie c.args.view) (nothing_shown c.args.cursor.now.movie c.args.view)
-    _ _ _ _ _ c.in-Err.error c.loop-k-test.true
-    (rw (c.loop-k.invariant.at.movie_is, c.loop-k.invariant.at.frame_is) at c.in-Err.ensures.err) c.loop-k.invariant.written)
+pub returns-in-Err-Fault-clause-faults : goal.returns-in-Err-Fault-clause-faults
+returns-in-Err-Fault-clause-faults g c =
+    rw c.frame-from.ensures.value
+    (faults_here c.args.cursor.now.movie (bytes_shown c.args.cursor.now.movie c.args.view) (nothing_shown c.args.cursor.now.movie c.args.view)
+    _ _ _ c.in-Err-Fault.kind _ _ c.loop-k-test.true
+    (rw (c.loop-k.invariant.at.movie_is, c.loop-k.invariant.at.frame_is, c.in-Err-Fault.field-0-is) at c.in-Err-Fault.ensures.err) c.loop-k.invariant.written).0
+
+pub returns-in-Err-Fault-clause-ok : goal.returns-in-Err-Fault-clause-ok
+returns-in-Err-Fault-clause-ok g c =
+    (faults_here c.args.cursor.now.movie (bytes_shown c.args.cursor.now.movie c.args.view) (nothing_shown c.args.cursor.now.movie c.args.view)
+    _ _ _ c.in-Err-Fault.kind _ _ c.loop-k-test.true
+    (rw (c.loop-k.invariant.at.movie_is, c.loop-k.invariant.at.frame_is, c.in-Err-Fault.field-0-is) at c.in-Err-Fault.ensures.err) c.loop-k.invariant.written).1
+
+pub returns-in-Err-NoMemory-clause-err : goal.returns-in-Err-NoMemory-clause-err
+returns-in-Err-NoMemory-clause-err g c = (c.loop-k.k, omega (arith, c.loop-k-test.true), c.loop-k.invariant.written)
 
 pub loop-k-preserved : goal.loop-k-preserved
 loop-k-preserved g c =
@@ -52,4 +61,4 @@ loop-k-preserved g c =
     }
 
 pub returns-clause-ends : goal.returns-clause-ends
-returns-clause-ends g c = let all : c.loop-k.k ≡ c.args.frames = omega arith in (c.loop-k.cursor.state, rw all at c.loop-k.invariant.at.ran)
+returns-clause-ends g c = λ is. let all : c.loop-k.k ≡ c.args.frames = omega arith in (c.loop-k.cursor.state, rw all at c.loop-k.invariant.at.ran)

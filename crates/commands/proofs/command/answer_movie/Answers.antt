@@ -4,13 +4,12 @@ use Rattle.picture_file.proofs.BytesWritten.{appends_nothing}
 use Rattle.commands.specs.Answers.{text_answer}
 use Rattle.commands.specs.Remarks.{no_frame}
 use Rattle.commands.proofs.CommandAnswers.{drawn_remark}
-use Rattle.commands.proofs.TracedFrames.{only_write_fault}
 use Rattle.commands.proofs.WrittenFrames.{the_error}
 use Rattle.commands.proofs.command.answer_movie.Goals as goal
 
 pub returns-in_err-status-in-Frames-clause-write_fault : goal.returns-in_err-status-in-Frames-clause-write_fault
 returns-in_err-status-in-Frames-clause-write_fault g c = λ is.
-    let error = only_write_fault _ (the_error c.from_residual.result _ _ c.from_residual.ensures.1 is) in
+    let error = the_error c.from_residual.result _ _ c.from_residual.ensures.1 is in
     let told = c.in_err-status-in-Frames.ensures.fault (ap Err error) in
     let remark = no_frame c.args.movie (non_zero_u32_get c.in-Frames.first) in
     rw c.in-Frames.is (record (text_answer told.0 told.1) { remark = remark }, (told.2, refl, refl), inr (appends_nothing _, told.3))
@@ -18,13 +17,13 @@ returns-in_err-status-in-Frames-clause-write_fault g c = λ is.
 pub returns-in_err-status-in-Pictures-clause-write_fault : goal.returns-in_err-status-in-Pictures-clause-write_fault
 returns-in_err-status-in-Pictures-clause-write_fault g c = λ is.
     let from = c.from_residual-in_err-status-in-Pictures in
-    let error = only_write_fault _ (the_error from.result _ _ from.ensures.1 is) in
+    let error = the_error from.result _ _ from.ensures.1 is in
     rw c.in-Pictures.is (c.in_err-status-in-Pictures.ensures.fault (ap Err error))
 
 pub returns-in_err-status-in-Trace-clause-write_fault : goal.returns-in_err-status-in-Trace-clause-write_fault
 returns-in_err-status-in-Trace-clause-write_fault g c = λ is.
     let from = c.from_residual-in_err-status-in-Trace in
-    let error = only_write_fault _ (the_error from.result _ _ from.ensures.1 is) in
+    let error = the_error from.result _ _ from.ensures.1 is in
     let told = c.in_err-status-in-Trace.ensures.fault (ap Err error) in
     let remark = no_frame c.args.movie (non_zero_u32_get c.in-Trace.frame) in
     rw c.in-Trace.is (record (text_answer told.0 told.1) { remark = remark }, (told.2, refl, refl), inr (appends_nothing _, told.3))

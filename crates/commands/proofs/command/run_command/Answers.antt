@@ -5,7 +5,7 @@ use Rattle.movie_file.specs.Reading.{movie_at}
 use Rattle.picture_file.proofs.BytesWritten.{appends_nothing, keeps_same}
 use Rattle.commands.specs.Answers.{conclusion_of}
 use Rattle.commands.specs.Commands.{IsAboutMovies}
-use Rattle.commands.proofs.CommandAnswers.{of_movie, of_refusal, only_too_long, text_in_part}
+use Rattle.commands.proofs.CommandAnswers.{of_movie, of_refusal, text_in_part}
 use Rattle.commands.proofs.WrittenFrames.{the_error}
 use Rattle.commands.proofs.command.run_command.Goals as goal
 
@@ -18,7 +18,7 @@ returns-in_err-write_file_first-clause-write_fault g c = λ is.
 pub returns-in_err-expected-in-Ok-clause-too_long : goal.returns-in_err-expected-in-Ok-clause-too_long
 returns-in_err-expected-in-Ok-clause-too_long g c = λ is.
     let from = c.from_residual-in_err-expected-in-Ok in
-    let error = ap Err (only_too_long _ (the_error from.result _ _ from.ensures.1 is)) in
+    let error = ap Err (the_error from.result _ _ from.ensures.1 is) in
     inr (inr (c.in_err-expected-in-Ok.ensures.named error), c.in_err-expected-in-Ok.ensures.too_long error)
 
 pub returns-in-Ok-clause-ok : goal.returns-in-Ok-clause-ok

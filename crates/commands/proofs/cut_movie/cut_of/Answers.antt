@@ -1,5 +1,4 @@
 use Rattle.std.proofs.Common.{◌≡◌, ◌∙◌, ◌-◌, Some, rules}
-use Rattle.std.proofs.lemmas.Result.{err_from_is_err_and}
 use Rattle.std.specs.Prelude.{IsTrue}
 use Rattle.movie_file.specs.Making.{counts_fit}
 use Rattle.movie_file.specs.Movie.{IsState}
@@ -10,29 +9,25 @@ use Rattle.commands.proofs.cut_movie.cut_of.Goals as goal
 pub movie_of-requires : goal.movie_of-requires
 movie_of-requires g c =
     let m = c.args.movie.now in
-    let at = c.in_ok-cursor.ensures.ok in
+    let at = c.in-Ok.ensures.ok in
     let fits : IsTrue (counts_fit c.frames_asked-frames.result c.args.every) = rw c.frames_asked-frames.ensures.value c.requires in
     let ran : run m m.start 0 (c.get-from.result - 1) ≡ Some c.copy-start.result = rw (c.copy-start.ensures.value, c.state.ensures.value) at.ran in
     let state : IsState c.copy-start.result = search rules in
     IsMovie-cut m _ c.args.count c.get-from.ensures.value c.frames_asked-frames.ensures.value c.inputs.ensures c.in_ok-inputs.ensures.items
-    (c.in_ok-cart.ensures ∙ c.cart.ensures) c.version_made-version.ensures.value ran (rw (at.movie_is, at.frame_is) at c.in_ok-checkpoints.ensures.ok)
+    (c.in_ok-cart.ensures ∙ c.cart.ensures) c.version_made-version.ensures.value ran (rw (at.movie_is, at.frame_is) at c.in-Ok-checkpoints.ensures.ok)
     c.frames_asked-frames.ensures.lawful fits c.version_made-version.ensures.lawful state
 
 pub returns-clause-cut : goal.returns-clause-cut
 returns-clause-cut g c =
     let m = c.args.movie.now in
-    let at = c.in_ok-cursor.ensures.ok in
+    let at = c.in-Ok.ensures.ok in
     let ran : run m m.start 0 (c.get-from.result - 1) ≡ Some c.copy-start.result = rw (c.copy-start.ensures.value, c.state.ensures.value) at.ran in
     rw c.movie_of.ensures
     (IsCutOf-parts m _ c.args.count c.get-from.ensures.value c.frames_asked-frames.ensures.value c.inputs.ensures c.in_ok-inputs.ensures.items
-    (c.in_ok-cart.ensures ∙ c.cart.ensures) c.version_made-version.ensures.value ran (rw (at.movie_is, at.frame_is) at c.in_ok-checkpoints.ensures.ok)
-    (rw (at.movie_is, at.frame_is) at c.in_ok-checkpoints.ensures.ends))
+    (c.in_ok-cart.ensures ∙ c.cart.ensures) c.version_made-version.ensures.value ran (rw (at.movie_is, at.frame_is) at c.in-Ok-checkpoints.ensures.ok)
+    (rw (at.movie_is, at.frame_is) at c.in-Ok-checkpoints.ensures.ends))
 
-pub returns-in_err-checkpoints-clause-refused : goal.returns-in_err-checkpoints-clause-refused
-returns-in_err-checkpoints-clause-refused g c =
-    let at = c.in_ok-cursor.ensures.ok in
-    let p = err_from_is_err_and c.from_residual-in_err-checkpoints.result c.from_residual-in_err-checkpoints.ensures.1 in
-    rw (p.1, p.2) (
-      c.requires,
-      rw (at.movie_is, at.frame_is, c.get-from.ensures.value, c.frames_asked-frames.ensures.value) at c.in_err-checkpoints.ensures.err,
-    )
+pub returns-in-Err-checkpoints-clause-faults : goal.returns-in-Err-checkpoints-clause-faults
+returns-in-Err-checkpoints-clause-faults g c =
+    let at = c.in-Ok.ensures.ok in
+    rw (at.movie_is, at.frame_is, c.get-from.ensures.value, c.frames_asked-frames.ensures.value) at c.in-Err-checkpoints.ensures.err
