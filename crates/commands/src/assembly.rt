@@ -1,5 +1,5 @@
 //! Instructions as an assembler writes them.
-ghost use Rattle.std.specs.Prelude.{◌≡◌, ◌+◌, ◌%◌, ◌∷◌, [], take};
+ghost use Rattle.std.specs.Prelude.{◌≡◌, ◌∷◌, [], take};
 ghost use Rattle.mos_cpu.specs.Operands.{length_of};
 ghost use Rattle.commands.specs.Assembly.{branch_address, operand_text, word};
 ghost use Rattle.commands.specs.Columns.{left};

@@ -121,13 +121,3 @@ pub enum CreateError<'a> {
     /// There is no memory for the names of the file and of the one beside it.
     NoMemory,
 }
-
-impl<'a> From<FileError<'a>> for CreateError<'a> {
-    ghost use Rattle.named_files.specs.declared.file_error.CreateError.TheVariants.{Open};
-
-    ghost from_gives = { λ error created. created ≡ Open error };
-
-    fn from(error: FileError<'a>) -> CreateError<'a> {
-        CreateError::Open(error)
-    }
-}

@@ -7,7 +7,7 @@ use std::io::{self, BufWriter, Write};
 
 /// What takes the bytes of a file.
 #[derive(Drop)]
-pub(crate) enum Gathered<W> {
+pub(crate) enum Gathered<W: Write> {
     /// The file itself.
     Whole(W),
     /// A buffer before it, which gathers small writes.
@@ -46,7 +46,7 @@ impl<W: Write + Drop> Gathered<W> {
     }
 }
 
-impl<W: Write> Write for Gathered<W> {
+impl<W: Write + Drop> Write for Gathered<W> {
     fn write(&mut self, buf: &[u8]) -> io::Result<usize> {
         match self {
             Gathered::Whole(file) => file.write(buf),
