@@ -29,11 +29,7 @@ fn write_whole<L: Write>(text: &str, lines: &mut L) -> Result<(), RunError>
 }
 
 /// Writes a line as the last one.
-pub(crate) fn write_last<L: Write>(
-    alloc: Global,
-    line: Line,
-    lines: &mut L,
-) -> Result<(), RunError>
+pub(crate) fn write_last<L: Write>(alloc: Global, line: Line, lines: &mut L) -> Result<(), RunError>
     ensures ok { OnOk result (Appends (L.contents lines.old) (L.contents lines.new) (line_bytes line)) }
     ensures only { IfErr result IsOfWriting }
     ensures memory { result ≡ Err RunError.NoMemory → Keeps (L.contents lines.old) (L.contents lines.new) }

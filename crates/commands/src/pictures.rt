@@ -46,7 +46,9 @@ fn draw<P: Write, G: Progress>(
         pictures,
         progress,
     )? {
-        None => Ok(Line::Pictures { frames: frames_asked(movie, first, count) }),
+        None => Ok(Line::Pictures {
+            frames: frames_asked(movie, first, count),
+        }),
         Some(RunFault { frame, kind }) => Ok(Line::Fault { frame, kind }),
     }
 }

@@ -7,7 +7,7 @@ use std::io::{self, BufWriter, Write};
 
 /// What takes the bytes of a file.
 #[derive(Drop)]
-pub(crate) enum Gathered<W: Write> {
+pub(crate) enum Gathered<W: Write + Drop> {
     /// The file itself.
     Whole(W),
     /// A buffer before it, which gathers small writes.
@@ -16,11 +16,7 @@ pub(crate) enum Gathered<W: Write> {
 
 impl<W: Write + Drop> Gathered<W> {
     /// What takes the bytes of this file, which come in small writes or not.
-    pub(crate) fn new(
-        alloc: Global,
-        file: W,
-        in_parts: bool,
-    ) -> Result<Gathered<W>, AllocError> {
+    pub(crate) fn new(alloc: Global, file: W, in_parts: bool) -> Result<Gathered<W>, AllocError> {
         if !in_parts {
             return Ok(Gathered::Whole(file));
         }

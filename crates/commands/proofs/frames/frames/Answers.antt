@@ -39,6 +39,8 @@ pub returns-in_err-write_fault-in-Some-clause-memory : goal.returns-in_err-write
 returns-in_err-write_fault-in-Some-clause-memory g c = λ is.
     let from = c.from_residual-in_err-write_fault-in-Some in
     let error = the_error from.result _ _ from.ensures.1 is in
-    let kept = c.in_err-write_fault-in-Some.ensures.memory (ap Err error) in
-    (frames_asked c.args.movie.now (non_zero_u32_get c.args.first) c.args.count, omega arith,
-    appends_kept _ _ (g.L.Write.contents c.write_fault.new.lines) _ c.in_ok-write_asked.ensures.ok kept)
+    let kept = c.in_err-write_fault-in-Some.ensures.memory (ap Err error) in (
+      frames_asked c.args.movie.now (non_zero_u32_get c.args.first) c.args.count,
+      omega arith,
+      appends_kept _ _ (g.L.Write.contents c.write_fault.new.lines) _ c.in_ok-write_asked.ensures.ok kept,
+    )
