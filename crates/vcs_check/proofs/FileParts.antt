@@ -169,7 +169,7 @@ module _ (line : CommandLine) (answer : Result Conclusion RunError) (error : Run
       ended : (was : Result Conclusion RunError) → IsOk was → IfOk was (λ end. IsWritten line a b old new f g c d end)
           → LeavesPart line (ReadsBoth a b c d) old new (Err (Run WriteFault None))
       ended (Ok end) ok h = text_whole line a b old new f g c d other end None h
-      ended (Err was) ok h = absurd ok
+      ended (Err was) ok h = absurd (cc)
 
       pub end_part : IfOk answer (λ end. IsWritten line a b old new f g c d end) → (answer ≡ failed WriteFault → IsCutOff line a b old new f g c d)
           → (answer ≡ failed NoMemory → IsBegun line a b old new f g) → LeavesPart line (ReadsBoth a b c d) old new (Err (by_output (Run error None) one))
