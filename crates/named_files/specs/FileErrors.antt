@@ -1,7 +1,5 @@
 -- What is known of a file, and of one that failed. This project's own.
 use Rattle.std.specs.Prelude.{◌≡◌, ◌⊎◌, ℕ, ◌-◌, codes, ◌≤◌, min, nat_lt, option_map, if◌then◌else◌, Bool, true, false, List, Option, Some, None, IfSome, IsSomeAnd}
-use Rattle.named_files.specs.declared.file_error.CreateError.{CreateError}
-use Rattle.named_files.specs.declared.file_error.CreateError.TheVariants.{Open}
 use Rattle.named_files.specs.declared.file_error.FileError.{FileError}
 use Rattle.named_files.specs.declared.file_error.Reason.{Reason}
 use Rattle.named_files.specs.declared.named.Named.{Named}
@@ -14,11 +12,6 @@ use Rattle.commands.specs.Streams.{input_limit}
 -- It is the file of this name.
 abbrev pub Names : List ℕ → FileError → Type 0
 Names name error = error.file.now ≡ name
-
--- The same of an error, if it is about a file.
-abbrev pub NamesIfOpen : List ℕ → CreateError → Type 0
-NamesIfOpen name (Open error) = Names name error
-NamesIfOpen name other = Unit {0}
 
 -- It is the file of this name, with this reason.
 abbrev pub IsAbout : List ℕ → Reason → FileError → Type 0

@@ -112,12 +112,3 @@ impl fmt::Display for FileError<'_> {
         }
     }
 }
-
-/// Why an output is not there.
-#[derive(Clone, Copy, Debug)]
-pub enum CreateError<'a> {
-    /// It can't be opened or created, or it is an input or a standard stream.
-    Open(FileError<'a>),
-    /// There is no memory for the names of the file and of the one beside it.
-    NoMemory,
-}

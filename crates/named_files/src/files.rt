@@ -2,16 +2,17 @@
 ghost use Rattle.std.specs.Prelude.{◌≡◌, ◌⊎◌, IfErr, IfOk, Some, codes, false, true};
 ghost use Rattle.std.specs.Fs.{IsFile, file_type};
 ghost use Rattle.std.specs.List.{Contains};
-ghost use Rattle.named_files.specs.FileErrors.{IsInputStream, IsOpened, Names, NamesIfOpen, conflict};
+ghost use Rattle.named_files.specs.FileErrors.{IsInputStream, IsOpened, Names, conflict};
 ghost use Rattle.named_files.specs.declared.file_error.Reason.TheVariants.{IsInput};
 ghost use Rattle.named_files.specs.declared.output.Before.TheVariants.{Bytes, NoFile, Nothing};
 
-use crate::file_error::{CreateError, FileError, Reason};
+use crate::file_error::{FileError, Reason};
 use crate::identity::Identity;
 use crate::named::Named;
 use crate::output::{Before, Output};
 use crate::replacing::{Replacing, Whole};
 use crate::{STANDARD_ERROR, STANDARD_OUTPUT};
+use std::alloc::AllocError;
 use std::fs::{self, Metadata, OpenFile, OpenOptions};
 use std::io;
 use std::os::unix::fs::FileTypeExt;
@@ -141,29 +142,40 @@ fn open_output<R: Files>(
     }
 }
 
-/// Opens an output, which is created if it isn't there, and removed if it is dropped before anything is
-/// written. Its bytes stay until the first new ones are written; from then on it is whole or as it was,
-/// if it can be replaced. `whole` says when it is whole.
+/// Opens an output, which is created if it isn't there. Its bytes stay until the first new ones are
+/// written.
 ///
 /// If it is one of the inputs of the command, which are open, or standard output or standard error,
 /// nothing is touched, and the error says so. Terminals and other devices that keep nothing may be
 /// those as well, and pipes standard streams.
-pub fn create<'a, 'b, R: Files + AllocGlobal>(
-    rt: &'b R,
+pub fn create<'a, R: Files>(
+    rt: &R,
     name: &'a str,
     inputs: &[Option<Identity>],
-    whole: Whole,
-) -> Result<Named<'a, Replacing<'b, R>>, CreateError<'a>>
-    ensures ok { IfOk result (IsOpened name.now) }
-    ensures err { IfErr result (NamesIfOpen name.now) }
+) -> Result<Output<R::File>, FileError<'a>>
+    ensures { IfErr result (Names name.now) }
 {
-    let output = match open_output(rt, name, inputs) {
-        Ok(output) => output,
-        Err(reason) => return Err(CreateError::Open(FileError::new(name, reason))),
-    };
+    match open_output(rt, name, inputs) {
+        Ok(output) => Ok(output),
+        Err(reason) => Err(FileError::new(name, reason)),
+    }
+}
+
+/// What is written of the output of this name, which is removed if it was created and is dropped before
+/// anything is written. From the first new bytes on it is whole or as it was, if it can be replaced.
+/// `whole` says when it is whole. The error is that there is no memory for the names of the file and of
+/// the one beside it.
+pub fn replace<'a, 'b, R: Files + AllocGlobal>(
+    rt: &'b R,
+    name: &'a str,
+    output: Output<R::File>,
+    whole: Whole,
+) -> Result<Named<'a, Replacing<'b, R>>, AllocError>
+    ensures { IfOk result (IsOpened name.now) }
+{
     match Replacing::new(rt, rt.alloc(), name, output, whole) {
         Ok(replacing) => Ok(Named::new(name, replacing)),
-        Err(_) => Err(CreateError::NoMemory),
+        Err(_) => Err(AllocError),
     }
 }
 

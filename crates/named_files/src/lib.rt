@@ -14,10 +14,13 @@ mod replacing;
 mod size_limit;
 
 pub use disk::sync_standard_output;
-pub use file_error::{CreateError, FileError, Reason};
-pub use files::{check_standard_output, check_streams, create, null_if_closed, open, open_beside};
+pub use file_error::{FileError, Reason};
+pub use files::{
+    check_standard_output, check_streams, create, null_if_closed, open, open_beside, replace,
+};
 pub use identity::Identity;
 pub use named::Named;
+pub use output::Output;
 pub use replacing::{Replacing, Whole};
 pub use size_limit::{Limited, Quota};
 

@@ -24,7 +24,7 @@ pub(crate) enum Before {
 /// A file that is written. Its bytes of before stay until new ones are written over them, and those
 /// behind the new ones until it is cut: after a command that comes to no output it is as it was.
 #[derive(Drop)]
-pub(crate) struct Output<F> {
+pub struct Output<F> {
     file: F,
     before: Before,
     /// How many new bytes it has.

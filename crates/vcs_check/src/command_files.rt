@@ -15,7 +15,7 @@ use command_line::{Command, CommandLine, Writing};
 use commands::{Conclusion, Gate, Progress, Request, RunError, Status, run_command};
 use named_files::{
     FileError, Identity, Named, Whole, check_standard_output, check_streams, create, open,
-    open_beside,
+    open_beside, replace,
 };
 use std::io::{self, Read, Write};
 use std::rt::Files;
@@ -61,7 +61,7 @@ fn write_to<
     input: &mut M,
     inputs: &mut S,
     identities: &[Option<Identity>],
-    output: &'a str,
+    name: &'a str,
     text: &mut W,
 ) -> Result<Conclusion, Failure<'a>>
     requires { TakesFile request.now.line.now → ⊥ }
@@ -73,7 +73,10 @@ fn write_to<
     ensures no_thread { IfErr result (λ failure. IsNoThread failure → StartsThreads request.now.line.now) }
 {
     let command = &request.line.command;
-    let mut output = create(request.rt, output, identities, whole(command))?;
+    let output = create(request.rt, name, identities)?;
+    let Ok(mut output) = replace(request.rt, name, output, whole(command)) else {
+        return Err(Failure::Run(RunError::NoMemory, None));
+    };
     let Ok(mut file) = Gathered::new(request.rt.alloc(), &mut output, draws(command)) else {
         return Err(Failure::Run(RunError::NoMemory, None));
     };

@@ -4,7 +4,7 @@ ghost use Rattle.vcs_check.specs.Failures.{IsForOutput, file_error_of};
 ghost use Rattle.vcs_check.specs.Private.FileErrors.{IsUntold, by_input, by_output};
 
 use commands::RunError;
-use named_files::{CreateError, FileError};
+use named_files::FileError;
 use thiserror::Error;
 
 /// Why a command did not reach its end, as the program prints it after `error: `.
@@ -82,18 +82,5 @@ impl<'a> From<FileError<'a>> for Failure<'a> {
 
     fn from(file_error: FileError<'a>) -> Failure<'a> {
         Failure::Open(file_error)
-    }
-}
-
-impl<'a> From<CreateError<'a>> for Failure<'a> {
-    ghost use Rattle.vcs_check.specs.Private.FileErrors.{of_create_error};
-
-    ghost from_gives = { λ error failure. failure ≡ of_create_error error };
-
-    fn from(error: CreateError<'a>) -> Failure<'a> {
-        match error {
-            CreateError::Open(file_error) => Failure::Open(file_error),
-            CreateError::NoMemory => Failure::Run(RunError::NoMemory, None),
-        }
     }
 }

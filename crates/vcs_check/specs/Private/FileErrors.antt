@@ -1,20 +1,13 @@
 -- Which file a failure is about. This project's own.
 use Rattle.std.specs.Prelude.{Option, None, IsSomeAnd}
 use Rattle.named_files.specs.FileErrors.{IsUntold as IsFileUntold}
-use Rattle.named_files.specs.declared.file_error.CreateError.{CreateError}
-use Rattle.named_files.specs.declared.file_error.CreateError.TheVariants as created
 use Rattle.named_files.specs.declared.file_error.FileError.{FileError}
 use Rattle.vcs_check.specs.Failures.{file_error_of}
 use Rattle.vcs_check.specs.declared.ending.Ending.{Ending}
 use Rattle.vcs_check.specs.declared.ending.Ending.TheVariants.{Failed}
 use Rattle.vcs_check.specs.declared.failure.Failure.{Failure}
-use Rattle.vcs_check.specs.declared.failure.Failure.TheVariants.{Open, Run}
-use Rattle.commands.specs.declared.run_error.RunError.TheVariants.{NoMemory, ReadFault, TooLong, WriteFault}
-
--- An output is not there.
-abbrev pub of_create_error : CreateError → Failure
-of_create_error (created.Open file_error) = Open file_error
-of_create_error created.NoMemory = Run NoMemory None
+use Rattle.vcs_check.specs.declared.failure.Failure.TheVariants.{Run}
+use Rattle.commands.specs.declared.run_error.RunError.TheVariants.{ReadFault, TooLong, WriteFault}
 
 -- No message says why a file failed.
 abbrev pub IsUntold : Failure → Type 0
