@@ -1,5 +1,5 @@
 //! The frames of a movie that a command asks for, and what is written of each.
-ghost use Rattle.std.specs.Prelude.{◌≡◌, ◌≤◌, ◌<◌, ◌+◌, ◌-◌, ◌^◌, length, IfOk, IfErr, IfSome, None, Ok, OnOk, OnErr};
+ghost use Rattle.std.specs.Prelude.{◌≡◌, ◌≤◌, ◌<◌, ◌+◌, ◌-◌, ◌^◌, length, IfOk, IfErr, IfSome, None, OnOk, OnErr};
 ghost use Rattle.std.specs.Io.KnownBytes.{Appends};
 ghost use Rattle.std.specs.NonZero.{non_zero_u32_get};
 ghost use Rattle.movie_file.specs.Movie.{IsMovie};
@@ -152,7 +152,7 @@ fn write_frames<W: Write, P: Progress>(
     progress: &P,
 ) -> Result<Option<RunFault>, RunError>
     requires within { cursor.old.frame + frames ≤ length cursor.old.movie.inputs }
-    ensures ends { result ≡ Ok None → Ends cursor.old.movie (cursor.old.frame + frames) }
+    ensures ends { IfOk result (λ fault. fault ≡ None → Ends cursor.old.movie (cursor.old.frame + frames)) }
     ensures faults { IfOk result (λ fault. IfSome fault (λ at. FaultsWithin cursor.old.movie (cursor.old.frame + frames) at.frame at.kind)) }
     ensures ok { OnOk result (Appends (W.contents writer.old) (W.contents writer.new)
         (from_frames (bytes_shown cursor.old.movie view.entry) cursor.old.frame frames)) }
@@ -187,7 +187,7 @@ pub(crate) fn write_asked<W: Write, P: Progress>(
     writer: &mut W,
     progress: &P,
 ) -> Result<Option<RunFault>, RunError>
-    ensures ends { result ≡ Ok None → Ends movie.now (last_asked movie.now (non_zero_u32_get first) count) }
+    ensures ends { IfOk result (λ fault. fault ≡ None → Ends movie.now (last_asked movie.now (non_zero_u32_get first) count)) }
     ensures faults { IfOk result (λ fault. IfSome fault (λ at. FaultsWithin movie.now (last_asked movie.now (non_zero_u32_get first) count) at.frame at.kind)) }
     ensures ok { OnOk result (Appends (W.contents writer.old) (W.contents writer.new)
         (from_frames (bytes_shown movie.now view.entry) (non_zero_u32_get first - 1) (frames_asked movie.now (non_zero_u32_get first) count))) }

@@ -1,4 +1,4 @@
-use Rattle.std.proofs.Common.{Err, ap, arith, inr, refl}
+use Rattle.std.proofs.Common.{Err, ap, arith, inl, inr, refl}
 use Rattle.std.specs.NonZero.{non_zero_u32_get}
 use Rattle.picture_file.proofs.BytesWritten.{appends_kept, appends_then, prefix_after}
 use Rattle.commands.specs.AskedFrames.{frames_asked}
@@ -15,6 +15,9 @@ pub returns-in_err-write_asked-clause-fault : goal.returns-in_err-write_asked-cl
 returns-in_err-write_asked-clause-fault g c = λ is.
     lines_in_part c.args.movie.now c.args.notation c.args.details.now (non_zero_u32_get c.args.first) c.args.count _ _
     (rw (the_error c.from_residual.result _ _ c.from_residual.ensures.1 is) at c.in_err-write_asked.ensures.err)
+
+pub returns-in-None-clause-ok : goal.returns-in-None-clause-ok
+returns-in-None-clause-ok g c = (_, inl (c.in_ok-write_asked.ensures.ends c.in-None.is, refl, refl), c.in_ok-write_asked.ensures.ok)
 
 pub returns-in_ok-write_fault-in-Some-clause-ok : goal.returns-in_ok-write_fault-in-Some-clause-ok
 returns-in_ok-write_fault-in-Some-clause-ok g c =

@@ -9,7 +9,7 @@ pub returns-in-None-clause-ok : goal.returns-in-None-clause-ok
 returns-in-None-clause-ok g c =
     rw c.frames_asked.ensures.value
     (told c.args.movie.now (non_zero_u32_get c.args.first) c.args.count _ _ (lines.Pictures _)
-    (inl (rw c.in-None.is at c.in_ok-write_asked.ensures.ends refl, refl)) c.in_ok-write_asked.ensures.ok)
+    (inl (c.in_ok-write_asked.ensures.ends c.in-None.is, refl)) c.in_ok-write_asked.ensures.ok)
 
 pub returns-in-Some-clause-ok : goal.returns-in-Some-clause-ok
 returns-in-Some-clause-ok g c =
