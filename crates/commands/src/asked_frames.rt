@@ -11,6 +11,7 @@ ghost use Rattle.run_cursor.specs.RunFaults.{FaultsWithin, FrameFails};
 ghost use Rattle.commands.specs.AskedFrames.{Ends, frames_asked, from_frames, last_asked};
 ghost use Rattle.commands.specs.Private.Stops.{StopsWriting};
 ghost use Rattle.commands.specs.Private.Views.{bytes_shown, picture_of_frame, shown_bytes};
+ghost use Rattle.commands.specs.RunErrors.{IsOfWriting};
 
 use crate::frame_line::played_line;
 use crate::run_error::RunError;
@@ -156,6 +157,7 @@ fn write_frames<W: Write, P: Progress>(
     ensures faults { IfOk result (λ fault. IfSome fault (λ at. FaultsWithin cursor.old.movie (cursor.old.frame + frames) at.frame at.kind)) }
     ensures ok { OnOk result (Appends (W.contents writer.old) (W.contents writer.new)
         (from_frames (bytes_shown cursor.old.movie view.entry) cursor.old.frame frames)) }
+    ensures only { IfErr result IsOfWriting }
     ensures err { IfErr result (StopsWriting (bytes_shown cursor.old.movie view.entry) cursor.old.frame frames
         (W.contents writer.old) (W.contents writer.new)) }
 {
@@ -191,6 +193,7 @@ pub(crate) fn write_asked<W: Write, P: Progress>(
     ensures faults { IfOk result (λ fault. IfSome fault (λ at. FaultsWithin movie.now (last_asked movie.now (non_zero_u32_get first) count) at.frame at.kind)) }
     ensures ok { OnOk result (Appends (W.contents writer.old) (W.contents writer.new)
         (from_frames (bytes_shown movie.now view.entry) (non_zero_u32_get first - 1) (frames_asked movie.now (non_zero_u32_get first) count))) }
+    ensures only { IfErr result IsOfWriting }
     ensures err { IfErr result (StopsWriting (bytes_shown movie.now view.entry) (non_zero_u32_get first - 1)
         (frames_asked movie.now (non_zero_u32_get first) count) (W.contents writer.old) (W.contents writer.new)) }
 {

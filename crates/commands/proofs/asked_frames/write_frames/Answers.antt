@@ -34,7 +34,7 @@ returns-in_err-write-in-Ok-clause-err g c =
 
 pub returns-in-Err-Fault-clause-faults : goal.returns-in-Err-Fault-clause-faults
 returns-in-Err-Fault-clause-faults g c =
-    rw c.frame-from.ensures.value
+    rw (c.frame-from.ensures.value, c.in-Err-Fault.field-0-is)
     (faults_here c.args.cursor.now.movie (bytes_shown c.args.cursor.now.movie c.args.view) (nothing_shown c.args.cursor.now.movie c.args.view)
     _ _ _ c.in-Err-Fault.kind _ _ c.loop-k-test.true
     (rw (c.loop-k.invariant.at.movie_is, c.loop-k.invariant.at.frame_is, c.in-Err-Fault.field-0-is) at c.in-Err-Fault.ensures.err) c.loop-k.invariant.written).0
