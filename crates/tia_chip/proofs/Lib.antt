@@ -19,6 +19,7 @@ pub mod RangeLemmas
 pub mod RestLemmas
 pub mod ShownLemmas
 pub mod Strides
+pub mod ThereLemmas
 pub mod UnderwayBall
 pub mod UnderwayBeam
 pub mod UnderwayClock

@@ -30,7 +30,7 @@ now-none mode counter n l h =
 later-none : (mode counter n : ℕ) → NoneBegins mode counter (suc n) → NoneBegins mode (counter_after 1 counter) n
 later-none mode counter n h k l = ap (begins_copy mode) (counter-later k counter) ∙ h (suc k) (omega arith)
 
-none-of : {A : Type 0} (o : Option A) → is_some o ≡ false → o ≡ None
+pub none-of : {A : Type 0} (o : Option A) → is_some o ≡ false → o ≡ None
 none-of None e = refl
 none-of (Some x) e = cc
 

@@ -1,5 +1,5 @@
 -- Writes on their way: a clock with which none acts is one without them, and they are a clock nearer.
-use Rattle.std.proofs.Common.{◌≡◌, ◌∙◌, ℕ, zero, suc, ◌+◌, ◌-◌, ◌%◌, ◌≤◌, ◌==◌, ◌&&◌, not, Bool, true, false, arith, refl, ap, sym, if◌then◌else◌}
+use Rattle.std.proofs.Common.{◌≡◌, ◌∙◌, ℕ, zero, suc, ◌+◌, ◌-◌, ◌%◌, ◌<◌, ◌≤◌, ◌==◌, ◌&&◌, not, Bool, true, false, arith, refl, ap, sym, if◌then◌else◌}
 use Rattle.std.proofs.Common.{Option, Some, None}
 use Rattle.std.proofs.lemmas.Bool.{cond-false, cond-true, cond_both, eq-eqb, ne_eqb}
 use Rattle.std.specs.Fn.{iterate}
@@ -14,7 +14,9 @@ use Rattle.tia_chip.specs.Missile.{missile_after_step}
 use Rattle.tia_chip.specs.Motion.{after_hmove, after_pulse, any_moves, pulsed}
 use Rattle.tia_chip.specs.Player.{player_after_step}
 use Rattle.tia_chip.specs.Playfield.{mirrored_at, playfield_at, playfield_bit, playfield_index, with_playfield}
-use Rattle.tia_chip.specs.Write.{acted, after_action, with_hmove_in, with_waited, with_waited_hmove, with_waited_write, with_waited_writes}
+use Rattle.tia_chip.specs.Private.Late.{acts_late}
+use Rattle.tia_chip.specs.Registers.{delay_of, register_of}
+use Rattle.tia_chip.specs.Write.{acted, after_action, after_register_write, tia_after_write, with_hmove_in, with_waited, with_waited_hmove, with_waited_write, with_waited_writes}
 use Rattle.tia_chip.specs.declared.register.Register.{Register}
 use Rattle.tia_chip.specs.declared.register.Register.TheVariants.{Rsync}
 use Rattle.tia_chip.specs.declared.state.TiaState.{TiaState}
@@ -129,7 +131,7 @@ hmove_in-none : (h : Option ℕ) (t : TiaState) → (with_hmove_in h t).waiting 
 hmove_in-none None t = refl
 hmove_in-none (Some clocks) t = cond_both (clocks == 0) _ _ (λ (x : TiaState). x.waiting ≡ t.waiting) (λ e. refl) (λ e. refl)
 
-none-stays : (t : TiaState) → t.waiting ≡ None → (after_clock t).waiting ≡ None
+pub none-stays : (t : TiaState) → t.waiting ≡ None → (after_clock t).waiting ≡ None
 none-stays t h =
     let write : with_waited_write t ≡ t = ap (λ o. with_waited o t) h in
     let writes : (with_waited_writes t).waiting ≡ None = ap (λ (x : TiaState). (with_waited_hmove x).waiting) write ∙ (hmove_in-none t.hmove t ∙ h) in
@@ -259,10 +261,10 @@ acts-once t w h z =
     let gone : with_waited_write after ≡ after = ap (λ o. with_waited o after) (acted-waiting w.register w.value none) in
     ap (λ (x : TiaState). with_waited_writes x) acted_now ∙ (ap (λ (x : TiaState). with_waited_hmove x) gone ∙ sym (ap (λ (x : TiaState). with_waited_hmove x) acted_now))
 
-acts-clock : (t : TiaState) (w : Waiting) → t.waiting ≡ Some w → w.clocks ≡ 0 → after_clock (with_waited_write t) ≡ after_clock t
+pub acts-clock : (t : TiaState) (w : Waiting) → t.waiting ≡ Some w → w.clocks ≡ 0 → after_clock (with_waited_write t) ≡ after_clock t
 acts-clock t w h z = clock-is (with_waited_write t) ∙ (ap without-writes (acts-once t w h z) ∙ sym (clock-is t))
 
-acts-pixel : (t : TiaState) (w : Waiting) → t.waiting ≡ Some w → w.clocks ≡ 0 → at_pixel (with_waited_write t) ≡ at_pixel t
+pub acts-pixel : (t : TiaState) (w : Waiting) → t.waiting ≡ Some w → w.clocks ≡ 0 → at_pixel (with_waited_write t) ≡ at_pixel t
 acts-pixel t w h z = pixel-is (with_waited_write t) ∙ (ap pixel-without (acts-once t w h z) ∙ sym (pixel-is t))
 
 pub acts-state : (t : TiaState) (w : Waiting) (n : ℕ) → t.waiting ≡ Some w → w.clocks ≡ 0 → 1 ≤ n → iterate after_clock n (with_waited_write t) ≡ iterate after_clock n t
@@ -275,3 +277,41 @@ acts-sink drawn sink t w zero h z l = absurd (omega arith)
 acts-sink drawn sink t w (suc n) h z l =
     ap (λ (x : TiaState). sink_after_clocks drawn (with_pixel drawn sink (pixel_of (at_pixel (with_waited_write t)))) n x) (acts-clock t w h z)
     ∙ ap (λ (x : TiaState). sink_after_clocks drawn (with_pixel drawn sink (pixel_of x)) n (after_clock t)) (acts-pixel t w h z)
+
+-- ---- a write that is put on its way before the clocks that come before it
+late-write : (r : Register) (v : ℕ) (t : TiaState) → acts_late r ≡ true
+    → after_register_write r v t ≡ record t { waiting = Some (record { register = r; value = v; clocks = delay_of r }) }
+late-write Rsync v t h = cc
+late-write r v t h = cc
+
+pub free-waiting : (t : TiaState) → t.waiting ≡ None → record t { waiting = None } ≡ t
+free-waiting t h = ap (λ (o : Option Waiting). record t { waiting = o }) (sym h)
+
+abbrev pub waiting-of : Register → ℕ → ℕ → Waiting
+waiting-of r v clocks = record { register = r; value = v; clocks = clocks }
+
+pub late-state : (lag number v : ℕ) (t : TiaState) (w : Waiting) → t.waiting ≡ None → acts_late (register_of number) ≡ true → w ≡ record { register = register_of number; value = v; clocks = lag + delay_of (register_of number) }
+    → iterate after_clock lag (record t { waiting = Some w }) ≡ tia_after_write (iterate after_clock lag t) number v
+unfolding tia_after_write
+late-state lag number v t w h l e =
+    let r = register_of number in
+    let now : Waiting = record { register = r; value = v; clocks = delay_of r } in
+    ap (λ (x : Waiting). iterate after_clock lag (record t { waiting = Some x })) e
+    ∙ (write-waits lag (delay_of r) t now
+    ∙ (ap (λ (x : TiaState). record (iterate after_clock lag x) { waiting = Some now }) (free-waiting t h) ∙ sym (late-write r v (iterate after_clock lag t) l)))
+
+pub stays-none : (n : ℕ) (t : TiaState) → t.waiting ≡ None → (iterate after_clock n t).waiting ≡ None
+stays-none zero t h = h
+stays-none (suc n) t h = stays-none n (after_clock t) (none-stays t h)
+
+pub late-pixel : (n lag d : ℕ) (t : TiaState) (w : Waiting) → t.waiting ≡ None → n < lag → w.clocks ≡ lag + d
+    → pixel_of (at_pixel (iterate after_clock n (record t { waiting = Some w }))) ≡ pixel_of (at_pixel (iterate after_clock n t))
+late-pixel n lag d t w h l e =
+    let k : ℕ = lag + d - n - 1 in
+    let u = iterate after_clock n (record t { waiting = None }) in
+    let sum : w.clocks ≡ n + suc k = omega arith in
+    let same : u ≡ iterate after_clock n t = ap (iterate after_clock n) (free-waiting t h) in
+    let none : u.waiting ≡ None = ap (λ (x : TiaState). x.waiting) same ∙ stays-none n t h in
+    ap (λ (m : ℕ). pixel_of (at_pixel (iterate after_clock n (record t { waiting = Some (record w { clocks = m }) })))) sum
+    ∙ (ap (λ (x : TiaState). pixel_of (at_pixel x)) (write-waits n (suc k) t w)
+    ∙ (dot-nearer u w k ∙ ap (λ (x : TiaState). pixel_of (at_pixel x)) (free-waiting u none ∙ same)))

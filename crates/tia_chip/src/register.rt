@@ -1,5 +1,6 @@
 //! The registers that are written, by name and number, and the bits that each keeps.
-ghost use Rattle.std.specs.Prelude.{◌≡◌};
+ghost use Rattle.std.specs.Prelude.{◌≡◌, ◌≤◌};
+ghost use Rattle.tia_chip.specs.Private.Late.{acts_late};
 ghost use Rattle.tia_chip.specs.Registers.{register_of, mask_of, register_bits, delay_of, value_by_delay};
 
 use crate::bits::has_bit;
@@ -141,9 +142,25 @@ impl Register {
         value & self.mask()
     }
 
+    /// Whether all of a write of it is put on its way, in the place of any other write but HMOVE.
+    pub(crate) fn acts_late(self) -> bool
+        ensures { result ≡ acts_late self }
+    {
+        match self {
+            Register::Refp0 | Register::Refp1 => true,
+            Register::Pf0 | Register::Pf1 | Register::Pf2 => true,
+            Register::Grp0 | Register::Grp1 => true,
+            Register::Enam0 | Register::Enam1 | Register::Enabl => true,
+            Register::Hmp0 | Register::Hmp1 => true,
+            Register::Hmm0 | Register::Hmm1 | Register::Hmbl | Register::Hmclr => true,
+            _ => false,
+        }
+    }
+
     /// After how many colour clocks a write of it acts.
     pub(crate) fn delay(self) -> u8
-        ensures { result ≡ delay_of self }
+        ensures value { result ≡ delay_of self }
+        ensures range { result ≤ 6 }
     {
         match self {
             Register::Vblank | Register::Refp0 | Register::Refp1 => 1,

@@ -1,15 +1,17 @@
 //! The TIA: colour clocks pass, and its registers are written and read.
 ghost use Rattle.std.specs.Fn.{iterate};
-ghost use Rattle.std.specs.Prelude.{◌≡◌, ◌<◌, ◌≤◌, ◌&&◌, not, if◌then◌else◌, Some, None};
+ghost use Rattle.std.specs.Prelude.{◌≡◌, ◌<◌, ◌≤◌, ◌&&◌, not, if◌then◌else◌, Some, None, ℕ, IsTrue, true, false};
 ghost use Rattle.tia_chip.specs.Clock.{after_clock, at_line_start, at_next_clock, at_next_line};
 ghost use Rattle.tia_chip.specs.Clock.{at_pixel, stepped, with_next_clock, without_rest};
 ghost use Rattle.tia_chip.specs.Clocks.{sink_after_clocks, with_pixel};
 ghost use Rattle.tia_chip.specs.Colour.{pixel_of};
 ghost use Rattle.tia_chip.specs.Numbers.{is_settled, is_tia};
 ghost use Rattle.tia_chip.specs.PowerOn.{at_frame_start, tia_at_power_on, with_fire};
+ghost use Rattle.tia_chip.specs.Private.Late.{is_there as is_there_of, written_of};
 ghost use Rattle.tia_chip.specs.Private.Ranges.{IsInRange};
 ghost use Rattle.tia_chip.specs.Read.{tia_after_read, tia_read};
 ghost use Rattle.tia_chip.specs.Write.{effect_of, tia_after_write};
+ghost use Rattle.tia_chip.specs.declared.effect.Effect.TheVariants.{Nothing};
 
 use crate::ball::Ball;
 use crate::calm::{is_at_rest_in_blank, is_calm_in_picture, pass_blank, pass_some};
@@ -26,7 +28,7 @@ use crate::register::Register;
 use crate::sight::{forget_seen, look};
 use crate::state::TiaState;
 use crate::waiting::Waiting;
-use crate::write::{bring_on, bring_on_write, effect, write_register};
+use crate::write::{bring_on, bring_on_write, effect, is_there, waits_after, write_register};
 use std::marker::Model;
 use tia_core::Paint;
 
@@ -302,11 +304,31 @@ impl Tia {
         let Some(waiting) = self.state.waiting else {
             return self.free_clocks(most, sink);
         };
+        if is_there(&self.state, waiting) {
+            return self.unwritten_clocks(waiting, most, sink);
+        }
         if waiting.clocks == 0 {
             bring_on_write(&mut self.state);
             return self.free_clocks(most, sink);
         }
         self.waited_clocks(waiting, most.min(u32::from(waiting.clocks)), sink)
+    }
+
+    /// The first of so many colour clocks in which a write waits, or acts and changes nothing, at least
+    /// one. How many they were.
+    fn unwritten_clocks<S: Paint>(&mut self, waiting: Waiting, most: u32, sink: &mut S) -> u32
+        requires waiting { self.old.waiting ≡ Some waiting }
+        requires there { is_there_of waiting.register waiting.value (written_of self.old) ≡ true }
+        requires some { 1 ≤ most }
+        ensures some { 1 ≤ result }
+        ensures most { result ≤ most }
+        ensures state { self.new ≡ iterate after_clock result self.old }
+        ensures sink { sink.new ≡ sink_after_clocks S.drawn sink.old result self.old }
+    {
+        self.state.waiting = None;
+        let passed = self.free_clocks(most, sink);
+        self.state.waiting = waits_after(waiting, passed);
+        passed
     }
 
     /// The first of so many colour clocks in which a write waits, at least one. How many they were.
@@ -371,6 +393,26 @@ impl Tia {
         let effect = effect(&self.state, register, value);
         write_register(&mut self.state, register, value);
         effect
+    }
+
+    /// Writes a register so many clocks from now, if it can be put on its way already, and answers
+    /// whether it is. That asks for nothing. It can be if it acts late, and no write is on its way.
+    pub fn write_late(&mut self, lag: u8, number: u8, value: u8) -> bool
+        ensures state { IsTrue result → iterate after_clock lag self.new ≡ tia_after_write (iterate after_clock lag self.old) number value }
+        ensures pixels { IsTrue result → (n : ℕ) → n < lag → pixel_of (at_pixel (iterate after_clock n self.new)) ≡ pixel_of (at_pixel (iterate after_clock n self.old)) }
+        ensures effect { IsTrue result → effect_of (iterate after_clock lag self.old) number value ≡ Nothing }
+        ensures others { result ≡ false → self.new ≡ self.old }
+    {
+        let register = Register::from_number(number);
+        if lag > 240 || self.state.waiting.is_some() || !register.acts_late() {
+            return false;
+        }
+        self.state.waiting = Some(Waiting {
+            register,
+            value,
+            clocks: lag + register.delay(),
+        });
+        true
     }
 
     /// Reads a register, of whose number the low four bits count, between two clocks. `bus` is the

@@ -1,5 +1,6 @@
 //! What a write does, and when.
 ghost use Rattle.std.specs.Prelude.{◌≡◌, ◌<◌, ◌≤◌};
+ghost use Rattle.tia_chip.specs.Private.Late.{is_there, waits_after, written_of};
 ghost use Rattle.tia_chip.specs.Private.Ranges.{IsInRange, IsPlayerInRange};
 ghost use Rattle.tia_chip.specs.Write.{acted, after_action, after_register_write, at_once, effect_after};
 ghost use Rattle.tia_chip.specs.Write.{after_rsync, is_changed, player_after_write, vblank_of};
@@ -287,6 +288,45 @@ pub fn write_register(tia: &mut TiaState, register: Register, value: u8)
     } else {
         act_at_once(tia, register, value);
         put_on_its_way(tia, register, value);
+    }
+}
+
+/// Whether a write that is on its way is known to change nothing.
+pub fn is_there(tia: &TiaState, waiting: Waiting) -> bool
+    ensures { result ≡ is_there waiting.register waiting.value (written_of tia.now) }
+{
+    let kept = waiting.register.keep(waiting.value);
+    let (player0, player1) = (&tia.player0, &tia.player1);
+    match waiting.register {
+        Register::Refp0 => player0.refp == kept,
+        Register::Refp1 => player1.refp == kept,
+        Register::Pf0 => tia.pf0 == kept,
+        Register::Pf1 => tia.pf1 == kept,
+        Register::Pf2 => tia.pf2 == kept,
+        Register::Grp0 => player0.grp_new == kept && player1.grp_old == player1.grp_new,
+        Register::Grp1 => {
+            player1.grp_new == kept
+                && player0.grp_old == player0.grp_new
+                && tia.ball.enabl_old == tia.ball.enabl_new
+        }
+        Register::Enam0 => tia.missile0.enam == kept,
+        Register::Enam1 => tia.missile1.enam == kept,
+        Register::Enabl => tia.ball.enabl_new == kept,
+        _ => false,
+    }
+}
+
+/// A write on its way after so many clocks, if it is still on its way.
+pub fn waits_after(waiting: Waiting, clocks: u32) -> Option<Waiting>
+    ensures { result ≡ waits_after clocks waiting }
+{
+    if clocks <= u32::from(waiting.clocks) {
+        Some(Waiting {
+            clocks: waiting.clocks - clocks as u8,
+            ..waiting
+        })
+    } else {
+        None
     }
 }
 
