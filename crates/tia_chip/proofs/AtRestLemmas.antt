@@ -35,11 +35,11 @@ use Rattle.tia_chip.specs.declared.waiting.Waiting.{Waiting}
 
 -- ---- the writes that have waited
 -- a write that acts leaves what is on its way, and one with a delay the clock and the beam
-record IsAlike (before after : TiaState) : Type 0 where
+pub record IsAlike (before after : TiaState) : Type 0 where
   pub hmove : after.hmove ≡ before.hmove
   pub waiting : after.waiting ≡ before.waiting
 
-acted-alike : (r : Register) (v : ℕ) (t : TiaState) → IsAlike t (acted r v t)
+pub acted-alike : (r : Register) (v : ℕ) (t : TiaState) → IsAlike t (acted r v t)
 acted-alike Rsync v t = record { hmove = refl; waiting = refl }
 acted-alike r v t = record { hmove = refl; waiting = refl }
 
@@ -73,7 +73,7 @@ waited-within n (Some w) t e k =
     (λ f. within-alike n None _ (acted-alike w.register w.value (record t { waiting = None })).waiting tt)
     (λ f. grind (arith, nat_tests, f, k))
 
-hmove_in-waiting : (o : Option ℕ) (t : TiaState) → (with_hmove_in o t).waiting ≡ t.waiting
+pub hmove_in-waiting : (o : Option ℕ) (t : TiaState) → (with_hmove_in o t).waiting ≡ t.waiting
 hmove_in-waiting None t = refl
 hmove_in-waiting (Some n) t = cond_both (n == 0) _ _ (λ (u : TiaState). u.waiting ≡ t.waiting) (λ e. refl) (λ e. refl)
 
@@ -91,7 +91,7 @@ hmove_in-nearer (Some n) t e =
     (λ f. let h = eqb-false n 0 f in cond_above n 1 _ _ _ (omega arith) refl)
 
 -- ---- the rest of a clock
-abbrev IsSame : TiaState → TiaState → Type 0
+abbrev pub IsSame : TiaState → TiaState → Type 0
 IsSame t u = (u.waiting ≡ t.waiting) × (u.hmove ≡ t.hmove) × (u.clock ≡ t.clock) × (u.beam ≡ t.beam)
 
 begun-same : (t u : TiaState) → IsSame t u → IsSame t (at_line_start u)
@@ -108,7 +108,7 @@ playfield-same t u h =
 stepped-same : (t u : TiaState) → IsSame t u → IsSame t (stepped u)
 stepped-same t u h = cond_both (is_in_blank u) _ _ (IsSame t) (λ e. h) (λ e. h)
 
-pixel-same : (t : TiaState) → IsSame (with_waited_writes t) (at_pixel t)
+pub pixel-same : (t : TiaState) → IsSame (with_waited_writes t) (at_pixel t)
 unfolding at_pixel
 pixel-same t =
     let waited = with_waited_writes t in
@@ -117,21 +117,21 @@ pixel-same t =
     let drawn = with_playfield moved in
     stepped-same waited drawn (playfield-same waited moved (pulsed-same waited begun (begun-same waited waited (refl, refl, refl, refl))))
 
-abbrev IsNext : TiaState → TiaState → Type 0
+abbrev pub IsNext : TiaState → TiaState → Type 0
 IsNext t u = (u.waiting ≡ t.waiting) × (u.hmove ≡ t.hmove) × (u.changed ≡ t.changed)
 
-next-way : (t : TiaState) → IsNext t (with_next_clock t)
+pub next-way : (t : TiaState) → IsNext t (with_next_clock t)
 next-way t =
     cond_both (t.clock == 227) _ _ (IsNext t) (λ e. (refl, refl, refl))
     (λ e. cond_both (is_in_blank (at_next_clock t)) _ _ (IsNext t) (λ f. (refl, refl, refl)) (λ f. (refl, refl, refl)))
 
-next_beam : ℕ → ℕ → ℕ
+pub next_beam : ℕ → ℕ → ℕ
 next_beam clock beam = if clock == 227 then 0 else min (beam + 1) 227
 
-abbrev StandsNext : ℕ → ℕ → TiaState → Type 0
+abbrev pub StandsNext : ℕ → ℕ → TiaState → Type 0
 StandsNext clock beam u = (u.clock ≡ (clock + 1) % 228) × (u.beam ≡ next_beam clock beam)
 
-next-stands : (t : TiaState) → t.clock < 228 → StandsNext t.clock t.beam (with_next_clock t)
+pub next-stands : (t : TiaState) → t.clock < 228 → StandsNext t.clock t.beam (with_next_clock t)
 unfolding next_beam
 next-stands t few =
     cond_both (t.clock == 227) _ _ (StandsNext t.clock t.beam)
@@ -254,13 +254,13 @@ cycle-is t h =
 is-alike : (n : ℕ) → (n == n) ≡ true
 is-alike n = eq-eqb n n refl
 
-player-unchanged : (p : Player) → is_player_changed p p ≡ false
+pub player-unchanged : (p : Player) → is_player_changed p p ≡ false
 player-unchanged p = rw (is-alike (graphic_of p), is-alike p.refp, is-alike p.vdelp) (and_right (is_drawn p.width p.copy) false refl)
 
-missile-unchanged : (m : Missile) → is_missile_changed m m ≡ false
+pub missile-unchanged : (m : Missile) → is_missile_changed m m ≡ false
 missile-unchanged m = rw (is-alike m.enam, is-alike m.resmp) refl
 
-ball-unchanged : (b : Ball) → is_ball_changed b b ≡ false
+pub ball-unchanged : (b : Ball) → is_ball_changed b b ≡ false
 ball-unchanged b = rw (is-alike (enable_of b), is-alike b.vdelbl) refl
 
 -- a write that keeps the objects

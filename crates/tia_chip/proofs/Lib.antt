@@ -5,6 +5,7 @@ pub mod CalmClocks
 pub mod CalmPairs
 pub mod ClocksLemmas
 pub mod DarkLemmas
+pub mod LineClockLemmas
 pub mod LineLemmas
 pub mod MeetLemmas
 pub mod NumberLemmas

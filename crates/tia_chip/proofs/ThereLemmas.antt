@@ -1,14 +1,15 @@
 -- Writes on their way that will change nothing: the registers that wait stay as they are, and the clocks
 -- are those without the write.
-use Rattle.std.proofs.Common.{◌≡◌, ◌∙◌, ℕ, zero, suc, ◌+◌, ◌-◌, ◌%◌, ◌<◌, ◌==◌, ◌&&◌, ◌||◌, inl, inr, not, Bool, true, false, arith, refl, ap, sym, Option, Some, None}
+use Rattle.std.proofs.Common.{◌≡◌, ◌∙◌, ℕ, zero, suc, ◌+◌, ◌-◌, ◌%◌, ◌<◌, ◌==◌, ◌&&◌, ◌||◌, inl, inr, Bool, true, false, arith, refl, ap, sym, Option, Some, None}
 use Rattle.std.proofs.lemmas.Bool.{and_parts, and_right, cases_lt, cond-false, cond-true, cond_both, eq-eqb, eqb-true, le-leb}
 use Rattle.std.proofs.lemmas.Bool.Decides.{nat_tests}
 use Rattle.std.specs.Fn.{iterate}
 use Rattle.std.specs.Prelude.{nat_le, nat_lt}
+use Rattle.tia_chip.proofs.AtRestLemmas.{ball-unchanged, missile-unchanged, player-unchanged}
 use Rattle.tia_chip.proofs.ClocksLemmas.{iterate-add, sink-add}
 use Rattle.tia_chip.proofs.QuietAges.{alike-three}
 use Rattle.tia_chip.proofs.WaitingLemmas.{acts-clock, acts-pixel, free-waiting, none-stays, stays-none, waited-sink, waited-state}
-use Rattle.tia_chip.specs.Ball.{ball_after_step, enable_of, is_ball_changed}
+use Rattle.tia_chip.specs.Ball.{ball_after_step, is_ball_changed}
 use Rattle.tia_chip.specs.Blank.{is_in_blank}
 use Rattle.tia_chip.specs.Clock.{after_clock, at_line_start, at_next_clock, at_pixel, stepped, with_next_clock}
 use Rattle.tia_chip.specs.Clocks.{sink_after_clocks, with_pixel}
@@ -17,7 +18,7 @@ use Rattle.tia_chip.specs.Colour.{pixel_of}
 use Rattle.tia_chip.specs.Counter.{begins_copy, next_counter}
 use Rattle.tia_chip.specs.Missile.{is_missile_changed}
 use Rattle.tia_chip.specs.Motion.{any_moves, ball_after_pulse, missile_after_pulse, player_after_pulse, pulsed, still_moves}
-use Rattle.tia_chip.specs.Player.{copy_after_step, counts_for_change, graphic_of, is_drawn, is_player_changed, looked_at_player, player_after_step}
+use Rattle.tia_chip.specs.Player.{copy_after_step, counts_for_change, is_player_changed, looked_at_player, player_after_step}
 use Rattle.tia_chip.specs.Playfield.{with_playfield}
 use Rattle.tia_chip.specs.Private.Late.{BallRegisters, PlayerRegisters, Written, ball_registers, is_there, player_registers, waits_after, written_of}
 use Rattle.tia_chip.specs.Registers.{register_bits}
@@ -118,21 +119,6 @@ clocks-keep zero t h = refl
 clocks-keep (suc n) t h = clocks-keep n (after_clock t) (none-stays t h) ∙ clock-keeps t h
 
 -- ---- an act that changes nothing
-two-same : (a b : ℕ) → not (a == a && b == b) ≡ false
-two-same a b = rw (eq-eqb a a refl, eq-eqb b b refl) refl
-
-three-same : (a b c : ℕ) → not (a == a && b == b && c == c) ≡ false
-three-same a b c = rw (eq-eqb a a refl, eq-eqb b b refl, eq-eqb c c refl) refl
-
-same-player : (p : Player) → is_player_changed p p ≡ false
-same-player p = and_right (is_drawn p.width p.copy) _ (three-same (graphic_of p) p.refp p.vdelp)
-
-same-missile : (m : Missile) → is_missile_changed m m ≡ false
-same-missile m = two-same m.enam m.resmp
-
-same-ball : (b : Ball) → is_ball_changed b b ≡ false
-same-ball b = two-same (enable_of b) b.vdelbl
-
 none-of-five : (a b c d e : Bool) → a ≡ false → b ≡ false → c ≡ false → d ≡ false → e ≡ false → (a || b || c || d || e) ≡ false
 none-of-five a b c d e f g h i j = rw (f, g, h, i, j) refl
 
@@ -140,14 +126,14 @@ or-false : (a b : Bool) → b ≡ false → (a || b) ≡ a
 or-false true b e = refl
 or-false false b e = e
 
-unchanged : (t : TiaState) → with_changes t t ≡ t
+pub unchanged : (t : TiaState) → with_changes t t ≡ t
 unchanged t =
     let none = none-of-five (is_player_changed t.player0 t.player0) (is_player_changed t.player1 t.player1) (is_missile_changed t.missile0 t.missile0) (is_missile_changed t.missile1 t.missile1) (is_ball_changed t.ball t.ball)
-    (same-player t.player0) (same-player t.player1) (same-missile t.missile0) (same-missile t.missile1) (same-ball t.ball) in
+    (player-unchanged t.player0) (player-unchanged t.player1) (missile-unchanged t.missile0) (missile-unchanged t.missile1) (ball-unchanged t.ball) in
     alike-three (λ (p q : Player) (c : Bool). record t { player0 = p; player1 = q; changed = c })
     (player_after_write (is_in_blank t) t.player0 t.player0) t.player0 (player_after_write (is_in_blank t) t.player1 t.player1) t.player1 (t.changed || is_changed t t) t.changed
-    (cond-false (is_in_blank t && is_player_changed t.player0 t.player0) _ _ (and_right (is_in_blank t) (is_player_changed t.player0 t.player0) (same-player t.player0)))
-    (cond-false (is_in_blank t && is_player_changed t.player1 t.player1) _ _ (and_right (is_in_blank t) (is_player_changed t.player1 t.player1) (same-player t.player1)))
+    (cond-false (is_in_blank t && is_player_changed t.player0 t.player0) _ _ (and_right (is_in_blank t) (is_player_changed t.player0 t.player0) (player-unchanged t.player0)))
+    (cond-false (is_in_blank t && is_player_changed t.player1 t.player1) _ _ (and_right (is_in_blank t) (is_player_changed t.player1 t.player1) (player-unchanged t.player1)))
     (or-false t.changed (is_changed t t) none)
 
 acts-as : (t u : TiaState) → u ≡ t → with_changes t u ≡ t

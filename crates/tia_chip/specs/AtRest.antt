@@ -3,8 +3,9 @@
 use Rattle.std.specs.Prelude.{◌≡◌, ℕ, ◌+◌, ◌-◌, ◌%◌, ◌==◌, ◌&&◌, not, nat_lt, Bool, true, false, if◌then◌else◌}
 use Rattle.std.specs.Prelude.{Option, Some, None, is_none}
 use Rattle.tia_chip.specs.declared.register.Register.{Register}
-use Rattle.tia_chip.specs.declared.register.Register.TheVariants.{Vsync, Wsync, Ignored}
+use Rattle.tia_chip.specs.declared.register.Register.TheVariants.{Vsync, Wsync, Rsync, Ignored}
 use Rattle.tia_chip.specs.declared.state.TiaState.{TiaState}
+use Rattle.tia_chip.specs.declared.waiting.Waiting.{Waiting}
 
 -- A record says all of a TIA but its line and its buttons: no write is on its way, none has changed an
 -- object since the last clock, and pixels are put where the line's clock is.
@@ -17,6 +18,15 @@ leaves_at_rest Vsync = true
 leaves_at_rest Wsync = true
 leaves_at_rest Ignored = true
 leaves_at_rest _ = false
+
+-- whether an RSYNC is on its way: it acts at once, so that no write leaves one
+abbrev pub is_rsync : Register → Bool
+is_rsync Rsync = true
+is_rsync _ = false
+
+abbrev pub awaits_rsync : Option Waiting → Bool
+awaits_rsync None = false
+awaits_rsync (Some write) = is_rsync write.register
 
 -- how many clocks an HMOVE has still to wait, once so many have passed
 abbrev pub hmove_after : ℕ → Option ℕ → Option ℕ

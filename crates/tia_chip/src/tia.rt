@@ -1,6 +1,7 @@
 //! The TIA: colour clocks pass, and its registers are written and read.
 ghost use Rattle.std.specs.Fn.{iterate};
-ghost use Rattle.std.specs.Prelude.{◌≡◌, ◌<◌, ◌≤◌, ◌&&◌, not, if◌then◌else◌, Some, None, ℕ, IsTrue, true, false};
+ghost use Rattle.std.specs.Prelude.{ℕ, ◌≡◌, ◌+◌, ◌%◌, ◌<◌, ◌≤◌, ◌&&◌, not, if◌then◌else◌, IfSome, IsTrue, Some, None, true, false};
+ghost use Rattle.tia_chip.specs.AtRest.{awaits_rsync};
 ghost use Rattle.tia_chip.specs.Clock.{after_clock, at_line_start, at_next_clock, at_next_line};
 ghost use Rattle.tia_chip.specs.Clock.{at_pixel, stepped, with_next_clock, without_rest};
 ghost use Rattle.tia_chip.specs.Clocks.{sink_after_clocks, with_pixel};
@@ -220,6 +221,19 @@ fn end_clock(tia: &mut TiaState)
     }
 }
 
+/// Whether an RSYNC is on its way.
+fn awaits_rsync(waiting: Option<Waiting>) -> bool
+    ensures { result ≡ awaits_rsync waiting }
+{
+    match waiting {
+        Some(write) => match write.register {
+            Register::Rsync => true,
+            _ => false,
+        },
+        None => false,
+    }
+}
+
 impl Tia {
     /// A TIA that was just switched on.
     pub fn power_on() -> Self
@@ -246,6 +260,21 @@ impl Tia {
         ensures range { result < 228 }
     {
         self.state.clock
+    }
+
+    /// The clock of the line that comes next once so many clocks have passed. None if an RSYNC is on
+    /// its way, which no write leaves.
+    #[tactic(auto, using(crate::proofs::LineClockLemmas::later))]
+    pub fn line_clock_after(&self, count: u32) -> Option<u8>
+        ensures value { result ≡ (if awaits_rsync self.now.waiting then None else Some ((self.now.clock + count) % 228)) }
+        ensures clock { IfSome result (λ clock. (iterate after_clock count self.now).clock ≡ clock) }
+        ensures range { IfSome result (λ clock. clock < 228) }
+    {
+        if awaits_rsync(self.state.waiting) {
+            None
+        } else {
+            Some(((self.state.clock as u32 + count % 228) % 228) as u8)
+        }
     }
 
     /// The line, from 0 at a frame's start, modulo 65,536.
