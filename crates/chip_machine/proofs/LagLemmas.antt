@@ -1,17 +1,18 @@
 -- Devices that lag.
-use Rattle.std.proofs.Common.{◌≡◌, ◌∙◌, ℕ, zero, suc, ◌+◌, ◌-◌, ◌*◌, ◌≤◌, true, false, refl, sym, ap, arith, inl, inr}
+use Rattle.std.proofs.Common.{◌≡◌, ◌∙◌, ℕ, zero, suc, ◌+◌, ◌-◌, ◌*◌, ◌<◌, ◌≤◌, Bool, Option, true, false, if◌then◌else◌, refl, sym, ap, arith, inl, inr}
 use Rattle.std.specs.Prelude.{min}
 use Rattle.std.specs.Fn.{iterate}
 use Rattle.std.proofs.lemmas.Bool.{cases_Bool, cond-true}
 use Rattle.riot_chip.specs.Riot.{RiotState}
 use Rattle.riot_chip.specs.Timer.{TimerState, after_step}
-use Rattle.tia_chip.specs.Clock.{after_clock}
-use Rattle.tia_chip.specs.Clocks.{sink_after_clocks}
+use Rattle.tia_chip.specs.Clock.{after_clock, at_pixel}
+use Rattle.tia_chip.specs.Clocks.{sink_after_clocks, with_pixel}
+use Rattle.tia_chip.specs.Colour.{pixel_of}
+use Rattle.tia_chip.specs.declared.pixel.Pixel.{Pixel}
 use Rattle.tia_chip.specs.declared.state.TiaState.{TiaState}
 use Rattle.tia_chip.proofs.ClocksLemmas.{iterate-add, sink-add}
 use Rattle.chip_machine.specs.Consoles.{Console, after_cycle, after_stop, cycles_to_line_start, most_cycles}
-use Rattle.chip_machine.specs.Private.Lag.{after_cycles, cycles_seen, riot_after_steps, sink_seen, tia_seen}
-use Rattle.chip_machine.specs.declared.devices.Devices.{Devices}
+use Rattle.chip_machine.specs.Private.Lag.{after_cycles, riot_after_steps}
 
 -- ---- fewer cycles are left
 
@@ -53,17 +54,27 @@ sink-rest drawn left n t s few =
     let all : 3 * n + 3 * (left - n) ≡ 3 * left = omega arith in
     rw all at (sym (sink-add drawn s (3 * n) (3 * (left - n)) t))
 
--- ---- devices that have caught up
+-- ---- a write that is put on its way ahead
 
-module _ {S : Type 0} (drawn : S → ℕ → ℕ → ℕ → S) (d : Devices S) (left : d.lag_left ≡ 76) where
-  pub tia-caught_up : tia_seen d ≡ d.tia
-  tia-caught_up = rw left refl
+abbrev pub DrawsAlike : ℕ → TiaState → TiaState → Type 0
+DrawsAlike n t u = (k : ℕ) → k < n → pixel_of (at_pixel (iterate after_clock k t)) ≡ pixel_of (at_pixel (iterate after_clock k u))
 
-  pub sink-caught_up : sink_seen drawn d ≡ d.sink
-  sink-caught_up = rw left refl
+sink-same : {S : Type 0} (drawn : S → ℕ → ℕ → ℕ → S) (n : ℕ) (t u : TiaState) (s : S) → DrawsAlike n t u
+    → sink_after_clocks drawn s n t ≡ sink_after_clocks drawn s n u
+sink-same drawn zero t u s same = refl
+sink-same drawn (suc n) t u s same =
+    ap (λ (pixel : Option Pixel). sink_after_clocks drawn (with_pixel drawn s pixel) n (after_clock t)) (same 0 (omega arith))
+    ∙ sink-same drawn n (after_clock t) (after_clock u) (with_pixel drawn s (pixel_of (at_pixel u))) (λ k few. same (suc k) (omega arith))
 
-  pub cycles-caught_up : (n : ℕ) → d.cycles ≡ min n most_cycles → cycles_seen d ≡ min n most_cycles
-  cycles-caught_up n e = omega arith
+pub late-sink : {S : Type 0} (drawn : S → ℕ → ℕ → ℕ → S) (n : ℕ) (t u : TiaState) (s : S) (is_late : Bool)
+    → (is_late ≡ true → DrawsAlike n t u) → (is_late ≡ false → t ≡ u) → sink_after_clocks drawn s n t ≡ sink_after_clocks drawn s n u
+late-sink drawn n t u s true same kept = sink-same drawn n t u s (same refl)
+late-sink drawn n t u s false same kept = ap (sink_after_clocks drawn s n) (kept refl)
+
+pub late-tia : (n : ℕ) (t u after : TiaState) (is_late : Bool) → (is_late ≡ true → iterate after_clock n t ≡ after) → (is_late ≡ false → t ≡ u)
+    → iterate after_clock n t ≡ (if is_late then after else iterate after_clock n u)
+late-tia n t u after true late kept = late refl
+late-tia n t u after false late kept = ap (iterate after_clock n) (kept refl)
 
 -- ---- cycles of a console
 

@@ -148,8 +148,7 @@ impl<'a, S: Paint> Console<'a, S> {
         ensures { self.new ≡ after_stop S.drawn self.old }
     {
         if self.is_stopped {
-            self.devices.catch_up_tia();
-            let cycles = (LINE_CYCLES - self.devices.tia.line_clock() / 3) % LINE_CYCLES;
+            let cycles = (LINE_CYCLES - self.devices.line_cycle()) % LINE_CYCLES;
             self.devices.pass(cycles);
             self.is_stopped = false;
         }
@@ -311,8 +310,7 @@ impl<'a, S: Paint> Console<'a, S> {
     fn write_tia(&mut self, register: u8, value: u8)
         ensures { self.new ≡ after_tia_write_of self.old register value }
     {
-        self.devices.catch_up_tia();
-        match self.devices.tia.write(register, value) {
+        match self.devices.write_tia(register, value) {
             Effect::Nothing => {}
             Effect::Sync => self.is_stopped = true,
             Effect::FrameEnd => self.has_ended = true,

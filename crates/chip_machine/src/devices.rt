@@ -1,5 +1,5 @@
 //! The devices of a console, which may be behind its processor.
-ghost use Rattle.std.specs.Prelude.{ℕ, ◌≡◌, ◌<◌, ◌≤◌, ◌+◌, ◌-◌, ◌*◌, min};
+ghost use Rattle.std.specs.Prelude.{ℕ, ◌≡◌, ◌<◌, ◌≤◌, ◌+◌, ◌-◌, ◌*◌, ◌/◌, min, if◌then◌else◌, IsTrue};
 ghost use Rattle.std.specs.Fn.{iterate};
 ghost use Rattle.chip_machine.specs.Consoles.{most_cycles};
 ghost use Rattle.chip_machine.specs.Private.Lag.{IsBehind, cycles_seen, riot_after_steps, riot_seen};
@@ -7,10 +7,12 @@ ghost use Rattle.chip_machine.specs.Private.Lag.{sink_seen, tia_seen};
 ghost use Rattle.riot_chip.specs.Timer.{ShowsAtLeast, after_step};
 ghost use Rattle.tia_chip.specs.Clock.{after_clock};
 ghost use Rattle.tia_chip.specs.Clocks.{sink_after_clocks};
+ghost use Rattle.tia_chip.specs.Write.{effect_of, tia_after_write};
+ghost use Rattle.tia_chip.specs.declared.effect.Effect.TheVariants.{Nothing};
 
 use riot_chip::Riot;
-use tia_chip::Tia;
-use tia_core::{NoPaint, Paint};
+use tia_chip::{Effect, Tia};
+use tia_core::{NoPaint, Paint, WSYNC};
 use vcs_machine::LINE_CYCLES;
 
 /// Most cycles that the TIA lags behind: those of a scanline.
@@ -119,6 +121,61 @@ impl<S: Paint> Devices<S> {
         ensures left { self.new.lag_left ≡ 76 }
     {
         self.catch_up_tia();
+    }
+
+    /// The cycle of its scanline at which the beam stands, once the TIA has seen all cycles.
+    #[inline(always)]
+    pub fn line_cycle(&mut self) -> u8
+        requires { IsBehind self.old }
+        ensures behind { IsBehind self.new }
+        ensures riot { riot_seen self.new ≡ riot_seen self.old }
+        ensures tia { tia_seen self.new ≡ tia_seen self.old }
+        ensures sink { sink_seen S.drawn self.new ≡ sink_seen S.drawn self.old }
+        ensures cycles { cycles_seen self.new ≡ cycles_seen self.old }
+        ensures value { result ≡ (tia_seen self.old).clock / 3 }
+        ensures range { result < 76 }
+    {
+        if let Some(clock) = self.tia.line_clock_after(3 * self.lag() as u32) {
+            return clock / 3;
+        }
+        self.catch_up_tia_apart();
+        self.tia.line_clock() / 3
+    }
+
+    /// Writes a register of the TIA though it lags, where the write acts late, and answers whether it did.
+    /// Such a write asks for nothing.
+    #[inline(always)]
+    fn write_late(&mut self, register: u8, value: u8) -> bool
+        requires { IsBehind self.old }
+        ensures behind { IsBehind self.new }
+        ensures riot { riot_seen self.new ≡ riot_seen self.old }
+        ensures tia { tia_seen self.new ≡ (if result then tia_after_write (tia_seen self.old) register value else tia_seen self.old) }
+        ensures effect { IsTrue result → effect_of (tia_seen self.old) register value ≡ Nothing }
+        ensures sink { sink_seen S.drawn self.new ≡ sink_seen S.drawn self.old }
+        ensures cycles { cycles_seen self.new ≡ cycles_seen self.old }
+    {
+        self.tia.write_late(3 * self.lag(), register, value)
+    }
+
+    /// Writes a register of the TIA, and answers what the write asks for.
+    pub fn write_tia(&mut self, register: u8, value: u8) -> Effect
+        requires { IsBehind self.old }
+        ensures behind { IsBehind self.new }
+        ensures riot { riot_seen self.new ≡ riot_seen self.old }
+        ensures tia { tia_seen self.new ≡ tia_after_write (tia_seen self.old) register value }
+        ensures effect { result ≡ effect_of (tia_seen self.old) register value }
+        ensures sink { sink_seen S.drawn self.new ≡ sink_seen S.drawn self.old }
+        ensures cycles { cycles_seen self.new ≡ cycles_seen self.old }
+    {
+        // WSYNC changes nothing of the TIA.
+        if register == WSYNC {
+            return Effect::Sync;
+        }
+        if self.write_late(register, value) {
+            return Effect::Nothing;
+        }
+        self.catch_up_tia();
+        self.tia.write(register, value)
     }
 
     /// Lets so many cycles be left before the TIA has to catch up.

@@ -1,12 +1,11 @@
-use Rattle.std.proofs.Common.{◌∙◌, ℕ, ◌+◌, ◌-◌, ◌*◌, ◌/◌, ◌%◌, ◌≤◌, ap, arith}
+use Rattle.std.proofs.Common.{◌∙◌, ℕ, ◌+◌, ◌-◌, ◌*◌, ◌%◌, ◌≤◌, ap, arith}
 use Rattle.std.specs.Prelude.{min}
 use Rattle.std.specs.Fn.{iterate}
 use Rattle.tia_chip.specs.Clock.{after_clock}
 use Rattle.tia_chip.specs.Clocks.{sink_after_clocks}
-use Rattle.tia_chip.specs.declared.state.TiaState.{TiaState}
 use Rattle.chip_machine.specs.Consoles.{Console, cycles_to_line_start, most_cycles}
 use Rattle.chip_machine.specs.Private.Lag.{cycles_seen, riot_after_steps, riot_seen, sink_seen, tia_seen}
-use Rattle.chip_machine.proofs.LagLemmas.{cycles-caught_up, sink-caught_up, stop-passed, tia-caught_up}
+use Rattle.chip_machine.proofs.LagLemmas.{stop-passed}
 use Rattle.chip_machine.proofs.console.Console.pass_stop.Goals as goal
 
 pub returns-then-self : goal.returns-then-self
@@ -23,18 +22,16 @@ returns-then-self g c =
       has_ended = inside.has_ended;
       cycles = cycles_seen inside.devices;
     } in
-    let d = c.catch_up_tia.new.self in
-    let now = c.catch_up_tia.ensures in
-    let n : ℕ = (76 - c.line_clock.result / 3) % 76 in
-    let tia = tia-caught_up drawn d now.left ∙ now.tia in
-    let sink = sink-caught_up drawn d now.left ∙ now.sink in
-    let cycles = cycles-caught_up drawn d now.left (inside.devices.cycles + (76 - inside.devices.lag_left)) now.cycles in
+    let d = c.line_cycle.new.self in
+    let now = c.line_cycle.ensures in
+    let n : ℕ = (76 - c.line_cycle.result) % 76 in
     let few : before.cycles ≤ most_cycles = omega arith in
-    let count = ap cycles_to_line_start (c.line_clock.ensures.value ∙ ap (λ (t : TiaState). t.clock) now.tia) in
+    let count : n ≡ cycles_to_line_start before.tia.clock = ap (λ (cycle : ℕ). (76 - cycle) % 76) now.value in
     rw (← c.self.view_is)
-    (stop-passed drawn before n _ _ _ _ c.if-self.true few count (c.pass.ensures.riot ∙ ap (riot_after_steps n) now.riot)
-    (c.pass.ensures.tia ∙ ap (iterate after_clock (3 * n)) tia)
+    (stop-passed drawn before n _ _ _ _ c.if-self.true few count
+    (c.pass.ensures.riot ∙ ap (riot_after_steps n) now.riot)
+    (c.pass.ensures.tia ∙ ap (iterate after_clock (3 * n)) now.tia)
     (c.pass.ensures.sink
-    ∙ ap (λ (s : g.row.S.Denot). sink_after_clocks drawn s (3 * n) (tia_seen d)) sink
-    ∙ ap (sink_after_clocks drawn before.sink (3 * n)) tia)
-    (c.pass.ensures.cycles ∙ ap (λ (k : ℕ). min (k + n) most_cycles) cycles))
+    ∙ ap (λ (s : g.row.S.Denot). sink_after_clocks drawn s (3 * n) (tia_seen d)) now.sink
+    ∙ ap (sink_after_clocks drawn before.sink (3 * n)) now.tia)
+    (c.pass.ensures.cycles ∙ ap (λ (k : ℕ). min (k + n) most_cycles) now.cycles))
