@@ -46,9 +46,19 @@ impl Trial {
 /// The first line is the case's name and its source with ` | ` between them. The others are its
 /// steps, with `;` between them.
 pub(crate) fn difference(case: &str) -> Option<&str> {
+    let found = difference_by(case, false);
+    if found.is_some() {
+        found
+    } else {
+        difference_by(case, true)
+    }
+}
+
+/// The same, by clocks one by one, or many at once.
+fn difference_by(case: &str, at_once: bool) -> Option<&str> {
     let (title, steps) = case.split_once('\n').unwrap_or((case, ""));
     let mut trial = Trial {
-        console: Console::power_on(),
+        console: Console::power_on(at_once),
         has_check: false,
     };
     for line in steps.lines() {

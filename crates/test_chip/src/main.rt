@@ -8,6 +8,7 @@ mod case;
 mod console;
 mod registers;
 mod row;
+mod screen;
 mod step;
 
 use case::{difference, is_comment};

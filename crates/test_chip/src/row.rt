@@ -1,4 +1,5 @@
 //! Rows of pixels, and how the cases spell them.
+ghost use Rattle.std.specs.Prelude.{◌≡◌, replicate};
 
 use crate::step::{byte, place};
 
@@ -10,7 +11,9 @@ pub(crate) struct Row {
 
 impl Row {
     /// Pixels of one colour.
-    pub(crate) fn of(colour: u8) -> Row {
+    pub(crate) fn of(colour: u8) -> Row
+        ensures { result.pixels ≡ replicate 160 colour }
+    {
         Row {
             pixels: [colour; 160],
         }
