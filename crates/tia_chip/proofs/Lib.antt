@@ -9,10 +9,12 @@ pub mod LineClockLemmas
 pub mod LineLemmas
 pub mod MeetLemmas
 pub mod NumberLemmas
+pub mod OtherPairs
 pub mod PulseClocks
 pub mod PulseLemmas
 pub mod QuietAges
 pub mod QuietBall
+pub mod QuietLines
 pub mod QuietMissiles
 pub mod QuietPixels
 pub mod QuietPlayers

@@ -130,7 +130,7 @@ line-on t n h m =
     (collisions_with u lit (begun t n).collisions) (collisions_with t lit (begun t n).collisions) refl refl (same-collisions t n (begun t n).collisions lit h m))))
 
 -- what is lit at its pixel
-lit-on : (t : TiaState) (n : ℕ) → IsCalmInPicture t → t.clock + n < 228
+pub lit-on : (t : TiaState) (n : ℕ) → IsCalmInPicture t → t.clock + n < 228
     → lit_objects (at_pixel (iterate after_clock n t)) ≡ lit_objects (record (after_steps (suc n) t) { playfield = (begun t n).playfield })
 lit-on t n h m =
     let u = on n t in

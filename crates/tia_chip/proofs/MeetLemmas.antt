@@ -1,6 +1,6 @@
 -- The pairs that meet in some pixel of a stretch are among those of its words.
 use Rattle.std.proofs.Common.{◌≡◌, ◌∙◌, ℕ, ◌+◌, ◌*◌, ◌==◌, ◌&&◌, ◌||◌, not, Bool, true, false, arith, refl, ap, sym, if◌then◌else◌, bit_and, bit_or, List, [], ◌∷◌, map}
-use Rattle.std.proofs.lemmas.Bool.{cond_both, eqb-true}
+use Rattle.std.proofs.lemmas.Bool.{and_left, and_right, cond_both, eqb-true}
 use Rattle.std.proofs.lemmas.Nat.{or_block}
 use Rattle.std.proofs.lemmas.Nat.Bits.{bit_at_or, same_from_bits}
 use Rattle.std.specs.Int.{bit_at}
@@ -161,3 +161,70 @@ dark-latched c vblank l k playfield e =
     (off (has_bit l.missile1 k) u i.fourth none) (off (has_bit l.ball k) u i.fifth none)
     in
     cond_both vblank _ _ (λ (n : ℕ). n ≡ c) (λ f. refl) (λ f. ap (bit_or c) dark ∙ or_zero_r c)
+
+-- ---- the objects of one set among those of another
+pub record IsAmong (o all : Objects) : Type 0 where
+  pub player0 : o.player0 ≡ true → all.player0 ≡ true
+  pub player1 : o.player1 ≡ true → all.player1 ≡ true
+  pub missile0 : o.missile0 ≡ true → all.missile0 ≡ true
+  pub missile1 : o.missile1 ≡ true → all.missile1 ≡ true
+  pub ball : o.ball ≡ true → all.ball ≡ true
+  pub playfield : o.playfield ≡ true → all.playfield ≡ true
+
+two-among : (a b c d : Bool) → (c ≡ true → a ≡ true) → (d ≡ true → b ≡ true) → ((a && b) || (c && d)) ≡ (a && b)
+two-among true true c d h i = refl
+two-among true false c d h i = and_right c d (off d false i refl)
+two-among false b c d h i = and_left c d (off c false h refl)
+
+pairs-among : (o all : Objects) → IsAmong o all → bit_or (pairs_of all) (pairs_of o) ≡ pairs_of all
+unfolding pairs_of AreWithin
+pairs-among o all i =
+    let bits : AreWithin (map (meets all) pair_table) (map (meets o) pair_table) = (
+      two-among all.missile0 all.player1 o.missile0 o.player1 i.missile0 i.player1,
+      (
+        two-among all.missile0 all.player0 o.missile0 o.player0 i.missile0 i.player0,
+        (
+          two-among all.missile1 all.player0 o.missile1 o.player0 i.missile1 i.player0,
+          (
+            two-among all.missile1 all.player1 o.missile1 o.player1 i.missile1 i.player1,
+            (
+              two-among all.player0 all.playfield o.player0 o.playfield i.player0 i.playfield,
+              (
+                two-among all.player0 all.ball o.player0 o.ball i.player0 i.ball,
+                (
+                  two-among all.player1 all.playfield o.player1 o.playfield i.player1 i.playfield,
+                  (
+                    two-among all.player1 all.ball o.player1 o.ball i.player1 i.ball,
+                    (
+                      two-among all.missile0 all.playfield o.missile0 o.playfield i.missile0 i.playfield,
+                      (
+                        two-among all.missile0 all.ball o.missile0 o.ball i.missile0 i.ball,
+                        (
+                          two-among all.missile1 all.playfield o.missile1 o.playfield i.missile1 i.playfield,
+                          (
+                            two-among all.missile1 all.ball o.missile1 o.ball i.missile1 i.ball,
+                            (
+                              two-among all.ball all.playfield o.ball o.playfield i.ball i.playfield,
+                              (
+                                two-among all.player0 all.player1 o.player0 o.player1 i.player0 i.player1,
+                                (two-among all.missile0 all.missile1 o.missile0 o.missile1 i.missile0 i.missile1, tt),
+                              ),
+                            ),
+                          ),
+                        ),
+                      ),
+                    ),
+                  ),
+                ),
+              ),
+            ),
+          ),
+        ),
+      ),
+    ) in
+    number-within 0 0 (map (meets all) pair_table) (map (meets o) pair_table) refl bits
+
+pub among-latched : (c : ℕ) (vblank : Bool) (o all : Objects) → IsAmong o all → (if vblank then c else bit_or c (pairs_of all)) ≡ c
+    → (if vblank then c else bit_or c (pairs_of o)) ≡ c
+among-latched c true o all i h = refl
+among-latched c false o all i h = or-within c (pairs_of all) (pairs_of o) (pairs-among o all i) h

@@ -103,27 +103,29 @@ begun-shown (suc n) t h m =
     (subst (λ (l : Line). IsShown t (x + 1) l) (sym e) (shown-next t x lit (begun t n) (omega arith) (omega arith) (begun-shown n t h less)))
 
 -- ---- where no pixel latches a pair
-abbrev pub AllLatched : LitPixels → ℕ → TiaState → Type 0
+abbrev pub LatchNothing : ℕ → TiaState → Type 0
+LatchNothing n t = (k : ℕ) → k < n → IsLatched t (lit_objects (at_pixel (iterate after_clock k t)))
+
+-- by words of what is lit
+abbrev AllLatched : LitPixels → ℕ → TiaState → Type 0
 AllLatched lit n t = (k : ℕ) → k < n → IsLatched t (lit_at lit k (shown_playfield t (t.clock - 68) (t.clock - 68 + k)))
 
-unlit-pixel : (t : TiaState) (n count : ℕ) (lit : LitPixels) → IsCalmInPicture t → t.clock + n < 228 → n < count → AreLit lit count t → AllLatched lit count t
-    → collisions_with t (lit_objects (at_pixel (iterate after_clock n t))) t.collisions ≡ t.collisions
-unlit-pixel t n count lit h m l a all =
-    ap (λ (o : Objects). collisions_with t o t.collisions) (sym (lit-pixel t n count lit h m l a) ∙ ap (λ (b : Bool). lit_at lit n b) (begun-shown n t h m).0) ∙ all n l
+pub words-latch_nothing : (n : ℕ) (t : TiaState) (lit : LitPixels) → IsCalmInPicture t → t.clock + n ≤ 228 → AreLit lit n t → AllLatched lit n t → LatchNothing n t
+words-latch_nothing n t lit h m a all = λ k l.
+    let less : t.clock + k < 228 = omega arith in
+    ap (λ (o : Objects). collisions_with t o t.collisions) (sym (lit-pixel t k n lit h less l a) ∙ ap (λ (b : Bool). lit_at lit k b) (begun-shown k t h less).0) ∙ all k l
 
-collisions-kept : (n : ℕ) (t : TiaState) (count : ℕ) (lit : LitPixels) → IsCalmInPicture t → t.clock + n ≤ 228 → n ≤ count → AreLit lit count t → AllLatched lit count t
-    → (iterate after_clock n t).collisions ≡ t.collisions
-collisions-kept zero t count lit h m l a all = refl
-collisions-kept (suc n) t count lit h m l a all =
+collisions-kept : (n : ℕ) (t : TiaState) → IsCalmInPicture t → t.clock + n ≤ 228 → LatchNothing n t → (iterate after_clock n t).collisions ≡ t.collisions
+collisions-kept zero t h m all = refl
+collisions-kept (suc n) t h m all =
     let less : t.clock + n < 228 = omega arith in
     let o = lit_objects (at_pixel (iterate after_clock n t)) in
     ap (λ (b : Line). b.collisions) (line-on t n h less)
-    ∙ (ap (collisions_with t o) (taken-collisions t (t.clock - 68 + n) (line_of (iterate after_clock n t)) ∙ collisions-kept n t count lit h (omega arith) (omega arith) a all)
-    ∙ unlit-pixel t n count lit h less (omega arith) a all)
+    ∙ (ap (collisions_with t o) (taken-collisions t (t.clock - 68 + n) (line_of (iterate after_clock n t)) ∙ collisions-kept n t h (omega arith) (λ k l. all k (omega arith)))
+    ∙ all n (omega arith))
 
-pub unlatched-line : (n : ℕ) (t : TiaState) (lit : LitPixels) → IsCalmInPicture t → t.clock + suc n ≤ 228 → AreLit lit (suc n) t → AllLatched lit (suc n) t
-    → unlatched_line (suc n) t ≡ line_of (iterate after_clock (suc n) t)
-unlatched-line n t lit h m a all =
+unlatched-line : (n : ℕ) (t : TiaState) → IsCalmInPicture t → t.clock + suc n ≤ 228 → LatchNothing (suc n) t → unlatched_line (suc n) t ≡ line_of (iterate after_clock (suc n) t)
+unlatched-line n t h m all =
     let less : t.clock + n < 228 = omega arith in
     let x : ℕ = t.clock - 68 + n in
     let last : t.clock - 68 + (suc n - 1) ≡ x = omega arith in
@@ -135,7 +137,11 @@ unlatched-line n t lit h m a all =
     (shown_mirrored t first x && nat_lt x 156) (iterate after_clock (suc n) t).mirrored t.collisions (iterate after_clock (suc n) t).collisions
     (ap (λ (b : Bool). b && not ((x + 1) % 4 == 0)) (sym shown.0) ∙ sym (ap (λ (l : Line). l.playfield) e))
     (ap (λ (b : Bool). b && nat_lt x 156) (sym shown.1) ∙ sym (ap (λ (l : Line). l.mirrored) e))
-    (sym (collisions-kept (suc n) t (suc n) lit h m (omega arith) a all))
+    (sym (collisions-kept (suc n) t h (omega arith) all))
+
+pub unlatched-some : (n : ℕ) (t : TiaState) → 1 ≤ n → IsCalmInPicture t → t.clock + n ≤ 228 → LatchNothing n t → unlatched_line n t ≡ line_of (iterate after_clock n t)
+unlatched-some zero t s h m all = absurd (omega arith)
+unlatched-some (suc n) t s h m all = unlatched-line n t h m all
 
 -- ---- a sink that keeps nothing
 pixel-unkept : {S : Type 0} (drawn : S → ℕ → ℕ → ℕ → S) (sink : S) (p : Option Pixel) → ((line x colour : ℕ) → drawn sink line x colour ≡ sink) → with_pixel drawn sink p ≡ sink
@@ -147,8 +153,3 @@ pub sink-unkept : {S : Type 0} (drawn : S → ℕ → ℕ → ℕ → S) (sink :
 sink-unkept drawn sink zero t h = refl
 sink-unkept drawn sink (suc n) t h =
     ap (λ s. sink_after_clocks drawn s n (after_clock t)) (pixel-unkept drawn sink (pixel_of (at_pixel t)) h) ∙ sink-unkept drawn sink n (after_clock t) h
-
-pub unlatched-some : (n : ℕ) (t : TiaState) (lit : LitPixels) → 1 ≤ n → IsCalmInPicture t → t.clock + n ≤ 228 → AreLit lit n t → AllLatched lit n t
-    → unlatched_line n t ≡ line_of (iterate after_clock n t)
-unlatched-some zero t lit s h m a all = absurd (omega arith)
-unlatched-some (suc n) t lit s h m a all = unlatched-line n t lit h m a all

@@ -89,16 +89,45 @@ fn place_of_age(size: u8, age: u8) -> Option<u8>
 }
 
 impl Ball {
+    /// Whether its place follows from its counter.
+    pub(crate) fn is_quiet(&self, ctrlpf: u8) -> bool
+        requires { IsBallInRange self.now }
+        ensures { result ≡ true → IsQuietBall ctrlpf self.now }
+    {
+        self.place == place_of_age(size(ctrlpf), age(0, self.counter))
+    }
+
+    /// So many steps of a quiet ball. What was seen of it is forgotten.
+    pub(crate) fn pass_quiet(&mut self, ctrlpf: u8, count: u8)
+        requires range { IsBallInRange self.old }
+        requires some { 1 ≤ count }
+        requires most { count ≤ 160 }
+        ensures value { self.new ≡ record (quiet_ball_after ctrlpf count self.old) { seen = false } }
+        ensures range { IsBallInRange self.new }
+    {
+        if begins_within(count, self.counter) {
+            self.own_size = begun_size(ctrlpf, self.phase);
+        }
+        self.counter = counter_after(count, self.counter);
+        self.place = place_of_age(size(ctrlpf), age(0, self.counter));
+        self.seen = false;
+    }
+
+    /// Whether it is enabled, as it shows.
+    pub(crate) fn is_enabled(&self) -> bool
+        ensures { result ≡ has_bit (enable_of self.now) 1 }
+    {
+        has_bit(self.enable(), 1)
+    }
+
     /// Whether it isn't enabled, doesn't move, and its place follows from its counter.
-    pub(crate) fn is_dark(&self, ctrlpf: u8) -> bool
+    fn is_dark(&self, ctrlpf: u8) -> bool
         requires { IsBallInRange self.now }
         ensures quiet { result ≡ true → IsQuietBall ctrlpf self.now }
         ensures dark { result ≡ true → has_bit (enable_of self.now) 1 ≡ false }
         ensures still { result ≡ true → self.now.moves ≡ false }
     {
-        !has_bit(self.enable(), 1)
-            && !self.moves
-            && self.place == place_of_age(size(ctrlpf), age(0, self.counter))
+        !self.is_enabled() && !self.moves && self.is_quiet(ctrlpf)
     }
 
     /// So many steps of a quiet ball.

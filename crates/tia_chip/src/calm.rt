@@ -3,17 +3,19 @@ ghost use Rattle.std.specs.Fn.{iterate};
 ghost use Rattle.std.specs.Prelude.{◌≡◌, ◌<◌, ◌≤◌, ◌+◌, ◌-◌, ◌^◌, ◌&&◌, ◌==◌, ℕ, nat_lt, true};
 ghost use Rattle.tia_chip.specs.Bits.{has_bit as bit_of};
 ghost use Rattle.tia_chip.specs.Calm.{IsCalm, IsCalmInPicture, after_steps, blank_end};
-ghost use Rattle.tia_chip.specs.Clock.{after_clock};
+ghost use Rattle.tia_chip.specs.Clock.{after_clock, without_seen};
 ghost use Rattle.tia_chip.specs.Clocks.{sink_after_clocks};
-ghost use Rattle.tia_chip.specs.Private.Lines.{AreLit, IsAtRestInBlank, IsDark, IsLatched, gone_on, line_of, lit_at};
-ghost use Rattle.tia_chip.specs.Private.Lines.{shown_playfield, unlatched_line, with_line};
+ghost use Rattle.tia_chip.specs.Private.Lines.{AreLit, IsAtRestInBlank, IsLatched, IsQuiet, gone_on, line_of};
+ghost use Rattle.tia_chip.specs.Private.Lines.{lit_at, lit_somewhere, shown_playfield, unlatched_line, with_line};
 ghost use Rattle.tia_chip.specs.Private.Ranges.{IsInRange};
 
 use crate::bits::{has_bit, has_pixel, with_pixel};
+use crate::collision::has_pairs;
 use crate::colour::colour;
 use crate::line::{Line, shown_mirrored, shown_playfield};
 use crate::lit_pixels::LitPixels;
 use crate::motion::any_moves;
+use crate::objects::Objects;
 use crate::sight::{forget_seen, look};
 use crate::state::TiaState;
 use tia_core::Paint;
@@ -81,8 +83,8 @@ pub fn pass_some<S: Paint>(tia: &mut TiaState, most: u8, sink: &mut S) -> u8
     ensures sink { sink.new ≡ sink_after_clocks S.drawn sink.old result tia.old }
     ensures range { IsInRange tia.new }
 {
-    if !sink.keeps() && most > 64 && is_dark(tia) {
-        pass_dark(tia, most);
+    if !sink.keeps() && latches_none(tia) && is_quiet(tia) {
+        pass_quiet(tia, most);
         return most;
     }
     let count = most.min(64);
@@ -90,50 +92,58 @@ pub fn pass_some<S: Paint>(tia: &mut TiaState, most: u8, sink: &mut S) -> u8
     count
 }
 
-/// Whether each object is quiet and lights nothing.
-fn is_dark(tia: &TiaState) -> bool
-    requires { IsInRange tia.now }
-    ensures { result ≡ true → IsDark tia.now }
+/// Whether no pixel latches a pair that isn't latched, wherever the objects are.
+fn latches_none(tia: &TiaState) -> bool
+    ensures { result ≡ true → IsLatched tia.now (lit_somewhere tia.now) }
 {
-    tia.player0.is_dark()
-        && tia.player1.is_dark()
-        && tia.missile0.is_dark(tia.player0.nusiz)
-        && tia.missile1.is_dark(tia.player1.nusiz)
-        && tia.ball.is_dark(tia.ctrlpf)
+    has_bit(tia.vblank, 1) || has_pairs(tia.collisions, Objects::lit_somewhere(tia))
 }
 
-/// So many clocks of the picture in which no object lights a pixel.
-fn pass_dark(tia: &mut TiaState, count: u8)
+/// Whether each object is quiet.
+fn is_quiet(tia: &TiaState) -> bool
+    requires { IsInRange tia.now }
+    ensures { result ≡ true → IsQuiet tia.now }
+{
+    tia.player0.is_quiet()
+        && tia.player1.is_quiet()
+        && tia.missile0.is_quiet(tia.player0.nusiz)
+        && tia.missile1.is_quiet(tia.player1.nusiz)
+        && tia.ball.is_quiet(tia.ctrlpf)
+}
+
+/// So many clocks of the picture that latch no pair, in which each object is quiet.
+fn pass_quiet(tia: &mut TiaState, count: u8)
     requires range { IsInRange tia.old }
     requires calm { IsCalmInPicture tia.old }
-    requires dark { IsDark tia.old }
+    requires quiet { IsQuiet tia.old }
+    requires latched { IsLatched tia.old (lit_somewhere tia.old) }
     requires some { 1 ≤ count }
     requires end { tia.old.clock + count ≤ 228 }
     ensures value { tia.new ≡ iterate after_clock count tia.old }
     ensures range { IsInRange tia.new }
 {
     let line = unlatched_line(tia, count);
-    step_dark(tia, count);
+    step_quiet(tia, count);
     end_pixels(tia, line, count);
 }
 
-/// So many steps of objects that are quiet and light nothing.
-fn step_dark(tia: &mut TiaState, count: u8)
+/// So many steps of objects that are quiet. What was seen of them is forgotten.
+fn step_quiet(tia: &mut TiaState, count: u8)
     requires range { IsInRange tia.old }
     requires calm { IsCalm tia.old }
-    requires dark { IsDark tia.old }
+    requires quiet { IsQuiet tia.old }
     requires some { 1 ≤ count }
     requires most { count ≤ 160 }
-    ensures value { tia.new ≡ after_steps count tia.old }
+    ensures value { tia.new ≡ without_seen (after_steps count tia.old) }
     ensures range { IsInRange tia.new }
 {
     let ctrlpf = tia.ctrlpf;
     let (nusiz0, nusiz1) = (tia.player0.nusiz, tia.player1.nusiz);
-    tia.player0.pass_dark(count);
-    tia.player1.pass_dark(count);
-    tia.missile0.pass_dark(nusiz0, count);
-    tia.missile1.pass_dark(nusiz1, count);
-    tia.ball.pass_dark(ctrlpf, count);
+    tia.player0.pass_quiet(count);
+    tia.player1.pass_quiet(count);
+    tia.missile0.pass_quiet(nusiz0, count);
+    tia.missile1.pass_quiet(nusiz1, count);
+    tia.ball.pass_quiet(ctrlpf, count);
 }
 
 /// So many clocks of the picture, at most 64, whose pixels go to the sink in order.

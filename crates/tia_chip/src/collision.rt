@@ -1,5 +1,5 @@
 //! Collisions of pairs of objects.
-ghost use Rattle.std.specs.Prelude.{◌≡◌, ◌<◌, ◌≤◌, ◌^◌, bit_or, length};
+ghost use Rattle.std.specs.Prelude.{◌≡◌, ◌<◌, ◌≤◌, ◌^◌, bit_and, bit_or, length, true, if◌then◌else◌};
 ghost use Rattle.tia_chip.specs.Collision.{is_latching, latched, number_from, pairs_of};
 ghost use Rattle.tia_chip.specs.Private.Ranges.{IsInRange};
 
@@ -52,6 +52,36 @@ pub fn pairs(objects: Objects) -> u16
         player0 & player1,
         missile0 & missile1,
     ])
+}
+
+/// The bits of all pairs.
+const ALL_PAIRS: u16 = 0x7FFF;
+
+/// A set of collision bits, unless their object is in a set.
+fn unless(is_in: bool, pairs: u16) -> u16
+    ensures { result ≡ (if is_in then 0 else pairs) }
+{
+    if is_in { 0 } else { pairs }
+}
+
+/// The bits of the pairs of which some object isn't in a set.
+fn other_pairs(objects: Objects) -> u16
+    ensures all { bit_or result (pairs_of objects) ≡ 32767 }
+    ensures apart { bit_and result (pairs_of objects) ≡ 0 }
+{
+    unless(objects.player0, 0x3602)
+        | unless(objects.player1, 0x4982)
+        | unless(objects.missile0, 0x6061)
+        | unless(objects.missile1, 0x1819)
+        | unless(objects.ball, 0x02AC)
+        | unless(objects.playfield, 0x0554)
+}
+
+/// Whether the bits of all pairs of a set of objects are among these.
+pub fn has_pairs(collisions: u16, objects: Objects) -> bool
+    ensures { result ≡ true → bit_or collisions (pairs_of objects) ≡ collisions }
+{
+    collisions | other_pairs(objects) == ALL_PAIRS
 }
 
 /// Whether a clock latches pairs.

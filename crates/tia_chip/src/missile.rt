@@ -221,14 +221,42 @@ impl Missile {
         }
     }
 
+    /// Whether its copy follows from its counter.
+    pub(crate) fn is_quiet(&self, nusiz: u8) -> bool
+        requires { IsMissileInRange self.now }
+        ensures { result ≡ true → IsQuietMissile nusiz self.now }
+    {
+        self.copy == self.quiet_copy(nusiz, self.counter)
+    }
+
+    /// So many steps of a quiet missile. What was seen of it is forgotten.
+    pub(crate) fn pass_quiet(&mut self, nusiz: u8, count: u8)
+        requires range { IsMissileInRange self.old }
+        requires some { 1 ≤ count }
+        requires most { count ≤ 160 }
+        ensures value { self.new ≡ record (quiet_missile_after nusiz count self.old) { seen = false } }
+        ensures range { IsMissileInRange self.new }
+    {
+        self.counter = counter_after(count, self.counter);
+        self.copy = self.quiet_copy(nusiz, self.counter);
+        self.seen = false;
+    }
+
+    /// Whether it is enabled.
+    pub(crate) fn is_enabled(&self) -> bool
+        ensures { result ≡ has_bit self.now.enam 1 }
+    {
+        has_bit(self.enam, 1)
+    }
+
     /// Whether it isn't enabled, doesn't move, and its copy follows from its counter.
-    pub(crate) fn is_dark(&self, nusiz: u8) -> bool
+    fn is_dark(&self, nusiz: u8) -> bool
         requires { IsMissileInRange self.now }
         ensures quiet { result ≡ true → IsQuietMissile nusiz self.now }
         ensures dark { result ≡ true → has_bit self.now.enam 1 ≡ false }
         ensures still { result ≡ true → self.now.moves ≡ false }
     {
-        !has_bit(self.enam, 1) && !self.moves && self.copy == self.quiet_copy(nusiz, self.counter)
+        !self.is_enabled() && !self.moves && self.is_quiet(nusiz)
     }
 
     /// So many steps of a quiet missile.

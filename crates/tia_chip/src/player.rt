@@ -1,6 +1,6 @@
 //! The two players.
 ghost use Rattle.std.specs.Fn.{iterate};
-ghost use Rattle.std.specs.Prelude.{◌≡◌, ◌<◌, ◌≤◌, ◌&&◌, nat_lt, Option, None, ℕ, suc, false, true};
+ghost use Rattle.std.specs.Prelude.{◌≡◌, ◌<◌, ◌≤◌, ◌&&◌, ◌==◌, not, nat_lt, Option, None, ℕ, suc, false, true};
 ghost use Rattle.tia_chip.specs.Counter.{begins_copy as begins_of};
 ghost use Rattle.tia_chip.specs.Quiet.{counter_after as counter_of};
 ghost use Rattle.tia_chip.specs.Bits.{has_bit};
@@ -285,16 +285,43 @@ impl Player {
         copy_of_age(width(self.nusiz), age(self.nusiz % 8, counter))
     }
 
+    /// Whether its copy follows from its counter.
+    pub(crate) fn is_quiet(&self) -> bool
+        requires { IsPlayerInRange self.now }
+        ensures { result ≡ true → IsQuietPlayer self.now }
+    {
+        self.change == 0
+            && self.width == width(self.nusiz)
+            && self.copy == self.quiet_copy(self.counter)
+    }
+
+    /// So many steps of a quiet player. What it showed is forgotten.
+    pub(crate) fn pass_quiet(&mut self, count: u8)
+        requires range { IsPlayerInRange self.old }
+        requires some { 1 ≤ count }
+        requires most { count ≤ 160 }
+        ensures value { self.new ≡ record (quiet_player_after count self.old) { seen = false } }
+        ensures range { IsPlayerInRange self.new }
+    {
+        self.counter = counter_after(count, self.counter);
+        self.copy = self.quiet_copy(self.counter);
+        self.seen = false;
+    }
+
+    /// Whether it shows a bit that is 1 in some place.
+    pub(crate) fn has_dots(&self) -> bool
+        ensures { result ≡ not (graphic_of self.now == 0) }
+    {
+        self.graphic() != 0
+    }
+
     /// Whether its copy follows from its counter, and it shows no bit that is 1.
-    pub(crate) fn is_dark(&self) -> bool
+    fn is_dark(&self) -> bool
         requires { IsPlayerInRange self.now }
         ensures quiet { result ≡ true → IsQuietPlayer self.now }
         ensures dark { result ≡ true → graphic_of self.now ≡ 0 }
     {
-        self.graphic() == 0
-            && self.change == 0
-            && self.width == width(self.nusiz)
-            && self.copy == self.quiet_copy(self.counter)
+        !self.has_dots() && self.is_quiet()
     }
 
     /// So many steps of a quiet player that shows no bit that is 1.

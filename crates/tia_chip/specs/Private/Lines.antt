@@ -122,19 +122,27 @@ pub record IsAtRestInBlank (t : TiaState) : Type 0 where
   pub playfield : t.playfield ≡ false
   pub mirrored : t.mirrored ≡ false
 
--- ---- the picture where no object lights a pixel
--- each object is quiet and lights nothing
-pub record IsDark (t : TiaState) : Type 0 where
-  pub player0 : IsQuietPlayer t.player0
-  pub player1 : IsQuietPlayer t.player1
-  pub missile0 : IsQuietMissile t.player0.nusiz t.missile0
-  pub missile1 : IsQuietMissile t.player1.nusiz t.missile1
-  pub ball : IsQuietBall t.ctrlpf t.ball
-  pub graphic0 : graphic_of t.player0 ≡ 0
-  pub graphic1 : graphic_of t.player1 ≡ 0
-  pub enable0 : has_bit t.missile0.enam 1 ≡ false
-  pub enable1 : has_bit t.missile1.enam 1 ≡ false
-  pub enable : has_bit (enable_of t.ball) 1 ≡ false
+-- ---- where each object is quiet
+pub record AreQuiet (p q : Player) (m n : Missile) (ctrlpf : ℕ) (b : Ball) : Type 0 where
+  pub player0 : IsQuietPlayer p
+  pub player1 : IsQuietPlayer q
+  pub missile0 : IsQuietMissile p.nusiz m
+  pub missile1 : IsQuietMissile q.nusiz n
+  pub ball : IsQuietBall ctrlpf b
+
+abbrev pub IsQuiet : TiaState → Type 0
+IsQuiet t = AreQuiet t.player0 t.player1 t.missile0 t.missile1 t.ctrlpf t.ball
+
+-- the objects that may be lit at some pixel of a line, as far as their registers say
+abbrev pub lit_somewhere : TiaState → Objects
+lit_somewhere t = record {
+  player0 = not (graphic_of t.player0 == 0);
+  player1 = not (graphic_of t.player1 == 0);
+  missile0 = has_bit t.missile0.enam 1;
+  missile1 = has_bit t.missile1.enam 1;
+  ball = has_bit (enable_of t.ball) 1;
+  playfield = t.playfield || not (t.pf0 == 0) || not (t.pf1 == 0) || not (t.pf2 == 0);
+}
 
 -- a TIA with these objects
 abbrev pub with_objects : TiaState → Player → Player → Missile → Missile → Ball → TiaState
