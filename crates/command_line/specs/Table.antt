@@ -34,7 +34,10 @@ pub record Listed : Type 0 where
   pub name : Text
   pub arguments : List Argument
 
--- The rows. Where two commands have an argument alike it is one row.
+-- The rows, as ci/command-table prints them of src/table.rt. Where two commands have an argument alike it
+-- is one row. `explain_row` is the option that every command has as its last one, and that may stand before
+-- the command's name. The commands are those that judge a movie, those that make one or say what one holds,
+-- and those that look into a run.
 abbrev pub file_row : Argument
 file_row = record { name = codes "file"; kind = operand }
 
@@ -50,11 +53,26 @@ first_row = record { name = codes "first"; kind = number 1 4294967295 (codes "1"
 abbrev pub count_row : Argument
 count_row = record { name = codes "count"; kind = number 0 600 (codes "600") }
 
-abbrev pub asked_row : Argument
-asked_row = record { name = codes "count"; kind = number 0 4294967295 (codes "4294967295") }
-
 abbrev pub pictures_row : Argument
 pictures_row = record { name = codes "pictures"; kind = word }
+
+abbrev pub json_row : Argument
+json_row = record { name = codes "json"; kind = switch }
+
+abbrev pub explain_row : Argument
+explain_row = record { name = codes "explain"; kind = switch }
+
+abbrev pub expected_rom_row : Argument
+expected_rom_row = record { name = codes "rom"; kind = word }
+
+abbrev pub sha256_row : Argument
+sha256_row = record { name = codes "sha256"; kind = word }
+
+abbrev pub power_on_row : Argument
+power_on_row = record { name = codes "power-on"; kind = switch }
+
+abbrev pub to_the_end_row : Argument
+to_the_end_row = record { name = codes "to-the-end"; kind = switch }
 
 abbrev pub rom_row : Argument
 rom_row = record { name = codes "rom"; kind = operand }
@@ -68,11 +86,17 @@ text_row = record { name = codes "text"; kind = switch }
 abbrev pub checkpoints_row : Argument
 checkpoints_row = record { name = codes "every"; kind = needed_number 1 4294967295 }
 
+abbrev pub to_the_fault_row : Argument
+to_the_fault_row = record { name = codes "to-the-fault"; kind = switch }
+
 abbrev pub out_row : Argument
 out_row = record { name = codes "out"; kind = needed_word }
 
-abbrev pub frame_row : Argument
-frame_row = record { name = codes "frame"; kind = needed_number 1 4294967295 }
+abbrev pub numbers_row : Argument
+numbers_row = record { name = codes "numbers"; kind = switch }
+
+abbrev pub asked_row : Argument
+asked_row = record { name = codes "count"; kind = number 0 4294967295 (codes "4294967295") }
 
 abbrev pub old_row : Argument
 old_row = record { name = codes "old"; kind = operand }
@@ -89,35 +113,9 @@ memory_row = record { name = codes "memory"; kind = switch }
 abbrev pub digests_row : Argument
 digests_row = record { name = codes "digests"; kind = switch }
 
-abbrev pub numbers_row : Argument
-numbers_row = record { name = codes "numbers"; kind = switch }
+abbrev pub frame_row : Argument
+frame_row = record { name = codes "frame"; kind = needed_number 1 4294967295 }
 
--- What a report compares the movie with: a cartridge, its digest, the start and the last frame, of which
--- `make` claims the state.
-abbrev pub expected_rom_row : Argument
-expected_rom_row = record { name = codes "rom"; kind = word }
-
-abbrev pub sha256_row : Argument
-sha256_row = record { name = codes "sha256"; kind = word }
-
-abbrev pub power_on_row : Argument
-power_on_row = record { name = codes "power-on"; kind = switch }
-
-abbrev pub to_the_end_row : Argument
-to_the_end_row = record { name = codes "to-the-end"; kind = switch }
-
--- That a run that faults is made a movie, too.
-abbrev pub to_the_fault_row : Argument
-to_the_fault_row = record { name = codes "to-the-fault"; kind = switch }
-
-abbrev pub json_row : Argument
-json_row = record { name = codes "json"; kind = switch }
-
--- The option that every command has, as its last one, and that may stand before the command's name.
-abbrev pub explain_row : Argument
-explain_row = record { name = codes "explain"; kind = switch }
-
--- The commands, with their rows in the order of help.
 abbrev pub verify_listed : Listed
 verify_listed = record {
   name = codes "verify";
@@ -166,22 +164,21 @@ pictures_listed = record {
   arguments = file_row ∷ out_row ∷ first_row ∷ asked_row ∷ [];
 }
 
-abbrev pub trace_listed : Listed
-trace_listed = record { name = codes "trace"; arguments = file_row ∷ frame_row ∷ [] }
-
 abbrev pub cut_listed : Listed
 cut_listed = record {
   name = codes "cut";
   arguments = file_row ∷ checkpoints_row ∷ out_row ∷ first_row ∷ asked_row ∷ [];
 }
 
--- The commands: those that judge a movie, those that make one or say what one holds, and those that
--- look into a run.
+abbrev pub trace_listed : Listed
+trace_listed = record { name = codes "trace"; arguments = file_row ∷ frame_row ∷ [] }
+
 abbrev pub commands : List Listed
 commands =
-    verify_listed ∷ report_listed
-    ∷ make_listed ∷ info_listed ∷ claims_listed ∷ inputs_listed ∷ cartridge_listed ∷ convert_listed
-    ∷ frames_listed ∷ pictures_listed ∷ cut_listed ∷ trace_listed ∷ []
+    verify_listed ∷ report_listed ∷ make_listed ∷ info_listed
+    ∷ claims_listed ∷ inputs_listed ∷ cartridge_listed ∷ convert_listed
+    ∷ frames_listed ∷ pictures_listed ∷ cut_listed ∷ trace_listed
+    ∷ []
 
 -- One of them has this name.
 abbrev pub is_command : Text → Bool

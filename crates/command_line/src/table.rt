@@ -1,5 +1,5 @@
-//! The table of the commands and their arguments, with what help says of each. Of it
-//! `ci/command-table` prints help, completions and pages.
+//! The table of the commands and their arguments, with what help says of each: a command or an option
+//! begins here. Of it `ci/command-table` prints the rows of the definitions, help, completions and pages.
 ghost use Rattle.std.specs.Prelude.{◌≡◌, map};
 ghost use Rattle.command_line.specs.Rows.{listed_of};
 ghost use Rattle.command_line.specs.Table.{commands, is_command};
@@ -92,8 +92,39 @@ const WORKERS: Argument = Argument {
     help: "How many threads replay the movie, 1 to 64",
 };
 
+/// At every so many checkpoints the movie is cut.
+const CUTS: Argument = Argument {
+    name: "every",
+    value: "N",
+    kind: Kind::Number {
+        least: 1,
+        most: 65535,
+        default: "1",
+    },
+    help: "Cut the movie at every N-th checkpoint, 1 to 65535",
+};
+
+/// After every so many frames a movie that is made claims the state.
+const CHECKPOINTS: Argument = Argument {
+    name: "every",
+    value: "N",
+    kind: Kind::NeededNumber {
+        least: 1,
+        most: u32::MAX,
+    },
+    help: "Claim the state after every N frames, 1 to 4294967295",
+};
+
+/// The cartridge that a movie is expected to have.
+const EXPECTED_ROM: Argument = Argument {
+    name: "rom",
+    value: "ROM",
+    kind: Kind::Word,
+    help: "Say whether the movie's cartridge is this file, and in which bytes it differs",
+};
+
 /// The first of the frames that a command takes, if it takes all of the movie unasked.
-const FROM: Argument = Argument {
+const FIRST: Argument = Argument {
     name: "first",
     value: "F",
     kind: Kind::Number {
@@ -140,16 +171,7 @@ static COMMANDS: [Listed; 12] = [
         arguments: &[
             FILE,
             WORKERS,
-            Argument {
-                name: "every",
-                value: "N",
-                kind: Kind::Number {
-                    least: 1,
-                    most: 65535,
-                    default: "1",
-                },
-                help: "Cut the movie at every N-th checkpoint, 1 to 65535",
-            },
+            CUTS,
             Argument {
                 name: "first",
                 value: "N",
@@ -185,12 +207,7 @@ static COMMANDS: [Listed; 12] = [
         arguments: &[
             FILE,
             WORKERS,
-            Argument {
-                name: "rom",
-                value: "ROM",
-                kind: Kind::Word,
-                help: "Say whether the movie's cartridge is this file, and in which bytes it differs",
-            },
+            EXPECTED_ROM,
             Argument {
                 name: "sha256",
                 value: "DIGEST",
@@ -234,15 +251,7 @@ static COMMANDS: [Listed; 12] = [
                 kind: Kind::Switch,
                 help: "INPUTS is text: how many frames and what is held, a line for each stretch",
             },
-            Argument {
-                name: "every",
-                value: "N",
-                kind: Kind::NeededNumber {
-                    least: 1,
-                    most: u32::MAX,
-                },
-                help: "Claim the state after every N frames, 1 to 4294967295",
-            },
+            CHECKPOINTS,
             Argument {
                 name: "to-the-end",
                 value: "",
@@ -292,7 +301,7 @@ static COMMANDS: [Listed; 12] = [
                 kind: Kind::Switch,
                 help: "Begin each line with the number of its first frame; make --text doesn't read it",
             },
-            FROM,
+            FIRST,
             ASKED,
         ],
     },
@@ -332,7 +341,7 @@ static COMMANDS: [Listed; 12] = [
         about: "Say how long frames were, and where checkpoints are false, line by line",
         arguments: &[
             FILE,
-            FROM,
+            FIRST,
             ASKED,
             Argument {
                 name: "watch",
@@ -371,7 +380,7 @@ static COMMANDS: [Listed; 12] = [
                 kind: Kind::NeededWord,
                 help: "The pictures, which are written as portable pixmaps (PPM); - is standard output",
             },
-            FROM,
+            FIRST,
             ASKED,
         ],
     },
@@ -395,7 +404,7 @@ static COMMANDS: [Listed; 12] = [
                 kind: Kind::NeededWord,
                 help: "The movie of those frames, which is written; - is standard output",
             },
-            FROM,
+            FIRST,
             ASKED,
         ],
     },
