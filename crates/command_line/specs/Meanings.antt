@@ -25,10 +25,11 @@ use Rattle.command_line.specs.Table.{out_row, pictures_row, rom_row}
 use Rattle.command_line.specs.Table.{expected_rom_row, power_on_row, sha256_row, text_row, to_the_end_row, to_the_fault_row, workers_row}
 use Rattle.command_line.specs.declared.command.Command.{Command}
 use Rattle.command_line.specs.declared.command.CommandLine.{CommandLine}
-use Rattle.command_line.specs.declared.command.Making.{Making}
 use Rattle.command_line.specs.declared.command.Command.TheVariants.{Verify, Report, Make}
 use Rattle.command_line.specs.declared.command.Command.TheVariants.{Info, Claims, Inputs, Cartridge, Convert}
 use Rattle.command_line.specs.declared.command.Command.TheVariants.{Frames, Pictures, Cut, Trace}
+use Rattle.command_line.specs.declared.inputs.Listing.{Listing}
+use Rattle.command_line.specs.declared.make.Making.{Making}
 
 -- The number that a text writes in decimal digits, of which the first may follow a plus.
 abbrev pub number_in : Text → ℕ
@@ -118,6 +119,11 @@ IsPlain notation workers = (notation ≡ Lines) × (workers.number ≡ 1)
 abbrev pub AreFrames : List Row → ℕ → ℕ → Type 0
 AreFrames rows first count = (number_of first_row rows ≡ Some first) × (number_of asked_row rows ≡ Some count)
 
+-- Of which frames the inputs are printed, and how.
+pub record AsksForInputs (rows : List Row) (listing : Listing) : Type 0 where
+  pub frames : AreFrames rows (non_zero_u32_get listing.first) listing.count
+  pub numbers : (listing.numbers ≡ true) ↔ IsGiven numbers_row rows
+
 -- The command of this name, of which `clap` found these values, with its files, in which notation it writes,
 -- and by how many workers.
 abbrev pub IsCommandAt : Text → List Row → Command → Files → Notation → Workers → Type 0
@@ -136,9 +142,8 @@ IsCommandAt name rows Info files notation workers =
     (name ≡ codes "info") × (files ≡ of_movie rows None) × IsNotation rows notation × (workers.number ≡ 1)
 IsCommandAt name rows Claims files notation workers =
     (name ≡ codes "claims") × (files ≡ of_movie rows None) × IsNotation rows notation × (workers.number ≡ 1)
-IsCommandAt name rows (Inputs first count numbers) files notation workers =
-    (name ≡ codes "inputs") × AreFrames rows (non_zero_u32_get first) count × ((numbers ≡ true) ↔ IsGiven numbers_row rows)
-    × (files ≡ of_movie rows None) × IsPlain notation workers
+IsCommandAt name rows (Inputs listing) files notation workers =
+    (name ≡ codes "inputs") × AsksForInputs rows listing × (files ≡ of_movie rows None) × IsPlain notation workers
 IsCommandAt name rows Cartridge files notation workers =
     (name ≡ codes "cartridge") × (files ≡ of_movie rows (Some (word_of out_row rows))) × IsPlain notation workers
 IsCommandAt name rows Convert files notation workers =

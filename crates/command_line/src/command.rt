@@ -2,21 +2,12 @@
 ghost use Rattle.std.specs.Prelude.{◌≡◌};
 ghost use Rattle.command_line.specs.declared.command.LineFault.TheVariants.{Memory};
 
+use crate::inputs::Listing;
+use crate::make::Making;
 use clap::error::ErrorKind;
 use replay_plan::{Details, Expectations, InputForm, Keep, Notation, Workers};
 use std::alloc::AllocError;
 use std::num::{NonZeroU16, NonZeroU32};
-
-/// Of which frames a movie that is made claims the state, and whether it may end with a fault.
-#[derive(Clone, Copy, Debug, PartialEq, Eq)]
-pub struct Making {
-    /// After every so many frames a checkpoint stands.
-    pub every: NonZeroU32,
-    /// Whether one stands after the last frame too.
-    pub to_the_end: bool,
-    /// Whether a run that faults makes a movie too: the one up to its fault, which its last frame has.
-    pub to_the_fault: bool,
-}
 
 /// What is asked for. Each command but `Make` asks about a movie.
 #[derive(Debug, Drop)]
@@ -44,14 +35,7 @@ pub enum Command {
     /// Print the states that it claims.
     Claims,
     /// Print the inputs of some of its frames as text.
-    Inputs {
-        /// The first of the frames, counted from 1.
-        first: NonZeroU32,
-        /// How many they are; the movie may have fewer.
-        count: u32,
-        /// Whether each line begins with the number of its first frame.
-        numbers: bool,
-    },
+    Inputs(Listing),
     /// Write its cartridge.
     Cartridge,
     /// Convert it to version 2.

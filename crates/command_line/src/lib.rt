@@ -4,13 +4,17 @@
 mod arguments;
 mod command;
 mod frames;
+mod inputs;
 mod line;
+mod make;
 mod parser;
 mod report;
 mod table;
 mod version;
 
-pub use command::{Command, CommandLine, LineFault, Making, Writing};
+pub use command::{Command, CommandLine, LineFault, Writing};
+pub use inputs::Listing;
 pub use line::parse_line;
+pub use make::Making;
 pub use table::is_command;
 pub use version::program_name;

@@ -5,26 +5,25 @@ ghost use Rattle.std.specs.NonZero.{non_zero_u16_get, non_zero_u32_get};
 ghost use Rattle.clap.specs.Words.{fault_of as faults_at, found_of, kind_of, matches_of, rows_of, subcommand_of};
 ghost use Rattle.clap.specs.Words.{first_of, one_of};
 ghost use Rattle.command_line.specs.Faults.{HasBadValue, IsAnswerTo, IsRefusal};
-ghost use Rattle.command_line.specs.Meanings.{AsksForReasons, IsGiven, IsLine, IsLineAt, IsMaking, IsNotation, IsPlain};
+ghost use Rattle.command_line.specs.Meanings.{AsksForReasons, IsGiven, IsLine, IsLineAt, IsNotation, IsPlain};
 ghost use Rattle.command_line.specs.Meanings.{files_of, number_in, number_of, of_movie, word_of};
 ghost use Rattle.command_line.specs.Private.Names.{IsUnlisted};
 ghost use Rattle.command_line.specs.Private.Numbers.{HasNumbers, HasNumbersOf, IsNumberIn};
 ghost use Rattle.command_line.specs.Private.Numbers.{Suits};
 ghost use Rattle.command_line.specs.declared.command.LineFault.TheVariants.{Memory};
 ghost use Rattle.command_line.specs.Table.{commands, program_app, verify_listed};
-ghost use Rattle.command_line.specs.Table.{inputs_listed, make_listed};
 ghost use Rattle.command_line.specs.Table.{workers_row, cuts_row, first_row, count_row};
-ghost use Rattle.command_line.specs.Table.{asked_row, checkpoints_row, cut_listed, pictures_listed};
-ghost use Rattle.command_line.specs.Table.{explain_row, out_row, pictures_row, text_row, trace_listed};
-ghost use Rattle.replay_plan.specs.declared.input_form.InputForm.TheVariants.{Text};
+ghost use Rattle.command_line.specs.Table.{cut_listed, explain_row, out_row, pictures_listed, pictures_row, trace_listed};
 
-use crate::command::{Command, CommandLine, LineFault, Making};
+use crate::command::{Command, CommandLine, LineFault};
 use crate::frames::frames_of;
+use crate::inputs::inputs_of;
+use crate::make::make_of;
 use crate::parser::program;
 use crate::report::report_of;
 use clap::ArgMatches;
 use clap::error::ErrorKind;
-use replay_plan::{InputForm, Keep, Notation, Workers};
+use replay_plan::{Keep, Notation, Workers};
 use std::alloc::{AllocError, Global};
 use std::convert::AsStr;
 use std::num::{NonZeroU16, NonZeroU32};
@@ -148,32 +147,8 @@ pub(crate) fn notation_of(matches: &ArgMatches<'_>) -> Notation
     }
 }
 
-/// The form of the inputs: text if that is asked for, and else bytes.
-fn form_of(matches: &ArgMatches<'_>) -> InputForm
-    ensures { (result ≡ Text)
-        ↔ (one_of text_row.name (rows_of (found_of matches.now)) ≡ Some (codes "true")) }
-{
-    if is_given(matches, "text") {
-        InputForm::Text
-    } else {
-        InputForm::Bytes
-    }
-}
-
-/// Of which frames a movie that is made claims the state, and whether it may end with a fault.
-fn making_of(matches: &ArgMatches<'_>) -> Making
-    requires { IsNumberIn 1 4294967295 (one_of checkpoints_row.name (rows_of (found_of matches.now))) }
-    ensures { IsMaking (rows_of (found_of matches.now)) result }
-{
-    Making {
-        every: number_from_one(matches, "every"),
-        to_the_end: is_given(matches, "to-the-end"),
-        to_the_fault: is_given(matches, "to-the-fault"),
-    }
-}
-
 /// The line of a command about a movie, which writes lines, and no file, by one worker.
-fn line_of_movie(
+pub(crate) fn line_of_movie(
     alloc: Global,
     matches: &ArgMatches<'_>,
     command: Command,
@@ -235,23 +210,6 @@ fn verify_of(alloc: Global, matches: &ArgMatches<'_>) -> Result<CommandLine, All
     })
 }
 
-/// `make`, whose files are three.
-fn make_of(alloc: Global, matches: &ArgMatches<'_>) -> Result<CommandLine, AllocError>
-    requires { HasNumbers make_listed (rows_of (found_of matches.now)) }
-    ensures { IfOk result (IsLineAt (codes "make") (rows_of (found_of matches.now))) }
-{
-    let command = Command::Make {
-        form: form_of(matches),
-        making: making_of(matches),
-    };
-    let rom = text_of(alloc, matches, "rom")?;
-    Ok(CommandLine {
-        second: Some(text_of(alloc, matches, "inputs")?),
-        output: Some(text_of(alloc, matches, "out")?),
-        ..CommandLine::of(command, rom)
-    })
-}
-
 /// `info`.
 fn info_of(alloc: Global, matches: &ArgMatches<'_>) -> Result<CommandLine, AllocError>
     ensures { IfOk result (IsLineAt (codes "info") (rows_of (found_of matches.now))) }
@@ -264,19 +222,6 @@ fn claims_of(alloc: Global, matches: &ArgMatches<'_>) -> Result<CommandLine, All
     ensures { IfOk result (IsLineAt (codes "claims") (rows_of (found_of matches.now))) }
 {
     Ok(line_of_facts(alloc, matches, Command::Claims)?)
-}
-
-/// `inputs`.
-fn inputs_of(alloc: Global, matches: &ArgMatches<'_>) -> Result<CommandLine, AllocError>
-    requires { HasNumbers inputs_listed (rows_of (found_of matches.now)) }
-    ensures { IfOk result (IsLineAt (codes "inputs") (rows_of (found_of matches.now))) }
-{
-    let command = Command::Inputs {
-        first: number_from_one(matches, "first"),
-        count: number_at(matches, "count"),
-        numbers: is_given(matches, "numbers"),
-    };
-    Ok(line_of_movie(alloc, matches, command)?)
 }
 
 /// `cartridge`.

@@ -73,11 +73,7 @@ fn answer<T: Threads + Wait + Sync + AllocGlobal, G: Gate + Progress + Sync>(
         Command::Report { expectations } => report(request, bytes, &movie, rom, expectations),
         Command::Info => Ok(info(alloc, notation, &movie)?),
         Command::Claims => Ok(claims(alloc, notation, &movie)?),
-        Command::Inputs {
-            first,
-            count,
-            numbers,
-        } => Ok(inputs(alloc, &movie, *first, *count, *numbers)?),
+        Command::Inputs(listing) => Ok(inputs(alloc, &movie, *listing)?),
         Command::Cartridge => Ok(cartridge(alloc, &movie)?),
         Command::Convert => Ok(convert(alloc, movie)?),
         Command::Cut {

@@ -8,6 +8,7 @@ use crate::answer::Answer;
 use crate::asked_frames::frames_asked;
 use crate::remark::no_frame;
 use crate::status::Status;
+use command_line::Listing;
 use input_text::{write_numbered, write_text};
 use movie_file::Movie;
 use std::alloc::{AllocError, Global};
@@ -26,19 +27,14 @@ fn inputs_asked(movie: &Movie, first: NonZeroU32, count: u32) -> &[Input]
     &movie.inputs()[from..from + frames]
 }
 
-/// The inputs of `count` frames from `first` on, as many as the movie has, as text: each line with the
+/// The inputs of the frames that are asked for, as many as the movie has, as text: each line with the
 /// number of its first frame, or as `make` reads it. The movie is not replayed.
-pub(crate) fn inputs(
-    alloc: Global,
-    movie: &Movie,
-    first: NonZeroU32,
-    count: u32,
-    numbers: bool,
-) -> Result<Answer, AllocError>
-    ensures { IfOk result (Lists movie.now (non_zero_u32_get first) count numbers) }
+pub(crate) fn inputs(alloc: Global, movie: &Movie, listing: Listing) -> Result<Answer, AllocError>
+    ensures { IfOk result (Lists movie.now listing) }
 {
-    let inputs = inputs_asked(movie, first, count);
-    let text = if numbers {
+    let first = listing.first;
+    let inputs = inputs_asked(movie, first, listing.count);
+    let text = if listing.numbers {
         write_numbered(alloc, first, inputs)?
     } else {
         write_text(alloc, inputs)?
