@@ -6,7 +6,7 @@
 #![tactic(auto)]
 
 use command_line::{CommandLine, LineFault, parse_line};
-use std::alloc::Global;
+use std::alloc::{AllocError, Global};
 use std::io::{self, Print};
 
 /// The command line of these words, of which the first is the program's name.
@@ -25,10 +25,31 @@ fn name_of(fault: &LineFault) -> &'static str {
     }
 }
 
+/// What a command line asks for, without its fields that are false: of a new one only those lines tell
+/// that ask for it.
+fn told(alloc: Global, line: &CommandLine) -> Result<String, AllocError> {
+    let whole = format!(in alloc; "{line:?}")?;
+    let mut told = String::new(alloc);
+    let mut before = "";
+    for word in whole.split_whitespace() {
+        if word == "false" || word == "false," {
+            before = "";
+            continue;
+        }
+        told.push_str(before)?;
+        if !before.is_empty() {
+            told.push(' ')?;
+        }
+        before = word;
+    }
+    told.push_str(before)?;
+    Ok(told)
+}
+
 /// Prints the command line of these words.
 fn tell(rt: &impl Print, alloc: Global, words: &str) -> io::Result<()> {
     match line_of(alloc, words) {
-        Ok(line) => println!(rt; "{words}: {line:?}"),
+        Ok(line) => println!(rt; "{words}: {}", told(alloc, &line)?),
         Err(fault) => println!(rt; "{words}: {}", name_of(&fault)),
     }
 }
