@@ -73,7 +73,7 @@ ReadsFor name (Err error) old new read = Keeps old new × (read ≡ None)
 -- The answer of a command about these bytes. `make` also reads inputs, of which `old` were left before
 -- it and `new` are left after it, and a report may read a ROM.
 abbrev pub AnswersBytes : {Z : Type 0} → Command → Notation → Option Z → List ℕ → (old new : Option (List ℕ)) → AnswerData → Type 0
-AnswersBytes (Make form making) notation name bytes old new answer = Makes form bytes old new (non_zero_u32_get making.every) making.to_the_end making.to_the_fault answer
+AnswersBytes (Make form making) notation name bytes old new answer = Makes form making bytes old new answer
 AnswersBytes command notation name bytes old new answer =
     (read : Option (List ℕ)) × ReadsFor name (movie_at bytes) old new read × AnswersFound command notation bytes read (movie_at bytes) answer
 

@@ -2,6 +2,7 @@
 -- project's own.
 use Rattle.std.specs.Prelude.{◌≡◌, ◌⊎◌, ℕ, ◌+◌, ◌-◌, ◌*◌, ◌/◌, ◌%◌, ◌==◌, ◌&&◌, ◌++◌, Bool, true, false, not, nat_le, List, [], ◌∷◌, length}
 use Rattle.std.specs.Prelude.{if◌then◌else◌, Option, Some, None, IfSome, Result, Ok, Err, IsTrue, slice_get, take}
+use Rattle.std.specs.NonZero.{non_zero_u32_get}
 use Rattle.std.specs.Option.{option_or}
 use Rattle.std.specs.Result.{result_map_both}
 use Rattle.std.specs.Io.KnownBytes.{Keeps}
@@ -21,6 +22,7 @@ use Rattle.movie_file.specs.Spelling.{spelling}
 use Rattle.movie_file.specs.declared.checkpoint.Checkpoint.{Checkpoint}
 use Rattle.movie_file.specs.declared.error.MovieError.TheVariants.{BadCounts}
 use Rattle.command_line.specs.Program.{program_name}
+use Rattle.command_line.specs.declared.make.Making.{Making}
 use Rattle.movie_hints.specs.Counts.{IsCountsHint, checkpoints_of}
 use Rattle.movie_hints.specs.Hints.{TellsStorage}
 use Rattle.movie_hints.specs.declared.hint.Hint.{Hint}
@@ -119,8 +121,9 @@ MakesFrom cartridge form input every to_the_end to_the_fault answer =
 
 -- What is written of the bytes of a ROM, and what is read of the inputs: if no cartridge has the
 -- ROM's length, nothing.
-abbrev pub Makes : InputForm → List ℕ → Option (List ℕ) → Option (List ℕ) → ℕ → Bool → Bool → AnswerData → Type 0
-Makes form rom old new every to_the_end to_the_fault answer =
+abbrev pub Makes : InputForm → Making → List ℕ → Option (List ℕ) → Option (List ℕ) → AnswerData → Type 0
+Makes form making rom old new answer =
     (IsTrue (is_cart_length (length rom))
-    × ((input : List ℕ) × ReadsAll old new input × MakesFrom rom form input every to_the_end to_the_fault answer))
+    × ((input : List ℕ) × ReadsAll old new input
+    × MakesFrom rom form input (non_zero_u32_get making.every) making.to_the_end making.to_the_fault answer))
     ⊎ ((¬ IsTrue (is_cart_length (length rom))) × Keeps old new × RefusesRom First Lines program_name rom answer)

@@ -169,8 +169,7 @@ pub(crate) fn make<S: Read, P: Progress>(
     making: Making,
     progress: &P,
 ) -> Result<Answer, RunError>
-    ensures makes { IfOk result (λ answer. Makes form rom.items (S.remaining inputs.old) (S.remaining inputs.new)
-        (non_zero_u32_get making.every) making.to_the_end making.to_the_fault answer) }
+    ensures makes { IfOk result (λ answer. Makes form making rom.items (S.remaining inputs.old) (S.remaining inputs.new) answer) }
     ensures only { IfErr result IsOfReading }
     ensures too_long { result ≡ Err RunError.TooLong → IsTooLong (S.remaining inputs.old) }
 {
