@@ -85,21 +85,6 @@ pub player-forgotten : (n : ℕ) (p : Player) → 1 ≤ n
 player-forgotten zero p s = absurd (omega arith)
 player-forgotten (suc n) p s = refl
 
-pub missile-forgotten : (n nusiz : ℕ) (m : Missile) → 1 ≤ n
-    → record m { counter = counter_after n m.counter; copy = missile_copy_at nusiz m (counter_after n m.counter); seen = false } ≡ record (quiet_missile_after nusiz n m) { seen = false }
-missile-forgotten zero nusiz m s = absurd (omega arith)
-missile-forgotten (suc n) nusiz m s = refl
-
-pub ball-forgotten : (n ctrlpf : ℕ) (b : Ball) → 1 ≤ n
-    → record b {
-      counter = counter_after n b.counter;
-      place = ball_place_at ctrlpf (counter_after n b.counter);
-      own_size = if begins_within n b.counter then begun_size ctrlpf b.phase else b.own_size;
-      seen = false;
-    } ≡ record (quiet_ball_after ctrlpf n b) { seen = false }
-ball-forgotten zero ctrlpf b s = absurd (omega arith)
-ball-forgotten (suc n) ctrlpf b s = refl
-
 pub objects-alike : (t : TiaState) (p p' q q' : Player) (m m' n n' : Missile) (b b' : Ball) → p ≡ p' → q ≡ q' → m ≡ m' → n ≡ n' → b ≡ b'
     → with_objects t p q m n b ≡ with_objects t p' q' m' n' b'
 objects-alike t p p' q q' m m' n n' b b' e f g h i = cc
