@@ -1,6 +1,6 @@
 -- Clocks of the picture in which each object is quiet, and the pairs of all objects that may be lit are
 -- latched.
-use Rattle.std.proofs.Common.{◌≡◌, ◌∙◌, ℕ, zero, suc, ◌+◌, ◌-◌, ◌%◌, ◌<◌, ◌≤◌, ◌==◌, ◌&&◌, not, Bool, true, false, arith, refl, ap, sym, if◌then◌else◌}
+use Rattle.std.proofs.Common.{◌≡◌, ◌∙◌, ℕ, zero, suc, ◌+◌, ◌-◌, ◌%◌, ◌<◌, ◌≤◌, ◌==◌, ◌&&◌, not, Bool, true, false, arith, refl, ap, sym}
 use Rattle.std.proofs.lemmas.Bool.{and_parts, cond-false, cond-true, cond_both}
 use Rattle.std.proofs.lemmas.Bool.Decides.{nat_tests}
 use Rattle.std.specs.Fn.{iterate}
@@ -14,7 +14,7 @@ use Rattle.tia_chip.proofs.QuietAges.{alike-three}
 use Rattle.tia_chip.proofs.QuietPixels.{pixel-ball, pixel-missile0, pixel-missile1, pixel-player0, pixel-player1}
 use Rattle.tia_chip.proofs.QuietPlayers.{player-steps}
 use Rattle.tia_chip.proofs.ShownLemmas.{LatchNothing, begun-shown}
-use Rattle.tia_chip.specs.Ball.{ball_after_step, begun_size, enable_of, is_ball_lit}
+use Rattle.tia_chip.specs.Ball.{ball_after_step, enable_of, is_ball_lit}
 use Rattle.tia_chip.specs.Bits.{has_bit}
 use Rattle.tia_chip.specs.Calm.{IsCalm, IsCalmInPicture, after_steps}
 use Rattle.tia_chip.specs.Clock.{after_clock, at_pixel, without_seen}
@@ -23,7 +23,7 @@ use Rattle.tia_chip.specs.Objects.{lit_objects}
 use Rattle.tia_chip.specs.Player.{graphic_of, player_after_step}
 use Rattle.tia_chip.specs.Playfield.{playfield_bit, playfield_index}
 use Rattle.tia_chip.specs.Private.Lines.{IsLatched, IsQuiet, gone_on, lit_somewhere, shown_mirrored, shown_playfield, with_line, with_objects}
-use Rattle.tia_chip.specs.Quiet.{ball_place_at, begins_within, counter_after, missile_copy_at, player_copy_at, player_mask}
+use Rattle.tia_chip.specs.Quiet.{counter_after, player_copy_at, player_mask}
 use Rattle.tia_chip.specs.Quiet.{quiet_ball_after, quiet_missile_after, quiet_player_after}
 use Rattle.tia_chip.specs.declared.ball.Ball.{Ball}
 use Rattle.tia_chip.specs.declared.line.Line.{Line}
