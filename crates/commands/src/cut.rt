@@ -13,7 +13,6 @@ use crate::refusal::counts_refusal;
 use crate::remark::WhichInput;
 use movie_file::{Movie, Progress, do_counts_fit};
 use movie_hints::{Hint, hint_of_counts};
-use run_cursor::RunFault;
 use std::alloc::{AllocError, Global};
 use std::num::NonZeroU32;
 
@@ -62,6 +61,12 @@ pub(crate) fn cut<P: Progress>(
     }
     match cut_movie(alloc, movie, first, count, every.get(), progress)? {
         Ok(cut) => of_cut(alloc, &cut),
-        Err(RunFault { frame, kind }) => Answer::of_line(alloc, Line::Fault { frame, kind }),
+        Err(fault) => {
+            let line = Line::Fault {
+                frame: fault.frame,
+                kind: fault.kind,
+            };
+            Answer::of_line(alloc, line)
+        }
     }
 }

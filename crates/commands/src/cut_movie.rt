@@ -1,5 +1,5 @@
 //! Movies of some frames of a movie.
-ghost use Rattle.std.specs.Prelude.{◌≡◌, ◌≤◌, ◌+◌, ◌/◌, [], length, IfOk, IfErr, OnOk};
+ghost use Rattle.std.specs.Prelude.{◌≡◌, ◌≤◌, ◌+◌, ◌-◌, ◌/◌, [], length, IfOk, IfErr, OnOk};
 ghost use Rattle.std.specs.Prelude.{IsTrue, vec_capacity};
 ghost use Rattle.std.specs.NonZero.{non_zero_u32_get};
 ghost use Rattle.movie_file.specs.Making.{counts_fit};

@@ -12,7 +12,6 @@ use crate::run_error::RunError;
 use crate::status::Status;
 use movie_file::{Movie, Progress};
 use replay_plan::{Details, Notation};
-use run_cursor::RunFault;
 use std::alloc::Global;
 use std::io::Write;
 use std::num::NonZeroU32;
@@ -53,8 +52,8 @@ pub(crate) fn frames<L: Write, P: Progress>(
         progress,
     )? {
         None => Ok(Status::Done),
-        Some(RunFault { frame, kind }) => {
-            write_fault(alloc, notation, frame, kind, lines)?;
+        Some(fault) => {
+            write_fault(alloc, notation, fault.frame, fault.kind, lines)?;
             Ok(Status::Fault)
         }
     }

@@ -15,7 +15,6 @@ use crate::line::Line;
 use crate::run_error::RunError;
 use crate::status::Status;
 use movie_file::{Movie, Progress};
-use run_cursor::RunFault;
 use std::alloc::Global;
 use std::io::Write;
 use std::num::NonZeroU32;
@@ -49,7 +48,10 @@ fn draw<P: Write, G: Progress>(
         None => Ok(Line::Pictures {
             frames: frames_asked(movie, first, count),
         }),
-        Some(RunFault { frame, kind }) => Ok(Line::Fault { frame, kind }),
+        Some(fault) => Ok(Line::Fault {
+            frame: fault.frame,
+            kind: fault.kind,
+        }),
     }
 }
 

@@ -19,4 +19,4 @@ returns-in-Ok g c =
 
 pub returns-in-Err : goal.returns-in-Err
 returns-in-Err g c =
-    IfOk-weaker c.of_line.result _ _ (λ told is. inl (c.cut_movie.requires, inr (c.in-Err.frame, c.in-Err.kind, c.in-Err.ensures.faults, is))) c.of_line.ensures
+    IfOk-weaker c.of_line.result _ _ (λ told is. inl (c.cut_movie.requires, inr (c.in-Err.fault.frame, c.in-Err.fault.kind, c.in-Err.ensures.faults, is))) c.of_line.ensures

@@ -23,7 +23,7 @@ pub returns-in_ok-write_fault-in-Some-clause-ok : goal.returns-in_ok-write_fault
 returns-in_ok-write_fault-in-Some-clause-ok g c =
     let faults = rw c.in-Some.is at c.in_ok-write_asked.ensures.faults in (
       _,
-      inr (c.in-Some.frame, c.in-Some.kind, faults, refl, refl),
+      inr (c.in-Some.fault.frame, c.in-Some.fault.kind, faults, refl, refl),
       appends_then _ _ _ _ _ c.in_ok-write_asked.ensures.ok c.in_ok-write_fault-in-Some.ensures.ok,
     )
 
@@ -34,7 +34,7 @@ returns-in_err-write_fault-in-Some-clause-fault g c = λ is.
     let faults = rw c.in-Some.is at c.in_ok-write_asked.ensures.faults in (
       statuses.Fault,
       _,
-      inr (c.in-Some.frame, c.in-Some.kind, faults, refl, refl),
+      inr (c.in-Some.fault.frame, c.in-Some.fault.kind, faults, refl, refl),
       prefix_after _ _ _ _ _ c.in_ok-write_asked.ensures.ok (c.in_err-write_fault-in-Some.ensures.fault (ap Err error)),
     )
 

@@ -14,8 +14,8 @@ returns-in-None-clause-ok g c =
 pub returns-in-Some-clause-ok : goal.returns-in-Some-clause-ok
 returns-in-Some-clause-ok g c =
     let faults = rw c.in-Some.is at c.in_ok-write_asked.ensures.faults in
-    told c.args.movie.now (non_zero_u32_get c.args.first) c.args.count _ _ (lines.Fault c.in-Some.frame c.in-Some.kind)
-    (inr (c.in-Some.frame, c.in-Some.kind, faults, refl)) c.in_ok-write_asked.ensures.ok
+    told c.args.movie.now (non_zero_u32_get c.args.first) c.args.count _ _ (lines.Fault c.in-Some.fault.frame c.in-Some.fault.kind)
+    (inr (c.in-Some.fault.frame, c.in-Some.fault.kind, faults, refl)) c.in_ok-write_asked.ensures.ok
 
 pub returns-in_err-write_asked-clause-memory : goal.returns-in_err-write_asked-clause-memory
 returns-in_err-write_asked-clause-memory g c = λ is.
