@@ -55,11 +55,12 @@ pub(crate) fn cut<P: Progress>(
 ) -> Result<Answer, AllocError>
     ensures { IfOk result (Cuts movie.now (non_zero_u32_get first) count (non_zero_u32_get every)) }
 {
-    if !do_counts_fit(frames_asked(movie, first, count) as usize, every.get()) {
+    let interval = every.get();
+    if !do_counts_fit(frames_asked(movie, first, count) as usize, interval) {
         let hint = hint_of_part(movie, first, count, every);
         return counts_refusal(alloc, WhichInput::First, hint);
     }
-    match cut_movie(alloc, movie, first, count, every.get(), progress)? {
+    match cut_movie(alloc, movie, first, count, interval, progress)? {
         Ok(cut) => of_cut(alloc, &cut),
         Err(fault) => {
             let line = Line::Fault {
