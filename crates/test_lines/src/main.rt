@@ -25,31 +25,31 @@ fn name_of(fault: &LineFault) -> &'static str {
     }
 }
 
+/// Whether a word of a text of `Debug` is the value of a field that is false.
+fn is_false(word: &str) -> bool {
+    word == "false" || word == "false,"
+}
+
 /// What a command line asks for, without its fields that are false: of a new one only those lines tell
 /// that ask for it.
 fn told(alloc: Global, line: &CommandLine) -> Result<String, AllocError> {
-    let whole = format!(in alloc; "{line:?}")?;
+    let text = format!(in alloc; "{line:?}")?;
+    let words: Vec<&str> = text.split_whitespace().collect(alloc)?;
     let mut told = String::new(alloc);
-    let mut before = "";
-    for word in whole.split_whitespace() {
-        if word == "false" || word == "false," {
-            before = "";
-            continue;
-        }
-        told.push_str(before)?;
-        if !before.is_empty() {
+    for at in 0..words.len() {
+        let is_name = at + 1 < words.len() && is_false(words[at + 1]);
+        if !is_name && !is_false(words[at]) {
             told.push(' ')?;
+            told.push_str(words[at])?;
         }
-        before = word;
     }
-    told.push_str(before)?;
     Ok(told)
 }
 
 /// Prints the command line of these words.
 fn tell(rt: &impl Print, alloc: Global, words: &str) -> io::Result<()> {
     match line_of(alloc, words) {
-        Ok(line) => println!(rt; "{words}: {}", told(alloc, &line)?),
+        Ok(line) => println!(rt; "{words}:{}", told(alloc, &line)?),
         Err(fault) => println!(rt; "{words}: {}", name_of(&fault)),
     }
 }
