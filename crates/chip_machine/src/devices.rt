@@ -154,7 +154,8 @@ impl<S: Paint> Devices<S> {
         ensures sink { sink_seen S.drawn self.new ≡ sink_seen S.drawn self.old }
         ensures cycles { cycles_seen self.new ≡ cycles_seen self.old }
     {
-        self.tia.write_late(3 * self.lag(), register, value)
+        let clocks = 3 * self.lag();
+        self.tia.write_late(clocks, register, value)
     }
 
     /// Writes a register of the TIA, and answers what the write asks for.

@@ -1,4 +1,4 @@
-use Rattle.std.proofs.Common.{◌∙◌, ℕ, ◌+◌, ◌-◌, ◌*◌, ◌%◌, ◌≤◌, ap, arith}
+use Rattle.std.proofs.Common.{◌≡◌, ◌∙◌, ℕ, ◌+◌, ◌-◌, ◌*◌, ◌%◌, ◌≤◌, ap, arith}
 use Rattle.std.specs.Prelude.{min}
 use Rattle.std.specs.Fn.{iterate}
 use Rattle.tia_chip.specs.Clock.{after_clock}
