@@ -23,6 +23,7 @@ use Rattle.vcs_check.specs.Commands.{KeepsQuiet, LeavesPart, TakesFile, Writes}
 use Rattle.vcs_check.specs.Failures.{IsNoThread}
 use Rattle.vcs_check.specs.Private.FileErrors.{by_output}
 use Rattle.vcs_check.specs.Private.Inputs.{ReadsBoth}
+use Rattle.vcs_check.specs.declared.answered.Answered.{Answered}
 use Rattle.vcs_check.specs.declared.failure.Failure.TheVariants.{Run}
 use Rattle.vcs_check.proofs.InputLemmas.{part_by_output, quiet_by_output}
 
@@ -47,7 +48,7 @@ not_begun (Pictures first count) notation m old new f g begun whole = begun.1
 not_begun (Trace frame) notation m old new f g begun whole = absurd (whole tt)
 not_begun other notation m old new f g begun whole = begun.0
 
-abbrev failed : RunError → Result Conclusion RunError
+abbrev failed : RunError → Result Answered RunError
 failed error = Err error
 
 no_thread_was : (error : RunError) (one : Option FileError) → IsNoThread (by_output (Run error None) one) → error ≡ NoThread
@@ -75,8 +76,8 @@ module _ (line : CommandLine) (a b old new f g : Option (List ℕ)) where
 
   module _ (c d : Option (List ℕ)) where
     -- With an answer all of it was,
-    abbrev IsWritten : Conclusion → Type 0
-    IsWritten end = (bytes : List ℕ) × (told : List ℕ) × (made : List ℕ) × ReadsAll a b bytes × IsAnswered line bytes c d end told made
+    abbrev IsWritten : Answered → Type 0
+    IsWritten answered = (end : Conclusion) × (answered.status ≡ end.status) × (bytes : List ℕ) × (told : List ℕ) × (made : List ℕ) × ReadsAll a b bytes × IsAnswered line bytes c d end told made
         × Appends old new told × Appends f g made
 
     -- and after a failed write a part.
@@ -85,16 +86,20 @@ module _ (line : CommandLine) (a b old new f g : Option (List ℕ)) where
         × WritesSome (writing_of line.command) old new told f g made
 
     module _ (other : TakesFile line → ⊥) where
-      pub text_written : (end : Conclusion) → IsWritten end → Writes line (ReadsBoth a b c d) old new (Ok end)
-      text_written end h = (h.1, (h.0, c, d, (h.3, refl, refl), (λ takes. absurd (other takes)), λ text. (h.2, h.4)), h.5)
+      pub text_written : (answered : Answered) → IsWritten answered → Writes line (ReadsBoth a b c d) old new (Ok answered)
+      text_written answered h = (
+        h.3,
+        (h.2, c, d, (h.5, refl, refl), (λ takes. absurd (other takes)), λ text. (h.0.remark, h.4, rw h.1 h.6)),
+        h.7,
+      )
 
       pub text_part : (error : RunError) → (failed error ≡ failed WriteFault → IsCutOff) → (failed error ≡ failed NoMemory → IsBegun)
           → LeavesPart line (ReadsBoth a b c d) old new (Err (Run error None))
       text_part WriteFault written memory = (
         (λ is. let h = written refl in (
-          h.1,
+          h.1.status,
           h.2,
-          (h.0, c, d, (h.4, refl, refl), (λ takes. absurd (other takes)), λ text. (h.3, h.5)),
+          (h.0, c, d, (h.4, refl, refl), (λ takes. absurd (other takes)), λ text. (h.1.remark, h.3, h.5)),
           text_in_part (writing_of line.command) old new h.2 f g h.3 h.6,
         )),
         λ is. absurd is,
@@ -109,24 +114,33 @@ module _ (line : CommandLine) (a b old new f g : Option (List ℕ)) where
       text_part error written memory = ((λ is. absurd is), λ is. absurd is)
 
       -- All of a text is a part of it, where a file fails after it.
-      pub text_whole : (end : Conclusion) (file_error : Option FileError) → IsWritten end
+      pub text_whole : (answered : Answered) (file_error : Option FileError) → IsWritten answered
           → LeavesPart line (ReadsBoth a b c d) old new (Err (Run WriteFault file_error))
-      text_whole end file_error h = (
-        (λ is. (end, h.1, (h.0, c, d, (h.3, refl, refl), (λ takes. absurd (other takes)), λ text. (h.2, h.4)), prefix_all old new h.1 h.5)),
+      text_whole answered file_error h = (
+        (λ is. (
+          h.0.status,
+          h.3,
+          (h.2, c, d, (h.5, refl, refl), (λ takes. absurd (other takes)), λ text. (h.0.remark, h.4, h.6)),
+          prefix_all old new h.3 h.7,
+        )),
         λ is. absurd is,
       )
 
     module _ (takes : TakesFile line) where
-      pub file_written : (end : Conclusion) → IsWritten end → Writes line (ReadsBoth a b c d) f g (Ok end)
-      file_written end h = (h.2, (h.0, c, d, (h.3, refl, refl), (λ file. (h.1, h.4)), λ other. absurd (other takes)), h.6)
+      pub file_written : (answered : Answered) → IsWritten answered → Writes line (ReadsBoth a b c d) f g (Ok answered)
+      file_written answered h = (
+        h.4,
+        (h.2, c, d, (h.5, refl, refl), (λ file. (h.0.remark, h.3, rw h.1 h.6)), λ other. absurd (other takes)),
+        h.8,
+      )
 
       pub file_part : (error : RunError) → (failed error ≡ failed WriteFault → IsCutOff) → (failed error ≡ failed NoMemory → IsBegun)
           → LeavesPart line (ReadsBoth a b c d) f g (Err (Run error None))
       file_part WriteFault written memory = (
         (λ is. let h = written refl in (
-          h.1,
+          h.1.status,
           h.3,
-          (h.0, c, d, (h.4, refl, refl), (λ file. (h.2, h.5)), λ other. absurd (other takes)),
+          (h.0, c, d, (h.4, refl, refl), (λ file. (h.1.remark, h.2, h.5)), λ other. absurd (other takes)),
           file_in_part (writing_of line.command) old new h.2 f g h.3 h.6,
         )),
         λ is. absurd is,
@@ -149,7 +163,7 @@ file_quiet line old new f g takes TooLong quiet = λ write none. (quiet (λ is. 
 file_quiet line old new f g takes NoThread quiet = λ write none. (quiet (λ is. absurd (cc)) (λ is. absurd (cc))).1
 
 -- The same of a text, where the answer's file has got what was gathered of it after the run.
-module _ (line : CommandLine) (answer : Result Conclusion RunError) (error : RunError) (one : Option FileError)
+module _ (line : CommandLine) (answer : Result Answered RunError) (error : RunError) (one : Option FileError)
     (how : (answer ≡ failed error) ⊎ ((error ≡ WriteFault) × IsOk answer)) where
   pub end_no_thread : (answer ≡ failed NoThread → StartsThreads line) → IsNoThread (by_output (Run error None) one) → StartsThreads line
   end_no_thread starts no = elim how [
@@ -166,12 +180,12 @@ module _ (line : CommandLine) (answer : Result Conclusion RunError) (error : Run
     ]
 
     module _ (c d : Option (List ℕ)) (other : TakesFile line → ⊥) where
-      ended : (was : Result Conclusion RunError) → IsOk was → IfOk was (λ end. IsWritten line a b old new f g c d end)
+      ended : (was : Result Answered RunError) → IsOk was → IfOk was (λ answered. IsWritten line a b old new f g c d answered)
           → LeavesPart line (ReadsBoth a b c d) old new (Err (Run WriteFault None))
-      ended (Ok end) ok h = text_whole line a b old new f g c d other end None h
+      ended (Ok answered) ok h = text_whole line a b old new f g c d other answered None h
       ended (Err was) ok h = absurd (cc)
 
-      pub end_part : IfOk answer (λ end. IsWritten line a b old new f g c d end) → (answer ≡ failed WriteFault → IsCutOff line a b old new f g c d)
+      pub end_part : IfOk answer (λ answered. IsWritten line a b old new f g c d answered) → (answer ≡ failed WriteFault → IsCutOff line a b old new f g c d)
           → (answer ≡ failed NoMemory → IsBegun line a b old new f g) → LeavesPart line (ReadsBoth a b c d) old new (Err (by_output (Run error None) one))
       end_part ok written memory = part_by_output line (ReadsBoth a b c d) old new (Run error None) one (elim how [
         | inl is ↦ text_part line a b old new f g c d other error (rw is at written) (rw is at memory)

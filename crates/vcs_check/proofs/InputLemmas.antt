@@ -1,24 +1,25 @@
 -- What is said of inputs that were read in one way is said of them where that is a case of another.
 use Rattle.std.proofs.Common.{Option, List, ℕ, Ok, Err, Result, inl, inr, arith}
 use Rattle.command_line.specs.declared.command.CommandLine.{CommandLine}
-use Rattle.commands.specs.declared.conclusion.Conclusion.{Conclusion}
+use Rattle.commands.specs.declared.status.Status.{Status}
 use Rattle.named_files.specs.declared.file_error.FileError.{FileError}
+use Rattle.vcs_check.specs.declared.answered.Answered.{Answered}
 use Rattle.vcs_check.specs.Commands.{Inputs, KeepsQuiet, LeavesPart, Says, Writes}
 use Rattle.vcs_check.specs.Failures.{IsNoMemory, IsWriteFault}
 use Rattle.vcs_check.specs.Private.FileErrors.{by_input, by_output}
 use Rattle.vcs_check.specs.declared.failure.Failure.{Failure}
 
 pub Says-weaker : (line : CommandLine) (R S : Inputs) → ((bytes : List ℕ) (old new : Option (List ℕ)) → R bytes old new → S bytes old new)
-    → (end : Conclusion) (written : List ℕ) → Says line R end written → Says line S end written
-Says-weaker line R S f end written says = (says.0, says.1, says.2, f says.0 says.1 says.2 says.3, says.4, says.5)
+    → (status : Status) (written : List ℕ) → Says line R status written → Says line S status written
+Says-weaker line R S f status written says = (says.0, says.1, says.2, f says.0 says.1 says.2 says.3, says.4, says.5)
 
 pub Writes-weaker : (line : CommandLine) (R S : Inputs) → ((bytes : List ℕ) (old new : Option (List ℕ)) → R bytes old new → S bytes old new)
-    → (old new : Option (List ℕ)) (result : Result Conclusion Failure) → Writes line R old new result → Writes line S old new result
-Writes-weaker line R S f old new (Ok end) w = (w.0, Says-weaker line R S f end w.0 w.1, w.2)
+    → (old new : Option (List ℕ)) (result : Result Answered Failure) → Writes line R old new result → Writes line S old new result
+Writes-weaker line R S f old new (Ok end) w = (w.0, Says-weaker line R S f end.status w.0 w.1, w.2)
 Writes-weaker line R S f old new (Err failure) w = tt
 
 pub LeavesPart-weaker : (line : CommandLine) (R S : Inputs) → ((bytes : List ℕ) (old new : Option (List ℕ)) → R bytes old new → S bytes old new)
-    → (old new : Option (List ℕ)) (result : Result Conclusion Failure) → LeavesPart line R old new result → LeavesPart line S old new result
+    → (old new : Option (List ℕ)) (result : Result Answered Failure) → LeavesPart line R old new result → LeavesPart line S old new result
 LeavesPart-weaker line R S f old new (Ok end) p = tt
 LeavesPart-weaker line R S f old new (Err failure) p = (
   λ is. let h = p.0 is in (h.0, h.1, Says-weaker line R S f h.0 h.1 h.2, h.3),

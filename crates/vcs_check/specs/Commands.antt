@@ -8,11 +8,13 @@ use Rattle.command_line.specs.declared.command.Writing.{Writing}
 use Rattle.command_line.specs.declared.command.Writing.TheVariants.{GradualPictures, TextFirst}
 use Rattle.commands.specs.Commands.{HasBegun, IsAnswered as Answers, IsGradual}
 use Rattle.commands.specs.Streams.{ReadsAll}
-use Rattle.commands.specs.declared.conclusion.Conclusion.{Conclusion}
+use Rattle.commands.specs.declared.remark.Remark.{Remark}
+use Rattle.commands.specs.declared.status.Status.{Status}
 use Rattle.movie_file.specs.Movie.{MovieData}
 use Rattle.movie_file.specs.Reading.{movie_at}
 use Rattle.picture_file.specs.Prefixes.{AppendsPrefix}
 use Rattle.vcs_check.specs.Failures.{IsNoMemory, IsWriteFault}
+use Rattle.vcs_check.specs.declared.answered.Answered.{Answered}
 use Rattle.vcs_check.specs.declared.failure.Failure.{Failure}
 
 -- What a command writes to a file is pictures.
@@ -49,27 +51,29 @@ ReadsInputs line old new bytes second_old second_new =
     × (ReadsSecond line → (second_old ≡ old) × (second_new ≡ new))
     × ((ReadsFirst line → ⊥) → (ReadsSecond line → ⊥) → Keeps old new)
 
--- Of the answer about these inputs that ends so, this is the text, or what the output gets.
-abbrev pub IsText : CommandLine → List ℕ → (old new : Option (List ℕ)) → Conclusion → List ℕ → Type 0
-IsText line bytes old new end text = (file : List ℕ) × Answers line bytes old new end text file
+-- Of the answer about these inputs, with this status, this is the text, or what the output gets.
+abbrev pub IsText : CommandLine → List ℕ → (old new : Option (List ℕ)) → Status → List ℕ → Type 0
+IsText line bytes old new status text =
+    (remark : Option Remark) × (file : List ℕ) × Answers line bytes old new (record { status = status; remark = remark }) text file
 
-abbrev pub IsFile : CommandLine → List ℕ → (old new : Option (List ℕ)) → Conclusion → List ℕ → Type 0
-IsFile line bytes old new end file = (text : List ℕ) × Answers line bytes old new end text file
+abbrev pub IsFile : CommandLine → List ℕ → (old new : Option (List ℕ)) → Status → List ℕ → Type 0
+IsFile line bytes old new status file =
+    (remark : Option Remark) × (text : List ℕ) × Answers line bytes old new (record { status = status; remark = remark }) text file
 
 -- What standard output gets of the answer of a command line whose inputs were read so.
-abbrev pub Says : CommandLine → Inputs → Conclusion → List ℕ → Type 0
-Says line Reads end written =
+abbrev pub Says : CommandLine → Inputs → Status → List ℕ → Type 0
+Says line Reads status written =
     (bytes : List ℕ) × (old new : Option (List ℕ)) × Reads bytes old new
-    × (TakesFile line → IsFile line bytes old new end written)
-    × ((TakesFile line → ⊥) → IsText line bytes old new end written)
+    × (TakesFile line → IsFile line bytes old new status written)
+    × ((TakesFile line → ⊥) → IsText line bytes old new status written)
 
 -- With an answer it gets that, and nothing else.
-abbrev pub Writes : CommandLine → Inputs → (old new : Option (List ℕ)) → Result Conclusion Failure → Type 0
-Writes line Reads old new result = IfOk result (λ end. (written : List ℕ) × Says line Reads end written × Appends old new written)
+abbrev pub Writes : CommandLine → Inputs → (old new : Option (List ℕ)) → Result Answered Failure → Type 0
+Writes line Reads old new result = IfOk result (λ answered. (written : List ℕ) × Says line Reads answered.status written × Appends old new written)
 
 -- After an error other than a failed write it gets nothing, but if memory ran out, by a command that
 -- writes while a run goes on, what came before.
-abbrev pub KeepsQuiet : CommandLine → (old new : Option (List ℕ)) → Result Conclusion Failure → Type 0
+abbrev pub KeepsQuiet : CommandLine → (old new : Option (List ℕ)) → Result Answered Failure → Type 0
 KeepsQuiet line old new result =
     IfErr result (λ failure. (IsWriteFault failure → ⊥) → (IsNoMemory failure → IsGradual (writing_of line.command) ⊎ TakesFile line → ⊥) → Keeps old new)
 
@@ -82,8 +86,8 @@ Begins line Reads old new =
 
 -- What it has got of the answer after an error: after a failed write, its own or one of a file, a part,
 -- and if memory ran out nothing or what came before.
-abbrev pub LeavesPart : CommandLine → Inputs → (old new : Option (List ℕ)) → Result Conclusion Failure → Type 0
+abbrev pub LeavesPart : CommandLine → Inputs → (old new : Option (List ℕ)) → Result Answered Failure → Type 0
 LeavesPart line Reads old new result =
     IfErr result (λ failure.
-    (IsWriteFault failure → (end : Conclusion) × (written : List ℕ) × Says line Reads end written × AppendsPrefix old new written)
+    (IsWriteFault failure → (status : Status) × (written : List ℕ) × Says line Reads status written × AppendsPrefix old new written)
     × (IsNoMemory failure → Keeps old new ⊎ Begins line Reads old new))

@@ -11,11 +11,11 @@ use Rattle.vcs_check.specs.Failures.{IsForOutput, IsToldAs}
 use Rattle.vcs_check.specs.Lines.{IsFaultOfWords, IsLineOfWords}
 use Rattle.vcs_check.specs.declared.failure.Failure.{Failure}
 use Rattle.vcs_check.specs.declared.failure.Failure.TheVariants.{Run}
+use Rattle.vcs_check.specs.declared.answered.Answered.{Answered}
 use Rattle.vcs_check.specs.declared.ending.Ending.{Ending}
 use Rattle.vcs_check.specs.declared.ending.Ending.TheVariants.{Help, Usage, NotUtf8, Twice, Failed}
 use Rattle.command_line.specs.declared.command.CommandLine.{CommandLine}
 use Rattle.commands.specs.Status.{status_code}
-use Rattle.commands.specs.declared.conclusion.Conclusion.{Conclusion}
 use Rattle.commands.specs.declared.run_error.RunError.TheVariants.{NoMemory}
 
 -- The exit status: help is no error.
@@ -57,6 +57,6 @@ GetsReason line failure old new =
 
 -- How a command line ends that was answered so: with its status, but with 5 if standard output didn't
 -- take all of the answer, and nothing more is there; or with 5, and the failure's message.
-abbrev pub Concludes : CommandLine → (old new : Option (List ℕ)) → Result Conclusion Failure → ℕ → Type 0
-Concludes line old new (Ok end) code = ((code ≡ status_code end.status) ⊎ (code ≡ 5)) × Keeps old new
+abbrev pub Concludes : CommandLine → (old new : Option (List ℕ)) → Result Answered Failure → ℕ → Type 0
+Concludes line old new (Ok answered) code = ((code ≡ status_code answered.status) ⊎ (code ≡ 5)) × Keeps old new
 Concludes line old new (Err failure) code = (code ≡ exit_code (Failed failure)) × (told : Failure) × IsToldAs failure told × GetsReason line told old new

@@ -1,7 +1,12 @@
 //! A command and its files.
-ghost use Rattle.std.specs.Prelude.{◌≡◌, ◌⊎◌, ◌↔◌, None, codes, IfErr, IfOk, IsSome, true};
+ghost use Rattle.std.specs.Prelude.{◌≡◌, ◌≢◌, ◌⊎◌, ◌↔◌, List, ℕ, None, Ok, Err, codes, IfErr, IfOk, IsSome, OnErr, true};
+ghost use Rattle.std.specs.Io.KnownBytes.{Appends, Keeps};
 ghost use Rattle.command_line.specs.Writing.{writing_of};
-ghost use Rattle.commands.specs.Commands.{StartsThreads};
+ghost use Rattle.commands.specs.Commands.{HasBegun, IsAnswered, StartsThreads, WritesSome};
+ghost use Rattle.commands.specs.Streams.{ReadsAll};
+ghost use Rattle.commands.specs.declared.conclusion.Conclusion.{Conclusion};
+ghost use Rattle.movie_file.specs.Movie.{MovieData};
+ghost use Rattle.movie_file.specs.Reading.{movie_at};
 ghost use Rattle.vcs_check.specs.Commands.{KeepsQuiet, LeavesPart, ReadsFirst, ReadsInputs, ReadsSecond};
 ghost use Rattle.vcs_check.specs.Commands.{ReadsTwice, TakesFile, Writes, WritesPictures};
 ghost use Rattle.named_files.specs.FileErrors.{IsInputStream, Names};
@@ -9,10 +14,11 @@ ghost use Rattle.named_files.specs.declared.replacing.Whole.TheVariants.{Flushed
 ghost use Rattle.vcs_check.specs.Failures.{IsNoThread};
 ghost use Rattle.vcs_check.specs.Private.Inputs.{ReadsBoth, ReadsFirstly, ReadsWith};
 
+use crate::answered::Answered;
 use crate::failure::Failure;
 use crate::gathered::Gathered;
 use command_line::{Command, CommandLine, Writing};
-use commands::{Conclusion, Gate, Progress, Request, RunError, Status, run_command};
+use commands::{Gate, Progress, Request, RunError, Status, run_command};
 use named_files::{
     FileError, Identity, Named, Whole, check_standard_output, check_streams, create, open,
     open_beside, replace,
@@ -47,6 +53,42 @@ fn whole(command: &Command) -> Whole
     }
 }
 
+/// Does what a command line asks for: reads its inputs, and writes the text and the file of its answer.
+fn run<
+    R: Files + Threads + Wait + Sync + AllocGlobal,
+    M: Read,
+    S: Read,
+    W: Write,
+    P: Write,
+    G: Gate + Progress + Sync,
+>(
+    request: &Request<'_, R, G>,
+    input: &mut M,
+    inputs: &mut S,
+    text: &mut W,
+    file: &mut P,
+) -> Result<Answered, RunError>
+    ensures ok { IfOk result (λ answered. (end : Conclusion) × (answered.status ≡ end.status) × (bytes : List ℕ) × (told : List ℕ) × (made : List ℕ)
+        × ReadsAll (M.remaining input.old) (M.remaining input.new) bytes
+        × IsAnswered request.now.line.now bytes (S.remaining inputs.old) (S.remaining inputs.new) end told made
+        × Appends (W.contents text.old) (W.contents text.new) told × Appends (P.contents file.old) (P.contents file.new) made) }
+    ensures write_fault { result ≡ Err RunError.WriteFault → (bytes : List ℕ) × (end : Conclusion) × (told : List ℕ) × (made : List ℕ)
+        × ReadsAll (M.remaining input.old) (M.remaining input.new) bytes
+        × IsAnswered request.now.line.now bytes (S.remaining inputs.old) (S.remaining inputs.new) end told made
+        × WritesSome (writing_of request.now.line.now.command) (W.contents text.old) (W.contents text.new) told (P.contents file.old) (P.contents file.new) made }
+    ensures quiet { OnErr result (result ≢ Err RunError.WriteFault → result ≢ Err RunError.NoMemory
+        → Keeps (W.contents text.old) (W.contents text.new) × Keeps (P.contents file.old) (P.contents file.new)) }
+    ensures memory { result ≡ Err RunError.NoMemory → (Keeps (W.contents text.old) (W.contents text.new) × Keeps (P.contents file.old) (P.contents file.new))
+        ⊎ ((bytes : List ℕ) × (m : MovieData) × ReadsAll (M.remaining input.old) (M.remaining input.new) bytes × (movie_at bytes ≡ Ok m)
+        × HasBegun request.now.line.now.command request.now.line.now.notation m (W.contents text.old) (W.contents text.new) (P.contents file.old) (P.contents file.new)) }
+    ensures no_thread { result ≡ Err RunError.NoThread → StartsThreads request.now.line.now }
+{
+    match run_command(request, input, inputs, text, file) {
+        Ok(end) => Ok(Answered::of(request.rt, request.line, &end)),
+        Err(error) => Err(error),
+    }
+}
+
 /// Does what a command line asks for with these inputs, and a file that takes what it writes. If all
 /// is done no bytes of before stay in that, though nothing was written.
 fn write_to<
@@ -63,7 +105,7 @@ fn write_to<
     identities: &[Option<Identity>],
     name: &'a str,
     text: &mut W,
-) -> Result<Conclusion, Failure<'a>>
+) -> Result<Answered, Failure<'a>>
     requires { TakesFile request.now.line.now → ⊥ }
     ensures ok { Writes request.now.line.now (ReadsBoth (M.remaining input.old) (M.remaining input.new) (S.remaining inputs.old) (S.remaining inputs.new))
         (W.contents text.old) (W.contents text.new) result }
@@ -80,15 +122,15 @@ fn write_to<
     let Ok(mut file) = Gathered::new(request.rt.alloc(), &mut output, draws(command)) else {
         return Err(Failure::Run(RunError::NoMemory, None));
     };
-    let answer = run_command(request, input, inputs, text, &mut file);
-    let end = match file.end(answer) {
-        Ok(end) => end,
+    let answer = run(request, input, inputs, text, &mut file);
+    let answered = match file.end(answer) {
+        Ok(answered) => answered,
         Err(error) => return Err(Failure::Run(error, None).by_output(output.output_error())),
     };
-    if end.status == Status::Done && output.finish().is_err() {
+    if answered.status == Status::Done && output.finish().is_err() {
         return Err(Failure::Run(RunError::WriteFault, output.output_error()));
     }
-    Ok(end)
+    Ok(answered)
 }
 
 /// Does what a command line asks for with these inputs, and standard output as what takes the file.
@@ -106,7 +148,7 @@ fn write_to_standard_output<
     inputs: &mut S,
     output: &mut W,
     text: &mut E,
-) -> Result<Conclusion, Failure<'a>>
+) -> Result<Answered, Failure<'a>>
     requires { TakesFile request.now.line.now }
     ensures ok { Writes request.now.line.now (ReadsBoth (M.remaining input.old) (M.remaining input.new) (S.remaining inputs.old) (S.remaining inputs.new))
         (W.contents output.old) (W.contents output.new) result }
@@ -116,8 +158,8 @@ fn write_to_standard_output<
     ensures no_thread { IfErr result (λ failure. IsNoThread failure → StartsThreads request.now.line.now) }
 {
     check_standard_output(request.rt)?;
-    match run_command(request, input, inputs, text, output) {
-        Ok(end) => Ok(end),
+    match run(request, input, inputs, text, output) {
+        Ok(answered) => Ok(answered),
         Err(error) => Err(Failure::Run(error, None)),
     }
 }
@@ -149,7 +191,7 @@ fn answer<
     identities: &[Option<Identity>],
     output: &mut W,
     error: &mut E,
-) -> Result<Conclusion, Failure<'a>>
+) -> Result<Answered, Failure<'a>>
     ensures ok { Writes request.now.line.now (ReadsBoth (M.remaining input.old) (M.remaining input.new) (S.remaining inputs.old) (S.remaining inputs.new))
         (W.contents output.old) (W.contents output.new) result }
     ensures quiet { KeepsQuiet request.now.line.now (W.contents output.old) (W.contents output.new) result }
@@ -163,8 +205,8 @@ fn answer<
     if let Some(name) = request.line.output.as_deref() {
         return write_to(request, input, inputs, identities, name, output);
     }
-    match run_command(request, input, inputs, output, &mut io::sink()) {
-        Ok(end) => Ok(end),
+    match run(request, input, inputs, output, &mut io::sink()) {
+        Ok(answered) => Ok(answered),
         Err(error) => Err(Failure::Run(error, None)),
     }
 }
@@ -224,7 +266,7 @@ fn answer_with_file<
     second: &'a str,
     output: &mut W,
     error: &mut E,
-) -> Result<Conclusion, Failure<'a>>
+) -> Result<Answered, Failure<'a>>
     ensures ok { Writes request.now.line.now (ReadsFirstly (M.remaining input.old) (M.remaining input.new)) (W.contents output.old) (W.contents output.new) result }
     ensures quiet { KeepsQuiet request.now.line.now (W.contents output.old) (W.contents output.new) result }
     ensures part { LeavesPart request.now.line.now (ReadsFirstly (M.remaining input.old) (M.remaining input.new)) (W.contents output.old) (W.contents output.new) result }
@@ -233,7 +275,7 @@ fn answer_with_file<
     let mut inputs = open_input(request.rt, request.line, second)?;
     let identities = [identity, Some(identity_of(request.rt, &inputs)?)];
     match answer(request, input, &mut inputs, &identities, output, error) {
-        Ok(end) => Ok(end),
+        Ok(answered) => Ok(answered),
         Err(failure) => Err(failure.by_input(inputs.file_error())),
     }
 }
@@ -255,7 +297,7 @@ fn answer_with<
     standard: &mut I,
     output: &mut W,
     error: &mut E,
-) -> Result<Conclusion, Failure<'a>>
+) -> Result<Answered, Failure<'a>>
     ensures ok { Writes request.now.line.now (ReadsWith request.now.line.now (M.remaining input.old) (M.remaining input.new) (I.remaining standard.old) (I.remaining standard.new))
         (W.contents output.old) (W.contents output.new) result }
     ensures quiet { KeepsQuiet request.now.line.now (W.contents output.old) (W.contents output.new) result }
@@ -307,7 +349,7 @@ pub(crate) fn answer_line<
     standard: &mut I,
     output: &mut W,
     error: &mut E,
-) -> Result<Conclusion, Failure<'a>>
+) -> Result<Answered, Failure<'a>>
     requires { ReadsTwice request.now.line.now → ⊥ }
     ensures ok { Writes request.now.line.now (ReadsInputs request.now.line.now (I.remaining standard.old) (I.remaining standard.new)) (W.contents output.old) (W.contents output.new) result }
     ensures quiet { KeepsQuiet request.now.line.now (W.contents output.old) (W.contents output.new) result }
@@ -321,7 +363,7 @@ pub(crate) fn answer_line<
     let mut input = open_input(request.rt, request.line, &request.line.input)?;
     let identity = Some(identity_of(request.rt, &input)?);
     match answer_with(request, &mut input, identity, standard, output, error) {
-        Ok(end) => Ok(end),
+        Ok(answered) => Ok(answered),
         Err(failure) => Err(failure.by_input(input.file_error())),
     }
 }

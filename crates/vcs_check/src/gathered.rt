@@ -1,7 +1,8 @@
 //! The file that a command writes, with a buffer before it if it gets pictures.
 ghost use Rattle.std.specs.Prelude.{◌≡◌, ◌⊎◌, Err, IfErr, IfOk, IsOk, Ok};
 
-use commands::{Conclusion, RunError};
+use crate::answered::Answered;
+use commands::RunError;
 use std::alloc::{AllocError, Global};
 use std::io::{self, BufWriter, Write};
 
@@ -28,13 +29,13 @@ impl<W: Write + Drop> Gathered<W> {
 
     /// The same answer of a command, once the file has got what the buffer holds of it. That the last
     /// write failed shows only here.
-    pub(crate) fn end(self, answer: Result<Conclusion, RunError>) -> Result<Conclusion, RunError>
-        ensures ok { IfOk result (λ end. answer.entry ≡ Ok end) }
+    pub(crate) fn end(self, answer: Result<Answered, RunError>) -> Result<Answered, RunError>
+        ensures ok { IfOk result (λ answered. answer.entry ≡ Ok answered) }
         ensures err { IfErr result (λ error. (answer.entry ≡ Err error) ⊎ ((error ≡ RunError.WriteFault) × IsOk answer.entry)) }
     {
         match (self, answer) {
-            (Gathered::Parts(mut buffer), Ok(end)) => match buffer.flush() {
-                Ok(()) => Ok(end),
+            (Gathered::Parts(mut buffer), Ok(answered)) => match buffer.flush() {
+                Ok(()) => Ok(answered),
                 Err(_) => Err(RunError::WriteFault),
             },
             (_, answer) => answer,

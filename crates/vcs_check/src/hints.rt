@@ -1,10 +1,11 @@
 //! What is told after an answer where reasons are wanted: why something was refused, and what no
 //! checkpoint claims.
 
+use crate::answered::Answered;
 use crate::command_files::{STANDARD, takes_file};
 use crate::reasons::write_reason;
 use command_line::{Command, CommandLine};
-use commands::{Cause, Conclusion, Remark, Status, WhichInput, read_all};
+use commands::{Cause, Remark, Status, WhichInput, read_all};
 use movie_hints::{Hint, TextHint, hint_of_claims};
 use named_files::STANDARD_INPUT;
 use riot_map::Cart;
@@ -61,7 +62,7 @@ fn is_cartridge<R: Files>(rt: &R, input: &str) -> bool {
 
 /// What is to be said of an input, if anything is known and there is memory for it; of a ROM that is
 /// none, and comes first, that the inputs are one, if they are.
-fn reason_of<R: Files + AllocGlobal>(
+pub(crate) fn reason_of<R: Files + AllocGlobal>(
     rt: &R,
     line: &CommandLine,
     remark: &Remark,
@@ -118,14 +119,12 @@ fn tell_of_output<R: Files + AllocGlobal + Eprint>(rt: &R, line: &CommandLine) {
 pub(crate) fn tell_hints<R: Files + AllocGlobal + Eprint>(
     rt: &R,
     line: &CommandLine,
-    end: &Conclusion,
+    answered: &Answered,
 ) {
-    if let Some(remark) = &end.remark {
-        if let Some(reason) = reason_of(rt, line, remark) {
-            write_reason(rt, reason.as_str());
-        }
+    if let Some(reason) = &answered.reason {
+        write_reason(rt, reason.as_str());
     }
-    if end.status == Status::Done {
+    if answered.status == Status::Done {
         tell_of_output(rt, line);
     }
 }

@@ -7,6 +7,7 @@
 #![tactic(auto)]
 
 mod advice;
+mod answered;
 mod command_files;
 mod ending;
 mod error_object;
@@ -25,7 +26,7 @@ ghost use Rattle.command_line.specs.Faults.{IsRefusal};
 ghost use Rattle.command_line.specs.declared.command.LineFault.{LineFault as Refused};
 ghost use Rattle.terminal_text.specs.Names.{shown_text};
 ghost use Rattle.vcs_check.specs.declared.failure.Failure.{Failure as WhyNot};
-ghost use Rattle.commands.specs.declared.conclusion.Conclusion.{Conclusion as End};
+ghost use Rattle.vcs_check.specs.declared.answered.Answered.{Answered as Told};
 ghost use Rattle.named_files.specs.FileErrors.{IsAbout, IsErrorOf};
 ghost use Rattle.named_files.specs.declared.file_error.FileError.{FileError as FailedFile};
 ghost use Rattle.named_files.specs.declared.file_error.Reason.TheVariants.{IsTerminal as IsTerminalOutput};
@@ -37,10 +38,11 @@ ghost use Rattle.std.specs.Io.KnownBytes.{Keeps};
 ghost use Rattle.std.specs.Process.{exit_status};
 
 use advice::{advised, help_without_explain, tell_remark};
+use answered::Answered;
 use clap::error::ErrorKind;
 use command_files::{answer_line, draws, reads_first, reads_second, takes_file};
 use command_line::{CommandLine, LineFault, parse_line};
-use commands::{Conclusion, Gate, Progress, Request, RunError};
+use commands::{Gate, Progress, Request, RunError};
 use ending::{Ending, not_written};
 use error_object::{says_errors, write_error_object};
 use failure::Failure;
@@ -169,17 +171,17 @@ fn conclude<R: Files + AllocGlobal + Print + Eprint, I, W: Write, E>(
     input: &Named<'_, I>,
     output: &mut Named<'_, W>,
     error: &Named<'_, E>,
-    answer: Result<Conclusion, Failure<'_>>,
+    answer: Result<Answered, Failure<'_>>,
 ) -> ExitCode
     ensures { Concludes line.now (W.contents output.old.stream) (W.contents output.new.stream) answer.entry (exit_status result) }
 {
     match answer {
-        Ok(end) => match settle(rt, output) {
+        Ok(answered) => match settle(rt, output) {
             Ok(()) => {
                 if line.explain {
-                    tell_hints(rt, line, &end);
+                    tell_hints(rt, line, &answered);
                 }
-                ExitCode::from(end.status.code())
+                ExitCode::from(answered.status.code())
             }
             Err(error) => not_written(error).report(rt, line.explain),
         },
@@ -206,7 +208,7 @@ fn carry_out<
 ) -> ExitCode
     requires { ReadsTwice request.now.line.now → ⊥ }
     // An answer, and what stands on standard output after it.
-    ensures { (answer : Result End WhyNot) × (told : Option (List ℕ))
+    ensures { (answer : Result Told WhyNot) × (told : Option (List ℕ))
         × Writes request.now.line.now (ReadsInputs request.now.line.now (I.remaining input.old.stream) (I.remaining input.new.stream)) (W.contents output.old.stream) told answer
         × KeepsQuiet request.now.line.now (W.contents output.old.stream) told answer
         × LeavesPart request.now.line.now (ReadsInputs request.now.line.now (I.remaining input.old.stream) (I.remaining input.new.stream)) (W.contents output.old.stream) told answer

@@ -3,11 +3,11 @@ use Rattle.vcs_check.proofs.Conclusions.{failed, settled}
 use Rattle.vcs_check.proofs.conclude.Goals as goal
 
 pub returns-in-Ok-settle : goal.returns-in-Ok-settle
-returns-in-Ok-settle g c = settled c.args.line.now _ _ _ c.in-Ok.end _ c.in-Ok.is (inl (cc)) c.settle.ensures
+returns-in-Ok-settle g c = settled c.args.line.now _ _ _ c.in-Ok.answered _ c.in-Ok.is (inl (cc)) c.settle.ensures
 
 pub returns-in-Ok : goal.returns-in-Ok
 returns-in-Ok g c =
-    settled c.args.line.now _ _ _ c.in-Ok.end _ c.in-Ok.is (inr (grind (arith, c.report.ensures, c.not_written.ensures))) c.settle.ensures
+    settled c.args.line.now _ _ _ c.in-Ok.answered _ c.in-Ok.is (inr (grind (arith, c.report.ensures, c.not_written.ensures))) c.settle.ensures
 
 pub returns : goal.returns
 returns g c =

@@ -19,7 +19,7 @@ returns-then-reads_first-clause-ok g c =
 pub returns-in-Ok-clause-ok : goal.returns-in-Ok-clause-ok
 returns-in-Ok-clause-ok g c = Writes-weaker c.args.request.now.line.now _ _
     (λ bytes old new read. ((λ is. let e = c.if-reads_first.ensures.1 is in absurd (cc)), read.1, λ other others. read.2 others))
-    _ _ (Ok c.in-Ok.end) c.in-Ok.ensures.ok
+    _ _ (Ok c.in-Ok.answered) c.in-Ok.ensures.ok
 
 pub returns-clause-part : goal.returns-clause-part
 returns-clause-part g c = rw c.by_input.ensures
