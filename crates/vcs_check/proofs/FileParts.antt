@@ -166,9 +166,9 @@ file_quiet line old new f g takes NoThread quiet = λ write none. (quiet (λ is.
 module _ (line : CommandLine) (answer : Result Answered RunError) (error : RunError) (one : Option FileError)
     (how : (answer ≡ failed error) ⊎ ((error ≡ WriteFault) × IsOk answer)) where
   pub end_no_thread : (answer ≡ failed NoThread → StartsThreads line) → IsNoThread (by_output (Run error None) one) → StartsThreads line
-  end_no_thread starts no = elim how [
-    | inl is ↦ starts (is ∙ ap failed (no_thread_was error one no))
-    | inr is ↦ absurd (rw is.0 at no)
+  end_no_thread starts refused = elim how [
+    | inl is ↦ starts (is ∙ ap failed (no_thread_was error one refused))
+    | inr is ↦ absurd (rw is.0 at refused)
   ]
 
   module _ (a b old new f g : Option (List ℕ)) where

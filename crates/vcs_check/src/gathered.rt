@@ -30,8 +30,8 @@ impl<W: Write + Drop> Gathered<W> {
     /// The same answer of a command, once the file has got what the buffer holds of it. That the last
     /// write failed shows only here.
     pub(crate) fn end(self, answer: Result<Answered, RunError>) -> Result<Answered, RunError>
-        ensures ok { IfOk result (λ answered. answer.entry ≡ Ok answered) }
-        ensures err { IfErr result (λ error. (answer.entry ≡ Err error) ⊎ ((error ≡ RunError.WriteFault) × IsOk answer.entry)) }
+        ensures ok { IfOk result (λ answered. answer ≡ Ok answered) }
+        ensures err { IfErr result (λ error. (answer ≡ Err error) ⊎ ((error ≡ RunError.WriteFault) × IsOk answer)) }
     {
         match (self, answer) {
             (Gathered::Parts(mut buffer), Ok(answered)) => match buffer.flush() {
