@@ -23,7 +23,7 @@ returns-in-Ok-read_text g c =
 pub returns-in-Bytes : goal.returns-in-Bytes
 returns-in-Bytes g c =
     let refused = rw c.deref.ensures.value at (c.in-Err-Of.ensures.refused c.in-Err-Of.error (rw c.in-Err-Of.field-0-is refl)) in
-    IfOk-weaker c.no_inputs.result _ _ (λ answer told. rw (c.in-Bytes.is, refused) told) c.no_inputs.ensures
+    IfOk-weaker c.no_inputs.result _ _ (λ answer told. rw (c.in-Bytes.is, refused) told) (rw c.in-Err-Of.error-is at c.no_inputs.ensures)
 
 pub returns : goal.returns
 returns g c =

@@ -15,7 +15,7 @@ returns-in-Ok g c =
 
 pub returns-in-Err-Of-BadCounts : goal.returns-in-Err-Of-BadCounts
 returns-in-Err-Of-BadCounts g c =
-    let refused = rw (c.get.ensures.value, c.in-Err-Of-BadCounts.field-0-is) at c.in-Err-Of-BadCounts.ensures.refused in
+    let refused = rw (c.get.ensures.value, c.in-Err-Of-BadCounts.field-0-is, c.in-Err-Of-BadCounts.field-0-0-is) at c.in-Err-Of-BadCounts.ensures.refused in
     let count : c.len-frames.result ≡ length c.args.inputs.items = omega (arith, c.len-frames.ensures, c.args.inputs.ok.0) in
     let hint = rw count at c.hint_of_counts.ensures in
     IfOk-weaker c.counts_refusal.result _ _ (λ answer is. inr (refused, c.hint_of_counts.result, hint, is)) (rw c.or-hint.ensures at c.counts_refusal.ensures)
