@@ -1,6 +1,6 @@
 -- What a text and a file have got of a run.
 use Rattle.std.proofs.Common.{◌≡◌, ◌≢◌, ◌∙◌, ◌⊎◌, None, Option, List, ℕ, [], Ok, Err, Result, ap, inl, inr, refl}
-use Rattle.std.specs.Prelude.{IfOk, IsOk}
+use Rattle.std.specs.Prelude.{IfOk, IsOk, OnErr}
 use Rattle.std.specs.Io.KnownBytes.{Appends, Keeps}
 use Rattle.command_line.specs.Writing.{writing_of}
 use Rattle.command_line.specs.declared.command.Command.{Command}
@@ -113,10 +113,14 @@ module _ (line : CommandLine) (a b old new f g : Option (List ℕ)) where
       )
       text_part error written memory = ((λ is. absurd is), λ is. absurd is)
 
+      pub end_written : (answer : Result Answered RunError) (answered : Answered) → answer ≡ Ok answered → IfOk answer (λ x. IsWritten x)
+          → Writes line (ReadsBoth a b c d) old new (Ok answered)
+      end_written answer answered is written = text_written answered (rw is at written)
+
       -- All of a text is a part of it, where a file fails after it.
-      pub text_whole : (answered : Answered) (file_error : Option FileError) → IsWritten answered
+      pub text_whole : (answer : Result Answered RunError) (file_error : Option FileError) → IsOk answer → IfOk answer (λ x. IsWritten x)
           → LeavesPart line (ReadsBoth a b c d) old new (Err (Run WriteFault file_error))
-      text_whole answered file_error h = (
+      text_whole (Ok answered) file_error ok h = (
         (λ is. (
           h.0.status,
           h.3,
@@ -125,6 +129,7 @@ module _ (line : CommandLine) (a b old new f g : Option (List ℕ)) where
         )),
         λ is. absurd is,
       )
+      text_whole (Err error) file_error ok h = absurd (cc)
 
     module _ (takes : TakesFile line) where
       pub file_written : (answered : Answered) → IsWritten answered → Writes line (ReadsBoth a b c d) f g (Ok answered)
@@ -172,7 +177,7 @@ module _ (line : CommandLine) (answer : Result Answered RunError) (error : RunEr
   ]
 
   module _ (a b old new f g : Option (List ℕ)) where
-    pub end_quiet : (answer ≢ failed WriteFault → answer ≢ failed NoMemory → Keeps old new × Keeps f g)
+    pub end_quiet : OnErr answer (answer ≢ failed WriteFault → answer ≢ failed NoMemory → Keeps old new × Keeps f g)
         → (answer ≡ failed NoMemory → IsBegun line a b old new f g) → KeepsQuiet line old new (Err (by_output (Run error None) one))
     end_quiet quiet memory = elim how [
       | inl is ↦ quiet_by_output line old new (Run error None) one (text_quiet line a b old new f g error (rw is at quiet) (rw is at memory))
@@ -180,14 +185,9 @@ module _ (line : CommandLine) (answer : Result Answered RunError) (error : RunEr
     ]
 
     module _ (c d : Option (List ℕ)) (other : TakesFile line → ⊥) where
-      ended : (was : Result Answered RunError) → IsOk was → IfOk was (λ answered. IsWritten line a b old new f g c d answered)
-          → LeavesPart line (ReadsBoth a b c d) old new (Err (Run WriteFault None))
-      ended (Ok answered) ok h = text_whole line a b old new f g c d other answered None h
-      ended (Err was) ok h = absurd (cc)
-
       pub end_part : IfOk answer (λ answered. IsWritten line a b old new f g c d answered) → (answer ≡ failed WriteFault → IsCutOff line a b old new f g c d)
           → (answer ≡ failed NoMemory → IsBegun line a b old new f g) → LeavesPart line (ReadsBoth a b c d) old new (Err (by_output (Run error None) one))
       end_part ok written memory = part_by_output line (ReadsBoth a b c d) old new (Run error None) one (elim how [
         | inl is ↦ text_part line a b old new f g c d other error (rw is at written) (rw is at memory)
-        | inr is ↦ rw is.0 (ended answer is.1 ok)
+        | inr is ↦ rw is.0 (text_whole line a b old new f g c d other answer None is.1 ok)
       ])
