@@ -19,7 +19,7 @@ returns-in-Err-clause-no_thread g c =
 
 pub returns-then-is_err-clause-part : goal.returns-then-is_err-clause-part
 returns-then-is_err-clause-part g c =
-    text_whole c.args.request.now.line.now _ _ _ _ None None _ _ c.requires c.run-answer.result None (rw c.in-Ok.ensures.ok refl) c.run-answer.ensures.ok
+    text_whole c.args.request.now.line.now _ _ _ _ None None _ _ c.requires c.run-answer.result None (rw c.in-Ok-end.ensures.ok refl) c.run-answer.ensures.ok
 
 pub returns-clause-ok : goal.returns-clause-ok
-returns-clause-ok g c = end_written c.args.request.now.line.now _ _ _ _ None None _ _ c.requires c.run-answer.result _ c.in-Ok.ensures.ok c.run-answer.ensures.ok
+returns-clause-ok g c = end_written c.args.request.now.line.now _ _ _ _ None None _ _ c.requires c.run-answer.result _ c.in-Ok-end.ensures.ok c.run-answer.ensures.ok
