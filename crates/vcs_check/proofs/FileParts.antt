@@ -27,7 +27,7 @@ use Rattle.vcs_check.specs.declared.answered.Answered.{Answered}
 use Rattle.vcs_check.specs.declared.failure.Failure.TheVariants.{Run}
 use Rattle.vcs_check.proofs.InputLemmas.{part_by_output, quiet_by_output}
 
-nothing : (a b : Option (List ℕ)) (bytes : List ℕ) → Keeps a b → AppendsPrefix a b bytes
+pub nothing : (a b : Option (List ℕ)) (bytes : List ℕ) → Keeps a b → AppendsPrefix a b bytes
 nothing a b bytes kept = record { prefix = []; rest = bytes; whole = refl; written = appends_kept a a b [] (appends_nothing a) kept }
 
 file_in_part : (writing : Writing) (a b : Option (List ℕ)) (text : List ℕ) (c d : Option (List ℕ)) (file : List ℕ)
