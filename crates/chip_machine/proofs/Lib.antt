@@ -8,7 +8,7 @@ mod GrowthLemmas
 mod LagLemmas
 mod LoggedLemmas
 mod PollLemmas
-mod RecordLaws
+pub mod RecordLaws
 mod RecordParts
 mod RowLemmas
 mod SettledConsole

@@ -4,14 +4,14 @@ use Rattle.std.specs.Prelude.{ℕ, ◌≡◌, false, take}
 use Rattle.cart_board.specs.CartState.{Cartridge, CartState}
 use Rattle.mos_cpu.specs.declared.fault.CpuFault.TheVariants.{BadOpcode as BadOpcodeOfCpu}
 use Rattle.mos_cpu.specs.declared.fault.CpuFault.TheVariants.{FetchOutside as FetchOutsideOfCpu}
+use Rattle.refused.specs.declared.Refused.{Refused}
+use Rattle.refused.specs.declared.Refused.TheVariants.{NoMemory, Of}
 use Rattle.riot_chip.specs.Riot.{RiotState, riot_of, fields_of, with_pins}
 use Rattle.tia_chip.specs.PowerOn.{with_fire, at_frame_start}
 use Rattle.tia_chip.specs.declared.state.TiaState.{TiaState}
 use Rattle.vcs_machine.specs.Faults.{kind_of}
 use Rattle.vcs_machine.specs.Inputs.{InputData, is_pressed}
 use Rattle.vcs_machine.specs.Pictures.{Rows, with_pixel as with_pixel_in, blank}
-use Rattle.vcs_machine.specs.declared.fault.FrameError.{FrameError}
-use Rattle.vcs_machine.specs.declared.fault.FrameError.TheVariants.{Fault, NoMemory}
 use Rattle.vcs_machine.specs.declared.fault.FaultKind.{FaultKind}
 use Rattle.vcs_machine.specs.declared.fault.FaultKind.TheVariants.{BadOpcode, FetchOutside, Overlong as TooLong}
 use Rattle.chip_machine.specs.Consoles.{Console}
@@ -88,6 +88,6 @@ module _ {S : Type 0} where
       × (here.console.sink ≡ sink_after) × (here.console.cycles ≡ cycles) × (rows_of here.console.tia ≡ rows)
 
 -- A frame's error. That memory was refused says nothing of the frame.
-abbrev pub FailsAs : FrameOutcome → FrameError → Type 0
-FailsAs outcome (Fault kind) = outcome ≡ Failed kind
+abbrev pub FailsAs : FrameOutcome → Refused FaultKind → Type 0
+FailsAs outcome (Of kind) = outcome ≡ Failed kind
 FailsAs outcome NoMemory = Unit {0}

@@ -13,9 +13,10 @@ use crate::state::State;
 use crate::timed_frame::TimedFrame;
 use cart_board::Cart;
 use mos_cpu::RunningCpu;
+use refused::Refused;
 use std::alloc::Global;
 use tia_core::{NoPaint, Paint};
-use vcs_machine::{FaultKind, FrameError, Input, Picture};
+use vcs_machine::{FaultKind, Input, Picture};
 
 /// A frame that has ended, and the sink of its pixels.
 #[derive(Drop)]
@@ -74,14 +75,14 @@ pub fn frame(
     state: &mut State,
     input: Input,
     keep: bool,
-) -> Result<TimedFrame, FrameError>
+) -> Result<TimedFrame, Refused<FaultKind>>
     requires { IsTrue (is_of cart.now state.old) }
     ensures ok { IfOk result (λ timed. (rows : Rows) × (frame_of cart.now state.old input ≡ PlayedOf state.new rows timed.cycles)
         × (timed.rows ≡ length rows) × (timed.picture ≡ (if keep then Some rows else None))) }
     ensures err { IfErr result (λ error. FailsAs (frame_of cart.now state.old input) error) }
     ensures cartridge { IsTrue (is_of cart.now state.new) }
-    ensures memory { result ≡ Err FrameError.NoMemory → keep ≡ true }
-    ensures refused { result ≡ Err FrameError.NoMemory → state.new ≡ state.old }
+    ensures memory { result ≡ Err Refused.NoMemory → keep ≡ true }
+    ensures refused { result ≡ Err Refused.NoMemory → state.new ≡ state.old }
 {
     if !keep {
         return match frame_onto(alloc, cart, state, input, NoPaint) {
@@ -90,11 +91,11 @@ pub fn frame(
                 rows: played.rows,
                 picture: None,
             }),
-            Err(kind) => Err(FrameError::Fault(kind)),
+            Err(kind) => Err(Refused::Of(kind)),
         };
     }
     let Ok(blank) = Picture::blank(alloc) else {
-        return Err(FrameError::NoMemory);
+        return Err(Refused::NoMemory);
     };
     match frame_onto(alloc, cart, state, input, blank) {
         Ok(played) => Ok(TimedFrame {
@@ -102,6 +103,6 @@ pub fn frame(
             rows: played.rows,
             picture: Some(played.sink.cut(played.rows)),
         }),
-        Err(kind) => Err(FrameError::Fault(kind)),
+        Err(kind) => Err(Refused::Of(kind)),
     }
 }

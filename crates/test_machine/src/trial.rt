@@ -3,8 +3,9 @@
 use crate::step::Step;
 use cart_board::Cart;
 use chip_machine::{State, TimedFrame, frame, read_state, write_state};
+use refused::Refused;
 use std::alloc::{AllocError, Global};
-use vcs_machine::{FrameError, Input};
+use vcs_machine::Input;
 
 /// A console between two frames, and the last frame that ended.
 #[derive(Drop)]
@@ -99,8 +100,8 @@ impl<'a> Trial<'a> {
                 self.last = Some(timed);
                 Ok(true)
             }
-            Err(FrameError::Fault(_)) => Ok(false),
-            Err(FrameError::NoMemory) => Err(AllocError),
+            Err(Refused::Of(_)) => Ok(false),
+            Err(Refused::NoMemory) => Err(AllocError),
         }
     }
 
@@ -114,8 +115,8 @@ impl<'a> Trial<'a> {
         }
         match frame(self.alloc, self.cart, &mut self.state, input, false) {
             Ok(_) => Ok(false),
-            Err(FrameError::Fault(kind)) => Ok(format!(in self.alloc; "{kind}")?.as_str() == text),
-            Err(FrameError::NoMemory) => Err(AllocError),
+            Err(Refused::Of(kind)) => Ok(format!(in self.alloc; "{kind}")?.as_str() == text),
+            Err(Refused::NoMemory) => Err(AllocError),
         }
     }
 }

@@ -1,6 +1,8 @@
 -- What one frame does to a state. All of this is this project's own: the Stella Programmer's Guide
 -- leaves it to a program where a frame begins and ends.
 use Rattle.std.specs.Prelude.{ℕ, ◌≡◌, false, List, []}
+use Rattle.refused.specs.declared.Refused.{Refused}
+use Rattle.refused.specs.declared.Refused.TheVariants.{NoMemory, Of}
 use Rattle.riot_map.specs.Riot.{riot_of, fields_of, with_pins}
 use Rattle.tia_core.specs.TiaState.{tia_of as tia_state_of, with_fire, at_frame_start}
 use Rattle.tia_core.specs.Clock.{Pixel, sink_after_pixels}
@@ -12,8 +14,6 @@ use Rattle.vcs_machine.specs.Pictures.{Rows, picture_of, rows_of}
 use Rattle.vcs_machine.specs.States.{line_cycle_of}
 use Rattle.vcs_machine.specs.declared.fault.FaultKind.{FaultKind}
 use Rattle.vcs_machine.specs.declared.fault.FaultKind.TheVariants.{Overlong as TooLong}
-use Rattle.vcs_machine.specs.declared.fault.FrameError.{FrameError}
-use Rattle.vcs_machine.specs.declared.fault.FrameError.TheVariants.{Fault, NoMemory}
 use Rattle.vcs_machine.specs.declared.fields.StateFields.{StateFields}
 
 -- A frame ended with a state and a picture, or it failed and left a state.
@@ -63,8 +63,8 @@ unfoldable pub cycles_of : List ℕ → StateFields → InputData → ℕ
 cycles_of cartridge s i = (machine_at (stop_of (frame_meaning_of with_pixel_logged) (machine_of cartridge s i []))).cycles
 
 -- A frame's error, and the state that it leaves.
-abbrev pub FailsAs : FrameOutcome → FrameError → StateFields → Type 0
-FailsAs outcome (Fault kind) s = outcome ≡ Failed kind s
+abbrev pub FailsAs : FrameOutcome → Refused FaultKind → StateFields → Type 0
+FailsAs outcome (Of kind) s = outcome ≡ Failed kind s
 FailsAs outcome NoMemory s = Unit {0}
 
 -- A frame stops for this cause, leaves this state, and has taken so many cycles.

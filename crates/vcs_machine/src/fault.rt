@@ -77,11 +77,3 @@ pub struct Halt {
     pub kind: FaultKind,
     pub cycles: u32,
 }
-
-/// Why a frame has no picture and no state after it.
-#[derive(Clone, Copy, Debug, PartialEq, Eq)]
-pub enum FrameError {
-    Fault(FaultKind),
-    /// The memory of its picture was refused.
-    NoMemory,
-}

@@ -11,12 +11,13 @@ ghost use Rattle.vcs_machine.specs.Outcomes.{PlaysOn, Halts};
 ghost use Rattle.vcs_machine.specs.Pictures.{Rows};
 
 use crate::console::Console;
-use crate::fault::{FrameError, Halt};
+use crate::fault::{FaultKind, Halt};
 use crate::frame_loop::run_frame;
 use crate::input::Input;
 use crate::picture::Picture;
 use crate::state::State;
 use crate::timing::timed_frame;
+use refused::Refused;
 use riot_map::Cart;
 use std::alloc::Global;
 use tia_core::{NoPaint, Paint};
@@ -57,12 +58,12 @@ pub fn frame(
     state: &mut State,
     input: Input,
     keep: bool,
-) -> Result<Option<Picture>, FrameError>
+) -> Result<Option<Picture>, Refused<FaultKind>>
     ensures ok { IfOk result (λ picture. (rows : Rows) × (frame_of cart.now state.old input ≡ Played state.new rows)
         × (picture ≡ (if keep then Some rows else None))) }
     ensures err { IfErr result (λ error. FailsAs (frame_of cart.now state.old input) error state.new) }
-    ensures memory { result ≡ Err FrameError.NoMemory → keep ≡ true }
-    ensures refused { result ≡ Err FrameError.NoMemory → state.new ≡ state.old }
+    ensures memory { result ≡ Err Refused.NoMemory → keep ≡ true }
+    ensures refused { result ≡ Err Refused.NoMemory → state.new ≡ state.old }
 {
     match timed_frame(alloc, cart, state, input, keep) {
         Ok(timed) => Ok(timed.picture),

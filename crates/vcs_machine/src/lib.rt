@@ -22,7 +22,7 @@ mod timing;
 
 pub use devices::LINE_CYCLES;
 pub use executed::{DataAccess, Executed};
-pub use fault::{FaultKind, FrameError, Halt};
+pub use fault::{FaultKind, Halt};
 pub use fields::StateFields;
 pub use frames::{frame, halt};
 pub use hexadecimal::{HexByte, HexWord};

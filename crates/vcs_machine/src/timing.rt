@@ -4,11 +4,12 @@ ghost use Rattle.vcs_machine.specs.Outcomes.{FailsAs, Played, cycles_of, frame_o
 ghost use Rattle.vcs_machine.specs.Pictures.{Rows, rows_of};
 ghost use Rattle.vcs_machine.specs.States.{line_cycle_of};
 
-use crate::fault::FrameError;
+use crate::fault::FaultKind;
 use crate::frames::frame_onto;
 use crate::input::Input;
 use crate::picture::{Picture, rows};
 use crate::state::State;
+use refused::Refused;
 use riot_map::Cart;
 use std::alloc::Global;
 use tia_core::NoPaint;
@@ -36,14 +37,14 @@ pub fn timed_frame(
     state: &mut State,
     input: Input,
     keep: bool,
-) -> Result<TimedFrame, FrameError>
+) -> Result<TimedFrame, Refused<FaultKind>>
     ensures ok { IfOk result (λ timed. (rows : Rows) × (frame_of cart.now state.old input ≡ Played state.new rows)
         × (timed.rows ≡ length rows) × (timed.picture ≡ (if keep then Some rows else None))) }
     ensures cycles { IfOk result (λ timed. timed.cycles ≡ cycles_of cart.now state.old input) }
     ensures rows { IfOk result (λ timed. timed.rows ≡ rows_of (line_cycle_of state.old) timed.cycles) }
     ensures err { IfErr result (λ error. FailsAs (frame_of cart.now state.old input) error state.new) }
-    ensures memory { result ≡ Err FrameError.NoMemory → keep ≡ true }
-    ensures refused { result ≡ Err FrameError.NoMemory → state.new ≡ state.old }
+    ensures memory { result ≡ Err Refused.NoMemory → keep ≡ true }
+    ensures refused { result ≡ Err Refused.NoMemory → state.new ≡ state.old }
 {
     let line_cycle = state.line_cycle();
     if !keep {
@@ -53,11 +54,11 @@ pub fn timed_frame(
                 rows: rows(line_cycle, cycles),
                 picture: None,
             }),
-            Err(halt) => Err(FrameError::Fault(halt.kind)),
+            Err(halt) => Err(Refused::Of(halt.kind)),
         };
     }
     let Ok(blank) = Picture::blank(alloc) else {
-        return Err(FrameError::NoMemory);
+        return Err(Refused::NoMemory);
     };
     match frame_onto(cart, state, input, blank) {
         Ok((picture, cycles)) => {
@@ -68,6 +69,6 @@ pub fn timed_frame(
                 picture: Some(picture.cut(rows)),
             })
         }
-        Err(halt) => Err(FrameError::Fault(halt.kind)),
+        Err(halt) => Err(Refused::Of(halt.kind)),
     }
 }
