@@ -6,11 +6,13 @@ use Rattle.clap.specs.declared.error.Error.{Error}
 use Rattle.clap.specs.declared.error.ErrorKind.{ErrorKind}
 use Rattle.clap.specs.declared.error.ErrorKind.TheVariants.{DisplayHelp, DisplayVersion, OutOfMemory}
 use Rattle.clap.proofs.OnLiterals.{clap_on_literals}
-use Rattle.command_line.specs.Faults.{HasBadValue, IsAnswerTo, IsRefusal}
+use Rattle.command_line.specs.Faults.{HasBadValue, IsAnswerTo, IsRefusal, UnlessRefused}
 use Rattle.command_line.specs.Meanings.{AsksForReasons, IsGiven}
 use Rattle.command_line.specs.Table.{explain_row, program_app}
 use Rattle.command_line.specs.declared.command.LineFault.{LineFault}
-use Rattle.command_line.specs.declared.command.LineFault.TheVariants.{Usage, Help, Memory}
+use Rattle.command_line.specs.declared.command.LineFault.TheVariants.{Usage, Help}
+use Rattle.refused.specs.declared.Refused.{Refused}
+use Rattle.refused.specs.declared.Refused.TheVariants.{NoMemory, Of}
 
 program_is_simple : is_simple program_app ≡ true
 unfolding clap_on_literals
@@ -88,13 +90,11 @@ refused words kind (Help text) (inl memory) (inr version) =
     let bad : OutOfMemory ≡ DisplayVersion = sym memory ∙ version in
     cc
 refused words kind (Help text) (inr among) answer = inl (kind, among, answer)
-refused words kind Memory found answer = tt
 
-pub bad_value : (words : List Text) (name : Text) (rows : List Row) (fault : LineFault) → subcommand_of program_app words ≡ Some (name, rows)
-    → HasBadValue name rows fault → IsRefusal words fault
-bad_value words name rows (Usage kind text) met bad = inr (rw met bad)
-bad_value words name rows (Help text) met bad = inr (rw met bad)
-bad_value words name rows Memory met bad = tt
+pub bad_value : (words : List Text) (name : Text) (rows : List Row) (answer : Refused LineFault) → subcommand_of program_app words ≡ Some (name, rows)
+    → UnlessRefused (HasBadValue name rows) answer → UnlessRefused (IsRefusal words) answer
+bad_value words name rows (Of fault) met bad = inr (rw met bad)
+bad_value words name rows NoMemory met bad = tt
 
 pub in_both : {T E : Type 0} (r : Result T E) (K : Type 0) → K → IfOk r (λ x. K)
 in_both (Ok x) K k = k

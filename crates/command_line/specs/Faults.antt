@@ -12,7 +12,14 @@ use Rattle.replay_plan.specs.Limits.{first_address}
 use Rattle.command_line.specs.Meanings.{HasAddresses, byte_in, words_of}
 use Rattle.command_line.specs.Table.{frames_listed, program_app, report_listed, sha256_row, watch_row}
 use Rattle.command_line.specs.declared.command.LineFault.{LineFault}
-use Rattle.command_line.specs.declared.command.LineFault.TheVariants.{Usage, Help, Memory}
+use Rattle.command_line.specs.declared.command.LineFault.TheVariants.{Usage, Help}
+use Rattle.refused.specs.declared.Refused.{Refused}
+use Rattle.refused.specs.declared.Refused.TheVariants.{NoMemory, Of}
+
+-- It holds of the fault, unless there is none since memory was refused.
+abbrev pub UnlessRefused : (LineFault → Type 0) → Refused LineFault → Type 0
+UnlessRefused P (Of fault) = P fault
+UnlessRefused P NoMemory = Unit {0}
 
 -- The answer to an error of this kind: help and the version are what was asked for, a refused
 -- allocation is no mistake, and each other kind is one of that kind.
@@ -20,7 +27,6 @@ abbrev pub IsAnswerTo : ErrorKind → LineFault → Type 0
 IsAnswerTo kind (Usage told text) =
     (told ≡ kind) × (kind ≢ OutOfMemory) × (kind ≢ DisplayHelp) × (kind ≢ DisplayVersion)
 IsAnswerTo kind (Help text) = (kind ≡ DisplayHelp) ⊎ (kind ≡ DisplayVersion)
-IsAnswerTo kind Memory = Unit {0}
 
 -- A byte that was read is an address of the memory.
 abbrev pub is_in_memory : Result (List ℕ) FromHexError → Bool
@@ -47,7 +53,6 @@ abbrev pub IsNoFrames : List Row → LineFault → Type 0
 IsNoFrames rows (Usage kind text) =
     (HasAddresses rows → ⊥) × (kind ≡ ValueValidation) × (string_bytes text ≡ watch_mistake (words_of watch_row rows))
 IsNoFrames rows (Help text) = ⊥
-IsNoFrames rows Memory = Unit {0}
 
 -- What is said of a word that writes no digest.
 abbrev pub digest_mistake : Text → Text
@@ -60,7 +65,6 @@ IsNoReport rows (Usage kind text) =
     (kind ≡ ValueValidation)
     × IsSomeAnd (first_of sha256_row.name rows) (λ word. IsErr (decode_sized word 32) × (string_bytes text ≡ digest_mistake word))
 IsNoReport rows (Help text) = ⊥
-IsNoReport rows Memory = Unit {0}
 
 -- `clap` finds a mistake or a request of this kind in the words, and this is the answer to it.
 abbrev pub IsFound : List Text → LineFault → Type 0
@@ -69,12 +73,11 @@ IsFound words fault =
 
 -- The answer to the values of the command of this name, if there is no command.
 abbrev pub HasBadValue : Text → List Row → LineFault → Type 0
-HasBadValue name rows Memory = Unit {0}
 HasBadValue name rows fault =
     ((name ≡ frames_listed.name) × IsNoFrames rows fault) ⊎ ((name ≡ report_listed.name) × IsNoReport rows fault)
 
--- The answer to words that are no command. Memory may run out at any words.
+-- The answer to words that are no command.
 abbrev pub IsRefusal : List Text → LineFault → Type 0
-IsRefusal words Memory = Unit {0}
-IsRefusal words fault = IsFound words fault
+IsRefusal words fault =
+    IsFound words fault
     ⊎ IsSomeAnd (subcommand_of program_app words) (λ met. HasBadValue met.0 met.1 fault)

@@ -1,12 +1,10 @@
 //! What a command line asks for.
 ghost use Rattle.std.specs.Prelude.{◌≡◌};
-ghost use Rattle.command_line.specs.declared.command.LineFault.TheVariants.{Memory};
 
 use crate::inputs::Listing;
 use crate::make::Making;
 use clap::error::ErrorKind;
 use replay_plan::{Details, Expectations, InputForm, Keep, Notation, Workers};
-use std::alloc::AllocError;
 use std::num::{NonZeroU16, NonZeroU32};
 
 /// What is asked for. Each command but `Make` asks about a movie.
@@ -159,14 +157,4 @@ pub enum LineFault {
     Help {
         text: String,
     },
-    /// An allocation was refused.
-    Memory,
-}
-
-impl From<AllocError> for LineFault {
-    ghost from_gives = { λ _ fault. fault ≡ Memory };
-
-    fn from(_refused: AllocError) -> LineFault {
-        LineFault::Memory
-    }
 }

@@ -4,8 +4,8 @@ ghost use Rattle.std.specs.Prelude.{IfErr, IfNone, IfOk, IfSome, is_some, string
 ghost use Rattle.clap.specs.Words.{found_of, rows_of};
 ghost use Rattle.replay_plan.specs.Limits.{most_watches};
 ghost use Rattle.replay_plan.specs.declared.watches.Address.{Address};
-ghost use Rattle.command_line.specs.Faults.{IsNoFrames, first_no_address, is_in_memory};
-ghost use Rattle.command_line.specs.Faults.{watch_mistake};
+ghost use Rattle.command_line.specs.Faults.{IsNoFrames, UnlessRefused, first_no_address};
+ghost use Rattle.command_line.specs.Faults.{is_in_memory, watch_mistake};
 ghost use Rattle.command_line.specs.Private.Numbers.{HasNumbers};
 ghost use Rattle.command_line.specs.Meanings.{AreAddresses, IsLineAt, byte_in};
 ghost use Rattle.command_line.specs.Meanings.{without_dollar, words_of};
@@ -16,6 +16,7 @@ use crate::line::{is_given, line_of_facts, number_at, number_from_one};
 use clap::ArgMatches;
 use clap::error::ErrorKind;
 use hex::FromHex;
+use refused::Refused;
 use replay_plan::{Address, Details, Watches};
 use std::alloc::{AllocError, Global};
 
@@ -82,25 +83,28 @@ fn told_words(alloc: Global, words: &[&str]) -> Result<String, AllocError>
 }
 
 /// The addresses that are asked for.
-fn watches_of(alloc: Global, matches: &ArgMatches<'_>) -> Result<Watches, LineFault>
+fn watches_of(alloc: Global, matches: &ArgMatches<'_>) -> Result<Watches, Refused<LineFault>>
     ensures ok { IfOk result (AreAddresses (words_of watch_row (rows_of (found_of matches.now)))) }
-    ensures err { IfErr result (IsNoFrames (rows_of (found_of matches.now))) }
+    ensures err { IfErr result (UnlessRefused (IsNoFrames (rows_of (found_of matches.now)))) }
 {
     let words = matches.get_strs("watch").unwrap_or(&[]);
     match addresses_in(words) {
         Some(watches) => Ok(watches),
-        None => Err(LineFault::Usage {
+        None => Err(Refused::Of(LineFault::Usage {
             kind: ErrorKind::ValueValidation,
             text: told_words(alloc, words)?,
-        }),
+        })),
     }
 }
 
 /// `frames`.
-pub(crate) fn frames_of(alloc: Global, matches: &ArgMatches<'_>) -> Result<CommandLine, LineFault>
+pub(crate) fn frames_of(
+    alloc: Global,
+    matches: &ArgMatches<'_>,
+) -> Result<CommandLine, Refused<LineFault>>
     requires { HasNumbers frames_listed (rows_of (found_of matches.now)) }
     ensures ok { IfOk result (IsLineAt (codes "frames") (rows_of (found_of matches.now))) }
-    ensures err { IfErr result (IsNoFrames (rows_of (found_of matches.now))) }
+    ensures err { IfErr result (UnlessRefused (IsNoFrames (rows_of (found_of matches.now)))) }
 {
     let watches = watches_of(alloc, matches)?;
     let memory = is_given(matches, "memory");

@@ -4,13 +4,12 @@ ghost use Rattle.std.specs.Prelude.{IfErr, IfOk, IfNone, IfSome, string_bytes};
 ghost use Rattle.std.specs.NonZero.{non_zero_u16_get, non_zero_u32_get};
 ghost use Rattle.clap.specs.Words.{fault_of as faults_at, found_of, kind_of, matches_of, rows_of, subcommand_of};
 ghost use Rattle.clap.specs.Words.{first_of, one_of};
-ghost use Rattle.command_line.specs.Faults.{HasBadValue, IsAnswerTo, IsRefusal};
+ghost use Rattle.command_line.specs.Faults.{HasBadValue, IsAnswerTo, IsRefusal, UnlessRefused};
 ghost use Rattle.command_line.specs.Meanings.{AsksForReasons, IsGiven, IsLine, IsLineAt, IsNotation, IsPlain};
 ghost use Rattle.command_line.specs.Meanings.{files_of, number_in, number_of, of_movie, word_of};
 ghost use Rattle.command_line.specs.Private.Names.{IsUnlisted};
 ghost use Rattle.command_line.specs.Private.Numbers.{HasNumbers, HasNumbersOf, IsNumberIn};
 ghost use Rattle.command_line.specs.Private.Numbers.{Suits};
-ghost use Rattle.command_line.specs.declared.command.LineFault.TheVariants.{Memory};
 ghost use Rattle.command_line.specs.Table.{commands, program_app, verify_listed};
 ghost use Rattle.command_line.specs.Table.{workers_row, cuts_row, first_row, count_row};
 ghost use Rattle.command_line.specs.Table.{cut_listed, explain_row, out_row, pictures_listed, pictures_row, trace_listed};
@@ -23,6 +22,7 @@ use crate::parser::program;
 use crate::report::report_of;
 use clap::ArgMatches;
 use clap::error::ErrorKind;
+use refused::Refused;
 use replay_plan::{Keep, Notation, Workers};
 use std::alloc::{AllocError, Global};
 use std::convert::AsStr;
@@ -279,29 +279,33 @@ fn trace_of(alloc: Global, matches: &ArgMatches<'_>) -> Result<CommandLine, Allo
 }
 
 /// What `clap` says of arguments that are no command, or that ask for help.
-fn fault_of(alloc: Global, error: &clap::Error) -> LineFault
-    ensures { IsAnswerTo (kind_of error.now) result }
+fn fault_of(alloc: Global, error: &clap::Error) -> Result<LineFault, AllocError>
+    ensures { IfOk result (IsAnswerTo (kind_of error.now)) }
 {
     if error.kind() == ErrorKind::OutOfMemory {
-        return LineFault::Memory;
+        return Err(AllocError);
     }
-    match error.to_string(alloc) {
-        Ok(text) if error.use_stderr() => LineFault::Usage {
+    let text = error.to_string(alloc)?;
+    if error.use_stderr() {
+        return Ok(LineFault::Usage {
             kind: error.kind(),
             text,
-        },
-        Ok(text) => LineFault::Help { text },
-        Err(_) => LineFault::Memory,
+        });
     }
+    Ok(LineFault::Help { text })
 }
 
 /// The line of the command of this name of the table, of which `clap` found some values, each number in
 /// its range.
-fn line_at(alloc: Global, name: &str, matches: &ArgMatches<'_>) -> Result<CommandLine, LineFault>
+fn line_at(
+    alloc: Global,
+    name: &str,
+    matches: &ArgMatches<'_>,
+) -> Result<CommandLine, Refused<LineFault>>
     requires numbers { HasNumbersOf name.now (rows_of (found_of matches.now)) }
     requires listed { IsUnlisted name.now commands → ⊥ }
     ensures ok { IfOk result (IsLineAt name.now (rows_of (found_of matches.now))) }
-    ensures err { IfErr result (HasBadValue name.now (rows_of (found_of matches.now))) }
+    ensures err { IfErr result (UnlessRefused (HasBadValue name.now (rows_of (found_of matches.now)))) }
 {
     match name {
         "verify" => Ok(verify_of(alloc, matches)?),
@@ -326,13 +330,13 @@ fn line_of(
     name: &str,
     matches: &ArgMatches<'_>,
     explain: bool,
-) -> Result<CommandLine, LineFault>
+) -> Result<CommandLine, Refused<LineFault>>
     requires numbers { HasNumbersOf name.now (rows_of (found_of matches.now)) }
     requires listed { IsUnlisted name.now commands → ⊥ }
     ensures ok { IfOk result (IsLineAt name.now (rows_of (found_of matches.now))) }
     ensures explain { IfOk result (λ line. (line.explain ≡ true)
         ↔ ((explain ≡ true) ⊎ IsGiven explain_row (rows_of (found_of matches.now)))) }
-    ensures err { IfErr result (HasBadValue name.now (rows_of (found_of matches.now))) }
+    ensures err { IfErr result (UnlessRefused (HasBadValue name.now (rows_of (found_of matches.now)))) }
 {
     Ok(CommandLine {
         explain: explain || is_given(matches, "explain"),
@@ -341,10 +345,9 @@ fn line_of(
 }
 
 /// The command of no arguments, and of `--explain` alone: `verify -` by one worker.
-fn line_of_no_words(alloc: Global, explain: bool) -> Result<CommandLine, LineFault>
+fn line_of_no_words(alloc: Global, explain: bool) -> Result<CommandLine, AllocError>
     ensures ok { IfOk result (IsLine None) }
     ensures explain { IfOk result (λ line. line.explain ≡ explain) }
-    ensures err { IfErr result (λ fault. fault ≡ Memory) }
 {
     let command = Command::Verify {
         every: NonZeroU16::MIN,
@@ -361,22 +364,22 @@ fn line_of_no_words(alloc: Global, explain: bool) -> Result<CommandLine, LineFau
 ///
 /// If they name no command it is `verify -` by one worker. `clap` tries each number, so that each is
 /// in its range here.
-pub fn parse_line<S: AsStr>(alloc: Global, words: &[S]) -> Result<CommandLine, LineFault>
+pub fn parse_line<S: AsStr>(alloc: Global, words: &[S]) -> Result<CommandLine, Refused<LineFault>>
     ensures taken { IfOk result (λ _. faults_at program_app (map S.text words.now) ≡ []) }
     ensures ok { IfOk result (IsLine (subcommand_of program_app (map S.text words.now))) }
     ensures explain { IfOk result (λ line. (line.explain ≡ true)
         ↔ AsksForReasons (matches_of program_app (map S.text words.now))
         (subcommand_of program_app (map S.text words.now))) }
-    ensures err { IfErr result (IsRefusal (map S.text words.now)) }
+    ensures err { IfErr result (UnlessRefused (IsRefusal (map S.text words.now))) }
 {
     let program = program(alloc)?;
     let matches = match program.try_get_matches_from(words) {
         Ok(matches) => matches,
-        Err(error) => return Err(fault_of(alloc, &error)),
+        Err(error) => return Err(Refused::Of(fault_of(alloc, &error)?)),
     };
     let explain = is_given(&matches, "explain");
     match matches.subcommand() {
         Some((name, inner)) => line_of(alloc, name, inner, explain),
-        None => line_of_no_words(alloc, explain),
+        None => Ok(line_of_no_words(alloc, explain)?),
     }
 }

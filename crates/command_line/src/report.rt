@@ -1,7 +1,7 @@
 //! From the arguments of `report` to its command.
 ghost use Rattle.std.specs.Prelude.{◌≡◌, codes, string_bytes, Err, IfErr, IfOk};
 ghost use Rattle.clap.specs.Words.{first_of, found_of, rows_of};
-ghost use Rattle.command_line.specs.Faults.{IsNoReport, digest_mistake};
+ghost use Rattle.command_line.specs.Faults.{IsNoReport, UnlessRefused, digest_mistake};
 ghost use Rattle.command_line.specs.Meanings.{AreExpectations, IsDigest, IsLineAt};
 ghost use Rattle.command_line.specs.Private.Numbers.{HasNumbers};
 ghost use Rattle.command_line.specs.Table.{report_listed, sha256_row};
@@ -11,6 +11,7 @@ use crate::line::{is_given, line_of_facts, word_of, workers_of};
 use clap::ArgMatches;
 use clap::error::ErrorKind;
 use hex::FromHex;
+use refused::Refused;
 use replay_plan::Expectations;
 use std::alloc::{AllocError, Global};
 
@@ -25,26 +26,32 @@ fn told_digest(alloc: Global, word: &str) -> Result<String, AllocError>
 
 /// The digest that the cartridge is expected to have, if one is asked for.
 #[tactic(auto, using(crate::proofs::ClapGetters::word_read))]
-fn digest_of(alloc: Global, matches: &ArgMatches<'_>) -> Result<Option<[u8; 32]>, LineFault>
+fn digest_of(
+    alloc: Global,
+    matches: &ArgMatches<'_>,
+) -> Result<Option<[u8; 32]>, Refused<LineFault>>
     ensures ok { IfOk result (IsDigest (first_of sha256_row.name (rows_of (found_of matches.now)))) }
-    ensures err { IfErr result (IsNoReport (rows_of (found_of matches.now))) }
+    ensures err { IfErr result (UnlessRefused (IsNoReport (rows_of (found_of matches.now)))) }
 {
     let Some(word) = matches.get_str("sha256") else {
         return Ok(None);
     };
     match <[u8; 32] as FromHex>::from_hex(word) {
         Ok(digest) => Ok(Some(digest)),
-        Err(_) => Err(LineFault::Usage {
+        Err(_) => Err(Refused::Of(LineFault::Usage {
             kind: ErrorKind::ValueValidation,
             text: told_digest(alloc, word)?,
-        }),
+        })),
     }
 }
 
 /// What the movie is expected to be, beside the cartridge of a file.
-fn expectations_of(alloc: Global, matches: &ArgMatches<'_>) -> Result<Expectations, LineFault>
+fn expectations_of(
+    alloc: Global,
+    matches: &ArgMatches<'_>,
+) -> Result<Expectations, Refused<LineFault>>
     ensures ok { IfOk result (AreExpectations (rows_of (found_of matches.now))) }
-    ensures err { IfErr result (IsNoReport (rows_of (found_of matches.now))) }
+    ensures err { IfErr result (UnlessRefused (IsNoReport (rows_of (found_of matches.now)))) }
 {
     Ok(Expectations {
         digest: digest_of(alloc, matches)?,
@@ -54,10 +61,13 @@ fn expectations_of(alloc: Global, matches: &ArgMatches<'_>) -> Result<Expectatio
 }
 
 /// `report`.
-pub(crate) fn report_of(alloc: Global, matches: &ArgMatches<'_>) -> Result<CommandLine, LineFault>
+pub(crate) fn report_of(
+    alloc: Global,
+    matches: &ArgMatches<'_>,
+) -> Result<CommandLine, Refused<LineFault>>
     requires { HasNumbers report_listed (rows_of (found_of matches.now)) }
     ensures ok { IfOk result (IsLineAt (codes "report") (rows_of (found_of matches.now))) }
-    ensures err { IfErr result (IsNoReport (rows_of (found_of matches.now))) }
+    ensures err { IfErr result (UnlessRefused (IsNoReport (rows_of (found_of matches.now)))) }
 {
     let command = Command::Report {
         expectations: expectations_of(alloc, matches)?,

@@ -1,7 +1,7 @@
 -- Lines that are good up to a place, and the first that isn't.
 use Rattle.std.proofs.Common.{◌≡◌, ℕ, ◌+◌, ◌<◌, ◌≤◌, Bool, true, false, List, []}
 use Rattle.std.proofs.Common.{◌∷◌, ◌++◌, length, get_or, take, drop, replicate, Option, Some, None}
-use Rattle.std.proofs.Common.{Ok, Err, sym, refl, ap, ◌∙◌, arith, append_assoc}
+use Rattle.std.proofs.Common.{Result, Ok, Err, sym, refl, ap, ◌∙◌, arith, append_assoc}
 use Rattle.std.proofs.Common.{length-append, Bor}
 use Rattle.std.specs.Prelude.{not, find, if◌then◌else◌, sum_by, nat_le, ◌&&◌}
 use Rattle.std.specs.Option.{option_map_or}
@@ -17,7 +17,10 @@ use Rattle.std.proofs.lemmas.List.FromFn.{get_or-range_with_len, length-range_wi
 use Rattle.std.proofs.lemmas.List.Recursion.{found_at, found_nowhere}
 use Rattle.std.proofs.lemmas.List.Sums.{sum_by-append}
 use Rattle.std.proofs.Math.Seq.{take-append-add}
+use Rattle.refused.specs.declared.Refused.{Refused}
+use Rattle.refused.specs.declared.Refused.TheVariants.{NoMemory, Of}
 use Rattle.vcs_machine.specs.Inputs.{InputData}
+use Rattle.input_text.specs.declared.reading.BadLine.{BadLine}
 use Rattle.input_text.specs.Words.{lines_of, words_of}
 use Rattle.input_text.specs.Texts.{most_frames, is_readable, frames_of, input_of, inputs_of}
 use Rattle.input_text.specs.Texts.{are_good, first_bad, inputs_in, SaysFrames}
@@ -122,6 +125,12 @@ module _ (text line : List ℕ) (number : ℕ) (inputs : List InputData) (rest a
   -- a line that doesn't fit is bad
   pub read_bad : fits inputs line ≡ false → inputs_in text ≡ Err (number + 1)
   read_bad e = grind (arith, next_lines, first_bad-at, next_good)
+
+-- The number of the line that is refused, or 0.
+abbrev pub line_in : {A : Type 0} → Result A (Refused BadLine) → ℕ
+line_in (Ok inputs) = 0
+line_in (Err NoMemory) = 0
+line_in (Err (Of line)) = line.number
 
 pub read_all : (text : List ℕ) (number : ℕ) (inputs : List InputData) → ReadSoFar text number inputs None → inputs_in text ≡ Ok inputs
 read_all text number inputs so = grind (arith, append-nil, said)

@@ -5,7 +5,6 @@
 //! bad; `specs/Stretches` how inputs are printed.
 #![tactic(auto)]
 
-mod error;
 mod held;
 mod laws;
 mod mistake;
@@ -16,10 +15,9 @@ mod stretch;
 mod words;
 mod writing;
 
-pub use error::TextError;
 pub use held::is_idle;
 pub use laws::{law_of_held_names, law_of_one_text, law_of_printed_inputs};
 pub use mistake::{Mistake, line_at, mistake_in};
 pub use near::meant_by;
-pub use reading::read_text;
+pub use reading::{BadLine, read_text};
 pub use writing::{write_numbered, write_text};

@@ -6,12 +6,12 @@ ghost use Rattle.input_text.specs.Texts.{is_count, number_of, name_of, is_readab
 ghost use Rattle.input_text.specs.Texts.{input_of, inputs_in, SaysFrames};
 ghost use Rattle.input_text.specs.Words.{words_in, words_of};
 
-use crate::error::TextError;
 use crate::held::{hold, idle};
 use crate::name::{NAMES, Name};
 use crate::stretch::Stretch;
 use crate::words::{first_line, first_word, without_comment};
 use movie_file::MOST_FRAMES;
+use refused::Refused;
 use std::alloc::Global;
 use vcs_machine::Input;
 
@@ -78,14 +78,20 @@ fn stretch_in(line: &[u8]) -> Option<Stretch>
     }
 }
 
-/// The inputs that a text says. `BadLine` has the number, from 1, of the first line that can't be
-/// read, or with which there would be more than 262,143 inputs; no memory is taken for that line.
-/// `NoMemory` comes if an allocation was refused for a line before it.
-pub fn read_text(alloc: Global, text: &[u8]) -> Result<Vec<Input>, TextError>
+/// The first line of a text that can't be read, or with which there are more frames than a movie has.
+#[derive(Clone, Copy, Debug, PartialEq, Eq)]
+pub struct BadLine {
+    /// Its number, from 1.
+    pub number: u64,
+}
+
+/// The inputs that a text says, at most 262,143. No memory is taken for the first bad line; `NoMemory`
+/// comes if an allocation was refused for a line before it.
+pub fn read_text(alloc: Global, text: &[u8]) -> Result<Vec<Input>, Refused<BadLine>>
     ensures found { IfOk result (λ inputs. inputs_in text.now ≡ Ok inputs.items) }
-    ensures bad { (number : ℕ) → result ≡ Err (TextError.BadLine number)
+    ensures bad { (number : ℕ) → result ≡ Err (Refused.Of (record { number = number }))
         → inputs_in text.now ≡ Err number }
-    ensures memory { result ≡ Err TextError.NoMemory → SaysFrames text.now }
+    ensures memory { result ≡ Err Refused.NoMemory → SaysFrames text.now }
 {
     let mut inputs = Vec::new(alloc);
     let mut rest = Some(text);
@@ -98,7 +104,7 @@ pub fn read_text(alloc: Global, text: &[u8]) -> Result<Vec<Input>, TextError>
             Some(stretch) if stretch.count <= free => {
                 inputs.resize(inputs.len() + stretch.count as usize, stretch.input)?;
             }
-            _ => return Err(TextError::BadLine(number)),
+            _ => return Err(Refused::Of(BadLine { number })),
         }
         rest = after;
     }

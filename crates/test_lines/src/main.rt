@@ -6,22 +6,23 @@
 #![tactic(auto)]
 
 use command_line::{CommandLine, LineFault, parse_line};
+use refused::Refused;
 use std::alloc::{AllocError, Global};
 use std::io::{self, Print};
 
 /// The command line of these words, of which the first is the program's name.
-fn line_of(alloc: Global, words: &str) -> Result<CommandLine, LineFault> {
+fn line_of(alloc: Global, words: &str) -> Result<CommandLine, Refused<LineFault>> {
     let words: Vec<&str> = words.split(' ').collect(alloc)?;
     parse_line(alloc, &words)
 }
 
 /// What the answer is where there is no command.
-fn name_of(fault: &LineFault) -> &'static str {
-    match fault {
-        LineFault::Usage { text, .. } if text.starts_with("error") => "usage",
-        LineFault::Usage { .. } => "usage that names no error",
-        LineFault::Help { .. } => "help",
-        LineFault::Memory => "out of memory",
+fn name_of(refused: &Refused<LineFault>) -> &'static str {
+    match refused {
+        Refused::Of(LineFault::Usage { text, .. }) if text.starts_with("error") => "usage",
+        Refused::Of(LineFault::Usage { .. }) => "usage that names no error",
+        Refused::Of(LineFault::Help { .. }) => "help",
+        Refused::NoMemory => "out of memory",
     }
 }
 
@@ -50,7 +51,7 @@ fn told(alloc: Global, line: &CommandLine) -> Result<String, AllocError> {
 fn tell(rt: &impl Print, alloc: Global, words: &str) -> io::Result<()> {
     match line_of(alloc, words) {
         Ok(line) => println!(rt; "{words}:{}", told(alloc, &line)?),
-        Err(fault) => println!(rt; "{words}: {}", name_of(&fault)),
+        Err(refused) => println!(rt; "{words}: {}", name_of(&refused)),
     }
 }
 

@@ -11,8 +11,8 @@ use Rattle.command_line.proofs.line.parse_line.Goals as goal
 pub returns-in-Err-clause-err : goal.returns-in-Err-clause-err
 returns-in-Err-clause-err g c =
     let words = map g.S.AsStr.text c.args.words.now in
-    refused words _ c.fault_of.result
-    (failing (app_of c.in_ok-program.program) words c.in-Err.error c.in_ok-program.ensures.0 c.in-Err.ensures.kinds) c.fault_of.ensures
+    refused words _ _
+    (failing (app_of c.in_ok-program.program) words c.in-Err.error c.in_ok-program.ensures.0 c.in-Err.ensures.kinds) c.in_ok-fault_of-in-Err.ensures
 
 pub line_of-requires : goal.line_of-requires
 line_of-requires g c =
@@ -35,13 +35,13 @@ returns-in-Some g c =
       taken = in_both c.line_of.result _ (taken (app_of c.in_ok-program.program) words c.in_ok-program.ensures.0 c.in-Ok.ensures.kinds);
       ok = IfOk-weaker c.line_of.result _ _ (λ line is. named words _ _ line at is) c.line_of.ensures.ok;
       explain = IfOk-weaker c.line_of.result _ _ (λ line own. asks_after (matches_of program_app words) c.is_given-explain.result line.explain top _ _ _ at own) c.line_of.ensures.explain;
-      err = IfErr-weaker c.line_of.result _ _ (λ fault bad. bad_value words _ _ fault at bad) c.line_of.ensures.err;
+      err = IfErr-weaker c.line_of.result _ _ (λ answer bad. bad_value words _ _ answer at bad) c.line_of.ensures.err;
     }
 
 pub returns-clause-taken : goal.returns-clause-taken
 returns-clause-taken g c =
     let words = map g.S.AsStr.text c.args.words.now in
-    in_both c.line_of_no_words.result _ (taken (app_of c.in_ok-program.program) words c.in_ok-program.ensures.0 c.in-Ok.ensures.kinds)
+    taken (app_of c.in_ok-program.program) words c.in_ok-program.ensures.0 c.in-Ok.ensures.kinds
 
 pub returns-clause-explain : goal.returns-clause-explain
 returns-clause-explain g c =
@@ -51,12 +51,11 @@ returns-clause-explain g c =
     let before = meets_before (app_of c.in_ok-program.program) words c.in-Ok.matches c.in_ok-program.ensures.0 c.in-Ok.ensures.matches in
     let top : (c.is_given-explain.result ≡ true) ↔ IsGiven explain_row (matches_of program_app words) =
     subst (λ rows. (c.is_given-explain.result ≡ true) ↔ IsGiven explain_row rows) before c.is_given-explain.ensures in
-    IfOk-weaker c.line_of_no_words.result _ _
-    (λ line same. asks_alone (matches_of program_app words) c.is_given-explain.result line.explain top _ (sym met ∙ none) same) c.line_of_no_words.ensures.explain
+    asks_alone (matches_of program_app words) c.is_given-explain.result _ top _ (sym met ∙ none) c.in_ok-line_of_no_words-in-None.ensures.explain
 
 pub returns-clause-ok : goal.returns-clause-ok
 returns-clause-ok g c =
     let words = map g.S.AsStr.text c.args.words.now in
     let met = meets (app_of c.in_ok-program.program) words c.in-Ok.matches c.in_ok-program.ensures.0 c.in-Ok.ensures.matches in
     let none = none_of _ _ _ c.in-None.ensures.name c.in-None.ensures.rows in
-    IfOk-weaker c.line_of_no_words.result _ _ (λ line is. subst (λ met. IsLine met line) (sym (sym met ∙ none)) is) c.line_of_no_words.ensures.ok
+    subst (λ met. IsLine met c.in_ok-line_of_no_words-in-None.field-0) (sym (sym met ∙ none)) c.in_ok-line_of_no_words-in-None.ensures.ok

@@ -1,6 +1,6 @@
-use Rattle.std.proofs.Common.{◌≡◌}
+use Rattle.std.proofs.Common.{◌≡◌, Err}
 use Rattle.std.proofs.Common.{sym, ap, true, false, ◌∙◌, arith}
-use Rattle.input_text.proofs.GoodLines.{fits, lines_left, read_more, read_bad}
+use Rattle.input_text.proofs.GoodLines.{fits, lines_left, read_more, read_bad, line_in}
 use Rattle.input_text.proofs.GoodLines.{read_all, frames_said}
 use Rattle.std.proofs.lemmas.Bool.{and_left}
 use Rattle.std.proofs.lemmas.Bool.Decides.{nat_tests}
@@ -15,7 +15,7 @@ returns-in_default-stretch_in-clause-bad c number e =
       | in_default-stretch_in-via-in_default-stretch_in w ↦ and_left _ _ (sym w.in_default-stretch_in.ensures.readable)
     ] in
     let said = read_bad _ _ _ _ _ c.first_line.result.1 c.loop-rest.invariant.read (ap lines_left c.in-Some.is ∙ c.first_line.ensures.lines) bad in
-    cc
+    said ∙ ap (λ r. Err (line_in r)) e
 
 pub loop-rest-preserved : goal.loop-rest-preserved
 loop-rest-preserved c =
