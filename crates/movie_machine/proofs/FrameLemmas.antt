@@ -2,6 +2,8 @@
 use Rattle.std.proofs.Common.{◌≡◌, ◌∙◌, ℕ, List, Some, length, refl, ap, inl, inr}
 use Rattle.std.specs.Prelude.{IsTrue}
 use Rattle.std.proofs.lemmas.Bool.{cases_Bool}
+use Rattle.refused.specs.declared.Refused.{Refused}
+use Rattle.refused.specs.declared.Refused.TheVariants.{NoMemory, Of}
 use Rattle.riot_map.specs.Cart.{has_banks}
 use Rattle.tia_core.specs.Clock.{Pixel}
 use Rattle.vcs_machine.specs.Consoles.{Console}
@@ -11,8 +13,6 @@ use Rattle.vcs_machine.specs.Outcomes.{Played as PlayedByGuide, Failed as Failed
 use Rattle.vcs_machine.specs.Outcomes.{Halts, cycles_of, left_by, frame_of as frame_of_guide}
 use Rattle.vcs_machine.specs.Pictures.{Rows}
 use Rattle.vcs_machine.specs.declared.fault.FaultKind.{FaultKind}
-use Rattle.vcs_machine.specs.declared.fault.FrameError.{FrameError}
-use Rattle.vcs_machine.specs.declared.fault.FrameError.TheVariants.{Fault, NoMemory}
 use Rattle.vcs_machine.specs.declared.fields.StateFields.{StateFields}
 use Rattle.vcs_machine.proofs.BankLaws.{frame_of-bank}
 use Rattle.vcs_machine.proofs.FrameOutcomes.{machine_at-halted}
@@ -50,7 +50,7 @@ module _ (bytes : List ℕ) (s after : StateFields) (i : InputData) where
     pub of-failed : (kind : FaultKind) → frame_of_guide bytes s i ≡ FailedByGuide kind after → IsTrue (is_of (GuideCart bytes) (Guide after))
     of-failed kind fails = of-left (ap left_by fails)
 
-    pub of-error : (error : FrameError) → FailsByGuide (frame_of_guide bytes s i) error after → (error ≡ NoMemory → after ≡ s)
+    pub of-error : (error : Refused FaultKind) → FailsByGuide (frame_of_guide bytes s i) error after → (error ≡ NoMemory → after ≡ s)
         → IsTrue (is_of (GuideCart bytes) (Guide after))
-    of-error (Fault kind) fails kept = of-failed kind fails
+    of-error (Of kind) fails kept = of-failed kind fails
     of-error NoMemory fails kept = rw (kept refl) of

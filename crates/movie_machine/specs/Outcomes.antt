@@ -3,12 +3,12 @@
 use Rattle.std.specs.Prelude.{ℕ, ◌≡◌, Option, Some, None, IfSome}
 use Rattle.std.specs.Option.{option_map}
 use Rattle.chip_machine.specs.Outcomes.{FrameOutcome as OutcomeOfChip, Played as PlayedByChip, Failed as FailedByChip, frame_of as frame_of_chip}
+use Rattle.refused.specs.declared.Refused.{Refused}
+use Rattle.refused.specs.declared.Refused.TheVariants.{NoMemory, Of}
 use Rattle.vcs_machine.specs.Inputs.{InputData}
 use Rattle.vcs_machine.specs.Outcomes.{FrameOutcome as OutcomeOfGuide, Played as PlayedByGuide, Failed as FailedByGuide, frame_of as frame_of_guide, cycles_of}
 use Rattle.vcs_machine.specs.Pictures.{Rows}
 use Rattle.vcs_machine.specs.declared.fault.FaultKind.{FaultKind}
-use Rattle.vcs_machine.specs.declared.fault.FrameError.{FrameError}
-use Rattle.vcs_machine.specs.declared.fault.FrameError.TheVariants.{Fault, NoMemory}
 use Rattle.movie_machine.specs.declared.cart.Cart.{Cart}
 use Rattle.movie_machine.specs.declared.cart.Cart.TheVariants.{Guide as GuideCart, Chip as ChipCart}
 use Rattle.movie_machine.specs.declared.state.State.{State}
@@ -43,8 +43,8 @@ frame_of (ChipCart cartridge) (Guide s) i = None
 
 -- A frame's error, and the state that is left where the rules say one. That memory was refused says
 -- nothing of the frame.
-abbrev pub FailsAs : Option FrameOutcome → FrameError → State → Type 0
-FailsAs outcome (Fault kind) s = (left : Option Left) × (outcome ≡ Some (Failed kind left)) × IfSome left (λ l. l.state ≡ s)
+abbrev pub FailsAs : Option FrameOutcome → Refused FaultKind → State → Type 0
+FailsAs outcome (Of kind) s = (left : Option Left) × (outcome ≡ Some (Failed kind left)) × IfSome left (λ l. l.state ≡ s)
 FailsAs outcome NoMemory s = Unit {0}
 
 -- What is left with this state, where there are cycles.

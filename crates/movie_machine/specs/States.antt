@@ -1,5 +1,6 @@
 -- States between frames, each by the rules of one console. This project's own.
 use Rattle.std.specs.Prelude.{ℕ, List, [], length, Bool, false, ◌==◌, ◌||◌}
+use Rattle.mos_cpu.specs.Registers.{Registers}
 use Rattle.chip_machine.specs.States.{is_of as is_of_by_chip, line_cycle_of as line_cycle_by_chip, state_at_power_on as power_on_by_chip}
 use Rattle.riot_map.specs.Cart.{has_banks}
 use Rattle.vcs_machine.specs.States.{line_cycle_of as line_cycle_by_guide, state_at_power_on as power_on_by_guide}
@@ -21,6 +22,16 @@ is_of (ChipCart cartridge) (Guide s) = false
 abbrev pub ram_of : State → List ℕ
 ram_of (Guide s) = []
 ram_of (Chip s) = s.ram
+
+-- The registers of its processor.
+abbrev pub registers_of : State → Registers
+registers_of (Guide s) = s.cpu
+registers_of (Chip s) = s.fields.cpu
+
+-- The 128 bytes of the RIOT's memory.
+abbrev pub memory_of : State → List ℕ
+memory_of (Guide s) = s.riot.ram
+memory_of (Chip s) = s.fields.riot.ram
 
 -- The beam's place in its scanline, in cycles.
 abbrev pub line_cycle_of : State → ℕ

@@ -1,7 +1,8 @@
 //! Cartridges.
-ghost use Rattle.std.specs.Prelude.{◌≡◌};
+ghost use Rattle.std.specs.Prelude.{◌≡◌, length, IfOk};
 
 use crate::rules::Rules;
+use std::alloc::{AllocError, Global};
 
 /// A cartridge, by the rules by which it is played.
 #[derive(Drop)]
@@ -20,6 +21,38 @@ impl Cart {
         match self {
             Cart::Guide(_) => Rules::Guide,
             Cart::Chip(_) => Rules::Chip,
+        }
+    }
+
+    /// A cartridge with the same bytes, by the same rules.
+    pub fn copy(&self, alloc: Global) -> Result<Cart, AllocError>
+        ensures { IfOk result (λ copy. copy ≡ self.now) }
+    {
+        let bytes = Vec::from_slice(alloc, self.bytes())?;
+        match self {
+            Cart::Guide(_) => match riot_map::Cart::new(bytes) {
+                Ok(copy) => Ok(Cart::Guide(copy)),
+                Err(_) => unreachable!(),
+            },
+            Cart::Chip(cart) => match cart_board::Cart::new(cart.board(), bytes) {
+                Ok(copy) => Ok(Cart::Chip(copy)),
+                Err(_) => unreachable!(),
+            },
+        }
+    }
+
+    /// The number of its bytes.
+    #[tactic(auto, using(crate::proofs::CartLemmas::few_bytes))]
+    pub fn len(&self) -> u32
+        ensures value { result ≡ length (bytes_of self.now) }
+        ensures lawful { IsCart self.now }
+    {
+        match self {
+            Cart::Guide(cart) => u32::from(cart.len()),
+            Cart::Chip(cart) => {
+                let _ = cart.board();
+                cart.bytes().len() as u32
+            }
         }
     }
 

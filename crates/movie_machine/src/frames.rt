@@ -9,8 +9,9 @@ use crate::cart::Cart;
 use crate::fault::Halt;
 use crate::state::State;
 use chip_machine::TimedFrame;
+use refused::Refused;
 use std::alloc::Global;
-use vcs_machine::{FrameError, Input, timed_frame};
+use vcs_machine::{FaultKind, Input, timed_frame};
 
 /// One frame on a cartridge from a state of it, with its picture if `keep` is true.
 ///
@@ -24,14 +25,14 @@ pub fn frame(
     state: &mut State,
     input: Input,
     keep: bool,
-) -> Result<TimedFrame, FrameError>
+) -> Result<TimedFrame, Refused<FaultKind>>
     requires { IsTrue (is_of cart.now state.old) }
     ensures ok { IfOk result (λ timed. (rows : Rows) × (frame_of cart.now state.old input ≡ Some (Played state.new rows timed.cycles))
         × (timed.rows ≡ length rows) × (timed.picture ≡ (if keep then Some rows else None))) }
     ensures err { IfErr result (λ error. FailsAs (frame_of cart.now state.old input) error state.new) }
     ensures cartridge { IsTrue (is_of cart.now state.new) }
-    ensures memory { result ≡ Err FrameError.NoMemory → keep ≡ true }
-    ensures refused { result ≡ Err FrameError.NoMemory → state.new ≡ state.old }
+    ensures memory { result ≡ Err Refused.NoMemory → keep ≡ true }
+    ensures refused { result ≡ Err Refused.NoMemory → state.new ≡ state.old }
 {
     match (cart, state) {
         (Cart::Guide(cart), State::Guide(state)) => {
@@ -72,8 +73,8 @@ pub fn halt(alloc: Global, cart: &Cart, state: &mut State, input: Input) -> Opti
             let _ = input.bytes();
             match chip_machine::frame(alloc, cart, state, input, false) {
                 Ok(_) => None,
-                Err(FrameError::Fault(kind)) => Some(Halt { kind, cycles: None }),
-                Err(FrameError::NoMemory) => unreachable!(),
+                Err(Refused::Of(kind)) => Some(Halt { kind, cycles: None }),
+                Err(Refused::NoMemory) => unreachable!(),
             }
         }
         _ => unreachable!(),

@@ -2,6 +2,7 @@
 ghost use Rattle.std.specs.Prelude.{◌≡◌, ◌↔◌, ◌<◌, length, IsTrue, IfOk, OnErr};
 
 use crate::cart::Cart;
+use mos_cpu::Cpu;
 use std::alloc::{AllocError, Global};
 
 /// The state of a console between two frames, by the rules by which it is played.
@@ -13,7 +14,7 @@ pub enum State {
 
 impl State {
     ghost use Rattle.movie_machine.specs.Carts.{ram_length};
-    ghost use Rattle.movie_machine.specs.States.{is_of, line_cycle_of, ram_of, state_at_power_on};
+    ghost use Rattle.movie_machine.specs.States.{is_of, line_cycle_of, memory_of, ram_of, registers_of, state_at_power_on};
 
     /// The state of a console that was just switched on, with this cartridge.
     ///
@@ -62,6 +63,26 @@ impl State {
             (State::Guide(state), State::Guide(other)) => state.equals(other),
             (State::Chip(state), State::Chip(other)) => state.equals(other),
             _ => false,
+        }
+    }
+
+    /// Its processor.
+    pub fn cpu(&self) -> Cpu
+        ensures { result ≡ registers_of self.now }
+    {
+        match self {
+            State::Guide(state) => state.fields().cpu,
+            State::Chip(state) => state.fields().cpu,
+        }
+    }
+
+    /// The memory of its RIOT.
+    pub fn memory(&self) -> [u8; 128]
+        ensures { result ≡ memory_of self.now }
+    {
+        match self {
+            State::Guide(state) => state.fields().riot.ram,
+            State::Chip(state) => state.fields().riot.ram,
         }
     }
 

@@ -1,5 +1,6 @@
 use Rattle.std.proofs.Common.{Err, ap}
-use Rattle.vcs_machine.specs.declared.fault.FrameError.{FrameError}
+use Rattle.refused.specs.declared.Refused.{Refused}
+use Rattle.vcs_machine.specs.declared.fault.FaultKind.{FaultKind}
 use Rattle.movie_machine.proofs.FrameLemmas.{of-error, of-played}
 use Rattle.movie_machine.proofs.frames.frame.Goals.{in-Guide-Guide+in_ok-timed-in-Guide-Guide, in-Chip-Chip}
 use Rattle.movie_machine.proofs.frames.frame.Goals as goal
@@ -9,7 +10,7 @@ returns-in_err-timed-in-Guide-Guide-clause-cartridge c =
     let cart = c.in-Guide-Guide.is-0 in
     let of = rw (cart, c.in-Guide-Guide.is-1) at c.requires in
     let fails = c.in_err-timed-in-Guide-Guide.ensures in
-    rw cart (of-error _ _ _ _ of c.in_err-timed-in-Guide-Guide.field-0.0 fails.err (λ e. fails.refused (ap (λ (x : FrameError). Err x) e)))
+    rw cart (of-error _ _ _ _ of c.in_err-timed-in-Guide-Guide.field-0.0 fails.err (λ e. fails.refused (ap (λ (x : Refused FaultKind). Err x) e)))
 
 pub returns-clause-cartridge : goal.returns-clause-cartridge
 returns-clause-cartridge c = elim c.match-cart.branch [

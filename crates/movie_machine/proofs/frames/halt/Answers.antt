@@ -1,6 +1,6 @@
 use Rattle.std.proofs.Common.{refl}
 use Rattle.movie_machine.proofs.FrameLemmas.{ended, halted, of-failed, of-played}
-use Rattle.movie_machine.proofs.frames.halt.Goals.{in-Guide-Guide+in_ok-halt-in-Guide-Guide, in-Chip-Chip, in-Ok, in-Err-Fault}
+use Rattle.movie_machine.proofs.frames.halt.Goals.{in-Guide-Guide+in_ok-halt-in-Guide-Guide, in-Chip-Chip, in-Ok, in-Err-Of}
 use Rattle.movie_machine.proofs.frames.halt.Goals as goal
 
 pub returns-in_err-halt-in-Guide-Guide-clause-ended : goal.returns-in_err-halt-in-Guide-Guide-clause-ended
@@ -21,8 +21,8 @@ returns-clause-failed c = elim c.match-cart.branch [
       rw (w.result-is, w.state-is, w.in-Guide-Guide.is-0, w.in-Guide-Guide.is-1) (halted _ _ _ _ _ _ stopped.failed stopped.halted)
   | in-Chip-Chip w ↦ elim w.match-frame.branch [
     | in-Ok v ↦ rw (w.result-is, v.result-is) tt
-    | in-Err-Fault v ↦
-        let fails = rw v.in-Err-Fault.field-0-is at v.in-Err-Fault.ensures.err in
+    | in-Err-Of v ↦
+        let fails = rw v.in-Err-Of.field-0-is at v.in-Err-Of.ensures.err in
         rw (w.result-is, v.result-is, w.in-Chip-Chip.is-0, w.in-Chip-Chip.is-1, fails) refl
   ]
 ]
@@ -34,7 +34,7 @@ returns-clause-ended c = elim c.match-cart.branch [
     | in-Ok v ↦
         let played = v.in-Ok.ensures.ok in
         rw (w.result-is, v.result-is, w.state-is, w.in-Chip-Chip.is-0, w.in-Chip-Chip.is-1) (played.0, v.in-Ok.field-0.cycles, rw played.1 refl)
-    | in-Err-Fault v ↦ rw (w.result-is, v.result-is) tt
+    | in-Err-Of v ↦ rw (w.result-is, v.result-is) tt
   ]
 ]
 
