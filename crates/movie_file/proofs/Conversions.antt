@@ -2,7 +2,7 @@
 use Rattle.std.proofs.Common.{◌≡◌, ℕ, ◌+◌, refl, sym, ◌∙◌, arith}
 use Rattle.std.proofs.lemmas.Bool.Decides.{nat_tests}
 use Rattle.vcs_machine.specs.declared.fault.FaultKind.{FaultKind}
-use Rattle.vcs_machine.specs.declared.fields.StateFields.{StateFields}
+use Rattle.movie_machine.specs.declared.state.State.{State}
 use Rattle.movie_file.specs.Conversion.{in_version_2}
 use Rattle.movie_file.specs.Judgement.{IsSound, FaultsAt, IsFalseAt}
 use Rattle.movie_file.specs.Movie.{MovieData, IsMovie}
@@ -14,6 +14,7 @@ use Rattle.movie_file.proofs.RunLemmas.{run_same}
 pub converted-lawful : (m : MovieData) → IsMovie m → IsMovie (in_version_2 m)
 converted-lawful m h = record {
   version = refl;
+  rules = h.rules;
   cartridge = let cartridge = h.cartridge in grind (arith, nat_tests);
   start = h.start;
   some_frames = h.some_frames;
@@ -24,23 +25,23 @@ converted-lawful m h = record {
 }
 
 -- a run knows nothing of the version
-pub run-converted : (m : MovieData) (s : StateFields) (from k : ℕ) → run (in_version_2 m) s from k ≡ run m s from k
+pub run-converted : (m : MovieData) (s : State) (from k : ℕ) → run (in_version_2 m) s from k ≡ run m s from k
 run-converted m s from k = run_same (in_version_2 m) m s from k refl refl
 
-pub sound-converted : (m : MovieData) (s : StateFields) (from k : ℕ) → IsSound m s from k → IsSound (in_version_2 m) s from k
+pub sound-converted : (m : MovieData) (s : State) (from k : ℕ) → IsSound m s from k → IsSound (in_version_2 m) s from k
 sound-converted m s from k sound = (sound.0, run-converted m s from (k + 1) ∙ sound.1, sound.2)
 
-pub sound-back : (m : MovieData) (s : StateFields) (from k : ℕ) → IsSound (in_version_2 m) s from k → IsSound m s from k
+pub sound-back : (m : MovieData) (s : State) (from k : ℕ) → IsSound (in_version_2 m) s from k → IsSound m s from k
 sound-back m s from k sound = (sound.0, sym (run-converted m s from (k + 1)) ∙ sound.1, sound.2)
 
-pub faults-converted : (m : MovieData) (s : StateFields) (from k : ℕ) (kind : FaultKind) → FaultsAt m s from k kind → FaultsAt (in_version_2 m) s from k kind
+pub faults-converted : (m : MovieData) (s : State) (from k : ℕ) (kind : FaultKind) → FaultsAt m s from k kind → FaultsAt (in_version_2 m) s from k kind
 faults-converted m s from k kind (state, left, ran, faults) = (state, left, run-converted m s from k ∙ ran, faults)
 
-pub faults-back : (m : MovieData) (s : StateFields) (from k : ℕ) (kind : FaultKind) → FaultsAt (in_version_2 m) s from k kind → FaultsAt m s from k kind
+pub faults-back : (m : MovieData) (s : State) (from k : ℕ) (kind : FaultKind) → FaultsAt (in_version_2 m) s from k kind → FaultsAt m s from k kind
 faults-back m s from k kind (state, left, ran, faults) = (state, left, sym (run-converted m s from k) ∙ ran, faults)
 
-pub false-converted : (m : MovieData) (s : StateFields) (from k number : ℕ) → IsFalseAt m s from k number → IsFalseAt (in_version_2 m) s from k number
+pub false-converted : (m : MovieData) (s : State) (from k number : ℕ) → IsFalseAt m s from k number → IsFalseAt (in_version_2 m) s from k number
 false-converted m s from k number (state, j, c, ran, is, at, here, other) = (state, j, c, run-converted m s from (k + 1) ∙ ran, is, at, here, other)
 
-pub false-back : (m : MovieData) (s : StateFields) (from k number : ℕ) → IsFalseAt (in_version_2 m) s from k number → IsFalseAt m s from k number
+pub false-back : (m : MovieData) (s : State) (from k number : ℕ) → IsFalseAt (in_version_2 m) s from k number → IsFalseAt m s from k number
 false-back m s from k number (state, j, c, ran, is, at, here, other) = (state, j, c, sym (run-converted m s from (k + 1)) ∙ ran, is, at, here, other)

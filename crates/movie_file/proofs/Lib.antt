@@ -10,9 +10,11 @@ pub mod MakingRuns
 pub mod MovieLaws
 pub mod MovieRecords
 pub mod OneMaking
+pub mod OneRecord
 pub mod PrefixLemmas
 pub mod ReadLemmas
 pub mod RecordLaws
 pub mod RecordParts
 pub mod RunLemmas
+pub mod StateLemmas
 pub mod VersionLemmas

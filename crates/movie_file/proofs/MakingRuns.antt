@@ -1,12 +1,10 @@
 -- A run frame by frame, and the checkpoints that are made of it.
 use Rattle.std.proofs.Common.{◌≡◌, ◌≢◌, ℕ, zero, suc, ◌+◌, ◌*◌, ◌/◌, ◌%◌, ◌<◌, ◌≤◌}
-use Rattle.std.proofs.Common.{false, eqb, List, [], ◌∷◌, ◌++◌, length, Option, Some}
-use Rattle.std.proofs.Common.{None, refl, sym, subst, ◌∙◌, arith, rules}
+use Rattle.std.proofs.Common.{eqb, List, [], ◌∷◌, ◌++◌, length, Some}
+use Rattle.std.proofs.Common.{refl, sym, subst, ◌∙◌, arith, rules}
 use Rattle.std.specs.Prelude.{◌&&◌, nat_le, slice_get, IsTrue}
 use Rattle.std.specs.List.{AllByRecursion}
-use Rattle.std.specs.Option.{option_map}
 use Rattle.std.proofs.lemmas.Bool.{and_parts, cases_Bool, cond_both, eqb-true, eqb-false, leb-true}
-use Rattle.std.proofs.lemmas.Option.{option_and_then_some}
 use Rattle.std.proofs.Common.{inl, inr}
 use Rattle.std.proofs.lemmas.Bool.Decides.{nat_tests}
 use Rattle.std.proofs.lemmas.List.{append-nil, length-append}
@@ -14,23 +12,25 @@ use Rattle.std.proofs.lemmas.Nat.{le-div, div_below, div-add-mod', div-mul-add, 
 use Rattle.std.proofs.Common.{◌-◌}
 use Rattle.std.proofs.Math.Nat.{div-mul-le_self, add-mul, mul_comm}
 use Rattle.vcs_machine.specs.Inputs.{InputData, is_input}
-use Rattle.riot_map.specs.Cart.{is_cart_length, has_banks}
-use Rattle.vcs_machine.specs.Outcomes.{FrameOutcome, Played, Failed, left_by, frame_of}
-use Rattle.vcs_machine.proofs.BankLaws.{frame_of-bank}
-use Rattle.vcs_machine.specs.States.{state_at_power_on}
-use Rattle.vcs_machine.specs.declared.fields.StateFields.{StateFields}
+use Rattle.riot_map.specs.Cart.{is_cart_length}
+use Rattle.movie_machine.specs.Carts.{IsCart, bytes_of, rules_of}
+use Rattle.movie_machine.specs.States.{state_at_power_on}
+use Rattle.movie_machine.specs.declared.cart.Cart.{Cart}
+use Rattle.movie_machine.specs.declared.cart.Cart.TheVariants.{Guide as GuideCart, Chip as ChipCart}
+use Rattle.movie_machine.specs.declared.rules.Rules.TheVariants.{Guide as ByGuide}
+use Rattle.movie_machine.specs.declared.state.State.{State}
 use Rattle.movie_file.specs.declared.checkpoint.Checkpoint.{Checkpoint}
 use Rattle.movie_file.specs.declared.error.MakeError.{MakeError}
 use Rattle.movie_file.specs.declared.error.MakeError.TheVariants.{Fault, BadCounts}
-use Rattle.movie_file.specs.declared.refused.Refused.TheVariants.{Of}
+use Rattle.refused.specs.declared.Refused.{Refused}
+use Rattle.refused.specs.declared.Refused.TheVariants.{NoMemory, Of}
 use Rattle.movie_file.specs.Format.{is_version, takes_cart, most_frames, most_checkpoints}
 use Rattle.movie_file.specs.Judgement.{AllSound, IsGenuine}
 use Rattle.movie_file.specs.Making.{bare, counts_fit, version_made, Explains, IsMadeOf}
 use Rattle.movie_file.specs.ClaimedStates.{checkpoint_if, Claims}
 use Rattle.movie_file.specs.Private.MakingSteps.{RunFails}
-use Rattle.movie_file.specs.Movie.{MovieData, IsMovie, IsState, IsStateWith, AreCheckpoints}
-use Rattle.movie_file.specs.Record.{fits_bank}
-use Rattle.movie_file.specs.Run.{run, frame_after, state_after}
+use Rattle.movie_file.specs.Movie.{MovieData, IsMovie, IsStateOf, AreCheckpoints}
+use Rattle.movie_file.specs.Run.{run}
 use Rattle.movie_file.proofs.RunLemmas.{run_same}
 
 -- ---- multiples
@@ -71,9 +71,9 @@ each_more P [] d each here (suc j) c e = absurd cc
 each_more P (b ∷ cs) d each here zero c e = each zero c e
 each_more P (b ∷ cs) d each here (suc j) c e = each_more (λ (i : ℕ). P (suc i)) cs d (λ i x at. each (suc i) x at) here j c e
 
-pub Claims-next : (m : MovieData) (from every k : ℕ) (cs ds : List Checkpoint) (new : StateFields) → 1 ≤ every → Claims m from every k cs
+pub Claims-next : (m : MovieData) (from every k : ℕ) (cs ds : List Checkpoint) (new : State) → 1 ≤ every → Claims m from every k cs
     → run m m.start 0 (from + (k + 1)) ≡ Some new
-    → ds ≡ cs ++ checkpoint_if every (k + 1) new → ((k + 1) % every ≡ 0 → IsState new) → Claims m from every (k + 1) ds
+    → ds ≡ cs ++ checkpoint_if every (k + 1) new → ((k + 1) % every ≡ 0 → IsStateOf m.cartridge new) → Claims m from every (k + 1) ds
 Claims-next m from every k cs ds new some far ran ds-is lawful =
     elim (cases_Bool (eqb ((k + 1) % every) 0)) [
       | inl e ↦
@@ -84,7 +84,7 @@ Claims-next m from every k cs ds new some far ran ds-is lawful =
             count = omega (arith, length-append cs (d ∷ []), far.count, next.0);
             places = each_more (λ (j : ℕ) (c : Checkpoint). c.frame ≡ every * (j + 1)) cs d far.places (rw far.count next.1);
             states = each_more (λ (j : ℕ) (c : Checkpoint). run m m.start 0 (from + c.frame) ≡ Some c.state) cs d far.states ran;
-            lawful = each_more (λ (j : ℕ) (c : Checkpoint). IsState c.state) cs d far.lawful (lawful multiple);
+            lawful = each_more (λ (j : ℕ) (c : Checkpoint). IsStateOf m.cartridge c.state) cs d far.lawful (lawful multiple);
           })
       | inr e ↦
           let same = sym (no_multiple every k some (eqb-false _ _ e)) in
@@ -96,42 +96,8 @@ Claims-none m from every = record { count = omega arith; places = λ j c e. absu
 
 -- ---- the movie
 
-abbrev pub parts : ℕ → List ℕ → StateFields → List InputData → List Checkpoint → MovieData
+abbrev pub parts : ℕ → Cart → State → List InputData → List Checkpoint → MovieData
 parts version cartridge start inputs checkpoints = record { version = version; cartridge = cartridge; start = start; inputs = inputs; checkpoints = checkpoints }
-
--- ---- the bank
-
--- a frame on a cartridge without banks keeps the bank
-frame_bank : (m : MovieData) (k : ℕ) (s t : StateFields) → has_banks (length m.cartridge) ≡ false → state_after (frame_after m k s) ≡ Some t → t.bank ≡ s.bank
-frame_bank m k s t single e = by (slice_get m.inputs k) e
-  where
-    outcome : (o : FrameOutcome) → (left_by o).bank ≡ s.bank → state_after (Some o) ≡ Some t → t.bank ≡ s.bank
-    outcome (Played left rows) kept e = cc
-    outcome (Failed kind left) kept e = absurd cc
-
-    by : (i : Option InputData) → state_after (option_map (λ input. frame_of m.cartridge s input) i) ≡ Some t → t.bank ≡ s.bank
-    by (Some input) e = outcome (frame_of m.cartridge s input) (frame_of-bank m.cartridge s input single) e
-    by None e = absurd cc
-
--- and so does a run
-run-bank : (m : MovieData) (s : StateFields) (from k : ℕ) (t : StateFields) → has_banks (length m.cartridge) ≡ false → run m s from k ≡ Some t → t.bank ≡ s.bank
-run-bank m s from zero t single e = cc
-run-bank m s from (suc k) t single e =
-    option_and_then_some (λ u. state_after (frame_after m (from + k) u)) (run m s from k) t e
-    (λ u ran next. frame_bank m (from + k) u t single next ∙ run-bank m s from k u single ran)
-
--- the bank of a state is 0 where the cartridge has none
-pub bank_at_start : (cartridge : List ℕ) → IsTrue (fits_bank (length cartridge) (state_at_power_on cartridge))
-bank_at_start cartridge = grind (arith, nat_tests)
-
--- each state of a run fits the cartridge, if the first does
-pub bank_fits : (m : MovieData) (k : ℕ) (t : StateFields) → IsTrue (fits_bank (length m.cartridge) m.start) → run m m.start 0 k ≡ Some t
-    → IsTrue (fits_bank (length m.cartridge) t)
-bank_fits m k t first ran =
-    elim (cases_Bool (has_banks (length m.cartridge))) [
-      | inl banks ↦ rw banks refl
-      | inr single ↦ rw (single, run-bank m m.start 0 k t single ran) (rw single at first)
-    ]
 
 -- a movie has a version that takes its cartridge and its frames
 version_fits : (cartridge_length frames : ℕ) → IsTrue (is_cart_length cartridge_length) → frames ≤ most_frames 2
@@ -145,36 +111,40 @@ version_fits cartridge_length frames lawful few =
     (λ _. (refl, grind (arith, nat_tests), few))
 
 -- checkpoints at multiples rise
-rising : (cartridge_length every n b last : ℕ) (cs : List Checkpoint) → 1 ≤ every → last ≤ every * b
+rising : (cartridge : Cart) (every n b last : ℕ) (cs : List Checkpoint) → 1 ≤ every → last ≤ every * b
     → ((j : ℕ) (c : Checkpoint) → slice_get cs j ≡ Some c → c.frame ≡ every * (b + j + 1))
-    → ((j : ℕ) (c : Checkpoint) → slice_get cs j ≡ Some c → IsStateWith cartridge_length c.state) → every * (b + length cs) ≤ n → AreCheckpoints cartridge_length last n cs
-rising cartridge_length every n b last [] some low places lawful fits = tt
-rising cartridge_length every n b last (d ∷ cs) some low places lawful fits =
+    → ((j : ℕ) (c : Checkpoint) → slice_get cs j ≡ Some c → IsStateOf cartridge c.state) → every * (b + length cs) ≤ n → AreCheckpoints cartridge last n cs
+rising cartridge every n b last [] some low places lawful fits = tt
+rising cartridge every n b last (d ∷ cs) some low places lawful fits =
     let first : d.frame ≡ every * (b + 0 + 1) = places 0 d refl in
     let next = λ (j : ℕ) (c : Checkpoint) (e : slice_get cs j ≡ Some c). lawful (suc j) c e in
-    let later = rising cartridge_length every n (b + 1) d.frame cs some (omega (arith, first)) (λ j c e. omega (arith, places (suc j) c e)) next (omega arith) in
+    let later = rising cartridge every n (b + 1) d.frame cs some (omega (arith, first)) (λ j c e. omega (arith, places (suc j) c e)) next (omega arith) in
     (omega arith, omega arith, lawful 0 d refl, later)
 
-module _ (m : MovieData) (from every version : ℕ) (cartridge : List ℕ) (start : StateFields) (inputs : List InputData) (cs : List Checkpoint)
-    (cartridge_is : cartridge ≡ m.cartridge) (version_is : version ≡ version_made (length cartridge) (length inputs)) (ran : run m m.start 0 from ≡ Some start)
-    (first : IsTrue (fits_bank (length m.cartridge) m.start)) (fits : IsTrue (counts_fit (length inputs) every)) (far : Claims m from every (length inputs) cs) where
-  claims_rise : AreCheckpoints (length m.cartridge) 0 (length inputs) cs
+-- the length of a cartridge by the guide's rules
+guide_length : (cartridge : Cart) → rules_of cartridge ≡ ByGuide → IsCart cartridge → IsTrue (is_cart_length (length (bytes_of cartridge)))
+guide_length (GuideCart bytes) rules lawful = lawful
+guide_length (ChipCart cartridge) rules lawful = absurd cc
+
+module _ (m : MovieData) (from every version : ℕ) (cartridge : Cart) (start : State) (inputs : List InputData) (cs : List Checkpoint)
+    (cartridge_is : cartridge ≡ m.cartridge) (version_is : version ≡ version_made (length (bytes_of cartridge)) (length inputs))
+    (fits : IsTrue (counts_fit (length inputs) every)) (far : Claims m from every (length inputs) cs) where
+  claims_rise : AreCheckpoints m.cartridge 0 (length inputs) cs
   claims_rise =
-      rising (length m.cartridge) every (length inputs) 0 0 cs (counts_are (length inputs) every fits).2 (omega arith)
-      (λ j c e. omega (arith, far.places j c e))
-      (λ j c e. record { state = far.lawful j c e; bank = bank_fits m (from + c.frame) c.state first (far.states j c e) })
-      (rw far.count (omega arith))
+      rising m.cartridge every (length inputs) 0 0 cs (counts_are (length inputs) every fits).2 (omega arith)
+      (λ j c e. omega (arith, far.places j c e)) far.lawful (rw far.count (omega arith))
 
   -- the parts make a movie
-  pub IsMovie-parts : IsTrue (is_cart_length (length cartridge)) → IsState start → AllByRecursion (λ i. IsTrue (is_input i)) inputs
+  pub IsMovie-parts : rules_of cartridge ≡ ByGuide → IsCart cartridge → IsStateOf cartridge start → AllByRecursion (λ i. IsTrue (is_input i)) inputs
       → IsMovie (parts version cartridge start inputs cs)
-  IsMovie-parts lawful state all =
+  IsMovie-parts rules lawful state all =
       let fit = counts_are (length inputs) every fits in
-      let made = version_fits (length cartridge) (length inputs) lawful fit.1 in
+      let made = version_fits (length (bytes_of cartridge)) (length inputs) (guide_length cartridge rules lawful) fit.1 in
       record {
         version = rw version_is made.0;
+        rules = rules;
         cartridge = rw version_is made.1;
-        start = record { state = state; bank = rw cartridge_is (bank_fits m from start first ran) };
+        start = state;
         some_frames = fit.0;
         few_frames = rw version_is made.2;
         few_checkpoints = omega (arith, far.count, fit.3);
@@ -183,11 +153,11 @@ module _ (m : MovieData) (from every version : ℕ) (cartridge : List ℕ) (star
       }
 
 -- the movie that is made, of a run without a fault
-pub made_movie : (cartridge : List ℕ) (inputs : List InputData) (every : ℕ) (cs : List Checkpoint) → IsTrue (counts_fit (length inputs) every)
+pub made_movie : (cartridge : Cart) (inputs : List InputData) (every : ℕ) (cs : List Checkpoint) → IsTrue (counts_fit (length inputs) every)
     → AllSound (bare cartridge inputs) (state_at_power_on cartridge) 0 (length inputs) → Claims (bare cartridge inputs) 0 every (length inputs) cs
-    → IsState (state_at_power_on cartridge) → AllByRecursion (λ i. IsTrue (is_input i)) inputs
+    → IsStateOf cartridge (state_at_power_on cartridge) → AllByRecursion (λ i. IsTrue (is_input i)) inputs
     → let m : MovieData = record (bare cartridge inputs) { checkpoints = cs } in
-    IsMadeOf cartridge inputs every m × IsGenuine m × (IsTrue (is_cart_length (length cartridge)) → IsMovie m)
+    IsMadeOf cartridge inputs every m × IsGenuine m × (rules_of cartridge ≡ ByGuide → IsCart cartridge → IsMovie m)
 made_movie cartridge inputs every cs fit sound far state all =
     let m : MovieData = record (bare cartridge inputs) { checkpoints = cs } in
     let same = λ (k : ℕ). run_same m (bare cartridge inputs) m.start 0 k refl refl in
@@ -199,11 +169,12 @@ made_movie cartridge inputs every cs fit sound far state all =
         same (i + 1) ∙ here.1,
         λ j c e place. let frame : c.frame ≡ i + 1 = omega arith in let claim = rw frame at (claimed j c e) in let ran = here.1 in cc,
       ),
-      λ lawful. IsMovie-parts (bare cartridge inputs) 0 every m.version cartridge m.start inputs cs refl refl refl (bank_at_start cartridge) fit far lawful state all,
+      λ rules lawful. IsMovie-parts (bare cartridge inputs) 0 every m.version cartridge m.start inputs cs refl refl fit far rules lawful state all,
     )
 
 -- why a run stopped is why no movie is made
-pub explains : (cartridge : List ℕ) (inputs : List InputData) (every : ℕ) (e : MakeError) → IsTrue (counts_fit (length inputs) every)
-    → RunFails cartridge inputs e → Explains cartridge inputs every (Of e)
-explains cartridge inputs every (Fault frame kind) fit fails = (fit, fails)
-explains cartridge inputs every BadCounts fit fails = absurd fails
+pub explains : (cartridge : Cart) (inputs : List InputData) (every : ℕ) (e : Refused MakeError) → IsTrue (counts_fit (length inputs) every)
+    → RunFails cartridge inputs e → Explains cartridge inputs every e
+explains cartridge inputs every (Of (Fault frame kind)) fit fails = (fit, fails)
+explains cartridge inputs every (Of BadCounts) fit fails = absurd fails
+explains cartridge inputs every NoMemory fit refused = (fit, inr refused)

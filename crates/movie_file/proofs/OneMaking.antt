@@ -4,9 +4,10 @@ use Rattle.std.proofs.Common.{refl, sym, ap, ◌∙◌, arith}
 use Rattle.std.specs.Prelude.{slice_get}
 use Rattle.std.proofs.lemmas.Option.{slice_get_cases}
 use Rattle.vcs_machine.specs.Inputs.{InputData}
-use Rattle.vcs_machine.specs.States.{state_at_power_on}
+use Rattle.movie_machine.specs.States.{state_at_power_on}
 use Rattle.vcs_machine.specs.declared.fault.FaultKind.{FaultKind}
-use Rattle.vcs_machine.specs.declared.fields.StateFields.{StateFields}
+use Rattle.movie_machine.specs.declared.cart.Cart.{Cart}
+use Rattle.movie_machine.specs.declared.state.State.{State}
 use Rattle.movie_file.specs.declared.checkpoint.Checkpoint.{Checkpoint}
 use Rattle.movie_file.specs.Judgement.{FaultsAt, IsGenuine}
 use Rattle.movie_file.specs.Making.{bare, IsFirstFault, IsMadeOf}
@@ -25,10 +26,10 @@ same_lists (c ∷ cs) (d ∷ ds) e same =
     let first = same 0 c d refl refl in
     let others = same_lists cs ds (omega arith) (λ j x y at here. same (suc j) x y at here) in cc
 
-abbrev pub found : StateFields → Option StateFields
+abbrev pub found : State → Option State
 found s = Some s
 
-abbrev claim : ℕ → StateFields → Checkpoint
+abbrev claim : ℕ → State → Checkpoint
 claim frame state = record { frame = frame; state = state }
 
 pub same_claim : (c d : Checkpoint) → c.frame ≡ d.frame → found c.state ≡ found d.state → c ≡ d
@@ -37,16 +38,16 @@ same_claim c d frames states =
     ap (λ (f : ℕ). claim f c.state) frames ∙ ap (claim d.frame) same
 
 -- a movie has each frame that faults
-fault_within : (cartridge : List ℕ) (inputs : List InputData) (k : ℕ) (kind : FaultKind) → FaultsAt (bare cartridge inputs) (state_at_power_on cartridge) 0 k kind
+fault_within : (cartridge : Cart) (inputs : List InputData) (k : ℕ) (kind : FaultKind) → FaultsAt (bare cartridge inputs) (state_at_power_on cartridge) 0 k kind
     → k < length inputs
 fault_within cartridge inputs k kind (state, left, ran, faults) = grind (arith, slice_get_cases)
 
 -- a made movie's run is that of the movie that claims nothing
-made_run : (cartridge : List ℕ) (inputs : List InputData) (every : ℕ) (m : MovieData) → IsMadeOf cartridge inputs every m → (k : ℕ)
+made_run : (cartridge : Cart) (inputs : List InputData) (every : ℕ) (m : MovieData) → IsMadeOf cartridge inputs every m → (k : ℕ)
     → run m m.start 0 k ≡ run (bare cartridge inputs) (state_at_power_on cartridge) 0 k
 made_run cartridge inputs every m made k = rw made.start (run_same m (bare cartridge inputs) (state_at_power_on cartridge) 0 k made.cartridge_is made.inputs_are)
 
-pub no_made_fault : (cartridge : List ℕ) (inputs : List InputData) (every frame : ℕ) (kind : FaultKind) (m : MovieData) → IsMadeOf cartridge inputs every m
+pub no_made_fault : (cartridge : Cart) (inputs : List InputData) (every frame : ℕ) (kind : FaultKind) (m : MovieData) → IsMadeOf cartridge inputs every m
     → IsGenuine m → IsFirstFault cartridge inputs frame kind → ⊥
 no_made_fault cartridge inputs every frame kind m made genuine (k, is, before, fault) =
     let sound = genuine k (rw made.inputs_are (fault_within cartridge inputs k kind fault)) in
@@ -54,7 +55,7 @@ no_made_fault cartridge inputs every frame kind m made genuine (k, is, before, f
     let same = made_run cartridge inputs every m made (k + 1) in
     let ran = sound.1 in absurd cc
 
-pub one_made_movie : (cartridge : List ℕ) (inputs : List InputData) (every : ℕ) (m n : MovieData) → IsMadeOf cartridge inputs every m
+pub one_made_movie : (cartridge : Cart) (inputs : List InputData) (every : ℕ) (m n : MovieData) → IsMadeOf cartridge inputs every m
     → IsMadeOf cartridge inputs every n → m ≡ n
 one_made_movie cartridge inputs every m n made again =
     let same = same_lists m.checkpoints n.checkpoints (made.count ∙ sym again.count) (λ j c d at here.
@@ -65,11 +66,11 @@ one_made_movie cartridge inputs every m n made again =
     same_movie _ _ _ _ _ _ _ _ _ _ (made.version ∙ sym again.version) (made.cartridge_is ∙ sym again.cartridge_is) (made.start ∙ sym again.start)
     (made.inputs_are ∙ sym again.inputs_are) same
   where
-    same_movie : (v w : ℕ) (c d : List ℕ) (s t : StateFields) (i j : List InputData) (k l : List Checkpoint) → v ≡ w → c ≡ d → s ≡ t → i ≡ j → k ≡ l
+    same_movie : (v w : ℕ) (c d : Cart) (s t : State) (i j : List InputData) (k l : List Checkpoint) → v ≡ w → c ≡ d → s ≡ t → i ≡ j → k ≡ l
         → parts v c s i k ≡ parts w d t j l
     same_movie v w c d s t i j k l version cartridge start inputs checkpoints = cc
 
-pub one_first_fault : (cartridge : List ℕ) (inputs : List InputData) (frame other : ℕ) (kind other_kind : FaultKind) → IsFirstFault cartridge inputs frame kind
+pub one_first_fault : (cartridge : Cart) (inputs : List InputData) (frame other : ℕ) (kind other_kind : FaultKind) → IsFirstFault cartridge inputs frame kind
     → IsFirstFault cartridge inputs other other_kind
     → (frame ≡ other) × (kind ≡ other_kind)
 one_first_fault cartridge inputs frame other kind other_kind (k, is, before, fault) (k', is', before', fault') =

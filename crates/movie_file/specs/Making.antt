@@ -1,15 +1,17 @@
 -- Making a movie: a run from power-on, with its state after every so many frames as a checkpoint.
 -- This project's own.
-use Rattle.std.specs.Prelude.{◌≡◌, ℕ, ◌+◌, ◌*◌, ◌/◌, ◌<◌, List, [], length, Bool, ◌&&◌}
+use Rattle.std.specs.Prelude.{◌≡◌, ◌⊎◌, ℕ, ◌+◌, ◌*◌, ◌/◌, ◌<◌, List, [], length, Bool, ◌&&◌}
 use Rattle.std.specs.Prelude.{nat_le, IsTrue, if◌then◌else◌, Some, slice_get}
+use Rattle.movie_machine.specs.Carts.{bytes_of, ram_length}
+use Rattle.movie_machine.specs.States.{state_at_power_on}
+use Rattle.movie_machine.specs.declared.cart.Cart.{Cart}
 use Rattle.vcs_machine.specs.Inputs.{InputData}
-use Rattle.vcs_machine.specs.States.{state_at_power_on}
 use Rattle.vcs_machine.specs.declared.fault.FaultKind.{FaultKind}
 use Rattle.movie_file.specs.declared.checkpoint.Checkpoint.{Checkpoint}
 use Rattle.movie_file.specs.declared.error.MakeError.{MakeError}
 use Rattle.movie_file.specs.declared.error.MakeError.TheVariants.{Fault, BadCounts}
-use Rattle.movie_file.specs.declared.refused.Refused.{Refused}
-use Rattle.movie_file.specs.declared.refused.Refused.TheVariants.{NoMemory, Of}
+use Rattle.refused.specs.declared.Refused.{Refused}
+use Rattle.refused.specs.declared.Refused.TheVariants.{NoMemory, Of}
 use Rattle.movie_file.specs.Format.{takes_cart, most_frames, most_checkpoints}
 use Rattle.movie_file.specs.Judgement.{AllSound, FaultsAt}
 use Rattle.movie_file.specs.Movie.{MovieData}
@@ -27,8 +29,8 @@ counts_fit frames every =
 
 -- The movie of a run from power-on. Checkpoint j + 1 claims the state of the run after frame every
 -- * (j + 1), and there is one for each multiple of `every` up to the last frame.
-pub record IsMadeOf (cartridge : List ℕ) (inputs : List InputData) (every : ℕ) (m : MovieData) : Type 0 where
-  pub version : m.version ≡ version_made (length cartridge) (length inputs)
+pub record IsMadeOf (cartridge : Cart) (inputs : List InputData) (every : ℕ) (m : MovieData) : Type 0 where
+  pub version : m.version ≡ version_made (length (bytes_of cartridge)) (length inputs)
   pub cartridge_is : m.cartridge ≡ cartridge
   pub start : m.start ≡ state_at_power_on cartridge
   pub inputs_are : m.inputs ≡ inputs
@@ -37,10 +39,10 @@ pub record IsMadeOf (cartridge : List ℕ) (inputs : List InputData) (every : �
   pub states : (j : ℕ) (c : Checkpoint) → slice_get m.checkpoints j ≡ Some c → run m m.start 0 c.frame ≡ Some c.state
 
 -- a movie that claims nothing
-abbrev pub bare : List ℕ → List InputData → MovieData
+abbrev pub bare : Cart → List InputData → MovieData
 bare cartridge inputs =
     record {
-      version = version_made (length cartridge) (length inputs);
+      version = version_made (length (bytes_of cartridge)) (length inputs);
       cartridge = cartridge;
       start = state_at_power_on cartridge;
       inputs = inputs;
@@ -48,15 +50,16 @@ bare cartridge inputs =
     }
 
 -- this frame of the run from power-on, counted from 1, faults, and each frame before it ends
-abbrev pub IsFirstFault : List ℕ → List InputData → ℕ → FaultKind → Type 0
+abbrev pub IsFirstFault : Cart → List InputData → ℕ → FaultKind → Type 0
 IsFirstFault cartridge inputs frame kind =
     (k : ℕ) × (frame ≡ k + 1) × AllSound (bare cartridge inputs) (state_at_power_on cartridge) 0 k
     × FaultsAt (bare cartridge inputs) (state_at_power_on cartridge) 0 k kind
 
--- Why no movie is made. The counts are looked at first, and memory is taken before the run, if
--- there is a checkpoint.
-abbrev pub Explains : List ℕ → List InputData → ℕ → Refused MakeError → Type 0
+-- Why no movie is made. The counts are looked at first. Memory is taken before the run, if there is a
+-- checkpoint, and for each state, if the cartridge has RAM.
+abbrev pub Explains : Cart → List InputData → ℕ → Refused MakeError → Type 0
 Explains cartridge inputs every (Of (Fault frame kind)) =
     IsTrue (counts_fit (length inputs) every) × IsFirstFault cartridge inputs frame kind
 Explains cartridge inputs every (Of BadCounts) = ¬ IsTrue (counts_fit (length inputs) every)
-Explains cartridge inputs every NoMemory = IsTrue (counts_fit (length inputs) every) × (0 < length inputs / every)
+Explains cartridge inputs every NoMemory =
+    IsTrue (counts_fit (length inputs) every) × ((0 < length inputs / every) ⊎ (0 < ram_length cartridge))

@@ -1,6 +1,14 @@
 -- What a movie is, wherever it lies in memory. This project's own.
 use Rattle.std.specs.Prelude.{◌≡◌, ℕ, ◌<◌, ◌≤◌, ◌^◌, List, [], ◌∷◌, length, IsTrue}
 use Rattle.std.specs.List.{AllByRecursion}
+use Rattle.chip_machine.specs.Record.{IsStateOf as IsStateByChip}
+use Rattle.movie_machine.specs.Carts.{bytes_of, rules_of}
+use Rattle.movie_machine.specs.States.{is_of}
+use Rattle.movie_machine.specs.declared.cart.Cart.{Cart}
+use Rattle.movie_machine.specs.declared.cart.Cart.TheVariants.{Guide as GuideCart, Chip as ChipCart}
+use Rattle.movie_machine.specs.declared.rules.Rules.TheVariants.{Guide as ByGuide}
+use Rattle.movie_machine.specs.declared.state.State.{State}
+use Rattle.movie_machine.specs.declared.state.State.TheVariants.{Guide, Chip}
 use Rattle.vcs_machine.specs.Inputs.{InputData, is_input}
 use Rattle.vcs_machine.specs.States.{is_state}
 use Rattle.vcs_machine.specs.declared.fields.StateFields.{StateFields}
@@ -11,12 +19,12 @@ use Rattle.movie_file.specs.Record.{fits_bank}
 -- inputs are those of frames 1, 2, .., and checkpoints have the numbers 1, 2, ..
 pub record MovieData : Type 0 where
   pub version : ℕ
-  pub cartridge : List ℕ
-  pub start : StateFields
+  pub cartridge : Cart
+  pub start : State
   pub inputs : List InputData
   pub checkpoints : List Checkpoint
 
--- numbers that meet the conditions of a state record, in the ranges of their types
+-- numbers that meet the conditions of a state record by the guide's rules, in the ranges of their types
 pub record IsState (f : StateFields) : Type 0 where
   pub lawful : IsTrue (is_state f)
   pub pc : f.cpu.pc < 2 ^ 16
@@ -29,20 +37,32 @@ pub record IsStateWith (cartridge_length : ℕ) (f : StateFields) : Type 0 where
   pub state : IsState f
   pub bank : IsTrue (fits_bank cartridge_length f)
 
+-- a state of a console with this cartridge, by the cartridge's rules
+abbrev pub IsStateOf : Cart → State → Type 0
+IsStateOf (GuideCart bytes) (Guide f) = IsStateWith (length bytes) f
+IsStateOf (ChipCart cartridge) (Chip s) = IsStateByChip cartridge s
+IsStateOf (GuideCart bytes) (Chip s) = ⊥
+IsStateOf (ChipCart cartridge) (Guide f) = ⊥
+
+-- a state that a movie can claim, of each cartridge of which it is one
+abbrev pub CanBeClaimed : State → Type 0
+CanBeClaimed s = (cartridge : Cart) → IsTrue (is_of cartridge s) → IsStateOf cartridge s
+
 -- each frame number is greater than the one before it, and none is above n; each claimed state is
--- one with the cartridge
-abbrev pub AreCheckpoints : ℕ → ℕ → ℕ → List Checkpoint → Type 0
-AreCheckpoints cartridge_length last n [] = Unit {0}
-AreCheckpoints cartridge_length last n (c ∷ cs) =
-    (last < c.frame) × (c.frame ≤ n) × IsStateWith cartridge_length c.state × AreCheckpoints cartridge_length c.frame n cs
+-- one of the cartridge
+abbrev pub AreCheckpoints : Cart → ℕ → ℕ → List Checkpoint → Type 0
+AreCheckpoints cartridge last n [] = Unit {0}
+AreCheckpoints cartridge last n (c ∷ cs) =
+    (last < c.frame) × (c.frame ≤ n) × IsStateOf cartridge c.state × AreCheckpoints cartridge c.frame n cs
 
 -- what a movie keeps to
 pub record IsMovie (m : MovieData) : Type 0 where
   pub version : IsTrue (is_version m.version)
-  pub cartridge : IsTrue (takes_cart m.version (length m.cartridge))
-  pub start : IsStateWith (length m.cartridge) m.start
+  pub rules : rules_of m.cartridge ≡ ByGuide
+  pub cartridge : IsTrue (takes_cart m.version (length (bytes_of m.cartridge)))
+  pub start : IsStateOf m.cartridge m.start
   pub some_frames : 1 ≤ length m.inputs
   pub few_frames : length m.inputs ≤ most_frames m.version
   pub few_checkpoints : length m.checkpoints ≤ most_checkpoints
   pub inputs : AllByRecursion (λ i. IsTrue (is_input i)) m.inputs
-  pub checkpoints : AreCheckpoints (length m.cartridge) 0 (length m.inputs) m.checkpoints
+  pub checkpoints : AreCheckpoints m.cartridge 0 (length m.inputs) m.checkpoints

@@ -6,8 +6,8 @@ use Rattle.movie_file.specs.declared.error.MovieError.{MovieError}
 use Rattle.movie_file.specs.declared.error.MovieError.TheVariants.{Short, BadMagic, BadVersion}
 use Rattle.movie_file.specs.declared.error.MovieError.TheVariants.{BadCartSize, BadCounts, BadState}
 use Rattle.movie_file.specs.declared.error.MovieError.TheVariants.{BadInput, BadOrder, Trailing}
-use Rattle.movie_file.specs.declared.refused.Refused.{Refused}
-use Rattle.movie_file.specs.declared.refused.Refused.TheVariants.{NoMemory, Of}
+use Rattle.refused.specs.declared.Refused.{Refused}
+use Rattle.refused.specs.declared.Refused.TheVariants.{NoMemory, Of}
 
 -- the name of a refusal, and its number if it has one
 abbrev pub refusal_text : MovieError → List ℕ

@@ -3,10 +3,12 @@
 -- the end. This project's own.
 use Rattle.std.specs.Prelude.{ℕ, zero, suc, ◌+◌, ◌*◌, Bool, ◌&&◌, List, [], ◌∷◌, length, take, drop, slice_index}
 use Rattle.std.specs.Prelude.{Option, Result, Ok, Err, nat_lt, nat_le, ◌==◌, if◌then◌else◌}
-use Rattle.std.specs.Option.{ok_or}
+use Rattle.std.specs.Option.{ok_or, option_map}
 use Rattle.std.specs.Int.{Width, w16, w32, byte_len, from_be_bytes}
+use Rattle.movie_machine.specs.declared.cart.Cart.TheVariants.{Guide as GuideCart}
+use Rattle.movie_machine.specs.declared.state.State.{State}
+use Rattle.movie_machine.specs.declared.state.State.TheVariants.{Guide}
 use Rattle.vcs_machine.specs.Inputs.{InputData, is_input}
-use Rattle.vcs_machine.specs.declared.fields.StateFields.{StateFields}
 use Rattle.movie_file.specs.declared.checkpoint.Checkpoint.{Checkpoint}
 use Rattle.movie_file.specs.declared.error.MovieError.{MovieError}
 use Rattle.movie_file.specs.declared.error.MovieError.TheVariants.{Short, BadMagic, BadVersion}
@@ -80,8 +82,8 @@ abbrev pub frame_at : List ℕ → ℕ
 frame_at bytes = from_be_bytes w32 (take 4 bytes)
 
 -- the state at the head of the bytes, with the version and the cartridge of a header
-abbrev pub head_state_at : Sizes → List ℕ → Option StateFields
-head_state_at h bytes = movie_state_at h.version h.cartridge_length (take (record_length h.version) bytes)
+abbrev pub head_state_at : Sizes → List ℕ → Option State
+head_state_at h bytes = option_map (λ f. Guide f) (movie_state_at h.version h.cartridge_length (take (record_length h.version) bytes))
 
 -- the checkpoint of number j: its frame is greater than the last one and one of the movie's, and
 -- its state is one
@@ -106,7 +108,7 @@ body_at h bytes = do
   inputs ← inputs_at h.frames 1 (drop (record_length h.version) (drop h.cartridge_length bytes))
   checkpoints ← checkpoints_at h h.checkpoints 1 0 inputs.1
   if length checkpoints.1 == 0
-      then Ok (record { version = h.version; cartridge = take h.cartridge_length bytes; start = start; inputs = inputs.0; checkpoints = checkpoints.0 })
+      then Ok (record { version = h.version; cartridge = GuideCart (take h.cartridge_length bytes); start = start; inputs = inputs.0; checkpoints = checkpoints.0 })
       else Err Trailing
 
 -- the movie that the bytes are, or their refusal

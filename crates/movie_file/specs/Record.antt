@@ -1,6 +1,11 @@
 -- The record of a state: the bytes of its numbers, part by part. This project's own.
-use Rattle.std.specs.Prelude.{ℕ, List, ◌++◌, length, take, ◌==◌, ◌&&◌, ◌||◌, Bool}
+use Rattle.std.specs.Prelude.{ℕ, List, [], ◌++◌, length, take, ◌==◌, ◌&&◌, ◌||◌, Bool}
 use Rattle.std.specs.Prelude.{Option, Some, None, ◌-◌, option_and_then, replicate, if◌then◌else◌}
+use Rattle.chip_machine.specs.Record.{record_of as record_by_chip}
+use Rattle.movie_machine.specs.declared.cart.Cart.{Cart}
+use Rattle.movie_machine.specs.declared.cart.Cart.TheVariants.{Guide as GuideCart, Chip as ChipCart}
+use Rattle.movie_machine.specs.declared.state.State.{State}
+use Rattle.movie_machine.specs.declared.state.State.TheVariants.{Guide, Chip}
 use Rattle.record_table.specs.Numbers.{bytes_of}
 use Rattle.mos_cpu.specs.Registers.{processor_numbers}
 use Rattle.riot_map.specs.Cart.{has_banks}
@@ -24,9 +29,23 @@ record_of f =
 unfoldable pub recorded_state : List ℕ → Option StateFields
 recorded_state bytes = if (length bytes == state_length) && is_state (fields_at bytes) then Some (fields_at bytes) else None
 
--- the record of a state in a movie of this version
+-- the record of a state by the guide's rules in a movie of this version
 abbrev pub movie_record : ℕ → StateFields → List ℕ
 movie_record version f = take (record_length version) (record_of f)
+
+-- the record of a state with a cartridge, by the rules of both
+abbrev pub record_in : Cart → State → List ℕ
+record_in (GuideCart bytes) (Guide f) = record_of f
+record_in (ChipCart cartridge) (Chip s) = record_by_chip cartridge.row s
+record_in (GuideCart bytes) (Chip s) = []
+record_in (ChipCart cartridge) (Guide f) = []
+
+-- the same in a movie of this version
+abbrev pub state_bytes : ℕ → Cart → State → List ℕ
+state_bytes version (GuideCart bytes) (Guide f) = movie_record version f
+state_bytes version (ChipCart cartridge) (Chip s) = record_by_chip cartridge.row s
+state_bytes version (GuideCart bytes) (Chip s) = []
+state_bytes version (ChipCart cartridge) (Guide f) = []
 
 -- the whole record of a state in a movie of this version: what was left out is 0
 abbrev pub whole_record : ℕ → List ℕ → List ℕ

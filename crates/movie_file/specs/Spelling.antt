@@ -2,27 +2,29 @@
 use Rattle.std.specs.Prelude.{◌≡◌, ℕ, List, ◌++◌, length}
 use Rattle.std.specs.List.{flat_map}
 use Rattle.std.specs.Int.{w16, w32, to_be_bytes}
+use Rattle.movie_machine.specs.Carts.{bytes_of}
+use Rattle.movie_machine.specs.declared.cart.Cart.{Cart}
 use Rattle.vcs_machine.specs.Inputs.{input_bytes}
 use Rattle.movie_file.specs.declared.checkpoint.Checkpoint.{Checkpoint}
 use Rattle.movie_file.specs.Format.{magic, length_width}
 use Rattle.movie_file.specs.Movie.{MovieData, IsMovie}
-use Rattle.movie_file.specs.Record.{movie_record}
+use Rattle.movie_file.specs.Record.{state_bytes}
 
 -- the magic, the version, the length of the cartridge, and the numbers of frames and checkpoints
 abbrev pub header_of : MovieData → List ℕ
 header_of m =
-    magic ++ to_be_bytes w16 m.version ++ to_be_bytes (length_width m.version) (length m.cartridge)
+    magic ++ to_be_bytes w16 m.version ++ to_be_bytes (length_width m.version) (length (bytes_of m.cartridge))
     ++ to_be_bytes w32 (length m.inputs) ++ to_be_bytes w16 (length m.checkpoints)
 
--- a frame number and a state, in a movie of this version
-abbrev pub checkpoint_bytes : ℕ → Checkpoint → List ℕ
-checkpoint_bytes version c = to_be_bytes w32 c.frame ++ movie_record version c.state
+-- a frame number and a state, in a movie of this version with this cartridge
+abbrev pub checkpoint_bytes : ℕ → Cart → Checkpoint → List ℕ
+checkpoint_bytes version cartridge c = to_be_bytes w32 c.frame ++ state_bytes version cartridge c.state
 
 -- the header, the cartridge, the start state, the inputs and the checkpoints
 abbrev pub spelling : MovieData → List ℕ
 spelling m =
-    header_of m ++ m.cartridge ++ movie_record m.version m.start ++ flat_map input_bytes m.inputs
-    ++ flat_map (checkpoint_bytes m.version) m.checkpoints
+    header_of m ++ bytes_of m.cartridge ++ state_bytes m.version m.cartridge m.start ++ flat_map input_bytes m.inputs
+    ++ flat_map (checkpoint_bytes m.version m.cartridge) m.checkpoints
 
 -- the bytes spell the movie
 pub record Spells (bytes : List ℕ) (m : MovieData) : Type 0 where

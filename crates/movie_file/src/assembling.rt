@@ -5,8 +5,8 @@ ghost use Rattle.movie_file.specs.Movie.{IsMovie};
 use crate::checkpoint::Checkpoint;
 use crate::movie::Movie;
 use crate::parts::MovieParts;
-use riot_map::Cart;
-use vcs_machine::{Input, State};
+use movie_machine::{Cart, State};
+use vcs_machine::Input;
 
 /// The movie of a version with this cartridge, start state and checkpoints, and an input for each
 /// frame. It takes no memory.

@@ -1,8 +1,8 @@
 //! Checkpoints.
-use vcs_machine::State;
+use movie_machine::State;
 
 /// A state that a movie claims.
-#[derive(Debug, Drop)]
+#[derive(Drop)]
 pub struct Checkpoint {
     /// The frame, counted from 1, after which the console is claimed to be in the state.
     pub frame: u32,

@@ -6,7 +6,7 @@ ghost use Rattle.movie_file.specs.declared.converting.ConvertError.TheVariants.{
 use crate::movie::Movie;
 
 /// Why a movie is not converted.
-#[derive(Debug, Drop)]
+#[derive(Drop)]
 pub enum ConvertError {
     /// The movie has version 2 already. It is handed back.
     AlreadyTwo(Movie),

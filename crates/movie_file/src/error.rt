@@ -1,8 +1,8 @@
 //! Refusals.
 ghost use Rattle.std.specs.Prelude.{◌≡◌};
-ghost use Rattle.movie_file.specs.declared.refused.Refused.TheVariants.{Of};
+ghost use Rattle.refused.specs.declared.Refused.TheVariants.{Of};
 
-use crate::refused::Refused;
+use refused::Refused;
 use std::fmt;
 use thiserror::Error;
 use vcs_machine::FaultKind;

@@ -5,7 +5,7 @@ ghost use Rattle.movie_file.specs.Conversion.{in_version_2};
 ghost use Rattle.movie_file.specs.InputLists.{SpellsInputs, all_inputs_at};
 ghost use Rattle.movie_file.specs.Judgement.{IsSound, FaultsAt, IsFalseAt, IsGenuine};
 ghost use Rattle.movie_file.specs.Making.{IsFirstFault, IsMadeOf};
-ghost use Rattle.movie_file.specs.Movie.{MovieData, IsMovie, IsState, IsStateWith};
+ghost use Rattle.movie_file.specs.Movie.{MovieData, IsMovie, IsState, IsStateOf};
 ghost use Rattle.movie_file.specs.Reading.{movie_at};
 ghost use Rattle.movie_file.specs.Record.{record_of, recorded_state};
 ghost use Rattle.movie_file.specs.Run.{run};
@@ -13,6 +13,8 @@ ghost use Rattle.movie_file.specs.Spelling.{Spells};
 ghost use Rattle.movie_file.specs.declared.checkpoint.Checkpoint.{Checkpoint};
 ghost use Rattle.vcs_machine.specs.Inputs.{InputData};
 ghost use Rattle.vcs_machine.specs.declared.fault.FaultKind.{FaultKind};
+ghost use Rattle.movie_machine.specs.declared.cart.Cart.{Cart};
+ghost use Rattle.movie_machine.specs.declared.state.State.{State};
 ghost use Rattle.vcs_machine.specs.declared.fields.StateFields.{StateFields};
 
 /// A law: no movie has two spellings.
@@ -44,12 +46,12 @@ pub const fn law_of_inputs()
 /// A law: of a cartridge and inputs one movie can be made at most, their run has one first fault at
 /// most, and not both are there.
 pub const fn law_of_making()
-    ensures one_movie { (cartridge : List ℕ) (inputs : List InputData) (every : ℕ) (m n : MovieData)
+    ensures one_movie { (cartridge : Cart) (inputs : List InputData) (every : ℕ) (m n : MovieData)
         → IsMadeOf cartridge inputs every m → IsMadeOf cartridge inputs every n → m ≡ n }
-    ensures one_fault { (cartridge : List ℕ) (inputs : List InputData) (frame other : ℕ)
+    ensures one_fault { (cartridge : Cart) (inputs : List InputData) (frame other : ℕ)
         (kind other_kind : FaultKind) → IsFirstFault cartridge inputs frame kind
         → IsFirstFault cartridge inputs other other_kind → (frame ≡ other) × (kind ≡ other_kind) }
-    ensures not_both { (cartridge : List ℕ) (inputs : List InputData) (every frame : ℕ)
+    ensures not_both { (cartridge : Cart) (inputs : List InputData) (every frame : ℕ)
         (kind : FaultKind) (m : MovieData) → IsMadeOf cartridge inputs every m → IsGenuine m
         → IsFirstFault cartridge inputs frame kind → ⊥ }
 {}
@@ -67,7 +69,7 @@ pub const fn law_of_records()
 pub const fn law_of_checkpoints()
     ensures range { (m : MovieData) (j : ℕ) (c : Checkpoint) → IsMovie m
         → slice_get m.checkpoints j ≡ Some c
-        → (0 < c.frame) × (c.frame ≤ length m.inputs) × IsStateWith (length m.cartridge) c.state }
+        → (0 < c.frame) × (c.frame ≤ length m.inputs) × IsStateOf m.cartridge c.state }
     ensures rising { (m : MovieData) (i j : ℕ) (c d : Checkpoint) → IsMovie m → i < j
         → slice_get m.checkpoints i ≡ Some c → slice_get m.checkpoints j ≡ Some d
         → c.frame < d.frame }
@@ -75,28 +77,28 @@ pub const fn law_of_checkpoints()
 
 /// A law: a run goes on, from where it stands, as a run from there.
 pub const fn law_of_runs()
-    ensures { (m : MovieData) (s t : StateFields) (from i j : ℕ) → run m s from i ≡ Some t
+    ensures { (m : MovieData) (s t : State) (from i j : ℕ) → run m s from i ≡ Some t
         → run m s from (i + j) ≡ run m t (from + i) j }
 {}
 
 /// A law: a frame of a run that is sound has no fault and no false checkpoint, one with a false
 /// checkpoint has no fault, and none has two faults or two false checkpoints.
 pub const fn law_of_judgements()
-    ensures no_fault { (m : MovieData) (s : StateFields) (from k : ℕ) (kind : FaultKind)
+    ensures no_fault { (m : MovieData) (s : State) (from k : ℕ) (kind : FaultKind)
         → IsSound m s from k → FaultsAt m s from k kind → ⊥ }
-    ensures no_false { (m : MovieData) (s : StateFields) (from k number : ℕ)
+    ensures no_false { (m : MovieData) (s : State) (from k number : ℕ)
         → IsSound m s from k → IsFalseAt m s from k number → ⊥ }
-    ensures not_both { (m : MovieData) (s : StateFields) (from k number : ℕ) (kind : FaultKind)
+    ensures not_both { (m : MovieData) (s : State) (from k number : ℕ) (kind : FaultKind)
         → IsFalseAt m s from k number → FaultsAt m s from k kind → ⊥ }
-    ensures one_fault { (m : MovieData) (s : StateFields) (from k : ℕ) (kind other : FaultKind)
+    ensures one_fault { (m : MovieData) (s : State) (from k : ℕ) (kind other : FaultKind)
         → FaultsAt m s from k kind → FaultsAt m s from k other → kind ≡ other }
-    ensures one_false { (m : MovieData) (s : StateFields) (from k number other : ℕ) → IsMovie m
+    ensures one_false { (m : MovieData) (s : State) (from k number other : ℕ) → IsMovie m
         → IsFalseAt m s from k number → IsFalseAt m s from k other → number ≡ other }
 {}
 
 /// A law: a movie in version 2 is a movie, whose run is that of the movie.
 pub const fn law_of_conversion()
     ensures lawful { (m : MovieData) → IsMovie m → IsMovie (in_version_2 m) }
-    ensures run { (m : MovieData) (s : StateFields) (from k : ℕ)
+    ensures run { (m : MovieData) (s : State) (from k : ℕ)
         → run (in_version_2 m) s from k ≡ run m s from k }
 {}

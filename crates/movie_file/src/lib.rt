@@ -17,7 +17,7 @@ mod parts;
 mod progress;
 mod reading;
 mod record;
-mod refused;
+mod records;
 mod writing;
 
 pub use assembling::movie_of;
@@ -32,7 +32,7 @@ pub use laws::{
     law_of_checkpoints, law_of_conversion, law_of_inputs, law_of_judgements, law_of_making,
     law_of_one_movie, law_of_one_spelling, law_of_reading, law_of_records, law_of_runs,
 };
-pub use making::{claim, do_counts_fit, make_movie, version_made};
+pub use making::{claim, copy_state, do_counts_fit, make_movie, version_made};
 pub use movie::Movie;
 pub use progress::{NoProgress, Progress, Work};
 pub use reading::{read_inputs, read_movie};
@@ -40,5 +40,5 @@ pub use record::{
     BANK_NUMBERS, BANK_NUMBERS_AT, PROCESSOR_NUMBERS, RIOT_NUMBERS, RIOT_NUMBERS_AT, RecordNumber,
     TIA_NUMBERS, TIA_NUMBERS_AT, read_state, write_state,
 };
-pub use refused::Refused;
+pub use records::{have_one_record, state_record};
 pub use writing::write_movie;

@@ -4,12 +4,12 @@ ghost use Rattle.std.specs.Prelude.{◌≡◌, ◌-◌, ◌<◌, ◌≤◌, leng
 use crate::checkpoint::Checkpoint;
 use crate::format::MOST_FRAMES;
 use crate::parts::MovieParts;
-use riot_map::Cart;
+use movie_machine::{Cart, State};
 use std::marker::Model;
-use vcs_machine::{Input, State};
+use vcs_machine::Input;
 
 /// A movie, lawful by its type: what the format says of a movie holds of each.
-#[derive(Debug, Drop)]
+#[derive(Drop)]
 pub struct Movie {
     version: u16,
     cart: Cart,

@@ -1,7 +1,7 @@
 //! What a movie is made of, before it is known to be one.
 use crate::checkpoint::Checkpoint;
-use riot_map::Cart;
-use vcs_machine::{Input, State};
+use movie_machine::{Cart, State};
+use vcs_machine::Input;
 
 /// The parts of a movie.
 #[derive(Drop)]

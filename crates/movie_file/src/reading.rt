@@ -19,11 +19,11 @@ use crate::format::record_length;
 use crate::movie::Movie;
 use crate::parts::MovieParts;
 use crate::record::movie_state_in;
-use crate::refused::Refused;
 use header::sizes_in;
 pub use inputs::read_inputs;
 use items::{checkpoints_in, inputs_in};
-use riot_map::Cart;
+use movie_machine::{Cart, State};
+use refused::Refused;
 pub(crate) use sizes::Sizes;
 use std::alloc::{AllocError, Global};
 use vcs_machine::Input;
@@ -80,13 +80,13 @@ impl Reserved {
         if !rest.is_empty() {
             return Err(MovieError::Trailing);
         }
-        let Ok(cart) = Cart::new(self.cartridge) else {
+        let Ok(cart) = riot_map::Cart::new(self.cartridge) else {
             unreachable!()
         };
         Ok(MovieParts {
             version: sizes.version,
-            cart,
-            start,
+            cart: Cart::Guide(cart),
+            start: State::Guide(start),
             inputs,
             checkpoints,
         })

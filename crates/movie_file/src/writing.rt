@@ -3,30 +3,33 @@ ghost use Rattle.std.specs.Prelude.{◌≡◌, ◌++◌, length, OnOk, OnErr};
 ghost use Rattle.std.specs.Int.{w16, w32, to_be_bytes};
 ghost use Rattle.std.specs.Io.{StartsWith};
 ghost use Rattle.std.specs.List.{flat_map};
+ghost use Rattle.movie_machine.specs.Carts.{bytes_of, rules_of};
+ghost use Rattle.movie_machine.specs.declared.rules.Rules.TheVariants.{Guide as ByGuide};
 ghost use Rattle.vcs_machine.specs.Inputs.{input_bytes};
 ghost use Rattle.movie_file.specs.Format.{length_width, magic};
 ghost use Rattle.movie_file.specs.Movie.{IsMovie};
 ghost use Rattle.movie_file.specs.Spelling.{header_of, checkpoint_bytes, spelling};
-ghost use Rattle.movie_file.specs.Record.{movie_record};
+ghost use Rattle.movie_file.specs.Record.{state_bytes};
 
 use crate::checkpoint::Checkpoint;
 use crate::format::{HEADER_LENGTH, MAGIC, Version, record_length};
 use crate::movie::Movie;
 use crate::record::write_state;
-use riot_map::Cart;
+use movie_machine::{Cart, State};
 use std::alloc::AllocError;
-use vcs_machine::{Input, State};
+use vcs_machine::Input;
 
 /// Appends the length of a cartridge, in a movie of a version.
-fn put_length(out: &mut Vec<u8>, version: u16, cart: &Cart) -> Result<(), AllocError>
+fn put_length(out: &mut Vec<u8>, movie: &Movie) -> Result<(), AllocError>
     ensures ok { OnOk result
-        (out.new.items ≡ out.old.items ++ to_be_bytes (length_width version) (length cart.now)) }
+        (out.new.items ≡ out.old.items ++ to_be_bytes (length_width movie.now.version) (length (bytes_of movie.now.cartridge))) }
     ensures prefix { StartsWith out.new.items out.old.items }
 {
-    if Version::of(version).has_wide_length {
-        out.extend_from_slice(&u32::from(cart.len()).to_be_bytes())
+    let length = movie.cart().bytes().len();
+    if Version::of(movie.version()).has_wide_length {
+        out.extend_from_slice(&(length as u32).to_be_bytes())
     } else {
-        out.extend_from_slice(&cart.len().to_be_bytes())
+        out.extend_from_slice(&(length as u16).to_be_bytes())
     }
 }
 
@@ -66,7 +69,7 @@ fn put_header(out: &mut Vec<u8>, movie: &Movie) -> Result<(), AllocError>
 {
     out.reserve(HEADER_LENGTH)?;
     out.extend_from_slice(&first_fields(movie))?;
-    put_length(out, movie.version(), movie.cart())?;
+    put_length(out, movie)?;
     out.extend_from_slice(&counts(movie))?;
     Ok(())
 }
@@ -82,42 +85,53 @@ fn put_inputs(out: &mut Vec<u8>, inputs: &[Input]) -> Result<(), AllocError>
     Ok(())
 }
 
-/// Appends a state, in a movie of a version.
-fn put_state(out: &mut Vec<u8>, version: u16, state: &State) -> Result<(), AllocError>
-    ensures ok { OnOk result (out.new.items ≡ out.old.items ++ movie_record version state.now) }
+/// Appends a state, in a movie of a version with this cartridge.
+fn put_state(out: &mut Vec<u8>, version: u16, cart: &Cart, state: &State) -> Result<(), AllocError>
+    requires { rules_of cart.now ≡ ByGuide }
+    ensures ok { OnOk result (out.new.items ≡ out.old.items ++ state_bytes version cart.now state.now) }
     ensures prefix { StartsWith out.new.items out.old.items }
 {
-    out.extend_from_slice(&write_state(state)[..record_length(version)])
+    match (cart, state) {
+        (Cart::Guide(_), State::Guide(state)) => out.extend_from_slice(
+            &write_state(state)[..record_length(version)],
+        ),
+        (Cart::Guide(_), State::Chip(_)) => Ok(()),
+        (Cart::Chip(_), _) => unreachable!(),
+    }
 }
 
-/// Appends a checkpoint, in a movie of a version.
+/// Appends a checkpoint, in a movie of a version with this cartridge.
 fn put_checkpoint(
     out: &mut Vec<u8>,
     version: u16,
+    cart: &Cart,
     checkpoint: &Checkpoint,
 ) -> Result<(), AllocError>
+    requires { rules_of cart.now ≡ ByGuide }
     ensures ok { OnOk result
-        (out.new.items ≡ out.old.items ++ checkpoint_bytes version checkpoint.now) }
+        (out.new.items ≡ out.old.items ++ checkpoint_bytes version cart.now checkpoint.now) }
     ensures prefix { StartsWith out.new.items out.old.items }
 {
     out.extend_from_slice(&checkpoint.frame.to_be_bytes())?;
-    put_state(out, version, &checkpoint.state)?;
+    put_state(out, version, cart, &checkpoint.state)?;
     Ok(())
 }
 
-/// Appends checkpoints, in a movie of a version.
+/// Appends checkpoints, in a movie of a version with this cartridge.
 #[tactic(auto, using(crate::proofs::PrefixLemmas::prefix_then))]
 fn put_checkpoints(
     out: &mut Vec<u8>,
     version: u16,
+    cart: &Cart,
     checkpoints: &[Checkpoint],
 ) -> Result<(), AllocError>
+    requires { rules_of cart.now ≡ ByGuide }
     ensures ok { OnOk result
-        (out.new.items ≡ out.old.items ++ flat_map (checkpoint_bytes version) checkpoints.now) }
+        (out.new.items ≡ out.old.items ++ flat_map (checkpoint_bytes version cart.now) checkpoints.now) }
     ensures prefix { StartsWith out.new.items out.old.items }
 {
     for checkpoint in checkpoints {
-        put_checkpoint(out, version, checkpoint)?;
+        put_checkpoint(out, version, cart, checkpoint)?;
     }
     Ok(())
 }
@@ -130,11 +144,12 @@ fn put_movie(out: &mut Vec<u8>, movie: &Movie) -> Result<(), AllocError>
     ensures lawful { IsMovie movie.now }
 {
     let version = movie.version();
+    let cart = movie.cart();
     put_header(out, movie)?;
-    out.extend_from_slice(movie.cart().bytes())?;
-    put_state(out, version, movie.start())?;
+    out.extend_from_slice(cart.bytes())?;
+    put_state(out, version, cart, movie.start())?;
     put_inputs(out, movie.inputs())?;
-    put_checkpoints(out, version, movie.all_checkpoints())?;
+    put_checkpoints(out, version, cart, movie.all_checkpoints())?;
     Ok(())
 }
 

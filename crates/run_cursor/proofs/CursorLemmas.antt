@@ -1,13 +1,15 @@
 -- A cursor goes on by one frame.
-use Rattle.std.proofs.Common.{◌≡◌, ℕ, zero, suc, ◌+◌, ◌-◌, ◌<◌, ◌≤◌, List, length, Some, None, refl, arith, add-zero}
-use Rattle.std.specs.Prelude.{slice_get}
+use Rattle.std.proofs.Common.{◌≡◌, ℕ, zero, suc, ◌+◌, ◌-◌, ◌<◌, ◌≤◌, length, Option, Some, None, refl, arith, add-zero}
+use Rattle.std.specs.Prelude.{IsTrue, slice_get}
+use Rattle.refused.specs.declared.Refused.{Refused}
+use Rattle.refused.specs.declared.Refused.TheVariants.{NoMemory, Of}
 use Rattle.vcs_machine.specs.Inputs.{InputData}
-use Rattle.vcs_machine.specs.Outcomes.{Played, FailsAs, frame_of}
+use Rattle.movie_machine.specs.Outcomes.{Failed, FailsAs, Left, Played, frame_of}
+use Rattle.movie_machine.specs.States.{is_of}
+use Rattle.movie_machine.specs.declared.cart.Cart.{Cart}
+use Rattle.movie_machine.specs.declared.state.State.{State}
 use Rattle.vcs_machine.specs.Pictures.{Rows}
 use Rattle.vcs_machine.specs.declared.fault.FaultKind.{FaultKind}
-use Rattle.vcs_machine.specs.declared.fault.FrameError.{FrameError}
-use Rattle.vcs_machine.specs.declared.fault.FrameError.TheVariants.{Fault, NoMemory}
-use Rattle.vcs_machine.specs.declared.fields.StateFields.{StateFields}
 use Rattle.movie_file.specs.Judgement.{FaultsAt}
 use Rattle.movie_file.specs.Movie.{MovieData}
 use Rattle.movie_file.specs.Run.{run}
@@ -15,25 +17,29 @@ use Rattle.movie_file.proofs.RunLemmas.{faults-here, run-fault, run-next}
 use Rattle.run_cursor.specs.Cursor.{CursorData, IsAt}
 use Rattle.run_cursor.specs.RunFaults.{FaultsWithin, FrameFails}
 
-module _ (m : MovieData) (k : ℕ) (state left : StateFields) (cartridge : List ℕ) (input : InputData) (at : IsAt m k (record { movie = m; frame = k; state = state }))
+module _ (m : MovieData) (k : ℕ) (state left : State) (cartridge : Cart) (input : InputData) (at : IsAt m k (record { movie = m; frame = k; state = state }))
     (same : cartridge ≡ m.cartridge) (there : slice_get m.inputs (k + 1 - 1) ≡ Some input) where
   pub here : slice_get m.inputs k ≡ Some input
   here = let e : k + 1 - 1 ≡ k = omega arith in rw e at there
 
   -- it ends,
-  pub one_further : k < length m.inputs → (rows : Rows) → frame_of cartridge state input ≡ Played left rows
+  pub one_further : k < length m.inputs → (rows : Rows) (cycles : ℕ) → frame_of cartridge state input ≡ Some (Played left rows cycles) → IsTrue (is_of cartridge left)
       → IsAt m (k + 1) (record { movie = m; frame = k + 1; state = left })
-  one_further less rows ends = record {
+  one_further less rows cycles ends of = record {
     movie_is = refl;
     frame_is = refl;
     within = omega arith;
     few = at.few;
-    ran = run-next m m.start 0 k k state input at.ran (omega arith) here left rows (rw same at ends);
+    ran = run-next m m.start 0 k k state input at.ran (omega arith) here left rows cycles (rw same at ends);
+    cartridge = rw same at of;
   }
 
   -- or fails
-  pub not_further : (error : FrameError) → FailsAs (frame_of cartridge state input) error left → FrameFails m k error
-  not_further (Fault kind) fails = faults-here m m.start 0 k k state input at.ran (omega arith) here kind left (rw same at fails)
+  pub fault_here : (kind : FaultKind) (l : Option Left) → frame_of cartridge state input ≡ Some (Failed kind l) → FaultsAt m m.start 0 k kind
+  fault_here kind l fails = faults-here m m.start 0 k k state input at.ran (omega arith) here kind l (rw same at fails)
+
+  pub not_further : (error : Refused FaultKind) → FailsAs (frame_of cartridge state input) error left → FrameFails m k error
+  not_further (Of kind) fails = fault_here kind fails.0 fails.1
   not_further NoMemory fails = tt
 
 -- ---- after a fault there is no state

@@ -1,1 +1,2 @@
 pub mod CursorLemmas
+pub mod RunStates

@@ -1,18 +1,21 @@
 //! Cursors, which go through the run of a movie frame by frame.
-ghost use Rattle.std.specs.Prelude.{◌≡◌, ◌≤◌, ◌<◌, ◌+◌, ◌-◌, true, if◌then◌else◌, length, slice_get};
-ghost use Rattle.std.specs.Prelude.{Some, None, IfOk, IfErr, OnOk, OnErr};
+ghost use Rattle.std.specs.Prelude.{◌≡◌, ◌≤◌, ◌<◌, ◌+◌, ◌-◌, ◌⊎◌, true, if◌then◌else◌, length, slice_get};
+ghost use Rattle.std.specs.Prelude.{Some, None, IsTrue, IfOk, IfErr, OnOk, OnErr};
 ghost use Rattle.movie_file.specs.Judgement.{FaultsAt};
 ghost use Rattle.movie_file.specs.Movie.{IsMovie};
 ghost use Rattle.movie_file.specs.Run.{run};
-ghost use Rattle.run_cursor.specs.RunFaults.{FaultsWithin, FrameFails};
+ghost use Rattle.movie_machine.specs.Carts.{ram_length};
+ghost use Rattle.movie_machine.specs.Outcomes.{Played, frame_of};
+ghost use Rattle.run_cursor.specs.RunFaults.{FaultsWithin, FrameFails, RunFails};
 ghost use Rattle.vcs_machine.specs.Inputs.{InputData};
-ghost use Rattle.vcs_machine.specs.Outcomes.{Played, cycles_of, frame_of};
 ghost use Rattle.vcs_machine.specs.Pictures.{Rows};
 
 use movie_file::{Movie, Progress, Work};
-use std::alloc::Global;
+use movie_machine::{State, TimedFrame, frame as play, halt};
+use refused::Refused;
+use std::alloc::{AllocError, Global};
 use std::marker::Model;
-use vcs_machine::{FaultKind, FrameError, State, TimedFrame, halt, timed_frame};
+use vcs_machine::FaultKind;
 
 /// The first fault of a run.
 #[derive(Clone, Copy)]
@@ -45,29 +48,43 @@ impl<'a> Cursor<'a> {
     ghost use Rattle.run_cursor.specs.Cursor.{IsAt};
 
     /// Before the first frame.
-    pub fn at_start(movie: &'a Movie) -> Cursor<'a>
-        ensures { IsAt movie.now 0 result }
+    ///
+    /// AllocError comes only if memory for the RAM of the cartridge was refused.
+    pub fn at_start(alloc: Global, movie: &'a Movie) -> Result<Cursor<'a>, AllocError>
+        ensures at { IfOk result (IsAt movie.now 0) }
+        ensures memory { OnErr result (0 < ram_length movie.now.cartridge) }
     {
         let _ = movie.frames();
-        Cursor {
+        let state = movie.start().copy(alloc)?;
+        Ok(Cursor {
             movie,
             frame: 0,
-            state: movie.start().copy(),
-        }
+            state,
+        })
     }
 
     /// After a frame of which this is known to be the run's state, as a true checkpoint claims it.
-    pub fn at_claim(movie: &'a Movie, frame: u32, state: &State) -> Cursor<'a>
+    ///
+    /// AllocError comes only if memory for the RAM of the cartridge was refused.
+    #[tactic(auto, using(crate::proofs::RunStates::run_of))]
+    pub fn at_claim(
+        alloc: Global,
+        movie: &'a Movie,
+        frame: u32,
+        state: &State,
+    ) -> Result<Cursor<'a>, AllocError>
         requires within { frame ≤ length movie.now.inputs }
         requires ran { run movie.now movie.now.start 0 frame ≡ Some state.now }
-        ensures { IsAt movie.now frame result }
+        ensures at { IfOk result (IsAt movie.now frame) }
+        ensures memory { OnErr result (0 < ram_length movie.now.cartridge) }
     {
         let _ = movie.frames();
-        Cursor {
+        let state = state.copy(alloc)?;
+        Ok(Cursor {
             movie,
             frame,
-            state: state.copy(),
-        }
+            state,
+        })
     }
 
     /// The movie.
@@ -94,85 +111,103 @@ impl<'a> Cursor<'a> {
         &self.state
     }
 
-    /// Plays the next frame, whose picture is not kept. It takes no memory.
-    pub fn advance(&mut self) -> Result<(), FaultKind>
+    /// Plays the next frame, whose picture is not kept. Memory is taken for the RAM of the cartridge
+    /// alone.
+    pub fn advance(&mut self, alloc: Global) -> Result<(), Refused<FaultKind>>
         requires more { self.old.frame < length self.old.movie.inputs }
         ensures ok { OnOk result (IsAt self.old.movie (self.old.frame + 1) self.new) }
-        ensures err { IfErr result (λ kind. FaultsAt self.old.movie self.old.movie.start 0 self.old.frame kind) }
+        ensures err { IfErr result (FrameFails self.old.movie self.old.frame) }
+        ensures memory { result ≡ Err Refused.NoMemory → 0 < ram_length self.old.movie.cartridge }
         ensures same { OnErr result (self.new ≡ self.old) }
     {
         let movie = self.movie;
         let frame = self.frame + 1;
-        let mut state = self.state.copy();
-        match halt(movie.cart(), &mut state, movie.input(frame)) {
+        let Ok(mut state) = self.state.copy(alloc) else {
+            return Err(Refused::NoMemory);
+        };
+        match halt(alloc, movie.cart(), &mut state, movie.input(frame)) {
             None => {
                 self.frame = frame;
                 self.state = state;
                 Ok(())
             }
-            Some(halt) => Err(halt.kind),
+            Some(halt) => Err(Refused::Of(halt.kind)),
         }
     }
 
     /// Plays the next frame, with its picture if `keep` is true; the answer is how long it was. With
-    /// `keep` false no memory is taken.
-    pub fn advance_timed(&mut self, alloc: Global, keep: bool) -> Result<TimedFrame, FrameError>
+    /// `keep` false memory is taken for the RAM of the cartridge alone.
+    pub fn advance_timed(
+        &mut self,
+        alloc: Global,
+        keep: bool,
+    ) -> Result<TimedFrame, Refused<FaultKind>>
         requires more { self.old.frame < length self.old.movie.inputs }
         ensures ok { OnOk result (IsAt self.old.movie (self.old.frame + 1) self.new) }
         ensures timed { IfOk result (λ timed. (input : InputData) × (rows : Rows)
             × (slice_get self.old.movie.inputs self.old.frame ≡ Some input)
-            × (frame_of self.old.movie.cartridge self.old.state input ≡ Played self.new.state rows)
-            × (timed.cycles ≡ cycles_of self.old.movie.cartridge self.old.state input)
+            × (frame_of self.old.movie.cartridge self.old.state input ≡ Some (Played self.new.state rows timed.cycles))
             × (timed.rows ≡ length rows) × (timed.picture ≡ (if keep then Some rows else None))) }
         ensures at { IsAt self.old.movie self.old.frame self.old }
         ensures err { IfErr result (FrameFails self.old.movie self.old.frame) }
-        ensures memory { result ≡ Err FrameError.NoMemory → keep ≡ true }
+        ensures memory { result ≡ Err Refused.NoMemory → (keep ≡ true) ⊎ (0 < ram_length self.old.movie.cartridge) }
         ensures same { OnErr result (self.new ≡ self.old) }
     {
         let movie = self.movie;
         let frame = self.frame + 1;
-        let mut state = self.state.copy();
-        let timed = timed_frame(alloc, movie.cart(), &mut state, movie.input(frame), keep)?;
+        let Ok(mut state) = self.state.copy(alloc) else {
+            return Err(Refused::NoMemory);
+        };
+        let timed = play(alloc, movie.cart(), &mut state, movie.input(frame), keep)?;
         self.frame = frame;
         self.state = state;
         Ok(timed)
     }
 
-    /// Goes on to a frame, as long as none faults. It takes no memory. If one does it stays before
-    /// that. Each frame is told, as a part of a work that has begun.
-    pub fn advance_to<P: Progress>(&mut self, frame: u32, progress: &P) -> Result<(), RunFault>
+    /// Goes on to a frame, as long as none faults. If one does it stays before that. Each frame is told,
+    /// as a part of a work that has begun. Memory is taken for the RAM of the cartridge alone.
+    pub fn advance_to<P: Progress>(
+        &mut self,
+        alloc: Global,
+        frame: u32,
+        progress: &P,
+    ) -> Result<(), Refused<RunFault>>
         requires later { self.old.frame ≤ frame }
         requires within { frame ≤ length self.old.movie.inputs }
         ensures ok { OnOk result (IsAt self.old.movie frame self.new) }
-        ensures err { IfErr result (λ fault. FaultsWithin self.old.movie frame fault.frame fault.kind) }
-        ensures before { IfErr result (λ fault. IsAt self.old.movie (fault.frame - 1) self.new) }
+        ensures err { IfErr result (RunFails self.old.movie frame self.new) }
     {
         for before in self.frame()..frame {
-            match self.advance() {
+            match self.advance(alloc) {
                 Ok(()) => progress.advance(),
-                Err(kind) => {
+                Err(Refused::Of(kind)) => {
                     let frame = before + 1;
-                    return Err(RunFault { frame, kind });
+                    return Err(Refused::Of(RunFault { frame, kind }));
                 }
+                Err(Refused::NoMemory) => return Err(Refused::NoMemory),
             }
         }
         Ok(())
     }
 
     /// The same as a work of its own. None begins if no frame is left.
-    pub fn work_to<P: Progress>(&mut self, frame: u32, progress: &P) -> Result<(), RunFault>
+    pub fn work_to<P: Progress>(
+        &mut self,
+        alloc: Global,
+        frame: u32,
+        progress: &P,
+    ) -> Result<(), Refused<RunFault>>
         requires later { self.old.frame ≤ frame }
         requires within { frame ≤ length self.old.movie.inputs }
         ensures ok { OnOk result (IsAt self.old.movie frame self.new) }
-        ensures err { IfErr result (λ fault. FaultsWithin self.old.movie frame fault.frame fault.kind) }
-        ensures before { IfErr result (λ fault. IsAt self.old.movie (fault.frame - 1) self.new) }
+        ensures err { IfErr result (RunFails self.old.movie frame self.new) }
     {
         let left = frame - self.frame();
         if left == 0 {
             return Ok(());
         }
         progress.begin(Work::Frames(left));
-        let played = self.advance_to(frame, progress);
+        let played = self.advance_to(alloc, frame, progress);
         progress.end();
         played
     }

@@ -8,7 +8,7 @@ ghost use Rattle.movie_file.specs.MovieError.{GivesUnlessRefused};
 use super::items::inputs_in;
 use crate::error::MovieError;
 use crate::format::INPUT_LENGTH;
-use crate::refused::Refused;
+use refused::Refused;
 use std::alloc::Global;
 use vcs_machine::Input;
 

@@ -11,7 +11,8 @@ use crate::checkpoint::Checkpoint;
 use crate::error::MovieError;
 use crate::format::{INPUT_LENGTH, record_length};
 use crate::record::movie_state_in;
-use vcs_machine::{Input, State};
+use movie_machine::State;
+use vcs_machine::Input;
 
 /// The input of a number, at the head of the bytes.
 #[tactic(auto, unfolding(crate::specs::Reading::input_at))]
@@ -52,7 +53,7 @@ fn head_state_in(sizes: Sizes, bytes: &[u8]) -> Option<State>
     requires { record_length sizes.version ≤ length bytes.now }
     ensures { result ≡ head_state_at sizes bytes.now }
 {
-    movie_state_in(sizes, &bytes[..record_length(sizes.version)])
+    movie_state_in(sizes, &bytes[..record_length(sizes.version)]).map(State::Guide)
 }
 
 /// The checkpoint of a number, at the head of the bytes, if the one before it stands after

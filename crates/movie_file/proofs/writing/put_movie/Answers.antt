@@ -15,5 +15,5 @@ returns-in_err-put_checkpoints-clause-prefix c =
 pub returns-clause-ok : goal.returns-clause-ok
 returns-clause-ok c =
     rw (c.in_ok-put_checkpoints.ensures.ok, c.in_ok-put_inputs.ensures.ok, c.in_ok-put_state.ensures.ok, c.in_ok-extend_from_slice.ensures.items)
-    (rw (c.in_ok-put_header.ensures.ok, c.bytes.ensures.value, c.cart.ensures, c.version-version.ensures.value)
+    (rw (c.in_ok-put_header.ensures.ok, c.bytes.ensures.value, c.cart-cart.ensures, c.version-version.ensures.value)
     (rw (c.start.ensures, c.inputs.ensures, c.all_checkpoints.ensures) (simp append_assoc)))
