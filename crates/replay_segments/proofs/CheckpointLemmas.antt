@@ -3,7 +3,7 @@ use Rattle.std.proofs.Common.{◌≡◌, ◌≢◌, ◌⊎◌, ℕ, ◌+◌, ◌
 use Rattle.std.proofs.Common.{arith}
 use Rattle.std.proofs.lemmas.Bool.{cases_lt}
 use Rattle.std.proofs.lemmas.Option.{slice_get_within}
-use Rattle.vcs_machine.specs.declared.fields.StateFields.{StateFields}
+use Rattle.movie_machine.specs.declared.state.State.{State}
 use Rattle.movie_file.specs.Movie.{MovieData, IsMovie}
 use Rattle.movie_file.specs.declared.checkpoint.Checkpoint.{Checkpoint}
 use Rattle.movie_file.proofs.CheckpointLemmas.{checkpoint_in_range, checkpoints_rise}
@@ -15,11 +15,11 @@ use Rattle.replay_segments.proofs.ListLemmas.{same_at}
 module _ (m : MovieData) (movie : IsMovie m) where
   -- A checkpoint is after a frame of its movie.
   pub frame_in_range : (j : ℕ) (c : Checkpoint) → slice_get m.checkpoints j ≡ Some c → (0 < c.frame) × (c.frame ≤ length m.inputs)
-  frame_in_range j c at = let h = checkpoint_in_range (length m.cartridge) m.checkpoints 0 (length m.inputs) j c movie.checkpoints at in (h.0, h.1)
+  frame_in_range j c at = let h = checkpoint_in_range m.cartridge m.checkpoints 0 (length m.inputs) j c movie.checkpoints at in (h.0, h.1)
 
   -- A later checkpoint is after a later frame.
   pub frames_rise : (i j : ℕ) (c d : Checkpoint) → i < j → slice_get m.checkpoints i ≡ Some c → slice_get m.checkpoints j ≡ Some d → c.frame < d.frame
-  frames_rise i j c d less at there = checkpoints_rise (length m.cartridge) m.checkpoints 0 (length m.inputs) i j c d movie.checkpoints less at there
+  frames_rise i j c d less at there = checkpoints_rise m.cartridge m.checkpoints 0 (length m.inputs) i j c d movie.checkpoints less at there
 
   -- Two checkpoints are one, or stand in the order of their frames.
   pub in_order : (i j : ℕ) (c d : Checkpoint) → slice_get m.checkpoints i ≡ Some c → slice_get m.checkpoints j ≡ Some d
@@ -36,7 +36,7 @@ module _ (m : MovieData) (movie : IsMovie m) where
 
 pub ruleset at_start = IsNext-start
 
-module _ (m : MovieData) (movie : IsMovie m) (next frame : ℕ) (state : StateFields) (is : IsNext m next frame)
+module _ (m : MovieData) (movie : IsMovie m) (next frame : ℕ) (state : State) (is : IsNext m next frame)
     (c : Checkpoint) (here : slice_get m.checkpoints next ≡ Some c) where
   -- The next one stands after a later frame.
   pub IsClaim-later : c.frame ≢ frame → IsClaim m next frame state (Holds next)

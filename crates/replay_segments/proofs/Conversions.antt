@@ -1,6 +1,6 @@
 -- A movie in version 2 has the verdicts of the movie.
 use Rattle.std.proofs.Common.{◌≡◌, ℕ, zero, suc, ◌+◌, Option, Some, None, refl, sym, ◌∙◌}
-use Rattle.vcs_machine.specs.declared.fields.StateFields.{StateFields}
+use Rattle.movie_machine.specs.declared.state.State.{State}
 use Rattle.movie_file.specs.Conversion.{in_version_2}
 use Rattle.movie_file.specs.Movie.{MovieData}
 use Rattle.movie_file.specs.Run.{run}
@@ -14,17 +14,17 @@ use Rattle.replay_segments.specs.declared.verdict.Verdict.TheVariants.{Fault}
 use Rattle.replay_segments.specs.KeptPictures.{picture_after, pictures}
 use Rattle.replay_segments.specs.Verdicts.{IsJudged}
 
-picture_after-converted : (m : MovieData) (k : ℕ) (state : Option StateFields) → picture_after (in_version_2 m) k state ≡ picture_after m k state
+picture_after-converted : (m : MovieData) (k : ℕ) (state : Option State) → picture_after (in_version_2 m) k state ≡ picture_after m k state
 picture_after-converted m k None = refl
 picture_after-converted m k (Some state) = refl
 
-pictures-converted : (m : MovieData) (keep : Keep) (start : StateFields) (from k : ℕ)
+pictures-converted : (m : MovieData) (keep : Keep) (start : State) (from k : ℕ)
     → pictures (in_version_2 m) keep start from k ≡ pictures m keep start from k
 pictures-converted m keep start from zero = refl
 pictures-converted m keep start from (suc k) =
     rw (pictures-converted m keep start from k, run-converted m start from k, picture_after-converted m (from + k) (run m start from k)) refl
 
-module _ (m : MovieData) (keep : Keep) (start : StateFields) (from len : ℕ) where
+module _ (m : MovieData) (keep : Keep) (start : State) (from len : ℕ) where
   pub judged-converted : (v : Verdict) → IsJudged m keep start from len v → IsJudged (in_version_2 m) keep start from len v
   judged-converted (Genuine kept) said =
       (λ i less. sound-converted m start from i (said.0 i less), said.1 ∙ sym (pictures-converted m keep start from len))

@@ -1,13 +1,12 @@
 -- Pieces that are looked for one after another.
-use Rattle.std.proofs.Common.{◌≡◌, ◌≢◌, ℕ, ◌+◌, ◌<◌, ◌≤◌, List, length, Option, Some, None, Err}
+use Rattle.std.proofs.Common.{◌≡◌, ◌≢◌, ℕ, ◌+◌, ◌<◌, ◌≤◌, List, length, Option, Some, None, Err, alloc_error}
 use Rattle.std.proofs.Common.{true, IsFalse, IfSome, slice_get, arith}
 use Rattle.std.proofs.lemmas.Bool.{false_from_ne_true}
 use Rattle.std.specs.Option.{is_some}
 use Rattle.std.proofs.lemmas.Option.{slice_get_within}
-use Rattle.movie_file.specs.declared.refused.Refused.{Refused}
-use Rattle.movie_file.specs.declared.refused.Refused.TheVariants.{Of, NoMemory}
+use Rattle.refused.specs.declared.Refused.{Refused}
+use Rattle.refused.specs.declared.Refused.TheVariants.{Of, NoMemory}
 use Rattle.replay_segments.specs.declared.gathering.Missing.{Missing}
-use Rattle.replay_segments.specs.declared.outcome.Outcome.TheVariants.{NoMemory as NoMemoryOutcome}
 use Rattle.replay_segments.specs.Private.Finding.{ArePassedBelow, IsAnswer}
 use Rattle.replay_segments.specs.Gathering.{HasNumber, HasPassed, PassedBelow}
 use Rattle.replay_segments.specs.Pieces.{PieceData, passed}
@@ -23,7 +22,7 @@ PassedBelow-found pieces n below k less = let (i, (p, at, is, good, lawful)) = b
 
 -- The piece passed, or it is without memory.
 abbrev pub IsUnjudged : PieceData → Type 0
-IsUnjudged p = IsFalse (passed p.outcome) → p.outcome ≡ NoMemoryOutcome
+IsUnjudged p = IsFalse (passed p.outcome) → p.outcome ≡ Err alloc_error
 
 -- What is answered where only the first n pieces are looked at, of which none was judged bad.
 abbrev pub IsAnswerBelow : List PieceData → ℕ → ℕ → Refused Missing → Type 0

@@ -3,12 +3,11 @@ use Rattle.std.proofs.Common.{◌≡◌, ℕ, zero, suc, ◌<◌, ◌↔◌, Lis
 use Rattle.std.proofs.Common.{refl, arith, ap, ◌∙◌, subst, sym, add-one, ◌⊎◌, inl, IsTrue}
 use Rattle.std.proofs.Common.{IsFalse}
 use Rattle.std.proofs.lemmas.Bool.{cases_lt}
+use Rattle.std.specs.declared.alloc.AllocError.{AllocError}
 use Rattle.vcs_machine.specs.Pictures.{Rows}
-use Rattle.movie_file.specs.declared.refused.Refused.{Refused}
-use Rattle.movie_file.specs.declared.refused.Refused.TheVariants.{Of, NoMemory}
+use Rattle.refused.specs.declared.Refused.{Refused}
+use Rattle.refused.specs.declared.Refused.TheVariants.{Of, NoMemory}
 use Rattle.replay_segments.specs.declared.gathering.Missing.{Missing}
-use Rattle.replay_segments.specs.declared.outcome.Outcome.{Outcome}
-use Rattle.replay_segments.specs.declared.outcome.Outcome.TheVariants.{Judged}
 use Rattle.replay_segments.specs.declared.verdict.Verdict.{Verdict}
 use Rattle.replay_segments.specs.declared.verdict.Verdict.TheVariants.{Genuine}
 use Rattle.replay_segments.specs.Private.Finding.{ArePassedBelow, IsFirstUnpassed, IsAnswer}
@@ -21,7 +20,7 @@ use Rattle.replay_segments.proofs.OneUnbrokenRun.{IsVerdict-bad}
 use Rattle.replay_segments.proofs.FindLemmas.{PassedBelow-found}
 use Rattle.replay_segments.proofs.TakeLemmas.{of_job}
 
-passed_pictures : (o : Outcome) → IsTrue (passed o) → (kept : List Rows) × (o ≡ Judged (Genuine kept))
+passed_pictures : (o : Result Verdict AllocError) → IsTrue (passed o) → (kept : List Rows) × (o ≡ Ok (Genuine kept))
 passed_pictures o good = grind arith
 
 -- Segments that passed are a genuine beginning.
@@ -66,7 +65,7 @@ module _ (pieces : List PieceData) (n number : ℕ) (first : IsFirstUnpassed pie
   verdict-answer (Ok v) (i, p, at, is, judged, bad, lawful) = λ job names whole.
       let (kept, begun) = prefix_of job pieces names number first.below in
       let of = of_job job pieces i p number v names at is judged lawful in
-      IsVerdict-bad job of.0 number of.1 kept begun v of.2 (subst (λ (o : Outcome). IsFalse (passed o)) judged bad)
+      IsVerdict-bad job of.0 number of.1 kept begun v of.2 (subst (λ (o : Result Verdict AllocError). IsFalse (passed o)) judged bad)
   verdict-answer (Err e) answer = tt
 
   pub missing-answer : (r : Result Verdict (Refused Missing)) → IsAnswer pieces number r → (k : ℕ) → (r ≡ Err (Of (record { segment = k }))) ↔ IsFirstMissing pieces n k

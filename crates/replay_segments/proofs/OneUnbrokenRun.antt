@@ -1,15 +1,14 @@
 -- Segments one after another are one unbroken run.
-use Rattle.std.proofs.Common.{◌≡◌, ℕ, zero, suc, ◌+◌, ◌-◌, ◌<◌, ◌≤◌, List, [], ◌++◌, length, Some}
+use Rattle.std.proofs.Common.{Ok, ◌≡◌, ℕ, zero, suc, ◌+◌, ◌-◌, ◌<◌, ◌≤◌, List, [], ◌++◌, length, Some}
 use Rattle.std.proofs.Common.{refl, arith, ◌∙◌, subst, sym, add-zero, append-nil, append_assoc}
 use Rattle.std.proofs.Common.{if◌then◌else◌, IsFalse, inl, inr}
 use Rattle.vcs_machine.specs.Pictures.{Rows}
-use Rattle.vcs_machine.specs.declared.fields.StateFields.{StateFields}
+use Rattle.movie_machine.specs.declared.state.State.{State}
 use Rattle.movie_file.specs.Movie.{MovieData}
 use Rattle.movie_file.specs.Run.{run}
 use Rattle.movie_file.specs.Judgement.{AllSound}
 use Rattle.movie_file.proofs.RunLemmas.{run-shift, AllSound-shift}
 use Rattle.replay_plan.specs.declared.keep.Keep.{Keep}
-use Rattle.replay_segments.specs.declared.outcome.Outcome.TheVariants.{Judged}
 use Rattle.replay_segments.specs.declared.verdict.Verdict.{Verdict}
 use Rattle.replay_segments.specs.declared.verdict.Verdict.TheVariants.{Genuine}
 use Rattle.replay_plan.specs.Keeping.{is_kept}
@@ -28,7 +27,7 @@ pub record IsPrefix (job : Job) (i : ℕ) (kept : List Rows) : Type 0 where
   pub judged : IsJudged job.movie job.keep job.movie.start 0 (from_of job.movie job.cuts i) (Genuine kept)
   pub stands : i ≤ length job.cuts → run job.movie job.movie.start 0 (from_of job.movie job.cuts i) ≡ Some (start_of job.movie job.cuts i)
 
-pictures-shift : (m : MovieData) (keep : Keep) (s : StateFields) (a i : ℕ) (t : StateFields) → run m s a i ≡ Some t → (j : ℕ)
+pictures-shift : (m : MovieData) (keep : Keep) (s : State) (a i : ℕ) (t : State) → run m s a i ≡ Some t → (j : ℕ)
     → pictures m keep s a (i + j) ≡ pictures m keep s a i ++ pictures m keep t (a + i) j
 pictures-shift m keep s a i t is zero = rw add-zero (sym (append-nil _))
 pictures-shift m keep s a i t is (suc j) =
@@ -67,7 +66,7 @@ module _ (job : Job) (is : IsJob job) (i : ℕ) (less : i < segments_of job) (ke
       }
 
   -- A segment that did not pass gives the verdict.
-  pub IsVerdict-bad : (v : Verdict) → IsSegment job.movie job.cuts job.keep i v → IsFalse (passed (Judged v)) → IsVerdict job.movie job.keep v
+  pub IsVerdict-bad : (v : Verdict) → IsSegment job.movie job.cuts job.keep i v → IsFalse (passed (Ok v)) → IsVerdict job.movie job.keep v
   IsVerdict-bad v (len, ends, judged) bad = by (judged_cases job.movie job.keep (start_of job.movie job.cuts i) (from_of job.movie job.cuts i) len v judged)
     where
       by : IsGenuineOrBad job.movie job.keep (start_of job.movie job.cuts i) (from_of job.movie job.cuts i) len v → IsVerdict job.movie job.keep v

@@ -1,7 +1,7 @@
 -- A movie has one verdict.
 use Rattle.std.proofs.Common.{◌≡◌, ℕ, arith, ◌∙◌, subst, sym, inl, inr}
 use Rattle.std.proofs.lemmas.Bool.{cases_lt}
-use Rattle.vcs_machine.specs.declared.fields.StateFields.{StateFields}
+use Rattle.movie_machine.specs.declared.state.State.{State}
 use Rattle.movie_file.specs.Movie.{MovieData, IsMovie}
 use Rattle.movie_file.specs.Judgement.{IsSound}
 use Rattle.movie_file.proofs.RunLemmas.{false_no_fault, same_number}
@@ -13,7 +13,7 @@ use Rattle.replay_segments.specs.declared.verdict.Verdict.TheVariants.{Fault}
 use Rattle.replay_segments.specs.Verdicts.{IsJudged}
 use Rattle.replay_segments.proofs.BadFrames.{IsBadAt, IsGenuineOrBad, judged_cases}
 
-module _ (m : MovieData) (start : StateFields) (from : ℕ) where
+module _ (m : MovieData) (start : State) (from : ℕ) where
   -- No frame is both sound and bad.
   sound_no_bad : (k : ℕ) (v : Verdict) → IsSound m start from k → IsBadAt m start from k v → ⊥
   sound_no_bad k v sound bad = grind arith

@@ -2,9 +2,9 @@
 use Rattle.std.proofs.Common.{◌≡◌, ℕ, ◌+◌, ◌<◌, List, [], ◌∷◌, ◌++◌, Some, refl}
 use Rattle.std.proofs.Common.{add-one, below_more}
 use Rattle.std.specs.Prelude.{if◌then◌else◌}
-use Rattle.vcs_machine.specs.Outcomes.{Played}
+use Rattle.movie_machine.specs.Outcomes.{Played}
 use Rattle.vcs_machine.specs.Pictures.{Rows}
-use Rattle.vcs_machine.specs.declared.fields.StateFields.{StateFields}
+use Rattle.movie_machine.specs.declared.state.State.{State}
 use Rattle.movie_file.specs.Movie.{MovieData}
 use Rattle.movie_file.specs.Run.{run, frame_after}
 use Rattle.movie_file.specs.Judgement.{IsSound}
@@ -16,8 +16,8 @@ use Rattle.replay_segments.specs.Private.Steps.{ClaimsHold, IsClaim, SoFar}
 use Rattle.replay_segments.specs.declared.judge.Claim.TheVariants.{False}
 use Rattle.replay_segments.specs.Verdicts.{IsJudged}
 
-module _ (m : MovieData) (keep : Keep) (start : StateFields) (from k : ℕ) (state new : StateFields) (rows : Rows) (kept : List Rows)
-    (far : SoFar m keep start from k state kept) (ends : frame_after m (from + k) state ≡ Some (Played new rows)) where
+module _ (m : MovieData) (keep : Keep) (start : State) (from k : ℕ) (state new : State) (rows : Rows) (cycles : ℕ) (kept : List Rows)
+    (far : SoFar m keep start from k state kept) (ends : frame_after m (from + k) state ≡ Some (Played new rows cycles)) where
   run-next : run m start from (k + 1) ≡ Some new
   run-next = rw (add-one, far.state_is, ends) refl
 

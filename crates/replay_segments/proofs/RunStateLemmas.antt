@@ -3,7 +3,7 @@ use Rattle.std.proofs.Common.{◌≡◌, ℕ, ◌+◌, ◌-◌, ◌<◌, ◌≤�
 use Rattle.std.proofs.Common.{IsSome, slice_get, arith, subst}
 use Rattle.std.proofs.lemmas.Option.{slice_get_within}
 use Rattle.vcs_machine.specs.declared.fault.FaultKind.{FaultKind}
-use Rattle.vcs_machine.specs.declared.fields.StateFields.{StateFields}
+use Rattle.movie_machine.specs.declared.state.State.{State}
 use Rattle.movie_file.specs.Movie.{MovieData, IsMovie}
 use Rattle.movie_file.specs.Judgement.{AllSound}
 use Rattle.movie_file.specs.Run.{run}
@@ -18,7 +18,7 @@ use Rattle.replay_segments.proofs.CheckpointLemmas.{frame_in_range, frames_rise}
 -- A run that comes to the end of a frame has no fault up to it.
 pub no_fault_within : (m : MovieData) (frames frame : ℕ) (kind : FaultKind) → IsSome (run m m.start 0 frames) → FaultsWithin m frames frame kind → ⊥
 no_fault_within m frames frame kind ends (k, less, is, fault) =
-    let no : IsSome {T = StateFields} None = rw (none_after m k frames kind fault less) at ends in cc
+    let no : IsSome {T = State} None = rw (none_after m k frames kind fault less) at ends in cc
 
 -- Where its first frames are sound a checkpoint after one of them claims the run's state.
 pub claim_of_sound : (m : MovieData) (k j : ℕ) (c : Checkpoint) → IsMovie m → AllSound m m.start 0 k → slice_get m.checkpoints j ≡ Some c → c.frame ≤ k

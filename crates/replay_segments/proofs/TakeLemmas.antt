@@ -1,11 +1,10 @@
 -- The pictures of a piece are taken.
-use Rattle.std.proofs.Common.{◌≡◌, ◌≢◌, ℕ, ◌<◌, List, length, Some, refl, slice_get, slice_set}
+use Rattle.std.proofs.Common.{◌≡◌, ◌≢◌, ℕ, ◌<◌, List, length, Some, Ok, Err, alloc_error, refl, slice_get, slice_set}
 use Rattle.std.proofs.Common.{get_or, arith, ap, ◌∙◌, sym}
 use Rattle.std.proofs.lemmas.List.Elements.{All-set}
 use Rattle.std.proofs.lemmas.List.Sums.{sum_by-set}
 use Rattle.std.proofs.lemmas.Option.{slice_get_within, get_or_from_slice_get}
 use Rattle.vcs_machine.specs.Pictures.{Rows}
-use Rattle.replay_segments.specs.declared.outcome.Outcome.TheVariants.{Judged, NoMemory}
 use Rattle.replay_segments.specs.declared.verdict.Verdict.{Verdict}
 use Rattle.replay_segments.specs.declared.verdict.Verdict.TheVariants.{Genuine}
 use Rattle.replay_segments.specs.Private.Finding.{IsPassedAt, IsTaken}
@@ -17,13 +16,13 @@ use Rattle.replay_segments.proofs.ListLemmas.{same_at, All-at, slice_get-set_oth
 
 -- What a judged piece says of the job that all pieces name.
 pub of_job : (job : Job) (pieces : List PieceData) (i : ℕ) (p : PieceData) (number : ℕ) (v : Verdict) → NamesAll job pieces → slice_get pieces i ≡ Some p
-    → p.number ≡ number → p.outcome ≡ Judged v → IsPiece p → IsJob job × (number < segments_of job) × IsSegment job.movie job.cuts job.keep number v
+    → p.number ≡ number → p.outcome ≡ Ok v → IsPiece p → IsJob job × (number < segments_of job) × IsSegment job.movie job.cuts job.keep number v
 of_job job pieces i p number v names at is judged lawful =
     let same : p.job ≡ job = All-at (λ (q : PieceData). q.job ≡ job) pieces i p at names in
     rw (← same, ← is) (lawful.job, lawful.number, rw judged at lawful.outcome)
 
 pub IsTaken-set : (old : List PieceData) (number i : ℕ) (q x : PieceData) (kept : List Rows) → IsPassedAt old number i → slice_get old i ≡ Some q
-    → q.outcome ≡ Judged (Genuine kept) → x ≡ record { number = q.number; outcome = NoMemory; job = q.job } → IsPiece q
+    → q.outcome ≡ Ok (Genuine kept) → x ≡ record { number = q.number; outcome = Err alloc_error; job = q.job } → IsPiece q
     → IsTaken old number kept (slice_set old i x)
 IsTaken-set old number i q x kept (p, at, is, passed, _) here genuine new lawful =
     let same = same_at old i i q p refl here at in

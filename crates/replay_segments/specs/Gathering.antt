@@ -1,7 +1,6 @@
 -- What is said of pieces that are gathered, in any order of arrival and with repeats. This
 -- project's own.
-use Rattle.std.specs.Prelude.{ℕ, ◌<◌, ◌≡◌, ◌≢◌, IsTrue, List, All, Some, slice_get, sum_by}
-use Rattle.replay_segments.specs.declared.outcome.Outcome.TheVariants.{NoMemory}
+use Rattle.std.specs.Prelude.{ℕ, ◌<◌, ◌≡◌, ◌≢◌, IsTrue, List, All, Some, Err, slice_get, sum_by, alloc_error}
 use Rattle.replay_segments.specs.Pieces.{PieceData, Job, passed, outcome_pictures}
 
 -- All pieces are of one movie, with the same cuts, and keep the same frames.
@@ -29,7 +28,7 @@ IsMissing pieces number = (i : ℕ) (p : PieceData) → slice_get pieces i ≡ S
 -- All pieces of this number are without memory.
 abbrev pub AllRefused : List PieceData → ℕ → Type 0
 AllRefused pieces number =
-    (i : ℕ) (p : PieceData) → slice_get pieces i ≡ Some p → p.number ≡ number → p.outcome ≡ NoMemory
+    (i : ℕ) (p : PieceData) → slice_get pieces i ≡ Some p → p.number ≡ number → p.outcome ≡ Err alloc_error
 
 -- Of the numbers below n this is the first without a piece that passed, and it has no piece at all.
 abbrev pub IsFirstMissing : List PieceData → ℕ → ℕ → Type 0

@@ -2,7 +2,7 @@
 -- This project's own.
 use Rattle.std.specs.Prelude.{ℕ, zero, suc, ◌+◌, ◌-◌, ◌≡◌, List, length, Option, Some, None}
 use Rattle.std.specs.Prelude.{slice_get}
-use Rattle.vcs_machine.specs.declared.fields.StateFields.{StateFields}
+use Rattle.movie_machine.specs.declared.state.State.{State}
 use Rattle.movie_file.specs.Movie.{MovieData}
 use Rattle.movie_file.specs.declared.checkpoint.Checkpoint.{Checkpoint}
 use Rattle.replay_plan.specs.declared.keep.Keep.{Keep}
@@ -18,7 +18,7 @@ abbrev pub frame_or : ℕ → Option Checkpoint → ℕ
 frame_or other None = other
 frame_or other (Some c) = c.frame
 
-abbrev pub state_or : StateFields → Option Checkpoint → StateFields
+abbrev pub state_or : State → Option Checkpoint → State
 state_or other None = other
 state_or other (Some c) = c.state
 
@@ -33,7 +33,7 @@ from_of m cuts zero = 0
 from_of m cuts (suc i) = end_of m cuts i
 
 -- The state from which a segment is replayed: the movie's start, or the claimed one.
-abbrev pub start_of : MovieData → List ℕ → ℕ → StateFields
+abbrev pub start_of : MovieData → List ℕ → ℕ → State
 start_of m cuts zero = m.start
 start_of m cuts (suc i) = state_or m.start (checkpoint_at m (slice_get cuts i))
 

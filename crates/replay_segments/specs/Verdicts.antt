@@ -1,6 +1,6 @@
 -- The verdict of a movie, by cases. This project's own.
 use Rattle.std.specs.Prelude.{ℕ, ◌+◌, ◌<◌, ◌≡◌, length}
-use Rattle.vcs_machine.specs.declared.fields.StateFields.{StateFields}
+use Rattle.movie_machine.specs.declared.state.State.{State}
 use Rattle.movie_file.specs.Movie.{MovieData}
 use Rattle.movie_file.specs.Judgement.{AllSound, FaultsAt, IsFalseAt}
 use Rattle.replay_plan.specs.declared.keep.Keep.{Keep}
@@ -13,7 +13,7 @@ use Rattle.replay_segments.specs.KeptPictures.{pictures}
 -- frame that faults, or after which a checkpoint claims another state; of one that does both the
 -- fault, since a frame that faults has no state after it. If there is no such frame they are
 -- genuine, with the kept pictures.
-abbrev pub IsJudged : MovieData → Keep → StateFields → ℕ → ℕ → Verdict → Type 0
+abbrev pub IsJudged : MovieData → Keep → State → ℕ → ℕ → Verdict → Type 0
 IsJudged m keep start from len (Genuine kept) =
     AllSound m start from len × (kept ≡ pictures m keep start from len)
 IsJudged m keep start from len (FalseCheckpoint number frame) =

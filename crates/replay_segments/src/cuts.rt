@@ -1,6 +1,6 @@
 //! Where a movie is cut.
 ghost use Rattle.std.specs.Prelude.{◌≡◌, ◌+◌, ◌≤◌, ◌↔◌, length, slice_get, IsOk, IfOk, OnErr};
-ghost use Rattle.std.specs.Prelude.{IsTrue};
+ghost use Rattle.std.specs.Prelude.{ℕ, IsTrue, Some};
 ghost use Rattle.std.specs.NonZero.{non_zero_u16_get};
 ghost use Rattle.movie_file.specs.Format.{most_checkpoints};
 
@@ -26,6 +26,13 @@ impl Model for Cuts {
     ghost view = { λ c. c.numbers.items };
 
     ghost invariant = { λ c. AreCuts most_checkpoints c.numbers.items };
+}
+
+/// Whether each number is at most this one.
+fn are_within(numbers: &[u16], most: u16) -> bool
+    ensures { IsTrue result ↔ ((i n : ℕ) → slice_get numbers.now i ≡ Some n → n ≤ most) }
+{
+    numbers.iter().all(|number| *number <= most)
 }
 
 /// The numbers are not strictly rising, or one of them is no checkpoint of the movie.
@@ -77,8 +84,7 @@ impl Cuts {
     pub fn fits(&self, movie: &Movie) -> bool
         ensures { IsTrue result ↔ Fits self.now movie.now }
     {
-        let most = movie.checkpoints();
-        self.numbers.iter().all(|number| *number <= most)
+        are_within(&self.numbers, movie.checkpoints())
     }
 
     /// The number of segments, one more than cuts. It takes no memory.

@@ -7,7 +7,7 @@ ghost use Rattle.replay_segments.specs.Gathering.{HasPassed};
 use crate::gathering::Missing;
 use crate::piece::Piece;
 use crate::verdict::Verdict;
-use movie_file::Refused;
+use refused::Refused;
 
 /// Where a piece of this number stands that passed.
 pub(crate) fn find_passed(pieces: &[Piece], number: u32) -> Option<usize>

@@ -9,7 +9,7 @@ use crate::finding::{answer_of, first_unpassed};
 use crate::joining::all_pictures;
 use crate::piece::Piece;
 use crate::verdict::Verdict;
-use movie_file::Refused;
+use refused::Refused;
 use std::alloc::{AllocError, Global};
 
 /// The first segment without a piece that passed has no piece at all.

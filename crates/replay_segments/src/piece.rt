@@ -1,11 +1,11 @@
 //! Pieces: segments with their outcomes.
-ghost use Rattle.std.specs.Prelude.{◌≡◌, IsTrue, IsFalse, IfSome, IfNone};
+ghost use Rattle.std.specs.Prelude.{◌≡◌, Ok, Err, IsTrue, IsFalse, IfSome, IfNone, alloc_error};
 
 use crate::cuts::Cuts;
-use crate::outcome::Outcome;
 use crate::verdict::Verdict;
 use movie_file::Movie;
 use replay_plan::Keep;
+use std::alloc::AllocError;
 use std::marker::Model;
 use std::mem;
 use std::snapshot::Snapshot;
@@ -17,7 +17,7 @@ use vcs_machine::Pictures;
 #[derive(Drop)]
 pub struct Piece {
     pub(crate) number: u32,
-    pub(crate) outcome: Outcome,
+    pub(crate) outcome: Result<Verdict, AllocError>,
     pub(crate) movie: Snapshot<Movie>,
     pub(crate) cuts: Snapshot<Cuts>,
     pub(crate) keep: Keep,
@@ -56,40 +56,38 @@ impl Piece {
     pub fn passed(&self) -> bool
         ensures { result ≡ passed self.now.outcome }
     {
-        matches!(self.outcome, Outcome::Judged(Verdict::Genuine { .. }))
+        matches!(self.outcome, Ok(Verdict::Genuine { .. }))
     }
 
     /// What is said of its segment; None if an allocation was refused.
     pub fn verdict(&self) -> Option<&Verdict>
-        ensures some { IfSome result (λ v. self.now.outcome ≡ Outcome.Judged v.now) }
-        ensures none { IfNone result (self.now.outcome ≡ Outcome.NoMemory) }
+        ensures some { IfSome result (λ v. self.now.outcome ≡ Ok v.now) }
+        ensures none { IfNone result (self.now.outcome ≡ Err alloc_error) }
         ensures lawful { IsPiece self.now }
     {
         match &self.outcome {
-            Outcome::Judged(verdict) => Some(verdict),
-            Outcome::NoMemory => None,
+            Ok(verdict) => Some(verdict),
+            Err(AllocError) => None,
         }
     }
 
     /// The verdict of a segment that did not pass.
     pub(crate) fn bad(&self) -> Option<Verdict>
-        ensures bad { IfSome result (λ v. (self.now.outcome ≡ Outcome.Judged v) × IsFalse (passed self.now.outcome)) }
-        ensures good { IfNone result (IsFalse (passed self.now.outcome) → self.now.outcome ≡ Outcome.NoMemory) }
+        ensures bad { IfSome result (λ v. (self.now.outcome ≡ Ok v) × IsFalse (passed self.now.outcome)) }
+        ensures good { IfNone result (IsFalse (passed self.now.outcome) → self.now.outcome ≡ Err alloc_error) }
         ensures lawful { IsPiece self.now }
     {
         match &self.outcome {
-            Outcome::Judged(Verdict::FalseCheckpoint { number, frame }) => {
-                Some(Verdict::FalseCheckpoint {
-                    number: *number,
-                    frame: *frame,
-                })
-            }
-            Outcome::Judged(Verdict::Fault { frame, kind }) => Some(Verdict::Fault {
+            Ok(Verdict::FalseCheckpoint { number, frame }) => Some(Verdict::FalseCheckpoint {
+                number: *number,
+                frame: *frame,
+            }),
+            Ok(Verdict::Fault { frame, kind }) => Some(Verdict::Fault {
                 frame: *frame,
                 kind: *kind,
             }),
-            Outcome::Judged(Verdict::Genuine { .. }) => None,
-            Outcome::NoMemory => None,
+            Ok(Verdict::Genuine { .. }) => None,
+            Err(AllocError) => None,
         }
     }
 
@@ -98,7 +96,7 @@ impl Piece {
         ensures { result ≡ outcome_pictures self.now.outcome }
     {
         match &self.outcome {
-            Outcome::Judged(Verdict::Genuine { pictures }) => pictures.len(),
+            Ok(Verdict::Genuine { pictures }) => pictures.len(),
             _ => 0,
         }
     }
@@ -106,12 +104,12 @@ impl Piece {
     /// Takes the pictures of a segment that passed.
     pub(crate) fn take_pictures(&mut self) -> Pictures
         requires { IsTrue (passed self.old.outcome) }
-        ensures pictures { self.old.outcome ≡ Outcome.Judged (Verdict.Genuine result) }
-        ensures rest { self.new ≡ record self.old { outcome = Outcome.NoMemory } }
+        ensures pictures { self.old.outcome ≡ Ok (Verdict.Genuine result) }
+        ensures rest { self.new ≡ record self.old { outcome = Err alloc_error } }
         ensures lawful { IsPiece self.old }
     {
-        match mem::replace(&mut self.outcome, Outcome::NoMemory) {
-            Outcome::Judged(Verdict::Genuine { pictures }) => pictures,
+        match mem::replace(&mut self.outcome, Err(AllocError)) {
+            Ok(Verdict::Genuine { pictures }) => pictures,
             _ => unreachable!(),
         }
     }

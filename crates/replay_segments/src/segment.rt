@@ -2,12 +2,11 @@
 ghost use Rattle.std.specs.Prelude.{◌≡◌, ◌+◌, ◌<◌, ◌≤◌, length, IfOk, OnErr};
 ghost use Rattle.movie_file.specs.Movie.{IsMovie};
 ghost use Rattle.replay_segments.specs.Cuts.{Fits};
-ghost use Rattle.replay_segments.specs.Pieces.{job_of, IsJob, IsOutcome, HasKept};
+ghost use Rattle.replay_segments.specs.Pieces.{job_of, IsJob, IsOutcome, TakesMemory};
 ghost use Rattle.replay_segments.specs.Segments.{end_of, IsSegment};
 
 use crate::cuts::Cuts;
 use crate::judge::judge_frames;
-use crate::outcome::Outcome;
 use crate::piece::Piece;
 use crate::verdict::Verdict;
 use movie_file::{Movie, Progress};
@@ -46,7 +45,7 @@ fn from_cut<P: Progress>(
     requires within { end ≤ length movie.now.inputs }
     requires lawful { IsMovie movie.now }
     ensures judged { IfOk result (λ verdict. IsSegment movie.now cuts.now keep (i + 1) verdict) }
-    ensures refused { OnErr result (HasKept (job_of movie.now cuts.now keep) (i + 1)) }
+    ensures refused { OnErr result (TakesMemory (job_of movie.now cuts.now keep) (i + 1)) }
 {
     let Some(cut) = cuts.get(i) else {
         unreachable!()
@@ -65,31 +64,25 @@ fn outcome_of<P: Progress>(
     keep: Keep,
     number: u32,
     progress: &P,
-) -> Outcome
+) -> Result<Verdict, AllocError>
     requires fit { Fits cuts.now movie.now }
     requires number { number < length cuts.now + 1 }
     ensures job { IsJob (job_of movie.now cuts.now keep) }
     ensures outcome { IsOutcome (job_of movie.now cuts.now keep) number result }
-    ensures memory { result ≡ Outcome.NoMemory
-        → HasKept (job_of movie.now cuts.now keep) number }
+    ensures memory { OnErr result (TakesMemory (job_of movie.now cuts.now keep) number) }
 {
     let end = end(movie, cuts, number);
-    let judged = if number == 0 {
+    if number == 0 {
         judge_frames(alloc, movie, keep, movie.start(), 0, end, 0, progress)
     } else {
         from_cut(alloc, movie, cuts, keep, number - 1, end, progress)
-    };
-    match judged {
-        Ok(verdict) => Outcome::Judged(verdict),
-        Err(AllocError) => Outcome::NoMemory,
     }
 }
 
 /// Replays a segment, from 0, on the calling thread. The cuts fit the movie, and have that segment.
 ///
-/// NoMemory comes only if an allocation was refused, for a kept picture or for their list; if no
-/// frame of the segment is kept none is taken. Each frame that is played is told, as a part of a
-/// work that has begun.
+/// Memory is taken for kept pictures, their list, and the RAM of the cartridge alone. Each frame that is
+/// played is told, as a part of a work that has begun.
 pub fn replay<P: Progress>(
     alloc: Global,
     movie: &Movie,
@@ -102,8 +95,7 @@ pub fn replay<P: Progress>(
     requires number { number < length cuts.now + 1 }
     ensures number { result.number ≡ number }
     ensures job { result.job ≡ job_of movie.now cuts.now keep }
-    ensures memory { result.outcome ≡ Outcome.NoMemory
-        → HasKept (job_of movie.now cuts.now keep) number }
+    ensures memory { OnErr result.outcome (TakesMemory (job_of movie.now cuts.now keep) number) }
 {
     let outcome = outcome_of(alloc, movie, cuts, keep, number, progress);
     Piece {

@@ -2,8 +2,9 @@
 -- one.
 use Rattle.std.proofs.Common.{◌≡◌, ℕ, zero, suc, ◌+◌, ◌<◌, ◌≤◌, List, [], ◌∷◌, Some, slice_get}
 use Rattle.std.proofs.Common.{refl, ap, sym, ◌∙◌, arith, Bool, true, false, if◌then◌else◌}
-use Rattle.std.proofs.Common.{IsTrue}
-use Rattle.replay_segments.specs.declared.outcome.Outcome.{Outcome}
+use Rattle.std.proofs.Common.{IsTrue, Result}
+use Rattle.std.specs.declared.alloc.AllocError.{AllocError}
+use Rattle.replay_segments.specs.declared.verdict.Verdict.{Verdict}
 use Rattle.replay_segments.specs.Gathering.{IsMissing, IsFirstMissing}
 use Rattle.replay_segments.specs.Pieces.{PieceData, Job, passed}
 use Rattle.verify_pool.specs.declared.hand.Hand.{Hand}
@@ -22,7 +23,7 @@ missing-none k [] missing = refl
 missing-none k (p ∷ ps) missing =
     omega (arith, times-numbers-cons k p ps, times-other k p.number (missing 0 p refl), missing-none k ps (λ i q at. missing (suc i) q at))
 
-bad_one : (k number : ℕ) (o : Outcome) → times k (if_bad number o) ≤ times k (number ∷ [])
+bad_one : (k number : ℕ) (o : Result Verdict AllocError) → times k (if_bad number o) ≤ times k (number ∷ [])
 bad_one k number o =
     elim (passed o) as (λ good. times k (if good then [] else number ∷ []) ≤ times k (number ∷ [])) [ true ↦ omega arith | false ↦ omega arith ]
 
@@ -31,7 +32,7 @@ more_bad : (k : ℕ) (p : PieceData) (ps : List PieceData)
     → times k (bad_numbers (p ∷ ps)) + times k (piece_numbers ps) ≤ times k (bad_numbers ps) + times k (piece_numbers (p ∷ ps))
 more_bad k p ps = omega (arith, bad_one k p.number p.outcome, times-numbers-cons k p ps, times-append k (if_bad p.number p.outcome) (bad_numbers ps))
 
-passed_one : (k number : ℕ) (o : Outcome) → IsTrue (passed o) → times k (if_bad number o) ≡ 0
+passed_one : (k number : ℕ) (o : Result Verdict AllocError) → IsTrue (passed o) → times k (if_bad number o) ≡ 0
 passed_one k number o good = ap (λ (b : Bool). times k (if b then [] else number ∷ [])) good
 
 bad-le : (k : ℕ) (ps : List PieceData) → times k (bad_numbers ps) ≤ times k (piece_numbers ps)

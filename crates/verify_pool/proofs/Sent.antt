@@ -5,17 +5,19 @@ use denote.RattleType.{RattleType}
 use denote.Param.Send.{IsSend, view_send, recorded_send, struct_send, sendable}
 use denote.Struct.Declared.{shape}
 use denote.Struct.Tuple.{TupleAt}
+use Rattle.std.proofs.result.Result.TheSendSync as result
+use Rattle.std.proofs.alloc.AllocError.TheSendSync as alloc_error
 use Rattle.std.proofs.Crossing.{crosses}
 use Rattle.replay_segments.specs.contracts.piece.Piece as Piece
 use Rattle.replay_segments.specs.contracts.piece.Piece.TheInside as inside
-use Rattle.replay_segments.proofs.outcome.Outcome.TheSendSync as outcome
+use Rattle.replay_segments.proofs.verdict.Verdict.TheSendSync as verdict
 use Rattle.replay_plan.proofs.keep.Keep.TheSendSync as keep
 use Rattle.segment_desk.proofs.ticket.Ticket.TheSendSync as ticket
 use Rattle.verify_pool.specs.contracts.hand.Hand as Hand
 
 fields_send : IsSend inside.the_row
 fields_send = recorded_send inside.the_field.row _ _ inside.the_type.to_one (struct_send (shape inside.the_type)
-    (search crosses depth 20, (outcome.the_field_send, (search crosses depth 20, (search crosses depth 20, (keep.the_field_send, tt))))))
+    (search crosses depth 20, (result.the_field_send _ _ verdict.the_send alloc_error.the_send, (search crosses depth 20, (search crosses depth 20, (keep.the_field_send, tt))))))
 
 pub piece_send : IsSend Piece.the_row
 piece_send = view_send inside.the_row _ _ _ _ fields_send

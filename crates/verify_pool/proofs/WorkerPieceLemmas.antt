@@ -1,18 +1,18 @@
 -- What the steps of a worker do to its pieces, beside its ticket's part.
 use Rattle.std.proofs.Common.{◌≡◌, ℕ, ◌+◌, ◌<◌, ◌≤◌, if◌then◌else◌, nat_lt, List, [], ◌∷◌}
 use Rattle.std.proofs.Common.{◌++◌, refl, sym, ap, ◌∙◌, subst, arith, lt_of_not-le, Option, Some}
-use Rattle.std.proofs.Common.{None, Bool, true, false}
+use Rattle.std.proofs.Common.{None, Bool, true, false, OnErr}
 use Rattle.std.proofs.lemmas.List.{map-append}
 use Rattle.std.proofs.lemmas.List.Elements.{All-push, All-append}
 use Rattle.std.proofs.lemmas.Grind.{flat_map-append}
-use Rattle.replay_segments.specs.declared.outcome.Outcome.TheVariants.{NoMemory}
-use Rattle.replay_segments.specs.Pieces.{PieceData, Job, passed, HasKept}
+use Rattle.std.proofs.lemmas.Result.{on_err_weaker}
+use Rattle.replay_segments.specs.Pieces.{PieceData, Job, passed, TakesMemory}
 use Rattle.segment_desk.specs.declared.part.Part.{Part}
 use Rattle.segment_desk.specs.Desk.{times, with_number, with_drawn, at_end, look_at, report_at}
 use Rattle.segment_desk.specs.Desk.{with_handed_in}
 use Rattle.verify_pool.specs.Private.Draws.{to_draw, left_of}
 use Rattle.verify_pool.specs.WorkerPieces.{piece_numbers, if_bad, bad_numbers, IsExact}
-use Rattle.verify_pool.specs.WorkerPieces.{WantsMemoryForPictures}
+use Rattle.verify_pool.specs.WorkerPieces.{WantsMemory}
 use Rattle.verify_pool.specs.Private.Replays.{IsReplayed}
 use Rattle.segment_desk.specs.Kept.{IsKnown}
 use Rattle.segment_desk.proofs.PartLemmas.{tested}
@@ -62,7 +62,7 @@ module _ (job : Job) (pieces : List PieceData) (v : Part) (k : ℕ) (exact : IsE
 
   -- Else it gets a piece.
   pub exact_more : (x : ℕ) (old new : Part) (p : PieceData) → k ≤ x → old ≡ look_at x (with_drawn k v) → p.number ≡ k → p.job ≡ job
-      → (p.outcome ≡ NoMemory → HasKept job k)
+      → OnErr p.outcome (TakesMemory job k)
       → IsReplayed (passed p.outcome) k old new → IsExact job new (pieces ++ p ∷ [])
   exact_more x old new p le is number of wants replayed = let unreported : times k v.reported ≡ 0 = omega (arith, known.reports k, undrawn) in
       let stays : (if nat_lt x k then with_number k v.passed_over else v.passed_over) ≡ v.passed_over =
@@ -92,8 +92,8 @@ module _ (job : Job) (pieces : List PieceData) (v : Part) (k : ℕ) (exact : IsE
           told j,
           ap (times j) before,
         );
-        memory = All-push WantsMemoryForPictures pieces p exact.memory
-            (λ none. subst (λ (j : Job). HasKept j p.number) (sym of) (subst (HasKept job) (sym number) (wants none)));
+        memory = All-push WantsMemory pieces p exact.memory
+            (on_err_weaker p.outcome (λ takes. subst (λ (j : Job). TakesMemory j p.number) (sym of) (subst (TakesMemory job) (sym number) takes)) wants);
       }
 
 pub exact_end : (job : Job) (pieces : List PieceData) (v w : Part) → w ≡ at_end v → IsExact job v pieces → IsExact job w pieces
@@ -115,7 +115,7 @@ exact_handed job ps qs rs v u w items is a b = rw (items, is) (record {
   pieces_of = λ k. omega
       (arith, a.pieces_of k, b.pieces_of k, times-numbers k ps qs, times-append k v.passed_over u.passed_over, times-append k v.drawn u.drawn);
   reports_of = λ k. omega (arith, a.reports_of k, b.reports_of k, times-bad k ps qs, times-append k v.reported u.reported);
-  memory = All-append WantsMemoryForPictures ps qs a.memory b.memory;
+  memory = All-append WantsMemory ps qs a.memory b.memory;
 })
 
 -- How many draws are left.

@@ -1,9 +1,8 @@
 //! What workers share, and one worker, which draws segments and replays them.
 ghost use Rattle.std.specs.Prelude.{◌≡◌, ◌+◌, ◌<◌, ◌≤◌, ◌⊎◌, length, true, false, Some, vec_len};
-ghost use Rattle.std.specs.Prelude.{vec_capacity, IsTrue};
+ghost use Rattle.std.specs.Prelude.{vec_capacity, IsTrue, OnErr};
 ghost use Rattle.replay_segments.specs.Cuts.{Fits};
-ghost use Rattle.replay_segments.specs.Pieces.{job_of, HasKept, passed};
-ghost use Rattle.replay_segments.specs.declared.outcome.Outcome.{Outcome};
+ghost use Rattle.replay_segments.specs.Pieces.{job_of, TakesMemory, passed};
 ghost use Rattle.verify_pool.specs.Crew.{IsReady, IsWorked};
 ghost use Rattle.segment_desk.specs.Desk.{times};
 ghost use Rattle.verify_pool.specs.Private.Draws.{left_of};
@@ -63,7 +62,7 @@ impl<'s, G: Gate + Progress> Shared<'s, G> {
         requires { number < length self.now.cuts.now + 1 }
         ensures number { result.number ≡ number }
         ensures job { result.job ≡ job_of self.now.movie.now self.now.cuts.now self.now.keep }
-        ensures memory { result.outcome ≡ Outcome.NoMemory → HasKept (job_of self.now.movie.now self.now.cuts.now self.now.keep) number }
+        ensures memory { OnErr result.outcome (TakesMemory (job_of self.now.movie.now self.now.cuts.now self.now.keep) number) }
     {
         if counts_frames(self.cuts) {
             return replay(
@@ -84,7 +83,7 @@ impl<'s, G: Gate + Progress> Shared<'s, G> {
         ensures known { IsKnown ticket.old.part → IsKnown ticket.new.part }
         ensures number { result.number ≡ number }
         ensures job { result.job ≡ job_of self.now.movie.now self.now.cuts.now self.now.keep }
-        ensures memory { result.outcome ≡ Outcome.NoMemory → HasKept (job_of self.now.movie.now self.now.cuts.now self.now.keep) number }
+        ensures memory { OnErr result.outcome (TakesMemory (job_of self.now.movie.now self.now.cuts.now self.now.keep) number) }
         ensures replayed { IsReplayed (passed result.outcome) number ticket.old.part ticket.new.part }
     {
         self.gate.enter(ticket, number);

@@ -1,11 +1,10 @@
 -- Pieces that are looked for by number, and whose pictures are taken. This project's own.
 use Rattle.std.specs.Prelude.{ℕ, ◌+◌, ◌<◌, ◌≡◌, ◌≢◌, IsTrue, IsFalse, List, length, Some, Result}
 use Rattle.std.specs.Prelude.{Ok, Err, slice_get}
-use Rattle.movie_file.specs.declared.refused.Refused.{Refused}
-use Rattle.movie_file.specs.declared.refused.Refused.TheVariants.{Of, NoMemory}
+use Rattle.refused.specs.declared.Refused.{Refused}
+use Rattle.refused.specs.declared.Refused.TheVariants.{Of, NoMemory}
 use Rattle.vcs_machine.specs.Pictures.{Rows}
 use Rattle.replay_segments.specs.declared.gathering.Missing.{Missing}
-use Rattle.replay_segments.specs.declared.outcome.Outcome.TheVariants.{Judged}
 use Rattle.replay_segments.specs.declared.verdict.Verdict.{Verdict}
 use Rattle.replay_segments.specs.declared.verdict.Verdict.TheVariants.{Genuine}
 use Rattle.replay_segments.specs.Gathering.{NamesAll, HasNumber, HasPassed, IsMissing, AllRefused}
@@ -32,7 +31,7 @@ pub record IsFirstUnpassed (pieces : List PieceData) (n number : ℕ) : Type 0 w
 -- else why there is none.
 abbrev pub IsAnswer : List PieceData → ℕ → Result Verdict (Refused Missing) → Type 0
 IsAnswer pieces number (Ok v) =
-    (i : ℕ) × (p : PieceData) × (slice_get pieces i ≡ Some p) × (p.number ≡ number) × (p.outcome ≡ Judged v) × IsFalse (passed p.outcome) × IsPiece p
+    (i : ℕ) × (p : PieceData) × (slice_get pieces i ≡ Some p) × (p.number ≡ number) × (p.outcome ≡ Ok v) × IsFalse (passed p.outcome) × IsPiece p
 IsAnswer pieces number (Err (Of missing)) = (missing.segment ≡ number) × IsMissing pieces number
 IsAnswer pieces number (Err NoMemory) = HasNumber pieces number × AllRefused pieces number
 

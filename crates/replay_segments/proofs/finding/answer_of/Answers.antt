@@ -1,6 +1,6 @@
 use Rattle.std.proofs.Common.{◌+◌, ◌∙◌, sym, refl, subst}
 use Rattle.std.proofs.lemmas.Option.{slice_get_read}
-use Rattle.movie_file.specs.declared.refused.Refused.{Refused}
+use Rattle.refused.specs.declared.Refused.{Refused}
 use Rattle.replay_segments.specs.declared.gathering.Missing.{Missing}
 use Rattle.replay_segments.proofs.FindLemmas.{IsAnswerBelow, IsAnswerBelow-other, IsAnswerBelow-may}
 use Rattle.replay_segments.proofs.FindLemmas.{IsAnswer-whole}

@@ -1,7 +1,7 @@
 use Rattle.std.proofs.Common.{arith}
 use Rattle.replay_segments.proofs.run_states.resume.Goals as goal
 
-pub at_claim-cursor-requires : goal.at_claim-cursor-requires
-at_claim-cursor-requires g c =
+pub at_claim-requires : goal.at_claim-requires
+at_claim-requires g c =
     let claim = c.requires.claim c.checkpoint-claim.result.now (omega arith) c.checkpoint-claim.ensures in
     record { within = omega (arith, claim.0, c.requires.last); ran = claim.1 }

@@ -1,4 +1,5 @@
-use Rattle.std.proofs.Common.{◌+◌, sym, arith}
+use Rattle.std.proofs.Common.{◌+◌, sym, arith, inl, inr}
+use Rattle.movie_file.proofs.StateLemmas.{claim_of}
 use Rattle.std.proofs.lemmas.Result.{IfOk-weaker, on_err_weaker}
 use Rattle.replay_segments.specs.Pieces.{job_of}
 use Rattle.replay_segments.specs.Segments.{IsSegment}
@@ -32,5 +33,8 @@ pub returns-clause-refused : goal.returns-clause-refused
 returns-clause-refused g c =
     let is = IsStretch-found _ _ _ _ _ _ c.requires.lawful c.requires.fit (sym c.in-Some.ensures) c.checkpoint-checkpoint.ensures c.requires.end in
     on_err_weaker c.judge_frames.result
-    (λ some. HasKept-cut (job_of c.args.movie.now c.args.cuts.now c.args.keep) c.args.i c.in-Some.cut c.checkpoint-checkpoint.result.now _ is.at is.ends some)
+    (λ some. elim some [ inl kept ↦ inl (HasKept-cut (job_of c.args.movie.now c.args.cuts.now c.args.keep) c.args.i c.in-Some.cut c.checkpoint-checkpoint.result.now _ is.at is.ends kept) | inr ram ↦ inr ram ])
     c.judge_frames.ensures.refused
+
+pub judge_frames-requires-clause-cartridge : goal.judge_frames-requires-clause-cartridge
+judge_frames-requires-clause-cartridge g c = claim_of c.args.movie.now c.requires.lawful _ _ c.checkpoint-checkpoint.ensures
