@@ -8,7 +8,7 @@ use Rattle.std.proofs.lemmas.Slice.Eq.{bytes_eq-Decides}
 use Rattle.std.specs.Str.{bytes_eq}
 use Rattle.vcs_machine.specs.declared.fault.FaultKind.{FaultKind}
 use Rattle.movie_file.specs.Movie.{MovieData, IsMovie}
-use Rattle.movie_file.specs.Record.{record_of}
+use Rattle.movie_file.specs.Record.{record_in}
 use Rattle.movie_file.specs.Run.{run}
 use Rattle.movie_file.specs.declared.checkpoint.Checkpoint.{Checkpoint}
 use Rattle.run_cursor.specs.Cursor.{CursorData}
@@ -34,7 +34,8 @@ map_front f b (x ∷ xs) (suc n) le each =
 -- The run is in a claim that it comes to.
 passes : (m : MovieData) (c : Checkpoint) → run m m.start 0 c.frame ≡ Some c.state → claim_sign m c ≡ Passes
 passes m c is =
-    let same : bytes_eq (record_of c.state) (record_of c.state) ≡ true = (bytes_eq-Decides (record_of c.state) (record_of c.state)).1 refl in
+    let mine = record_in m.cartridge c.state in
+    let same : bytes_eq mine mine ≡ true = (bytes_eq-Decides mine mine).1 refl in
     rw (is, same) refl
 
 -- Before the first false claim the run is in each.

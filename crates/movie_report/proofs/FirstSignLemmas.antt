@@ -5,9 +5,9 @@ use Rattle.std.specs.Prelude.{if◌then◌else◌}
 use Rattle.std.specs.List.{Contains}
 use Rattle.std.proofs.lemmas.Bool.{cases_lt, eqb-true}
 use Rattle.std.proofs.lemmas.Option.{slice_get_within, slice_get_past, slice_get_read}
-use Rattle.vcs_machine.specs.Outcomes.{Failed}
+use Rattle.movie_machine.specs.Outcomes.{Failed}
 use Rattle.vcs_machine.specs.declared.fault.FaultKind.{FaultKind}
-use Rattle.vcs_machine.specs.declared.fields.StateFields.{StateFields}
+use Rattle.movie_machine.specs.declared.state.State.{State}
 use Rattle.movie_file.specs.Movie.{MovieData, IsMovie}
 use Rattle.movie_file.specs.Judgement.{AllSound}
 use Rattle.movie_file.specs.Run.{frame_after, run}
@@ -32,7 +32,7 @@ use Rattle.movie_report.specs.declared.segments.Sign.TheVariants.{Passes, Differ
 
 -- ---- from where a run stands
 
-module _ (m : MovieData) (a : ℕ) (t : StateFields) (is : run m m.start 0 a ≡ Some t) where
+module _ (m : MovieData) (a : ℕ) (t : State) (is : run m m.start 0 a ≡ Some t) where
   run_later : (j : ℕ) → run m m.start 0 (a + j) ≡ run m t a j
   run_later j = let whole : 0 + a ≡ a = omega arith in
       subst (λ (y : ℕ). run m m.start 0 (a + j) ≡ run m t y j) whole (run-shift m m.start 0 a t is j)

@@ -1,8 +1,9 @@
 -- Signs that a worker has found.
-use Rattle.std.proofs.Common.{◌≡◌, ℕ, ◌+◌, List, [], ◌∷◌, ◌++◌, Option, Some, None, length, zero, suc, ap, ◌∙◌, sym, subst, replicate}
+use Rattle.std.proofs.Common.{◌≡◌, ℕ, ◌+◌, List, [], ◌∷◌, ◌++◌, Option, None, length, zero, suc, ap, ◌∙◌, sym, subst, replicate}
 use Rattle.std.proofs.Common.{slice_get, slice_set, length-set, refl}
 use Rattle.std.proofs.lemmas.List.{length-replicate}
-use Rattle.std.specs.Prelude.{IfSome}
+use Rattle.std.specs.Prelude.{IfOk, IfSome, Result, Ok, Err}
+use Rattle.std.specs.Result.{result_ok}
 use Rattle.movie_file.specs.Movie.{MovieData}
 use Rattle.movie_report.specs.Private.FoundSigns.{IsRow}
 use Rattle.movie_report.specs.Segments.{HasSign}
@@ -17,14 +18,19 @@ IfSome-set P (y ∷ ys) zero (suc j) x here others = others
 IfSome-set P (y ∷ ys) (suc i) zero x here others = others
 IfSome-set P (y ∷ ys) (suc i) (suc j) x here others = IfSome-set P ys i j x (λ e. here (ap suc e)) others
 
--- One more sign is found.
-pub row_with : (m : MovieData) (cuts : List ℕ) (from count place : ℕ) (sign : Sign) (found : List (Option Sign))
-    → HasSign m cuts (from + place) sign → IsRow m cuts from count found → IsRow m cuts from count (slice_set found place (Some sign))
+-- One more sign is found, or none.
+pub row_with : (m : MovieData) (cuts : List ℕ) (from count place : ℕ) (sign : Option Sign) (found : List (Option Sign))
+    → IfSome sign (HasSign m cuts (from + place)) → IsRow m cuts from count found → IsRow m cuts from count (slice_set found place sign)
 row_with m cuts from count place sign found has row = (
-  length-set found place (Some sign) ∙ row.0,
-  λ j. IfSome-set (λ (s : Option Sign). IfSome s (HasSign m cuts (from + j))) found place j (Some sign)
-      (λ e. subst (λ (k : ℕ). HasSign m cuts (from + k) sign) (sym e) has) (row.1 j),
+  length-set found place sign ∙ row.0,
+  λ j. IfSome-set (λ (s : Option Sign). IfSome s (HasSign m cuts (from + j))) found place j sign
+      (λ e. subst (λ (k : ℕ). IfSome sign (HasSign m cuts (from + k))) (sym e) has) (row.1 j),
 )
+
+-- What holds of an answer, if there is one, holds of what is kept of it.
+pub kept_if_ok : {A E : Type 0} (P : A → Type 0) (r : Result A E) → IfOk r P → IfSome (result_ok r) P
+kept_if_ok P (Ok x) has = has
+kept_if_ok P (Err e) has = tt
 
 -- What holds of an element holds of all that are the same.
 IfSome-same : {A : Type 0} (P : A → Type 0) (n i : ℕ) (x : A) → P x → IfSome (slice_get (replicate n x) i) P

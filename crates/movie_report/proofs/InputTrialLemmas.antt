@@ -7,7 +7,7 @@ use Rattle.std.specs.Option.{option_or}
 use Rattle.std.specs.Prelude.{option_and_then}
 use Rattle.vcs_machine.specs.Inputs.{InputData}
 use Rattle.vcs_machine.specs.declared.fault.FaultKind.{FaultKind}
-use Rattle.vcs_machine.specs.declared.fields.StateFields.{StateFields}
+use Rattle.movie_machine.specs.declared.state.State.{State}
 use Rattle.movie_file.specs.Judgement.{FaultsAt}
 use Rattle.movie_file.specs.Movie.{MovieData, IsMovie}
 use Rattle.movie_file.specs.Run.{frame_after, run, state_after}
@@ -51,14 +51,14 @@ left (x ∷ xs) (suc j) n (suc k) is = left xs j n k (omega arith)
 -- ---- runs
 
 -- Where inputs are the same runs are.
-run_alike : (m n : MovieData) (s : StateFields) (a b k : ℕ) → m.cartridge ≡ n.cartridge
+run_alike : (m n : MovieData) (s : State) (a b k : ℕ) → m.cartridge ≡ n.cartridge
     → ((i : ℕ) → i < k → slice_get m.inputs (a + i) ≡ slice_get n.inputs (b + i)) → run m s a k ≡ run n s b k
 run_alike m n s a b zero cartridge inputs = refl
 run_alike m n s a b (suc k) cartridge inputs =
     rw (run_alike m n s a b k cartridge (λ i less. inputs i (omega arith)), cartridge, inputs k (omega arith)) refl
 
 -- A run that has the inputs of the first i frames, and then those from frame j + 1 on, goes on as if it stood after frame j.
-spliced : (m : MovieData) (s : StateFields) (i j k : ℕ) → i ≤ length m.inputs → run m m.start 0 i ≡ Some s
+spliced : (m : MovieData) (s : State) (i j k : ℕ) → i ≤ length m.inputs → run m m.start 0 i ≡ Some s
     → run (record m { inputs = take i m.inputs ++ drop j m.inputs }) m.start 0 (i + k) ≡ run m s j k
 spliced m s i j k within ran =
     let n : MovieData = record m { inputs = take i m.inputs ++ drop j m.inputs } in
@@ -68,16 +68,16 @@ spliced m s i j k within ran =
     ∙ run_alike n m s (0 + i) j k refl
     (λ x less. following m.inputs (drop j m.inputs) i x (0 + i + x) within (omega arith) ∙ left m.inputs j x (j + x) refl)
 
-spliced_to : (m : MovieData) (s : StateFields) (i j k to : ℕ) → i ≤ length m.inputs → run m m.start 0 i ≡ Some s → to ≡ i + k
+spliced_to : (m : MovieData) (s : State) (i j k to : ℕ) → i ≤ length m.inputs → run m m.start 0 i ≡ Some s → to ≡ i + k
     → run (record m { inputs = take i m.inputs ++ drop j m.inputs }) m.start 0 to ≡ run m s j k
 spliced_to m s i j k to within ran is = rw is (spliced m s i j k within ran)
 
 -- The trials of a frame.
-pub left_out_trials : (m : MovieData) (state s : StateFields) (frame last : ℕ) → 0 < frame → frame ≤ last → last ≤ length m.inputs
+pub left_out_trials : (m : MovieData) (state s : State) (frame last : ℕ) → 0 < frame → frame ≤ last → last ≤ length m.inputs
     → run m m.start 0 (frame - 1) ≡ Some s
     → find (leads_to m state) (trials_of last LeftOut frame)
-    ≡ cond (is_state state (run m s frame (last - frame))) (Some (record { change = LeftOut; frame = frame; after = last - 1 }))
-    (cond (is_state state (run m s frame (last - frame + 1))) (Some (record { change = LeftOut; frame = frame; after = last - 1 + 1 })) None)
+    ≡ cond (is_state m.cartridge state (run m s frame (last - frame))) (Some (record { change = LeftOut; frame = frame; after = last - 1 }))
+    (cond (is_state m.cartridge state (run m s frame (last - frame + 1))) (Some (record { change = LeftOut; frame = frame; after = last - 1 + 1 })) None)
 left_out_trials m state s frame last low order within ran =
     let whole : last - 1 + 1 ≡ last = omega arith in
     rw (
@@ -87,11 +87,11 @@ left_out_trials m state s frame last low order within ran =
     )
     refl
 
-pub twice_trials : (m : MovieData) (state s : StateFields) (frame last : ℕ) → 0 < frame → frame ≤ last → last ≤ length m.inputs
+pub twice_trials : (m : MovieData) (state s : State) (frame last : ℕ) → 0 < frame → frame ≤ last → last ≤ length m.inputs
     → run m m.start 0 frame ≡ Some s
     → find (leads_to m state) (trials_of last Twice frame)
-    ≡ cond (is_state state (run m s (frame - 1) (last - 1 - (frame - 1)))) (Some (record { change = Twice; frame = frame; after = last }))
-    (cond (is_state state (run m s (frame - 1) (last - 1 - (frame - 1) + 1))) (Some (record { change = Twice; frame = frame; after = last + 1 })) None)
+    ≡ cond (is_state m.cartridge state (run m s (frame - 1) (last - 1 - (frame - 1)))) (Some (record { change = Twice; frame = frame; after = last }))
+    (cond (is_state m.cartridge state (run m s (frame - 1) (last - 1 - (frame - 1) + 1))) (Some (record { change = Twice; frame = frame; after = last + 1 })) None)
 twice_trials m state s frame last low order within ran =
     rw (
       spliced_to m s frame (frame - 1) (last - 1 - (frame - 1)) last (omega arith) ran (omega arith),
@@ -100,14 +100,14 @@ twice_trials m state s frame last low order within ran =
     refl
 
 -- A frame is first left out, then played twice.
-pub of_frame : (m : MovieData) (state : StateFields) (last frame : ℕ) → find (leads_to m state) (trials_at last frame)
+pub of_frame : (m : MovieData) (state : State) (last frame : ℕ) → find (leads_to m state) (trials_at last frame)
     ≡ option_or (find (leads_to m state) (trials_of last LeftOut frame)) (find (leads_to m state) (trials_of last Twice frame))
 of_frame m state last frame = find-append (leads_to m state) (trials_of last LeftOut frame) (trials_of last Twice frame)
 
 -- ---- frame by frame
 
 -- The next frame's trials come first,
-pub next_trials : (m : MovieData) (state : StateFields) (last before : ℕ) → before < last
+pub next_trials : (m : MovieData) (state : State) (last before : ℕ) → before < last
     → find (leads_to m state) (trials_after last before)
     ≡ option_or (find (leads_to m state) (trials_at last (before + 1))) (find (leads_to m state) (trials_after last (before + 1)))
 next_trials m state last before less =
@@ -115,21 +115,21 @@ next_trials m state last before less =
     rw more (find-append (leads_to m state) (trials_at last (before + 1)) (trials_after last (before + 1)))
 
 -- so a trial of that is the first,
-pub found_next : (m : MovieData) (state : StateFields) (last before : ℕ) (t : Trial) → before < last
+pub found_next : (m : MovieData) (state : State) (last before : ℕ) (t : Trial) → before < last
     → Some t ≡ find (leads_to m state) (trials_at last (before + 1)) → find (leads_to m state) (trials_after last before) ≡ Some t
 found_next m state last before t less here =
     next_trials m state last before less
     ∙ ap (λ (o : Option Trial). option_or o (find (leads_to m state) (trials_after last (before + 1)))) (sym here)
 
 -- or one of those that follow it is;
-pub found_later : (m : MovieData) (state : StateFields) (last before : ℕ) → before < last → None ≡ find (leads_to m state) (trials_at last (before + 1))
+pub found_later : (m : MovieData) (state : State) (last before : ℕ) → before < last → None ≡ find (leads_to m state) (trials_at last (before + 1))
     → find (leads_to m state) (trials_after last before) ≡ find (leads_to m state) (trials_after last (before + 1))
 found_later m state last before less here =
     next_trials m state last before less
     ∙ ap (λ (o : Option Trial). option_or o (find (leads_to m state) (trials_after last (before + 1)))) (sym here)
 
 -- and after the last frame there is none.
-pub no_trials : (m : MovieData) (state : StateFields) (last : ℕ) → find (leads_to m state) (trials_after last last) ≡ None
+pub no_trials : (m : MovieData) (state : State) (last : ℕ) → find (leads_to m state) (trials_after last last) ≡ None
 no_trials m state last = let none : last - last ≡ 0 = omega arith in rw none refl
 
 -- Two frames with the same input make the same lists,
@@ -165,21 +165,21 @@ four_alike test a b c d w x y z first second third fourth =
 abbrev trial : Change → ℕ → ℕ → Trial
 trial change frame after = record { change = change; frame = frame; after = after }
 
-left_out_leads : (m : MovieData) (state : StateFields) (i after : ℕ) (x : InputData) → slice_get m.inputs i ≡ Some x → slice_get m.inputs (suc i) ≡ Some x
+left_out_leads : (m : MovieData) (state : State) (i after : ℕ) (x : InputData) → slice_get m.inputs i ≡ Some x → slice_get m.inputs (suc i) ≡ Some x
     → leads_to m state (trial LeftOut (suc (suc i)) after) ≡ leads_to m state (trial LeftOut (suc i) after)
 left_out_leads m state i after x here next =
     let more : suc (suc i) - 1 ≡ suc i = omega arith in
     let at : suc i - 1 ≡ i = omega arith in
     rw (more, at, left_out_alike m.inputs i x here next) refl
 
-twice_leads : (m : MovieData) (state : StateFields) (i after : ℕ) (x : InputData) → slice_get m.inputs i ≡ Some x → slice_get m.inputs (suc i) ≡ Some x
+twice_leads : (m : MovieData) (state : State) (i after : ℕ) (x : InputData) → slice_get m.inputs i ≡ Some x → slice_get m.inputs (suc i) ≡ Some x
     → leads_to m state (trial Twice (suc (suc i)) after) ≡ leads_to m state (trial Twice (suc i) after)
 twice_leads m state i after x here next =
     let more : suc (suc i) - 1 ≡ suc i = omega arith in
     let at : suc i - 1 ≡ i = omega arith in
     rw (more, at, twice_alike m.inputs i x here next) refl
 
-pub none_alike : (m : MovieData) (state : StateFields) (last frame : ℕ) → 0 < frame → frame < length m.inputs
+pub none_alike : (m : MovieData) (state : State) (last frame : ℕ) → 0 < frame → frame < length m.inputs
     → slice_get m.inputs frame ≡ slice_get m.inputs (frame - 1) → find (leads_to m state) (trials_at last frame) ≡ None
     → find (leads_to m state) (trials_at last (frame + 1)) ≡ None
 none_alike m state last zero low less same none = absurd (omega arith)
@@ -197,10 +197,10 @@ none_alike m state last (suc i) low less same none =
 -- A run that comes to the end of a frame faults in none before.
 pub no_fault : (m : MovieData) (k last : ℕ) (kind : FaultKind) → k < last → IsSome (run m m.start 0 last) → FaultsAt m m.start 0 k kind → ⊥
 no_fault m k last kind less ends fault =
-    let no : IsSome {T = StateFields} None = rw (none_after m k last kind fault less) at ends in cc
+    let no : IsSome {T = State} None = rw (none_after m k last kind fault less) at ends in cc
 
 -- The state after the next frame.
-pub next_state : (m : MovieData) (s t : StateFields) (from before : ℕ) → from ≤ before → run m s from (before - from) ≡ Some t
+pub next_state : (m : MovieData) (s t : State) (from before : ℕ) → from ≤ before → run m s from (before - from) ≡ Some t
     → run m s from (before + 1 - from) ≡ state_after (frame_after m before t)
 next_state m s t from before le is =
     let more : before + 1 - from ≡ suc (before - from) = omega arith in
@@ -208,15 +208,15 @@ next_state m s t from before le is =
     rw (more, is, at) refl
 
 -- The same after so many frames.
-pub one_more : (m : MovieData) (s : StateFields) (from to : ℕ) → from ≤ to
-    → run m s from (to - from + 1) ≡ option_and_then (λ (t : StateFields). state_after (frame_after m to t)) (run m s from (to - from))
+pub one_more : (m : MovieData) (s : State) (from to : ℕ) → from ≤ to
+    → run m s from (to - from + 1) ≡ option_and_then (λ (t : State). state_after (frame_after m to t)) (run m s from (to - from))
 one_more m s from to le =
     let more : to - from + 1 ≡ suc (to - from) = omega arith in
     let at : from + (to - from) ≡ to = omega arith in
     rw (more, at) refl
 
 -- After a frame that doesn't end there is no state.
-pub no_more : (m : MovieData) (s : StateFields) (from k n : ℕ) → k ≤ n → run m s from k ≡ None → run m s from n ≡ None
+pub no_more : (m : MovieData) (s : State) (from k n : ℕ) → k ≤ n → run m s from k ≡ None → run m s from n ≡ None
 no_more m s from k n le none = let whole : k + (n - k) ≡ n = omega arith in rw whole at (later (n - k))
   where
     later : (d : ℕ) → run m s from (k + d) ≡ None

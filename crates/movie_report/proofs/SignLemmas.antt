@@ -2,7 +2,7 @@
 use Rattle.std.proofs.Common.{◌≡◌, ℕ, ◌+◌, ◌-◌, List, ◌∷◌, ◌++◌, length}
 use Rattle.std.proofs.Common.{slice_get, take, drop, arith, length-append, length-drop, ap, zero, suc, replicate, subst, ◌<◌, ◌≤◌}
 use Rattle.std.proofs.Common.{append-nil, ◌∙◌, sym, min}
-use Rattle.std.specs.Prelude.{IfSome, if◌then◌else◌}
+use Rattle.std.specs.Prelude.{Ok, IfSome, if◌then◌else◌}
 use Rattle.std.specs.List.{flat_map, range_with_len}
 use Rattle.std.proofs.lemmas.List.{length-replicate, take_min}
 use Rattle.std.proofs.lemmas.List.FromFn.{map-range_with_len_more}
@@ -12,7 +12,6 @@ use Rattle.movie_file.specs.Movie.{MovieData}
 use Rattle.replay_plan.specs.declared.keep.Keep.{Keep}
 use Rattle.replay_segments.specs.Pieces.{IsOutcome, IsPiece, PieceData, job_of}
 use Rattle.replay_segments.specs.Segments.{IsSegment}
-use Rattle.replay_segments.specs.declared.outcome.Outcome.TheVariants.{Judged}
 use Rattle.replay_segments.specs.declared.verdict.Verdict.{Verdict}
 use Rattle.replay_segments.specs.Cuts.{Fits, IsEvery}
 use Rattle.movie_report.specs.Private.FirstSigns.{IsFirst, IsFirstIn}
@@ -23,7 +22,7 @@ use Rattle.movie_report.proofs.FirstSignLemmas.{signs_least}
 
 -- A piece has the sign of its segment.
 pub HasSign-piece : (m : MovieData) (cuts : List ℕ) (keep : Keep) (p : PieceData) (i : ℕ) (verdict : Verdict) (sign : Sign) → IsPiece p → p.number ≡ i
-    → p.job ≡ job_of m cuts keep → p.outcome ≡ Judged verdict → sign ≡ sign_of verdict → HasSign m cuts i sign
+    → p.job ≡ job_of m cuts keep → p.outcome ≡ Ok verdict → sign ≡ sign_of verdict → HasSign m cuts i sign
 HasSign-piece m cuts keep p i verdict sign is number job outcome same =
     let said : IsOutcome p.job p.number p.outcome = is.outcome in
     let judged : IsSegment m cuts keep i verdict = rw (outcome, number, job) at said in

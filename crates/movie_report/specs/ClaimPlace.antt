@@ -2,22 +2,23 @@
 use Rattle.std.specs.Prelude.{ℕ, Bool, false, List, [], Option, Some, None, codes, find, length}
 use Rattle.std.specs.List.{range_with_len}
 use Rattle.std.specs.Str.{bytes_eq}
-use Rattle.vcs_machine.specs.declared.fields.StateFields.{StateFields}
+use Rattle.movie_machine.specs.declared.cart.Cart.{Cart}
+use Rattle.movie_machine.specs.declared.state.State.{State}
 use Rattle.movie_file.specs.Movie.{MovieData}
-use Rattle.movie_file.specs.Record.{record_of}
+use Rattle.movie_file.specs.Record.{record_in}
 use Rattle.movie_file.specs.Run.{run}
 use Rattle.movie_file.specs.declared.checkpoint.Checkpoint.{Checkpoint}
 use Rattle.replay_plan.specs.declared.notation.Notation.{Notation}
 use Rattle.movie_report.specs.Notations.{number_fact}
 
--- Whether this is the state that a run has, if it has one.
-abbrev pub is_state : StateFields → Option StateFields → Bool
-is_state state None = false
-is_state state (Some found) = bytes_eq (record_of state) (record_of found)
+-- Whether this is the state that a run with a cartridge has, if it has one: their records are the same.
+abbrev pub is_state : Cart → State → Option State → Bool
+is_state cartridge state None = false
+is_state cartridge state (Some found) = bytes_eq (record_in cartridge state) (record_in cartridge found)
 
 -- The first frame after which a movie's one unbroken run is in a state.
-abbrev pub first_frame_in : MovieData → StateFields → Option ℕ
-first_frame_in m state = find (λ frame. is_state state (run m m.start 0 frame)) (range_with_len 1 (length m.inputs))
+abbrev pub first_frame_in : MovieData → State → Option ℕ
+first_frame_in m state = find (λ frame. is_state m.cartridge state (run m m.start 0 frame)) (range_with_len 1 (length m.inputs))
 
 -- The same as a fact, if there is such a frame.
 abbrev pub frame_fact : Notation → Option ℕ → List ℕ

@@ -3,7 +3,8 @@ use Rattle.std.specs.Prelude.{ℕ, ◌+◌, List, [], ◌∷◌, ◌++◌, codes
 use Rattle.std.specs.Fmt.{decimal}
 use Rattle.std.specs.List.{flat_map}
 use Rattle.hex.specs.Hex.{encode_upper}
-use Rattle.movie_file.specs.Record.{record_of}
+use Rattle.movie_machine.specs.declared.cart.Cart.{Cart}
+use Rattle.movie_file.specs.Record.{record_in}
 use Rattle.movie_file.specs.declared.checkpoint.Checkpoint.{Checkpoint}
 use Rattle.movie_report.specs.Numbers.{NumberData, state_names}
 use Rattle.replay_plan.specs.declared.notation.Notation.{Notation}
@@ -28,15 +29,15 @@ value_text Json value = codes ",\"" ++ (value.name ++ (codes "\":\"" ++ (encode_
 unfoldable pub values_text : Notation → List ℕ → List ℕ
 values_text notation a = flat_map (value_text notation) (values state_names a)
 
--- The checkpoint of this number: after which frame it stands, and the state that it claims.
-abbrev pub claimed_text : Notation → ℕ → Checkpoint → List ℕ
-claimed_text Lines number c =
-    codes "checkpoint " ++ (decimal number ++ (codes ": frame " ++ (decimal c.frame ++ (10 ∷ values_text Lines (record_of c.state)))))
-claimed_text Json number c =
+-- The checkpoint of this number: after which frame it stands, and the state that it claims, with this cartridge.
+abbrev pub claimed_text : Notation → Cart → ℕ → Checkpoint → List ℕ
+claimed_text Lines cartridge number c =
+    codes "checkpoint " ++ (decimal number ++ (codes ": frame " ++ (decimal c.frame ++ (10 ∷ values_text Lines (record_in cartridge c.state)))))
+claimed_text Json cartridge number c =
     codes "{\"checkpoint\":" ++ (decimal number ++ (codes ",\"frame\":" ++ (decimal c.frame ++ (codes ",\"claimed\":{"
-    ++ (drop 1 (values_text Json (record_of c.state)) ++ (codes "}}" ++ 10 ∷ []))))))
+    ++ (drop 1 (values_text Json (record_in cartridge c.state)) ++ (codes "}}" ++ 10 ∷ []))))))
 
 -- The checkpoints that come after so many.
-abbrev pub claims_text : Notation → ℕ → List Checkpoint → List ℕ
-claims_text notation before [] = []
-claims_text notation before (c ∷ cs) = claimed_text notation (before + 1) c ++ claims_text notation (before + 1) cs
+abbrev pub claims_text : Notation → Cart → ℕ → List Checkpoint → List ℕ
+claims_text notation cartridge before [] = []
+claims_text notation cartridge before (c ∷ cs) = claimed_text notation cartridge (before + 1) c ++ claims_text notation cartridge (before + 1) cs

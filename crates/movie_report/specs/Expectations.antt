@@ -2,9 +2,10 @@
 use Rattle.std.specs.Prelude.{ℕ, Bool, true, false, not, ◌&&◌, ◌||◌, List, ◌++◌, codes, Option, Some, None, if◌then◌else◌}
 use Rattle.std.specs.Str.{bytes_eq}
 use Rattle.sha2.specs.Sha256.{sha256}
-use Rattle.vcs_machine.specs.States.{state_at_power_on}
+use Rattle.movie_machine.specs.Carts.{bytes_of}
+use Rattle.movie_machine.specs.States.{state_at_power_on}
 use Rattle.movie_file.specs.Movie.{MovieData}
-use Rattle.movie_file.specs.Record.{record_of}
+use Rattle.movie_file.specs.Record.{record_in}
 use Rattle.replay_plan.specs.declared.expectations.Expectations.{Expectations}
 use Rattle.replay_plan.specs.declared.notation.Notation.{Notation}
 use Rattle.movie_report.specs.CartridgeDifferences.{cartridge_differences}
@@ -29,12 +30,12 @@ cartridge_agreement cartridge rom digest = Some (is_of_rom cartridge rom && has_
 
 -- A movie's start state has the record of power-on.
 abbrev pub starts_at_power_on : MovieData → Bool
-starts_at_power_on m = bytes_eq (record_of m.start) (record_of (state_at_power_on m.cartridge))
+starts_at_power_on m = bytes_eq (record_in m.cartridge m.start) (record_in m.cartridge (state_at_power_on m.cartridge))
 
 -- How a movie agrees with what is expected of it.
 abbrev pub agreement_of : MovieData → Option (List ℕ) → Expectations → Agreement
 agreement_of m rom expected = record {
-  cartridge = cartridge_agreement m.cartridge rom expected.digest;
+  cartridge = cartridge_agreement (bytes_of m.cartridge) rom expected.digest;
   start = if expected.power_on then Some (starts_at_power_on m) else None;
   last_frame = if expected.to_the_end then Some (ends_with_checkpoint m) else None;
 }

@@ -8,10 +8,13 @@ use Rattle.md5.specs.Md5.{md5}
 use Rattle.sha1.specs.Sha1.{sha1}
 use Rattle.sha2.specs.Sha256.{sha256}
 use Rattle.riot_map.specs.Cart.{has_banks}
+use Rattle.movie_machine.specs.Carts.{bytes_of}
+use Rattle.movie_machine.specs.States.{state_at_power_on}
+use Rattle.movie_machine.specs.declared.cart.Cart.{Cart}
+use Rattle.movie_machine.specs.declared.cart.Cart.TheVariants.{Guide, Chip}
 use Rattle.vcs_machine.specs.Inputs.{InputData}
-use Rattle.vcs_machine.specs.States.{state_at_power_on}
 use Rattle.movie_file.specs.Movie.{MovieData}
-use Rattle.movie_file.specs.Record.{record_of}
+use Rattle.movie_file.specs.Record.{record_in}
 use Rattle.replay_segments.specs.declared.verdict.Verdict.{Verdict}
 use Rattle.movie_report.specs.CheckpointFacts.{checkpoints_text}
 use Rattle.movie_report.specs.Differences.{differences_text}
@@ -25,17 +28,18 @@ use Rattle.movie_report.specs.declared.expectations.Agreement.{Agreement}
 use Rattle.replay_plan.specs.declared.notation.Notation.{Notation}
 use Rattle.replay_plan.specs.declared.notation.Notation.TheVariants.{Lines, Json}
 
--- The bank scheme by which a cartridge is played.
-abbrev pub banks_of : List ℕ → List ℕ
-banks_of cartridge = if has_banks (length cartridge) then codes "F8" else codes "none"
+-- The bank scheme by which a cartridge is played: by the chip's rules that of its board.
+abbrev pub banks_of : Cart → List ℕ
+banks_of (Guide bytes) = if has_banks (length bytes) then codes "F8" else codes "none"
+banks_of (Chip cartridge) = cartridge.row.name
 
 -- The length of a cartridge, its digests, and its bank scheme.
-abbrev pub cartridge_text : Notation → List ℕ → List ℕ
+abbrev pub cartridge_text : Notation → Cart → List ℕ
 cartridge_text notation cartridge =
-    number_fact notation (codes "cartridge") (codes "cartridge: ") (length cartridge) (codes " bytes")
-    ++ (word_fact notation (codes "md5") (codes "md5: ") (encode_lower (md5 cartridge))
-    ++ (word_fact notation (codes "sha1") (codes "sha1: ") (encode_lower (sha1 cartridge))
-    ++ (word_fact notation (codes "sha256") (codes "sha256: ") (encode_lower (sha256 cartridge))
+    number_fact notation (codes "cartridge") (codes "cartridge: ") (length (bytes_of cartridge)) (codes " bytes")
+    ++ (word_fact notation (codes "md5") (codes "md5: ") (encode_lower (md5 (bytes_of cartridge)))
+    ++ (word_fact notation (codes "sha1") (codes "sha1: ") (encode_lower (sha1 (bytes_of cartridge)))
+    ++ (word_fact notation (codes "sha256") (codes "sha256: ") (encode_lower (sha256 (bytes_of cartridge)))
     ++ word_fact notation (codes "banks") (codes "banks: ") (banks_of cartridge))))
 
 -- Whether a start state is that of power-on: of the records of both.
@@ -97,5 +101,5 @@ notes_and_facts_text notation program bytes m start power =
 abbrev pub IsReport : Notation → List ℕ → List ℕ → MovieData → Verdict → Option (List ℕ) → Agreement → List ℕ → Type 0
 IsReport notation program bytes m verdict rom agreement text =
     (failure : List ℕ) × HasFailure notation m verdict failure
-    × (text ≡ head_text notation verdict ++ (failure ++ (agreement_text notation rom m.cartridge agreement
-    ++ (notes_and_facts_text notation program bytes m (record_of m.start) (record_of (state_at_power_on m.cartridge)) ++ end_text notation))))
+    × (text ≡ head_text notation verdict ++ (failure ++ (agreement_text notation rom (bytes_of m.cartridge) agreement
+    ++ (notes_and_facts_text notation program bytes m (record_in m.cartridge m.start) (record_in m.cartridge (state_at_power_on m.cartridge)) ++ end_text notation))))

@@ -3,10 +3,11 @@ use Rattle.std.specs.Prelude.{◌≡◌, ℕ, ◌-◌, List, [], ◌∷◌, ◌+
 use Rattle.std.specs.Fmt.{decimal}
 use Rattle.mos_cpu.specs.Registers.{Registers}
 use Rattle.vcs_machine.specs.Faults.{hex2, hex4}
-use Rattle.vcs_machine.specs.States.{line_cycle_of}
-use Rattle.vcs_machine.specs.declared.fields.StateFields.{StateFields}
+use Rattle.movie_machine.specs.States.{line_cycle_of, registers_of}
+use Rattle.movie_machine.specs.declared.cart.Cart.{Cart}
+use Rattle.movie_machine.specs.declared.state.State.{State}
 use Rattle.movie_file.specs.Movie.{MovieData}
-use Rattle.movie_file.specs.Record.{record_of}
+use Rattle.movie_file.specs.Record.{record_in}
 use Rattle.movie_file.specs.Run.{run}
 use Rattle.movie_file.specs.declared.checkpoint.Checkpoint.{Checkpoint}
 use Rattle.replay_segments.specs.RunStates.{left_at}
@@ -25,11 +26,11 @@ use Rattle.movie_report.specs.declared.segments.Sign.{Sign}
 use Rattle.replay_plan.specs.declared.notation.Notation.{Notation}
 use Rattle.replay_plan.specs.declared.notation.Notation.TheVariants.{Lines, Json}
 
--- In which numbers a claimed state differs from that of the run.
-abbrev pub claim_text : Notation → Option Checkpoint → Option StateFields → List ℕ
-claim_text notation (Some c) (Some found) = differences_text notation Claim (record_of c.state) (record_of found)
-claim_text notation c None = []
-claim_text notation None found = []
+-- In which numbers a claimed state differs from that of the run with this cartridge.
+abbrev pub claim_text : Notation → Cart → Option Checkpoint → Option State → List ℕ
+claim_text notation cartridge (Some c) (Some found) = differences_text notation Claim (record_in cartridge c.state) (record_in cartridge found)
+claim_text notation cartridge c None = []
+claim_text notation cartridge None found = []
 
 -- The processor's registers, with the flags as in a state record.
 abbrev pub registers_text : Notation → Registers → List ℕ
@@ -48,14 +49,14 @@ beam_text Json scanline cycle = codes ",\"scanline\":" ++ (decimal scanline ++ (
 -- What a frame left that faults: the registers, and where the beam is.
 abbrev pub left_text : Notation → Option LeftState → List ℕ
 left_text notation None = []
-left_text notation (Some left) = registers_text notation left.state.cpu ++ beam_text notation left.scanline (line_cycle_of left.state)
+left_text notation (Some left) = registers_text notation (registers_of left.state) ++ beam_text notation left.scanline (line_cycle_of left.state)
 
 -- What is said after a false checkpoint of this number and frame, where the segments have these signs: what differs, where else
 -- the run is in the claimed state, the signs of segments and of claims, a sentence about them, and whether one frame's input more or less
 -- leads to the claim.
 abbrev pub false_text : Notation → MovieData → ℕ → ℕ → List Sign → List ℕ
 false_text notation m number frame signs =
-    claim_text notation (slice_get m.checkpoints (number - 1)) (run m m.start 0 frame)
+    claim_text notation m.cartridge (slice_get m.checkpoints (number - 1)) (run m m.start 0 frame)
     ++ (place_text notation m (slice_get m.checkpoints (number - 1))
     ++ (signs_text notation (codes "segments") signs ++ (signs_text notation (codes "claims") (claim_signs m)
     ++ (reason_text notation (sentence_in m number signs) ++ trial_text notation m number frame (slice_get m.checkpoints (number - 1))))))

@@ -5,7 +5,7 @@ use Rattle.std.specs.Prelude.{take, drop, find, flat_map, if◌then◌else◌}
 use Rattle.std.specs.Fmt.{decimal}
 use Rattle.std.specs.List.{range_with_len}
 use Rattle.vcs_machine.specs.Inputs.{InputData}
-use Rattle.vcs_machine.specs.declared.fields.StateFields.{StateFields}
+use Rattle.movie_machine.specs.declared.state.State.{State}
 use Rattle.movie_file.specs.Movie.{MovieData}
 use Rattle.movie_file.specs.Run.{run}
 use Rattle.movie_file.specs.declared.checkpoint.Checkpoint.{Checkpoint}
@@ -25,8 +25,8 @@ changed LeftOut frame inputs = take (frame - 1) inputs ++ drop frame inputs
 changed Twice frame inputs = take frame inputs ++ drop (frame - 1) inputs
 
 -- The run with the inputs of a trial is in a state after its last frame.
-abbrev pub leads_to : MovieData → StateFields → Trial → Bool
-leads_to m state t = is_state state (run (record m { inputs = changed t.change t.frame m.inputs }) m.start 0 t.after)
+abbrev pub leads_to : MovieData → State → Trial → Bool
+leads_to m state t = is_state m.cartridge state (run (record m { inputs = changed t.change t.frame m.inputs }) m.start 0 t.after)
 
 -- The trials of a frame for a claim after frame `last`: with each change as if the claim had moved together with the inputs, and as if
 -- it hadn't.
@@ -56,7 +56,7 @@ is_tried m count = nat_le (count * count) (max 4096 (length m.inputs))
 
 -- The first trial of this claim's segment that leads to the claim. None is needed where the run itself has the claimed state after
 -- another frame.
-abbrev pub first_trial : MovieData → ℕ → ℕ → StateFields → Option Trial
+abbrev pub first_trial : MovieData → ℕ → ℕ → State → Option Trial
 first_trial m number last state =
     if is_some (first_frame_in m state) then None
     else (if is_tried m (last - frame_before m number) then find (leads_to m state) (trials_after last (frame_before m number)) else None)

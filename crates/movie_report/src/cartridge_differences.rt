@@ -1,5 +1,5 @@
 //! Where the bytes of a ROM that is expected aren't those of a cartridge.
-ghost use Rattle.std.specs.Prelude.{◌≡◌, ◌<◌, All, IfOk, length, string_bytes};
+ghost use Rattle.std.specs.Prelude.{◌≡◌, ◌<◌, ◌^◌, All, IfOk, length, string_bytes};
 ghost use Rattle.std.specs.Option.{option_copied};
 ghost use Rattle.movie_report.specs.CartridgeDifferences.{bytes_text, byte_text, lengths_text};
 ghost use Rattle.movie_report.specs.CartridgeDifferences.{cartridge_differences, different_offsets};
@@ -7,7 +7,6 @@ ghost use Rattle.movie_report.specs.CartridgeDifferences.{places_text};
 
 use crate::differences::without_comma;
 use replay_plan::Notation;
-use riot_map::Cart;
 use std::alloc::{AllocError, Global};
 use vcs_machine::{HexByte, HexWord};
 
@@ -16,16 +15,16 @@ const MOST_SHOWN: usize = 4;
 
 /// The offsets at which a ROM differs from a cartridge of its length.
 #[tactic(auto, unfolding(crate::specs::CartridgeDifferences::different_offsets))]
-fn different_offsets(alloc: Global, rom: &[u8], cart: &Cart) -> Result<Vec<u16>, AllocError>
-    requires { length rom.now ≡ length cart.now }
+fn different_offsets(alloc: Global, rom: &[u8], cart: &[u8]) -> Result<Vec<u16>, AllocError>
+    requires lengths { length rom.now ≡ length cart.now }
+    requires few { length cart.now < 2 ^ 16 }
     ensures value { IfOk result (λ offsets. offsets.items ≡ different_offsets rom.now cart.now) }
     ensures within { IfOk result (λ offsets. All (λ offset. offset < length cart.now) offsets.items) }
 {
-    let bytes = cart.bytes();
     let mut offsets = Vec::new(alloc);
-    for offset in 0..cart.len() {
+    for offset in 0..cart.len() as u16 {
         let place = usize::from(offset);
-        if rom[place] != bytes[place] {
+        if rom[place] != cart[place] {
             offsets.push(offset)?;
         }
     }
@@ -80,16 +79,17 @@ fn places_text(
     alloc: Global,
     notation: Notation,
     rom: &[u8],
-    cart: &Cart,
+    cart: &[u8],
 ) -> Result<String, AllocError>
-    requires { length rom.now ≡ length cart.now }
+    requires lengths { length rom.now ≡ length cart.now }
+    requires few { length cart.now < 2 ^ 16 }
     ensures { IfOk result (λ text. string_bytes text
         ≡ places_text notation rom.now cart.now (different_offsets rom.now cart.now)) }
 {
     let offsets = different_offsets(alloc, rom, cart)?;
     let count = offsets.len();
     let shown = &offsets[..count.min(MOST_SHOWN)];
-    let bytes = bytes_text(alloc, notation, rom, cart.bytes(), shown)?;
+    let bytes = bytes_text(alloc, notation, rom, cart, shown)?;
     match notation {
         Notation::Lines => format!(in alloc; "cartridge differs: {count} bytes\n{bytes}"),
         Notation::Json => {
@@ -122,20 +122,20 @@ pub(crate) fn cartridge_differences(
     alloc: Global,
     notation: Notation,
     rom: Option<&[u8]>,
-    cart: &Cart,
+    cart: &[u8],
 ) -> Result<String, AllocError>
+    requires { length cart.now < 2 ^ 16 }
     ensures { IfOk result (λ text. string_bytes text
         ≡ cartridge_differences notation (option_copied rom.entry) cart.now) }
 {
     let Some(bytes) = rom else {
         return Ok(String::new(alloc));
     };
-    let found = usize::from(cart.len());
-    if bytes == cart.bytes() {
+    if bytes == cart {
         return Ok(String::new(alloc));
     }
-    if bytes.len() != found {
-        return lengths_text(alloc, notation, bytes.len(), found);
+    if bytes.len() != cart.len() {
+        return lengths_text(alloc, notation, bytes.len(), cart.len());
     }
     places_text(alloc, notation, bytes, cart)
 }

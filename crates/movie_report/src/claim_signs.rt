@@ -1,22 +1,27 @@
 //! In which of a movie's claims its run is.
-ghost use Rattle.std.specs.Prelude.{◌≡◌, ◌≤◌, ◌<◌, length, drop, map, slice_get, IfOk, IfSome, Some};
+ghost use Rattle.std.specs.Prelude.{◌≡◌, ◌≤◌, ◌<◌, length, drop, map, slice_get, IfOk, IfSome, IsTrue, OnErr, OnOk, Some};
 ghost use Rattle.movie_file.specs.Run.{run};
+ghost use Rattle.movie_machine.specs.Carts.{ram_length};
+ghost use Rattle.movie_machine.specs.States.{is_of};
 ghost use Rattle.replay_segments.specs.Verdicts.{HasVerdict};
 ghost use Rattle.replay_segments.specs.declared.verdict.Verdict.TheVariants.{FalseCheckpoint};
 ghost use Rattle.movie_report.specs.ClaimSigns.{claim_sign, claim_signs, sign_in};
 ghost use Rattle.movie_report.specs.Private.Standing.{StandsBefore};
 
 use crate::segments::Sign;
-use movie_file::{Checkpoint, Movie, Progress, Work, write_state};
+use movie_file::{Checkpoint, Movie, Progress, Work, have_one_record};
+use movie_machine::{Cart, State};
+use refused::Refused;
 use run_cursor::Cursor;
 use std::alloc::{AllocError, Global};
-use vcs_machine::State;
 
-/// Whether this is the claimed state.
-fn sign_in(claimed: &State, found: &State) -> Sign
-    ensures { result ≡ sign_in claimed.now (Some found.now) }
+/// Whether this state of a cartridge is the claimed one.
+fn sign_in(cart: &Cart, claimed: &State, found: &State) -> Sign
+    requires claimed { IsTrue (is_of cart.now claimed.now) }
+    requires found { IsTrue (is_of cart.now found.now) }
+    ensures { result ≡ sign_in cart.now claimed.now (Some found.now) }
 {
-    if write_state(claimed) == write_state(found) {
+    if have_one_record(cart, claimed, found) {
         Sign::Passes
     } else {
         Sign::Differs
@@ -24,15 +29,24 @@ fn sign_in(claimed: &State, found: &State) -> Sign
 }
 
 /// Whether the run is in a claim, to which a cursor goes, as long as no frame faults.
-fn sign_at<P: Progress>(cursor: &mut Cursor<'_>, claim: &Checkpoint, progress: &P) -> Sign
+fn sign_at<P: Progress>(
+    alloc: Global,
+    cursor: &mut Cursor<'_>,
+    claim: &Checkpoint,
+    progress: &P,
+) -> Result<Sign, AllocError>
     requires later { cursor.old.frame ≤ claim.now.frame }
     requires within { claim.now.frame ≤ length cursor.old.movie.inputs }
-    ensures sign { result ≡ claim_sign cursor.old.movie claim.now }
-    ensures at { StandsBefore cursor.old.movie claim.now.frame cursor.new }
+    requires cartridge { IsTrue (is_of cursor.old.movie.cartridge claim.now.state) }
+    ensures sign { IfOk result (λ sign. sign ≡ claim_sign cursor.old.movie claim.now) }
+    ensures at { OnOk result (StandsBefore cursor.old.movie claim.now.frame cursor.new) }
+    ensures memory { OnErr result (0 < ram_length cursor.old.movie.cartridge) }
 {
-    match cursor.advance_to(claim.frame, progress) {
-        Ok(()) => sign_in(&claim.state, cursor.state()),
-        Err(_) => Sign::Faults,
+    let movie = cursor.movie();
+    match cursor.advance_to(alloc, claim.frame, progress) {
+        Ok(()) => Ok(sign_in(movie.cart(), &claim.state, cursor.state())),
+        Err(Refused::Of(_)) => Ok(Sign::Faults),
+        Err(Refused::NoMemory) => Err(AllocError),
     }
 }
 
@@ -52,7 +66,8 @@ fn signs_from<P: Progress>(
     let mut signs = Vec::new(alloc);
     for index in before..movie.checkpoints() {
         let claim = movie.checkpoint(index + 1);
-        signs.push(sign_at(&mut cursor, claim, progress))?;
+        let sign = sign_at(alloc, &mut cursor, claim, progress)?;
+        signs.push(sign)?;
     }
     Ok(signs)
 }
@@ -97,7 +112,7 @@ pub(crate) fn claim_signs<P: Progress>(
 {
     let _ = movie.frames();
     let before = number - 1;
-    let cursor = Cursor::at_claim(movie, frame, found);
+    let cursor = Cursor::at_claim(alloc, movie, frame, found)?;
     let mut later = signs_to_the_last(alloc, cursor, before, progress)?;
     let mut signs = vec![in alloc; Sign::Passes; usize::from(before)]?;
     signs.append(&mut later)?;

@@ -1,6 +1,7 @@
 //! How a movie agrees with what is expected of it.
-ghost use Rattle.std.specs.Prelude.{◌≡◌, IfOk, string_bytes};
+ghost use Rattle.std.specs.Prelude.{◌≡◌, ◌<◌, ◌^◌, IfOk, OnErr, length, string_bytes};
 ghost use Rattle.std.specs.Option.{option_copied};
+ghost use Rattle.movie_machine.specs.Carts.{bytes_of, ram_length};
 ghost use Rattle.movie_report.specs.Expectations.{agreement_of, agreement_text, cartridge_agreement};
 ghost use Rattle.movie_report.specs.Expectations.{disagrees, has_digest, is_no, is_of_rom};
 ghost use Rattle.movie_report.specs.Expectations.{starts_at_power_on};
@@ -8,12 +9,11 @@ ghost use Rattle.movie_report.specs.Expectations.{starts_at_power_on};
 use crate::cartridge_differences::cartridge_differences;
 use crate::notation::AnswerFact;
 use crate::segments::ends_with_checkpoint;
-use movie_file::{Movie, write_state};
+use movie_file::{Movie, have_one_record};
+use movie_machine::{Cart, State};
 use replay_plan::{Expectations, Notation};
-use riot_map::Cart;
 use sha2::{Digest, Sha256};
 use std::alloc::{AllocError, Global};
-use vcs_machine::State;
 
 /// How a movie agrees with what is expected of it. Each is None where nothing is.
 #[derive(Clone, Copy, Debug, PartialEq, Eq)]
@@ -28,7 +28,7 @@ pub struct Agreement {
 
 /// Whether a cartridge has exactly the bytes of a ROM, if there is one.
 fn is_of_rom(cart: &Cart, rom: Option<&[u8]>) -> bool
-    ensures { result ≡ is_of_rom cart.now (option_copied rom.entry) }
+    ensures { result ≡ is_of_rom (bytes_of cart.now) (option_copied rom.entry) }
 {
     match rom {
         Some(bytes) => cart.bytes() == bytes,
@@ -38,7 +38,7 @@ fn is_of_rom(cart: &Cart, rom: Option<&[u8]>) -> bool
 
 /// Whether a cartridge has this SHA-256, if there is one.
 fn has_digest(cart: &Cart, digest: Option<[u8; 32]>) -> bool
-    ensures { result ≡ has_digest cart.now digest }
+    ensures { result ≡ has_digest (bytes_of cart.now) digest }
 {
     match digest {
         Some(bytes) => Sha256::digest(cart.bytes()) == bytes,
@@ -48,7 +48,7 @@ fn has_digest(cart: &Cart, digest: Option<[u8; 32]>) -> bool
 
 /// Whether a cartridge is the one that is expected.
 fn cartridge_agreement(cart: &Cart, rom: Option<&[u8]>, digest: Option<[u8; 32]>) -> Option<bool>
-    ensures { result ≡ cartridge_agreement cart.now (option_copied rom.entry) digest }
+    ensures { result ≡ cartridge_agreement (bytes_of cart.now) (option_copied rom.entry) digest }
 {
     if rom.is_none() && digest.is_none() {
         return None;
@@ -57,10 +57,15 @@ fn cartridge_agreement(cart: &Cart, rom: Option<&[u8]>, digest: Option<[u8; 32]>
 }
 
 /// Whether a movie's start state has the record of power-on.
-fn starts_at_power_on(movie: &Movie) -> bool
-    ensures { result ≡ starts_at_power_on movie.now }
+#[tactic(auto, using(movie_file::proofs::StateLemmas::start_of))]
+fn starts_at_power_on(alloc: Global, movie: &Movie) -> Result<bool, AllocError>
+    ensures value { IfOk result (λ answer. answer ≡ starts_at_power_on movie.now) }
+    ensures memory { OnErr result (0 < ram_length movie.now.cartridge) }
 {
-    write_state(movie.start()) == write_state(&State::power_on(movie.cart()))
+    let _ = movie.frames();
+    let cart = movie.cart();
+    let power_on = State::power_on(alloc, cart)?;
+    Ok(have_one_record(cart, movie.start(), &power_on))
 }
 
 /// Whether an answer is that something isn't as expected.
@@ -72,12 +77,20 @@ fn is_no(answer: Option<bool>) -> bool
 
 impl Agreement {
     /// That of a movie with a ROM, if one is expected, and with the rest.
-    pub fn of(movie: &Movie, rom: Option<&[u8]>, expectations: &Expectations) -> Agreement
-        ensures { result ≡ agreement_of movie.now (option_copied rom.entry) expectations.now }
+    ///
+    /// AllocError comes only if memory for the RAM of the cartridge was refused.
+    pub fn of(
+        alloc: Global,
+        movie: &Movie,
+        rom: Option<&[u8]>,
+        expectations: &Expectations,
+    ) -> Result<Agreement, AllocError>
+        ensures value { IfOk result (λ agreement. agreement ≡ agreement_of movie.now (option_copied rom.entry) expectations.now) }
+        ensures memory { OnErr result (0 < ram_length movie.now.cartridge) }
     {
         let cartridge = cartridge_agreement(movie.cart(), rom, expectations.digest);
         let start = if expectations.power_on {
-            Some(starts_at_power_on(movie))
+            Some(starts_at_power_on(alloc, movie)?)
         } else {
             None
         };
@@ -86,11 +99,11 @@ impl Agreement {
         } else {
             None
         };
-        Agreement {
+        Ok(Agreement {
             cartridge,
             start,
             last_frame,
-        }
+        })
     }
 
     /// Whether anything isn't as expected.
@@ -107,12 +120,13 @@ impl Agreement {
         alloc: Global,
         notation: Notation,
         rom: Option<&[u8]>,
-        cart: &Cart,
+        cartridge: &[u8],
     ) -> Result<String, AllocError>
+        requires { length cartridge.now < 2 ^ 16 }
         ensures { IfOk result (λ text. string_bytes text
-            ≡ agreement_text notation (option_copied rom.entry) cart.now self) }
+            ≡ agreement_text notation (option_copied rom.entry) cartridge.now self) }
     {
-        let differences = cartridge_differences(alloc, notation, rom, cart)?;
+        let differences = cartridge_differences(alloc, notation, rom, cartridge)?;
         format!(in alloc;
             "{}{differences}{}{}",
             AnswerFact(

@@ -1,10 +1,10 @@
 //! The facts of a movie, and its report.
 ghost use Rattle.std.specs.Prelude.{◌≡◌, IfOk, string_bytes};
 ghost use Rattle.std.specs.Option.{option_copied};
-ghost use Rattle.vcs_machine.specs.States.{state_at_power_on};
-ghost use Rattle.movie_file.specs.Record.{record_of};
+ghost use Rattle.movie_machine.specs.States.{state_at_power_on};
+ghost use Rattle.movie_file.specs.Record.{record_in};
 ghost use Rattle.replay_segments.specs.Verdicts.{HasVerdict};
-ghost use Rattle.movie_report.specs.Facts.{cartridge_text, end_text, facts_text, head_text};
+ghost use Rattle.movie_report.specs.Facts.{banks_of, cartridge_text, end_text, facts_text, head_text};
 ghost use Rattle.movie_report.specs.Facts.{held_text, last_held, movie_text, notes_and_facts_text};
 ghost use Rattle.movie_report.specs.Facts.{start_differences_text, start_text, IsReport};
 
@@ -18,26 +18,35 @@ use crate::object_head::verdict_head;
 use hex::encode;
 use input_text::is_idle;
 use md5::Md5;
-use movie_file::{Movie, Progress, STATE_LENGTH, write_state};
+use movie_file::{Movie, Progress, STATE_LENGTH, state_record};
+use movie_machine::{Cart, State};
 use replay_plan::{Notation, Workers};
 use replay_segments::Verdict;
-use riot_map::Cart;
 use sha1::Sha1;
 use sha2::Sha256;
 use std::alloc::{AllocError, Global};
 use std::thread::Threads;
-use vcs_machine::State;
+
+/// The bank scheme by which a cartridge is played.
+fn banks(cart: &Cart) -> &'static str
+    ensures { result.now ≡ banks_of cart.now }
+{
+    match cart {
+        Cart::Guide(cart) => { if cart.has_banks() { "F8" } else { "none" } }
+        Cart::Chip(cart) => cart.board().name,
+    }
+}
 
 /// A cartridge's length, digests and bank scheme.
 fn cartridge_facts(alloc: Global, notation: Notation, cart: &Cart) -> Result<String, AllocError>
     ensures { IfOk result (λ text. string_bytes text ≡ cartridge_text notation cart.now) }
 {
-    let length = u32::from(cart.len());
+    let length = cart.len();
     let bytes = cart.bytes();
     let md5 = encode(alloc, <Md5 as md5::Digest>::digest(bytes))?;
     let sha1 = encode(alloc, Sha1::digest(bytes))?;
     let sha256 = encode(alloc, <Sha256 as sha2::Digest>::digest(bytes))?;
-    let banks = if cart.has_banks() { "F8" } else { "none" };
+    let banks = banks(cart);
     format!(in alloc;
         "{}{}{}{}{}",
         NumberFact(notation, "cartridge", "cartridge: ", length, " bytes"),
@@ -170,6 +179,7 @@ fn facts(
 }
 
 /// The notes and the facts, and the numbers of a start that isn't power-on.
+#[tactic(auto, using(movie_file::proofs::StateLemmas::start_of))]
 fn notes_and_facts(
     alloc: Global,
     notation: Notation,
@@ -178,10 +188,12 @@ fn notes_and_facts(
     movie: &Movie,
 ) -> Result<String, AllocError>
     ensures { IfOk result (λ text. string_bytes text ≡ notes_and_facts_text notation program.now bytes.now movie.now
-        (record_of movie.now.start) (record_of (state_at_power_on movie.now.cartridge))) }
+        (record_in movie.now.cartridge movie.now.start) (record_in movie.now.cartridge (state_at_power_on movie.now.cartridge))) }
 {
-    let start = write_state(movie.start());
-    let power_on = write_state(&State::power_on(movie.cart()));
+    let _ = movie.frames();
+    let cart = movie.cart();
+    let start = state_record(cart, movie.start());
+    let power_on = state_record(cart, &State::power_on(alloc, cart)?);
     let notes = notes(alloc, notation, movie, &start, &power_on)?;
     let facts = facts(alloc, notation, program, bytes, movie, &start, &power_on)?;
     let differences = start_differences(alloc, notation, &start, &power_on)?;
@@ -212,6 +224,7 @@ fn notes_and_facts(
 /// calling thread replays before and after them as others.
 ///
 /// The program's name has no quotation mark, backslash or control character.
+#[tactic(auto, using(crate::proofs::CartridgeDifferenceLemmas::few_bytes))]
 pub fn report<R: Threads + Sync, P: Progress + Sync>(
     rt: &R,
     alloc: Global,
@@ -231,7 +244,8 @@ pub fn report<R: Threads + Sync, P: Progress + Sync>(
 {
     let head = head(alloc, notation, verdict)?;
     let failure = failure_facts(rt, alloc, notation, movie, verdict, workers, progress)?;
-    let expected = agreement.text(alloc, notation, rom, movie.cart())?;
+    let _ = movie.frames();
+    let expected = agreement.text(alloc, notation, rom, movie.cart().bytes())?;
     let rest = notes_and_facts(alloc, notation, program, bytes, movie)?;
     let end = end(notation);
     format!(in alloc; "{head}{failure}{expected}{rest}{end}")

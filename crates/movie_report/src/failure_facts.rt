@@ -1,6 +1,9 @@
 //! What is said of a movie that isn't genuine.
-ghost use Rattle.std.specs.Prelude.{◌≡◌, ◌≤◌, length, IfOk, string_bytes};
-ghost use Rattle.movie_file.specs.Record.{record_of};
+ghost use Rattle.std.specs.Prelude.{◌≡◌, ◌≤◌, length, IfOk, IsTrue, string_bytes};
+ghost use Rattle.movie_file.specs.Record.{record_in};
+ghost use Rattle.movie_machine.specs.Carts.{rules_of};
+ghost use Rattle.movie_machine.specs.States.{is_of};
+ghost use Rattle.movie_machine.specs.declared.rules.Rules.TheVariants.{Guide as ByGuide};
 ghost use Rattle.replay_segments.specs.RunStates.{left_at};
 ghost use Rattle.replay_segments.specs.Verdicts.{HasVerdict};
 ghost use Rattle.replay_segments.specs.declared.verdict.Verdict.TheVariants.{FalseCheckpoint};
@@ -18,25 +21,30 @@ use crate::input_trials::{first_trial, trial_fact};
 use crate::reason::{reason, sentence};
 use crate::segments::{Sign, sign_facts, signs_of};
 use mos_cpu::Cpu;
-use movie_file::{Movie, Progress, write_state};
+use movie_file::{Movie, Progress, state_record};
+use movie_machine::{Cart, State};
 use replay_plan::{Notation, Workers};
 use replay_segments::{LeftState, Verdict, checkpoints_before, found_state, left_state};
 use std::alloc::{AllocError, Global};
 use std::thread::Threads;
-use vcs_machine::{FaultKind, HexByte, HexWord, State};
+use vcs_machine::{FaultKind, HexByte, HexWord};
 
 /// The numbers in which the first false checkpoint differs from the run, whose state there this is.
 fn claim_facts(
     alloc: Global,
     notation: Notation,
+    cart: &Cart,
     claimed: &State,
     found: &State,
 ) -> Result<String, AllocError>
+    requires rules { rules_of cart.now ≡ ByGuide }
+    requires claimed { IsTrue (is_of cart.now claimed.now) }
+    requires found { IsTrue (is_of cart.now found.now) }
     ensures { IfOk result (λ text. string_bytes text
-        ≡ differences_text notation Comparison.Claim (record_of claimed.now) (record_of found.now)) }
+        ≡ differences_text notation Comparison.Claim (record_in cart.now claimed.now) (record_in cart.now found.now)) }
 {
-    let claimed = write_state(claimed);
-    let found = write_state(found);
+    let claimed = state_record(cart, claimed);
+    let found = state_record(cart, found);
     differences(alloc, notation, Comparison::Claim, &claimed, &found)
 }
 
@@ -78,8 +86,11 @@ fn left_facts<P: Progress>(
     requires { HasVerdict movie.now (Fault frame kind) }
     ensures { IfOk result (λ text. string_bytes text ≡ left_text notation (left_at movie.now frame)) }
 {
-    let LeftState { state, scanline } = left_state(movie, frame, kind, progress);
-    let registers = registers(alloc, notation, &state.fields().cpu)?;
+    let Some(left) = left_state(alloc, movie, frame, kind, progress)? else {
+        return Ok(String::new(alloc));
+    };
+    let LeftState { state, scanline } = left;
+    let registers = registers(alloc, notation, &state.cpu())?;
     let beam = beam(alloc, notation, scanline, state.line_cycle())?;
     format!(in alloc; "{registers}{beam}")
 }
@@ -105,6 +116,7 @@ fn reason_facts(
 }
 
 /// What is said after a false checkpoint.
+#[tactic(auto, using(movie_file::proofs::StateLemmas::claim_of))]
 fn false_facts<R: Threads + Sync, P: Progress + Sync>(
     rt: &R,
     alloc: Global,
@@ -119,10 +131,10 @@ fn false_facts<R: Threads + Sync, P: Progress + Sync>(
     ensures { IfOk result (λ text. HasFailure notation movie.now (FalseCheckpoint number frame) (string_bytes text)) }
 {
     let _ = movie.frames();
-    let found = found_state(movie, number, frame, progress);
+    let found = found_state(alloc, movie, number, frame, progress)?;
     let claimed = &movie.checkpoint(number).state;
-    let claim = claim_facts(alloc, notation, claimed, &found)?;
-    let frame_in = claim_place(movie, claimed, progress);
+    let claim = claim_facts(alloc, notation, movie.cart(), claimed, &found)?;
+    let frame_in = claim_place(alloc, movie, claimed, progress)?;
     let place = frame_fact(alloc, notation, frame_in)?;
     let before = u32::from(number) - 1;
     let signs = signs_of(rt, alloc, movie, before, Sign::Differs, workers, progress)?;
@@ -130,7 +142,7 @@ fn false_facts<R: Threads + Sync, P: Progress + Sync>(
     let found = claim_signs(alloc, movie, number, frame, &found, progress)?;
     let claims = sign_facts(alloc, notation, "claims", &found)?;
     let reason = reason_facts(alloc, notation, movie, number, &signs, &found)?;
-    let trial = first_trial(movie, number, frame, claimed, frame_in, progress);
+    let trial = first_trial(alloc, movie, number, frame, claimed, frame_in, progress)?;
     let trial = trial_fact(alloc, notation, number, trial)?;
     format!(in alloc; "{claim}{place}{segments}{claims}{reason}{trial}")
 }

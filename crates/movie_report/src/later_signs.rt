@@ -1,6 +1,7 @@
 //! The signs of segments that workers draw one by one, so that none waits while segments are left.
-ghost use Rattle.std.specs.Prelude.{◌≡◌, ℕ, ◌+◌, ◌<◌, ◌≤◌, All, List, length, slice_get, IfOk, IfSome};
+ghost use Rattle.std.specs.Prelude.{◌≡◌, ℕ, ◌+◌, ◌<◌, ◌≤◌, All, List, length, slice_get, IfOk, IfSome, OnErr};
 ghost use Rattle.movie_file.specs.Movie.{MovieData};
+ghost use Rattle.movie_machine.specs.Carts.{ram_length};
 ghost use Rattle.replay_segments.specs.Cuts.{Fits};
 ghost use Rattle.movie_report.specs.Private.FoundSigns.{AreFound, IsRow};
 ghost use Rattle.movie_report.specs.Segments.{HasSign};
@@ -15,7 +16,7 @@ use std::thread;
 use std::thread::Threads;
 
 /// Finds the signs of the segments whose places, of `count` from segment `from` on, this worker draws
-/// from a counter, until none is left.
+/// from a counter, until none is left. One is left out where memory is refused.
 fn draw_signs<P: Progress>(
     alloc: Global,
     movie: &Movie,
@@ -37,7 +38,7 @@ fn draw_signs<P: Progress>(
         if place >= count {
             return;
         }
-        row[place as usize] = Some(segment_sign(alloc, movie, cuts, from + place));
+        row[place as usize] = segment_sign(alloc, movie, cuts, from + place).ok();
         progress.advance();
     }
 }
@@ -77,16 +78,17 @@ fn sign_at(
     from: u32,
     place: u32,
     rows: &[Vec<Option<Sign>>],
-) -> Sign
+) -> Result<Sign, AllocError>
     requires fit { Fits cuts.now movie.now }
     requires number { from + place < length cuts.now + 1 }
     requires found { All (λ row. AreFound movie.now cuts.now from row.items) rows.now }
-    ensures { HasSign movie.now cuts.now (from + place) result }
+    ensures sign { IfOk result (HasSign movie.now cuts.now (from + place)) }
+    ensures memory { OnErr result (0 < ram_length movie.now.cartridge) }
 {
     let _ = cuts.segments();
     for row in rows {
         if let Some(Some(sign)) = row.get(place as usize) {
-            return *sign;
+            return Ok(*sign);
         }
     }
     segment_sign(alloc, movie, cuts, from + place)
@@ -133,7 +135,8 @@ pub(crate) fn later_signs<R: Threads + Sync, P: Progress + Sync>(
     }
     let mut signs = Vec::with_capacity(alloc, count as usize)?;
     for place in 0..count {
-        signs.push(sign_at(alloc, movie, cuts, from, place, &rows))?;
+        let sign = sign_at(alloc, movie, cuts, from, place, &rows)?;
+        signs.push(sign)?;
     }
     Ok(signs)
 }

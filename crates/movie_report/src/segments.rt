@@ -1,6 +1,7 @@
 //! Which segments of a movie reach the claim at their end.
-ghost use Rattle.std.specs.Prelude.{◌≡◌, ℕ, ◌+◌, ◌-◌, ◌<◌, ◌≤◌, length, map, slice_get, IfOk, IfSome};
+ghost use Rattle.std.specs.Prelude.{◌≡◌, ℕ, ◌+◌, ◌-◌, ◌<◌, ◌≤◌, length, map, slice_get, IfOk, IfSome, OnErr};
 ghost use Rattle.std.specs.Prelude.{string_bytes, if◌then◌else◌};
+ghost use Rattle.movie_machine.specs.Carts.{ram_length};
 ghost use Rattle.replay_segments.specs.Cuts.{Fits};
 ghost use Rattle.movie_report.specs.Private.FirstSigns.{IsFirst};
 ghost use Rattle.movie_report.specs.Reasons.{breaks};
@@ -83,17 +84,24 @@ fn segments_in(movie: &Movie, cuts: &Cuts) -> u32
     }
 }
 
-/// The sign of a segment, counted from 0, of a movie with these cuts. It takes no memory.
-pub(crate) fn segment_sign(alloc: Global, movie: &Movie, cuts: &Cuts, number: u32) -> Sign
+/// The sign of a segment, counted from 0, of a movie with these cuts. Memory is taken for the RAM of
+/// the cartridge alone.
+pub(crate) fn segment_sign(
+    alloc: Global,
+    movie: &Movie,
+    cuts: &Cuts,
+    number: u32,
+) -> Result<Sign, AllocError>
     requires fit { Fits cuts.now movie.now }
     requires number { number < length cuts.now + 1 }
-    ensures { HasSign movie.now cuts.now number result }
+    ensures sign { IfOk result (HasSign movie.now cuts.now number) }
+    ensures memory { OnErr result (0 < ram_length movie.now.cartridge) }
 {
     let piece = replay(alloc, movie, cuts, Keep::NONE, number, &NoProgress);
-    let Some(verdict) = piece.verdict() else {
-        unreachable!()
-    };
-    Sign::of(verdict)
+    match piece.verdict() {
+        Some(verdict) => Ok(Sign::of(verdict)),
+        None => Err(AllocError),
+    }
 }
 
 /// The signs of a movie's segments, in order, of which so many pass before the first that has

@@ -9,13 +9,13 @@ loop-offset-preserved c =
     let before = c.loop-offset.invariant.value in
     elim c.if-rom-place.branch [
       | then-rom-place+in_ok-push w ↦
-          let differ = rw (c.from-place.ensures, c.bytes-bytes.ensures.value) at w.if-rom-place.true in
+          let differ = rw c.from-place.ensures at w.if-rom-place.true in
           rw (w.offsets-is, w.in_ok-push.ensures.items) (record {
             value = with_place c.args.rom.now c.args.cart.now _ c.loop-offset.offset before differ;
-            within = All-push (λ offset. offset < length c.args.cart.now) _ _ c.loop-offset.invariant.within (omega (arith, c.len-offset-end.ensures.value));
+            within = All-push (λ offset. offset < length c.args.cart.now) _ _ c.loop-offset.invariant.within (omega (arith, c.loop-offset-test.true, c.requires.few));
           })
       | else-rom-place w ↦
-          let same = rw (c.from-place.ensures, c.bytes-bytes.ensures.value) at w.if-rom-place.false in
+          let same = rw c.from-place.ensures at w.if-rom-place.false in
           rw w.offsets-is (record {
             value = without_place c.args.rom.now c.args.cart.now _ c.loop-offset.offset before same;
             within = c.loop-offset.invariant.within;

@@ -15,7 +15,7 @@ returns c =
     let shown : take c.min.result c.deref.result.now ≡ take 4 offsets =
     rw (c.deref.ensures.value, items) (first_four offsets c.min.result (omega (arith, c.min.ensures, count))) in
     let listed : c.deref-in-Json.result.now ≡ bytes_text Json c.args.rom.now c.args.cart.now (take 4 offsets) =
-    c.deref-in-Json.ensures ∙ rw (c.in-Json.is, c.bytes.ensures.value, shown) at c.in_ok-bytes.ensures in
+    c.deref-in-Json.ensures ∙ rw (c.in-Json.is, shown) at c.in_ok-bytes.ensures in
     let elements : c.without_comma-elements.result.now ≡ drop 1 (bytes_text Json c.args.rom.now c.args.cart.now (take 4 offsets)) =
     rw (← listed) c.without_comma-elements.ensures in
     rw (c.in-Json.is, ← elements, ← count) c.format-in-Json.ensures.ok

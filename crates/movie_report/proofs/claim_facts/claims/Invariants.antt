@@ -4,4 +4,5 @@ use Rattle.movie_report.proofs.claim_facts.claims.Given as goal
 
 abbrev pub invariant-loop-index : goal.invariant-loop-index
 invariant-loop-index l =
-    string_bytes l.text ++ claims_text l.notation l.index (drop l.index l.movie.checkpoints) ≡ claims_text l.notation 0 l.movie.checkpoints
+    string_bytes l.text ++ claims_text l.notation l.movie.cartridge l.index (drop l.index l.movie.checkpoints)
+    ≡ claims_text l.notation l.movie.cartridge 0 l.movie.checkpoints

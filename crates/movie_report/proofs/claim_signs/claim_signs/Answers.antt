@@ -6,7 +6,7 @@ use Rattle.movie_report.proofs.claim_signs.claim_signs.Goals as goal
 pub returns-clause-signs : goal.returns-clause-signs
 returns-clause-signs g c =
     let passed : c.in_ok-signs.signs.items ≡ replicate c.from.result Passes = c.in_ok-signs.ensures.items_if_clones_equal (search rules) in
-    rw (c.in_ok-append.ensures.items, passed, c.from.ensures, c.in_ok-later.ensures, c.at_claim-cursor.ensures.movie_is)
+    rw (c.in_ok-append.ensures.items, passed, c.from.ensures, c.in_ok-later.ensures, c.in_ok-cursor.ensures.at.movie_is)
     (sym (claim_signs-parts c.args.movie.now c.args.number c.args.frame c.frames.ensures.lawful c.requires.verdict))
 
 pub returns-clause-len : goal.returns-clause-len

@@ -8,15 +8,16 @@ signs_of-requires-after_bounds g c κs within =
 
 pub returns : goal.returns
 returns g c =
-    let place = rw c.claim_place-frame_in.ensures at c.in_ok-place.ensures in
+    let place = rw c.in_ok-frame_in.ensures.frame at c.in_ok-place.ensures in
+    let claim = rw c.cart.ensures at c.in_ok-claim.ensures in
     let segments = rw c.deref.ensures.value at c.in_ok-segments.ensures in
-    let claims = rw (c.deref-2.ensures.value, c.in_ok-found.ensures.signs) at c.in_ok-claims.ensures in
+    let claims = rw (c.deref-2.ensures.value, c.in_ok-found-2.ensures.signs) at c.in_ok-claims.ensures in
     let reason = rw c.deref-3.ensures.value at c.in_ok-reason.ensures in
-    let trial = rw c.first_trial-trial.ensures at c.in_ok-trial.ensures in
+    let trial = rw c.in_ok-trial.ensures.trial at c.in_ok-trial-2.ensures in
     IfOk-weaker c.format.result _ _
     (λ text is. (
       c.in_ok-signs.signs.items,
       c.in_ok-signs.ensures.signs,
-      rw (c.checkpoint.ensures, c.found_state-found.ensures, ← c.in_ok-claim.ensures, ← place, ← segments, ← claims, ← reason, ← trial) is,
+      rw (c.checkpoint.ensures, c.in_ok-found.ensures.ran, ← claim, ← place, ← segments, ← claims, ← reason, ← trial) is,
     ))
     c.format.ensures.ok

@@ -10,9 +10,9 @@ pub loop-place-preserved : goal.loop-place-preserved
 loop-place-preserved g c =
     let signs = c.loop-place.signs.items in
     let counted : length c.loop-place.signs.items ≡ c.loop-place.place = c.loop-place.invariant.0 in
-    let pushed : c.push.new.self.items ≡ c.loop-place.signs.items ++ c.sign_at.result ∷ [] = c.in_ok-push.ensures.items in (
+    let pushed : c.push.new.self.items ≡ c.loop-place.signs.items ++ c.in_ok-sign.sign ∷ [] = c.in_ok-push.ensures.items in (
       grind arith,
       rw pushed (
-          one_sign_more c.args.movie.now c.args.cuts.now c.args.from signs c.sign_at.result c.loop-place.invariant.1
-          (rw counted c.sign_at.ensures)),
+          one_sign_more c.args.movie.now c.args.cuts.now c.args.from signs c.in_ok-sign.sign c.loop-place.invariant.1
+          (rw counted c.in_ok-sign.ensures.sign)),
     )
