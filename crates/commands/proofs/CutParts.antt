@@ -3,11 +3,12 @@ use Rattle.std.proofs.Common.{◌≡◌, ℕ, ◌+◌, ◌-◌, List, length, ta
 use Rattle.std.specs.Prelude.{IsTrue, slice_range}
 use Rattle.std.proofs.lemmas.List.{length-take, take_min}
 use Rattle.std.proofs.lemmas.List.Elements.{All-drop, All-from_recursion, All-take, recursion_from_All}
-use Rattle.riot_map.specs.Cart.{is_cart_length}
+use Rattle.movie_machine.specs.Carts.{IsCart, bytes_of}
+use Rattle.movie_machine.specs.declared.cart.Cart.{Cart}
+use Rattle.movie_machine.specs.declared.state.State.{State}
 use Rattle.vcs_machine.specs.Inputs.{InputData, is_input}
-use Rattle.vcs_machine.specs.declared.fields.StateFields.{StateFields}
 use Rattle.movie_file.specs.Making.{counts_fit, version_made}
-use Rattle.movie_file.specs.Movie.{MovieData, IsMovie, IsState}
+use Rattle.movie_file.specs.Movie.{MovieData, IsMovie, IsStateOf}
 use Rattle.movie_file.specs.ClaimedStates.{Claims}
 use Rattle.movie_file.specs.Run.{run}
 use Rattle.movie_file.specs.declared.checkpoint.Checkpoint.{Checkpoint}
@@ -23,10 +24,10 @@ asked_lawful m first count all =
     let rest = drop (first - 1) m.inputs in
     recursion_from_All lawful (take count rest) (All-take lawful count rest (All-drop lawful (first - 1) m.inputs (All-from_recursion lawful m.inputs all)))
 
-module _ (m : MovieData) (first count : ℕ) {every got frames version : ℕ} {cartridge : List ℕ} {start : StateFields}
+module _ (m : MovieData) (first count : ℕ) {every got frames version : ℕ} {cartridge : Cart} {start : State}
     {all inputs : List InputData} {cs : List Checkpoint}
     (got_is : got ≡ first) (frames_is : frames ≡ frames_asked m first count) (all_is : all ≡ m.inputs)
-    (taken : inputs ≡ slice_range all (got - 1) (got - 1 + frames)) (cartridge_is : cartridge ≡ m.cartridge) (version_is : version ≡ version_made (length cartridge) frames)
+    (taken : inputs ≡ slice_range all (got - 1) (got - 1 + frames)) (cartridge_is : cartridge ≡ m.cartridge) (version_is : version ≡ version_made (length (bytes_of cartridge)) frames)
     (ran : run m m.start 0 (got - 1) ≡ Some start) (far : Claims m (got - 1) every frames cs) where
   asked : inputs ≡ inputs_asked m first count
   asked =
@@ -36,11 +37,11 @@ module _ (m : MovieData) (first count : ℕ) {every got frames version : ℕ} {c
   frames_are : frames ≡ length inputs
   frames_are = rw asked frames_is
 
-  pub IsMovie-cut : IsMovie m → IsTrue (counts_fit frames every) → IsTrue (is_cart_length (length cartridge)) → IsState start
+  pub IsMovie-cut : IsMovie m → IsTrue (counts_fit frames every) → IsCart cartridge → IsStateOf cartridge start
       → IsMovie (parts version cartridge start inputs cs)
   IsMovie-cut movie fits lawful state =
-      IsMovie-parts m (got - 1) every version cartridge start inputs cs cartridge_is (rw frames_are at version_is) ran movie.start.bank (rw frames_are at fits)
-      (rw frames_are at far) lawful state (rw asked (asked_lawful m first count movie.inputs))
+      IsMovie-parts m (got - 1) every version cartridge start inputs cs cartridge_is (rw frames_are at version_is) (rw frames_are at fits)
+      (rw frames_are at far) (rw cartridge_is movie.rules) lawful state (rw asked (asked_lawful m first count movie.inputs))
 
   pub IsCutOf-parts : Ends m (got - 1 + frames) → IsCutOf m first count every (parts version cartridge start inputs cs)
   IsCutOf-parts ends =

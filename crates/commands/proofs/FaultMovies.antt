@@ -8,16 +8,19 @@ use Rattle.std.proofs.lemmas.Nat.{le-div}
 use Rattle.std.proofs.lemmas.Option.{slice_get-get_or}
 use Rattle.std.proofs.Math.Nat.{div-mul-le_self}
 use Rattle.riot_map.specs.Cart.{is_cart_length}
+use Rattle.movie_machine.specs.Carts.{bytes_of, rules_of}
+use Rattle.movie_machine.specs.States.{state_at_power_on}
+use Rattle.movie_machine.specs.declared.cart.Cart.{Cart}
+use Rattle.movie_machine.specs.declared.rules.Rules.TheVariants.{Guide as ByGuide}
 use Rattle.vcs_machine.specs.Inputs.{InputData, is_input}
-use Rattle.vcs_machine.specs.States.{state_at_power_on}
 use Rattle.vcs_machine.specs.declared.fault.FaultKind.{FaultKind}
 use Rattle.movie_file.specs.Format.{most_checkpoints}
 use Rattle.movie_file.specs.Judgement.{AllSound, FaultsAt}
 use Rattle.movie_file.specs.Making.{IsFirstFault, bare, counts_fit}
-use Rattle.movie_file.specs.Movie.{MovieData, IsMovie, IsState, IsStateWith, AreCheckpoints}
+use Rattle.movie_file.specs.Movie.{MovieData, IsMovie, IsStateOf, AreCheckpoints}
 use Rattle.movie_file.specs.Run.{run}
 use Rattle.movie_file.specs.declared.checkpoint.Checkpoint.{Checkpoint}
-use Rattle.movie_file.proofs.MakingRuns.{bank_at_start, bank_fits, counts_are}
+use Rattle.movie_file.proofs.MakingRuns.{counts_are}
 use Rattle.replay_plan.specs.declared.keep.Keep.{Keep}
 use Rattle.replay_segments.specs.Verdicts.{IsVerdict}
 use Rattle.replay_segments.specs.declared.verdict.Verdict.TheVariants.{Fault}
@@ -27,17 +30,17 @@ use Rattle.commands.specs.Private.MadeRuns.{HasFault, movie_up_to}
 use Rattle.commands.proofs.MadeMovies.{sound_of_run}
 
 -- checkpoints at multiples of frames up to n rise
-rising : (cartridge_length every n b last : ℕ) (cs : List Checkpoint) → 1 ≤ every → last ≤ every * b
+rising : (cartridge : Cart) (every n b last : ℕ) (cs : List Checkpoint) → 1 ≤ every → last ≤ every * b
     → ((j : ℕ) (c : Checkpoint) → slice_get cs j ≡ Some c → c.frame ≡ every * (b + j + 1))
-    → ((j : ℕ) (c : Checkpoint) → slice_get cs j ≡ Some c → IsStateWith cartridge_length c.state) → every * (b + length cs) ≤ n → AreCheckpoints cartridge_length last n cs
-rising cartridge_length every n b last [] some low places lawful fits = tt
-rising cartridge_length every n b last (d ∷ cs) some low places lawful fits =
+    → ((j : ℕ) (c : Checkpoint) → slice_get cs j ≡ Some c → IsStateOf cartridge c.state) → every * (b + length cs) ≤ n → AreCheckpoints cartridge last n cs
+rising cartridge every n b last [] some low places lawful fits = tt
+rising cartridge every n b last (d ∷ cs) some low places lawful fits =
     let first : d.frame ≡ every * (b + 0 + 1) = places 0 d refl in
     let next = λ (j : ℕ) (c : Checkpoint) (e : slice_get cs j ≡ Some c). lawful (suc j) c e in
-    let later = rising cartridge_length every n (b + 1) d.frame cs some (omega (arith, first)) (λ j c e. omega (arith, places (suc j) c e)) next (omega arith) in
+    let later = rising cartridge every n (b + 1) d.frame cs some (omega (arith, first)) (λ j c e. omega (arith, places (suc j) c e)) next (omega arith) in
     (omega arith, omega arith, lawful 0 d refl, later)
 
-module _ (cartridge : List ℕ) (inputs : List InputData) (every frame : ℕ) (kind : FaultKind) (cs : List Checkpoint)
+module _ (cartridge : Cart) (inputs : List InputData) (every frame : ℕ) (kind : FaultKind) (cs : List Checkpoint)
     (far : HasFault cartridge inputs every frame kind cs) where
   abbrev m : MovieData
   m = movie_up_to cartridge (state_at_power_on cartridge) inputs cs frame
@@ -66,21 +69,23 @@ module _ (cartridge : List ℕ) (inputs : List InputData) (every frame : ℕ) (k
       let less = le-div (far.before / every) (length inputs) every fit.2 (omega (arith, div-mul-le_self far.before every, far.within)) in
       omega (arith, far.claims.count, fit.3, less)
 
-  rise : IsTrue (counts_fit (length inputs) every) → AreCheckpoints (length cartridge) 0 (length (take frame inputs)) cs
+  rise : IsTrue (counts_fit (length inputs) every) → AreCheckpoints cartridge 0 (length (take frame inputs)) cs
   rise fits =
-      rising (length cartridge) every (length (take frame inputs)) 0 0 cs (counts_are (length inputs) every fits).2 (omega arith)
+      rising cartridge every (length (take frame inputs)) 0 0 cs (counts_are (length inputs) every fits).2 (omega arith)
       (λ j c e. omega (arith, far.claims.places j c e))
-      (λ j c e. record { state = far.claims.lawful j c e; bank = bank_fits whole (0 + c.frame) c.state (bank_at_start cartridge) (far.claims.states j c e) })
+      far.claims.lawful
       (rw (far.claims.count, long, far.frame_is) (omega arith))
 
-  pub IsMovie-to_the_fault : IsTrue (counts_fit (length inputs) every) → IsTrue (is_cart_length (length cartridge)) → IsState (state_at_power_on cartridge) → IsMovie m
-  IsMovie-to_the_fault fits lawful first =
+  pub IsMovie-to_the_fault : IsTrue (counts_fit (length inputs) every) → rules_of cartridge ≡ ByGuide → IsTrue (is_cart_length (length (bytes_of cartridge))) → IsStateOf cartridge (state_at_power_on cartridge)
+      → IsMovie m
+  IsMovie-to_the_fault fits rules lawful first =
       let fit = counts_are (length inputs) every fits in
       let within : frame ≤ length inputs = omega (arith, far.frame_is, far.within) in
       record {
         version = grind (arith, nat_tests);
+        rules = rules;
         cartridge = grind (arith, nat_tests);
-        start = record { state = first; bank = bank_at_start cartridge };
+        start = first;
         some_frames = omega (arith, long, far.frame_is);
         few_frames = rw long (grind (arith, nat_tests));
         few_checkpoints = few fits;

@@ -8,17 +8,19 @@ use Rattle.std.proofs.lemmas.List.{append-nil, length-append, take_all}
 use Rattle.std.proofs.lemmas.List.Elements.{recursion_from_All}
 use Rattle.std.proofs.lemmas.Nat.{mod-mul-add}
 use Rattle.std.proofs.Math.Nat.{mul_comm}
-use Rattle.riot_map.specs.Cart.{is_cart_length}
+use Rattle.movie_machine.specs.Carts.{IsCart, bytes_of, rules_of}
+use Rattle.movie_machine.specs.States.{state_at_power_on}
+use Rattle.movie_machine.specs.declared.cart.Cart.{Cart}
+use Rattle.movie_machine.specs.declared.rules.Rules.TheVariants.{Guide as ByGuide}
+use Rattle.movie_machine.specs.declared.state.State.{State}
 use Rattle.vcs_machine.specs.Inputs.{InputData, is_input}
-use Rattle.vcs_machine.specs.States.{state_at_power_on}
-use Rattle.vcs_machine.specs.declared.fields.StateFields.{StateFields}
 use Rattle.movie_file.specs.Format.{most_checkpoints}
 use Rattle.movie_file.specs.Judgement.{AllSound, IsGenuine}
 use Rattle.movie_file.specs.Making.{IsMadeOf, bare, counts_fit, version_made}
-use Rattle.movie_file.specs.Movie.{MovieData, IsMovie, IsState, IsStateWith, AreCheckpoints}
+use Rattle.movie_file.specs.Movie.{MovieData, IsMovie, IsStateOf, AreCheckpoints}
 use Rattle.movie_file.specs.Run.{run}
 use Rattle.movie_file.specs.declared.checkpoint.Checkpoint.{Checkpoint}
-use Rattle.movie_file.proofs.MakingRuns.{bank_at_start, bank_fits, counts_are, each_more, made_movie, parts}
+use Rattle.movie_file.proofs.MakingRuns.{counts_are, each_more, made_movie, parts}
 use Rattle.movie_file.proofs.RunLemmas.{run_same}
 use Rattle.movie_hints.specs.Counts.{checkpoints_of}
 use Rattle.replay_segments.proofs.CheckpointLemmas.{frame_in_range}
@@ -26,7 +28,7 @@ use Rattle.commands.specs.Make.{IsMadeMovie, do_claims_fit, is_last_claimed, las
 use Rattle.commands.specs.Private.MadeRuns.{HasRun}
 
 -- each frame is sound, if it ends and each checkpoint claims the state of the run
-pub sound_of_run : (m : MovieData) (k : ℕ) → ((i : ℕ) → i < k → (s : StateFields) × (run m m.start 0 (i + 1) ≡ Some s))
+pub sound_of_run : (m : MovieData) (k : ℕ) → ((i : ℕ) → i < k → (s : State) × (run m m.start 0 (i + 1) ≡ Some s))
     → ((j : ℕ) (c : Checkpoint) → slice_get m.checkpoints j ≡ Some c → run m m.start 0 c.frame ≡ Some c.state) → AllSound m m.start 0 k
 sound_of_run m k ends claimed i less =
     let here = ends i less in (
@@ -39,11 +41,11 @@ sound_of_run m k ends claimed i less =
     )
 
 -- one checkpoint more, after the last frame
-last_stands : (cartridge_length last n : ℕ) (cs : List Checkpoint) (d : Checkpoint) → last < n → d.frame ≡ n → IsStateWith cartridge_length d.state
-    → ((j : ℕ) (c : Checkpoint) → slice_get cs j ≡ Some c → c.frame < n) → AreCheckpoints cartridge_length last n cs → AreCheckpoints cartridge_length last n (cs ++ d ∷ [])
-last_stands cartridge_length last n [] d later place lawful before stand = (omega arith, omega arith, lawful, tt)
-last_stands cartridge_length last n (c ∷ cs) d later place lawful before stand =
-    (stand.0, stand.1, stand.2, last_stands cartridge_length c.frame n cs d (before 0 c refl) place lawful (λ j x at. before (suc j) x at) stand.3)
+last_stands : (cartridge : Cart) (last n : ℕ) (cs : List Checkpoint) (d : Checkpoint) → last < n → d.frame ≡ n → IsStateOf cartridge d.state
+    → ((j : ℕ) (c : Checkpoint) → slice_get cs j ≡ Some c → c.frame < n) → AreCheckpoints cartridge last n cs → AreCheckpoints cartridge last n (cs ++ d ∷ [])
+last_stands cartridge last n [] d later place lawful before stand = (omega arith, omega arith, lawful, tt)
+last_stands cartridge last n (c ∷ cs) d later place lawful before stand =
+    (stand.0, stand.1, stand.2, last_stands cartridge c.frame n cs d (before 0 c refl) place lawful (λ j x at. before (suc j) x at) stand.3)
 
 -- a multiple up to a number that is none is below it
 below_last : (every n j frame : ℕ) → 1 ≤ every → n % every ≢ 0 → frame ≡ every * (j + 1) → frame ≤ n → frame < n
@@ -69,9 +71,11 @@ one_more n every true is =
       | inr e ↦ let rest : n % every ≢ 0 = eqb-false _ _ e in (rest, omega (arith, rest))
     ]
 
-module _ (cartridge : List ℕ) (inputs : List InputData) (every : ℕ) (to_the_end : Bool) (cs : List Checkpoint) (last : StateFields)
+module _ (cartridge : Cart) (inputs : List InputData) (every : ℕ) (to_the_end : Bool) (cs : List Checkpoint) (last : State)
     (fits : IsTrue (do_claims_fit (length inputs) every to_the_end)) (ran : HasRun cartridge inputs every (length inputs) cs last)
-    (first : IsState (state_at_power_on cartridge)) (state : IsState last) (lawful : IsTrue (is_cart_length (length cartridge))) where
+    (first : IsStateOf cartridge (state_at_power_on cartridge))
+    (state : is_last_claimed (length inputs) every to_the_end ≡ true → IsStateOf cartridge last) (rules : rules_of cartridge ≡ ByGuide)
+    (lawful : IsCart cartridge) where
   abbrev n : ℕ
   n = length inputs
 
@@ -79,7 +83,7 @@ module _ (cartridge : List ℕ) (inputs : List InputData) (every : ℕ) (to_the_
   d = record { frame = n; state = last }
 
   abbrev made : MovieData
-  made = parts (version_made (length cartridge) n) cartridge (state_at_power_on cartridge) inputs (cs ++ last_claim n every to_the_end last)
+  made = parts (version_made (length (bytes_of cartridge)) n) cartridge (state_at_power_on cartridge) inputs (cs ++ last_claim n every to_the_end last)
 
   abbrev old : MovieData
   old = record (bare cartridge inputs) { checkpoints = cs }
@@ -90,7 +94,7 @@ module _ (cartridge : List ℕ) (inputs : List InputData) (every : ℕ) (to_the_
   all : AllByRecursion (λ i. IsTrue (is_input i)) inputs
   all = recursion_from_All (λ i. IsTrue (is_input i)) inputs (rw (take_all n inputs (omega arith)) at ran.inputs_are)
 
-  before : IsMadeOf cartridge inputs every old × IsGenuine old × (IsTrue (is_cart_length (length cartridge)) → IsMovie old)
+  before : IsMadeOf cartridge inputs every old × IsGenuine old × (rules_of cartridge ≡ ByGuide → IsCart cartridge → IsMovie old)
   before = made_movie cartridge inputs every cs (fits_both n every to_the_end fits).0 ran.sound ran.claims first all
 
   states : (j : ℕ) (c : Checkpoint) → slice_get cs j ≡ Some c → run (bare cartridge inputs) (state_at_power_on cartridge) 0 c.frame ≡ Some c.state
@@ -116,7 +120,7 @@ module _ (cartridge : List ℕ) (inputs : List InputData) (every : ℕ) (to_the_
 
   pub IsMovie-parts : IsMovie made
   IsMovie-parts =
-      let movie : IsMovie old = before.2 lawful in
+      let movie : IsMovie old = before.2 rules lawful in
       let fit = counts_are n every (fits_both n every to_the_end fits).0 in
       elim (cases_Bool (is_last_claimed n every to_the_end)) [
         | inl e ↦
@@ -124,6 +128,7 @@ module _ (cartridge : List ℕ) (inputs : List InputData) (every : ℕ) (to_the_
             let few = (fits_both n every to_the_end fits).1 in
             rw e (record {
               version = movie.version;
+              rules = movie.rules;
               cartridge = movie.cartridge;
               start = movie.start;
               some_frames = movie.some_frames;
@@ -131,7 +136,7 @@ module _ (cartridge : List ℕ) (inputs : List InputData) (every : ℕ) (to_the_
               few_checkpoints = omega (arith, length-append cs (d ∷ []), ran.claims.count, more.1, few);
               inputs = movie.inputs;
               checkpoints =
-                  last_stands (length cartridge) 0 n cs d fit.0 refl (record { state = state; bank = bank_fits (bare cartridge inputs) n last (bank_at_start cartridge) ran.ran })
+                  last_stands cartridge 0 n cs d fit.0 refl (state e)
                   (λ j c at. below_last every n j c.frame fit.2 more.0 (ran.claims.places j c at) (frame_in_range old movie j c at).1) movie.checkpoints;
             })
         | inr e ↦ rw (e, append-nil) movie

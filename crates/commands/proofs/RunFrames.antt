@@ -7,9 +7,9 @@ use Rattle.std.proofs.lemmas.Bool.{cases_lt}
 use Rattle.std.proofs.lemmas.List.{append-nil}
 use Rattle.std.proofs.lemmas.List.Concat.{flat_map-append}
 use Rattle.vcs_machine.specs.Inputs.{InputData}
-use Rattle.vcs_machine.specs.Outcomes.{Failed, frame_of}
+use Rattle.movie_machine.specs.Outcomes.{Failed, frame_of}
+use Rattle.movie_machine.specs.declared.state.State.{State}
 use Rattle.vcs_machine.specs.declared.fault.FaultKind.{FaultKind}
-use Rattle.vcs_machine.specs.declared.fields.StateFields.{StateFields}
 use Rattle.movie_file.specs.Judgement.{FaultsAt}
 use Rattle.movie_file.specs.Movie.{MovieData}
 use Rattle.movie_file.specs.Run.{run}
@@ -51,7 +51,7 @@ abbrev pub EndsAtFault : MovieData → (ℕ → List ℕ) → Type 0
 EndsAtFault m what = (f : ℕ) (kind : FaultKind) → FaultsAt m m.start 0 f kind → (x : ℕ) → f ≤ x → what x ≡ []
 
 -- That is so where nothing comes of a state that isn't there.
-none_from : (m : MovieData) (of : ℕ → Option StateFields → List ℕ) → ((x : ℕ) → of x None ≡ [])
+none_from : (m : MovieData) (of : ℕ → Option State → List ℕ) → ((x : ℕ) → of x None ≡ [])
     → ((f : ℕ) (kind : FaultKind) → FaultsAt m m.start 0 f kind → of f (run m m.start 0 f) ≡ []) → EndsAtFault m (λ x. of x (run m m.start 0 x))
 none_from m of none here f kind fault x le = elim (cases_lt f x) [
   | inl less ↦ rw (none_after m f x kind fault less) (none x)
@@ -68,9 +68,8 @@ no_line m notation details = none_from m (λ x o. played_line m notation details
         go None e = refl
         go (Some input) e =
             let none : 0 + f ≡ f = omega arith in
-            let failed : Some (frame_of m.cartridge state input) ≡ Some (Failed kind left) = rw (none, e) at fails in
-            let is : frame_of m.cartridge state input ≡ Failed kind left = cc in
-            rw is refl
+            let failed : frame_of m.cartridge state input ≡ Some (Failed kind left) = rw (none, e) at fails in
+            rw failed refl
 
 no_picture : (m : MovieData) → EndsAtFault m (picture_of_frame m)
 no_picture m = none_from m (λ x o. pictures_bytes (picture_after m x o)) (λ x. refl) here

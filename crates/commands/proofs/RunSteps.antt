@@ -2,26 +2,29 @@
 use Rattle.std.proofs.Common.{◌≡◌, ℕ, zero, suc, ◌+◌, ◌-◌, ◌<◌, ◌≤◌, length, get_or, drop, Option, Some}
 use Rattle.std.proofs.Common.{None, refl, sym, ap, ◌∙◌, arith, add-one, ◌⊎◌, inl, inr}
 use Rattle.std.specs.Prelude.{slice_get, min}
+use Rattle.std.proofs.lemmas.Bool.{false≢true}
 use Rattle.std.proofs.lemmas.Option.{slice_get-get_or}
 use Rattle.std.proofs.lemmas.List.{length-take, length-drop, get_or-take, get_or-drop}
 use Rattle.vcs_machine.specs.Inputs.{InputData}
-use Rattle.vcs_machine.specs.Outcomes.{FrameOutcome, Played, Failed, frame_of}
+use Rattle.movie_machine.specs.Outcomes.{FrameOutcome, Played, Failed, frame_of}
+use Rattle.movie_machine.specs.declared.state.State.{State}
 use Rattle.vcs_machine.specs.declared.fault.FaultKind.{FaultKind}
-use Rattle.vcs_machine.specs.declared.fields.StateFields.{StateFields}
-use Rattle.movie_file.specs.Movie.{MovieData}
+use Rattle.movie_file.specs.Movie.{MovieData, IsMovie}
 use Rattle.movie_file.specs.Run.{run}
 use Rattle.movie_file.proofs.RunLemmas.{run-next, faults-here}
 use Rattle.run_cursor.specs.RunFaults.{FaultsWithin}
 use Rattle.run_cursor.proofs.CursorLemmas.{no_run}
+use Rattle.run_cursor.proofs.RunStates.{frames_are, run_of}
 use Rattle.commands.specs.AskedFrames.{Ends, inputs_asked, frames_asked}
 
 -- it ends, or faults
 pub faults_sooner : (m : MovieData) (n more frame : ℕ) (kind : FaultKind) → n ≤ more → FaultsWithin m n frame kind → FaultsWithin m more frame kind
 faults_sooner m n more frame kind le (k, less, is, fault) = (k, omega arith, is, fault)
 
-pub ends_or_faults : (m : MovieData) (n : ℕ) → n ≤ length m.inputs → Ends m n ⊎ ((frame : ℕ) × (kind : FaultKind) × FaultsWithin m n frame kind)
-ends_or_faults m zero le = inl (m.start, refl)
-ends_or_faults m (suc n) le = elim (ends_or_faults m n (omega arith)) [
+pub ends_or_faults : (m : MovieData) → IsMovie m → (n : ℕ) → n ≤ length m.inputs
+    → Ends m n ⊎ ((frame : ℕ) × (kind : FaultKind) × FaultsWithin m n frame kind)
+ends_or_faults m movie zero le = inl (m.start, refl)
+ends_or_faults m movie (suc n) le = elim (ends_or_faults m movie n (omega arith)) [
   | inr faults ↦ inr (faults.0, faults.1, faults_sooner m n (suc n) faults.0 faults.1 (omega arith) faults.2)
   | inl ended ↦ play ended.0 ended.1 (frame_of m.cartridge ended.0 input) refl
 ]
@@ -32,17 +35,18 @@ ends_or_faults m (suc n) le = elim (ends_or_faults m n (omega arith)) [
     there : slice_get m.inputs n ≡ Some input
     there = slice_get-get_or m.inputs n _ (omega arith)
 
-    play : (state : StateFields) → run m m.start 0 n ≡ Some state → (outcome : FrameOutcome) → frame_of m.cartridge state input ≡ outcome
+    play : (state : State) → run m m.start 0 n ≡ Some state → (outcome : Option FrameOutcome) → frame_of m.cartridge state input ≡ outcome
         → Ends m (suc n) ⊎ ((frame : ℕ) × (kind : FaultKind) × FaultsWithin m (suc n) frame kind)
-    play state ran (Played new rows) e = inl (new, rw add-one at (run-next m m.start 0 n n state input ran (omega arith) there new rows e))
-    play state ran (Failed kind left) e =
+    play state ran (Some (Played new rows cycles)) e = inl (new, rw add-one at (run-next m m.start 0 n n state input ran (omega arith) there new rows cycles e))
+    play state ran (Some (Failed kind left)) e =
         inr (n + 1, kind, (n, omega arith, refl, faults-here m m.start 0 n n state input ran (omega arith) there kind left e))
+    play state ran None e = absurd (false≢true (rw e at (frames_are m.cartridge state input (run_of m movie n state ran))))
 
 -- what ended before
 pub Ends-below : (m : MovieData) (k n : ℕ) → k ≤ n → Ends m n → Ends m k
 Ends-below m k n le (last, ran) = by (run m m.start 0 k) refl
   where
-    by : (o : Option StateFields) → run m m.start 0 k ≡ o → Ends m k
+    by : (o : Option State) → run m m.start 0 k ≡ o → Ends m k
     by (Some state) is = (state, is)
     by None is = absurd (let none = no_run m k n le is in cc)
 

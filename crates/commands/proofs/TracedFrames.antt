@@ -3,6 +3,7 @@ use Rattle.std.proofs.Common.{ℕ, ◌-◌, ◌≤◌, List, ◌++◌, length, O
 use Rattle.picture_file.specs.Prefixes.{AppendsPrefix}
 use Rattle.picture_file.proofs.BytesWritten.{prefix_longer}
 use Rattle.riot_map.specs.Cart.{has_banks}
+use Rattle.movie_machine.specs.Carts.{bytes_of}
 use Rattle.vcs_machine.specs.Faults.{stop_with}
 use Rattle.vcs_machine.specs.Frame.{Machine, Reaches, Stop}
 use Rattle.vcs_machine.specs.Inputs.{InputData}
@@ -22,22 +23,22 @@ use Rattle.commands.proofs.TraceSteps.{lines_begin, stops_later}
 
 module _ (m : MovieData) (frame : ℕ) (state : StateFields) (input : InputData) (begins : BeginsIn m frame state input) where
   -- All instructions, and the line of the frame.
-  pub traced : (count : ℕ) (stop : Stop Undrawn) → StopsAfter undrawn_meaning (undrawn_of m.cartridge state input) count stop
+  pub traced : (count : ℕ) (stop : Stop Undrawn) → StopsAfter undrawn_meaning (undrawn_of (bytes_of m.cartridge) state input) count stop
       → Traces m frame (status_of stop) (instructions m state input count ++ line_bytes (last_line frame (line_cycle_of state) stop))
   traced count stop stops = inr (inr (state, input, begins, record { count = count; stop = stop; stops = stops; text_is = refl; status_is = refl }))
 
   pub traced_fault : (count : ℕ) (kind : FaultKind) (here : Machine Undrawn)
-      → StopsAfter undrawn_meaning (undrawn_of m.cartridge state input) count (stop_with kind here)
+      → StopsAfter undrawn_meaning (undrawn_of (bytes_of m.cartridge) state input) count (stop_with kind here)
       → Traces m frame statuses.Fault (instructions m state input count ++ line_bytes (lines.Fault frame kind))
   traced_fault count kinds.Overlong here stops = traced count (stop_with kinds.Overlong here) stops
   traced_fault count kind here stops = traced count (stop_with kind here) stops
 
   -- A part of the instructions is a part of the whole.
-  pub traced_part : (count : ℕ) (here : Machine Undrawn) → Reaches undrawn_meaning (undrawn_of m.cartridge state input) count here → (a b : Option (List ℕ))
+  pub traced_part : (count : ℕ) (here : Machine Undrawn) → Reaches undrawn_meaning (undrawn_of (bytes_of m.cartridge) state input) count here → (a b : Option (List ℕ))
       → AppendsPrefix a b (instructions m state input count) → (status : Status) × (text : List ℕ) × Traces m frame status text × AppendsPrefix a b text
   traced_part count here reaches a b part =
-      let later = stops_later (undrawn_of m.cartridge state input) here count refl reaches in
-      let more = lines_begin (has_banks (length m.cartridge)) (undrawn_of m.cartridge state input) count later.count later.later in (
+      let later = stops_later (undrawn_of (bytes_of m.cartridge) state input) here count refl reaches in
+      let more = lines_begin (has_banks (length (bytes_of m.cartridge))) (undrawn_of (bytes_of m.cartridge) state input) count later.count later.later in (
         status_of later.stop,
         _,
         traced later.count later.stop later.stops,

@@ -6,7 +6,7 @@ use Rattle.std.proofs.lemmas.Result.{err_from_is_err_and}
 use Rattle.std.specs.Io.KnownBytes.{Appends}
 use Rattle.vcs_machine.specs.declared.fault.FaultKind.{FaultKind}
 use Rattle.movie_file.specs.Judgement.{FaultsAt}
-use Rattle.movie_file.specs.Movie.{MovieData}
+use Rattle.movie_file.specs.Movie.{MovieData, IsMovie}
 use Rattle.picture_file.specs.Prefixes.{AppendsPrefix}
 use Rattle.picture_file.proofs.BytesWritten.{appends_nothing, appends_then, prefix_after, prefix_longer}
 use Rattle.run_cursor.specs.RunFaults.{FaultsWithin}
@@ -23,9 +23,9 @@ last_is m first count got frames first_is is some = grind (arith, nat_tests)
 pub none_asked : (m : MovieData) (first count frames : ℕ) → frames ≡ frames_asked m first count → frames ≡ 0 → Ends m (last_asked m first count)
 none_asked m first count frames is none = let zero_asked : frames_asked m first count ≡ 0 = omega arith in rw zero_asked (m.start, refl)
 
-pub asked_ends_or_faults : (m : MovieData) (first count : ℕ)
+pub asked_ends_or_faults : (m : MovieData) → IsMovie m → (first count : ℕ)
     → Ends m (last_asked m first count) ⊎ ((frame : ℕ) × (kind : FaultKind) × FaultsWithin m (last_asked m first count) frame kind)
-asked_ends_or_faults m first count = ends_or_faults m (last_asked m first count) (grind (arith, nat_tests, frames_asked-min m first count))
+asked_ends_or_faults m movie first count = ends_or_faults m movie (last_asked m first count) (grind (arith, nat_tests, frames_asked-min m first count))
 
 -- ---- one frame after another
 

@@ -4,10 +4,10 @@ use Rattle.std.specs.Prelude.{slice_get}
 use Rattle.std.proofs.lemmas.List.{append-nil}
 use Rattle.std.specs.Io.KnownBytes.{Appends}
 use Rattle.vcs_machine.specs.Inputs.{InputData}
-use Rattle.vcs_machine.specs.Outcomes.{Played, frame_of}
+use Rattle.movie_machine.specs.Outcomes.{Played, frame_of}
+use Rattle.movie_machine.specs.declared.state.State.{State}
 use Rattle.vcs_machine.specs.Pictures.{Rows}
-use Rattle.vcs_machine.specs.declared.fields.StateFields.{StateFields}
-use Rattle.movie_file.specs.Movie.{MovieData}
+use Rattle.movie_file.specs.Movie.{MovieData, IsMovie}
 use Rattle.movie_file.specs.Run.{run}
 use Rattle.picture_file.specs.PictureBytes.{picture_bytes, pictures_bytes}
 use Rattle.picture_file.specs.Prefixes.{AppendsPrefix}
@@ -24,9 +24,9 @@ use Rattle.commands.proofs.RunFrames.{frames_flat}
 use Rattle.commands.proofs.WrittenFrames.{asked_ends_or_faults}
 
 -- the picture of the frame after which a cursor goes on
-pub drawn_by : (m : MovieData) (k : ℕ) (c : CursorData) (input : InputData) (rows : Rows) (new : StateFields) → IsAt m k c
-    → slice_get m.inputs k ≡ Some input → frame_of m.cartridge c.state input ≡ Played new rows → picture_bytes rows ≡ picture_of_frame m k
-drawn_by m k c input rows new at there ends = let none : 0 + k ≡ k = omega arith in rw (at.ran, there, ends) (sym (append-nil (picture_bytes rows)))
+pub drawn_by : (m : MovieData) (k : ℕ) (c : CursorData) (input : InputData) (rows : Rows) (new : State) (cycles : ℕ) → IsAt m k c
+    → slice_get m.inputs k ≡ Some input → frame_of m.cartridge c.state input ≡ Some (Played new rows cycles) → picture_bytes rows ≡ picture_of_frame m k
+drawn_by m k c input rows new cycles at there ends = let none : 0 + k ≡ k = omega arith in rw (at.ran, there, ends) (sym (append-nil (picture_bytes rows)))
 
 module _ (m : MovieData) (first count : ℕ) where
   -- the bytes of the first so many pictures
@@ -43,12 +43,12 @@ module _ (m : MovieData) (first count : ℕ) where
     told line draws written = (drawn m first count line, draws, refl, refl, rw (pictures_are (frames_asked m first count)) written)
 
     -- whatever comes of the run, there is an answer
-    pub told_in_part : AppendsPrefix a b (first_bytes (frames_asked m first count))
+    pub told_in_part : IsMovie m → AppendsPrefix a b (first_bytes (frames_asked m first count))
         → (answer : AnswerData) × Draws m first count answer × AppendsPrefix a b answer.file
-    told_in_part part =
+    told_in_part movie part =
         let bytes : AppendsPrefix a b (pictures_bytes (pictures_after m (first - 1) (frames_asked m first count))) =
         rw (pictures_are (frames_asked m first count)) part in
-        elim (asked_ends_or_faults m first count) [
+        elim (asked_ends_or_faults m movie first count) [
           | inl ends ↦ (drawn m first count (lines.Pictures (frames_asked m first count)), inl (ends, refl), bytes)
           | inr faults ↦ (drawn m first count (lines.Fault faults.0 faults.1), inr (faults.0, faults.1, faults.2, refl), bytes)
         ]

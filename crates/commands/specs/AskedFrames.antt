@@ -3,7 +3,7 @@
 use Rattle.std.specs.Prelude.{◌≡◌, ℕ, zero, suc, ◌+◌, ◌-◌, List, [], ◌++◌, length, take, drop, Some, ◌==◌, if◌then◌else◌}
 use Rattle.vcs_machine.specs.Inputs.{InputData}
 use Rattle.vcs_machine.specs.Pictures.{Rows}
-use Rattle.vcs_machine.specs.declared.fields.StateFields.{StateFields}
+use Rattle.movie_machine.specs.declared.state.State.{State}
 use Rattle.movie_file.specs.Movie.{MovieData}
 use Rattle.movie_file.specs.Run.{run}
 use Rattle.replay_segments.specs.KeptPictures.{picture_after}
@@ -22,7 +22,7 @@ last_asked m first count = if frames_asked m first count == 0 then 0 else first 
 
 -- The first `frames` frames of the movie's one unbroken run end.
 abbrev pub Ends : MovieData → ℕ → Type 0
-Ends m frames = (state : StateFields) × (run m m.start 0 frames ≡ Some state)
+Ends m frames = (state : State) × (run m m.start 0 frames ≡ Some state)
 
 -- What comes of the `len` frames that follow frame `from`, in order, if this comes of frame k + 1.
 abbrev pub from_frames : {X : Type 0} → (ℕ → List X) → ℕ → ℕ → List X

@@ -6,4 +6,4 @@ use Rattle.commands.specs.Answers.{AnswerData, text_answer}
 use Rattle.commands.specs.declared.status.Status.TheVariants.{Done}
 
 abbrev pub claims_in : Notation → MovieData → AnswerData
-claims_in notation m = text_answer Done (claims_text notation 0 m.checkpoints)
+claims_in notation m = text_answer Done (claims_text notation m.cartridge 0 m.checkpoints)

@@ -10,12 +10,14 @@ use Rattle.hex.specs.Hex.{encode_lower, encode_upper}
 use Rattle.sha2.specs.Sha256.{sha256}
 use Rattle.vcs_machine.specs.Faults.{hex2}
 use Rattle.vcs_machine.specs.Inputs.{InputData}
-use Rattle.vcs_machine.specs.Outcomes.{FrameOutcome, Played, Failed, cycles_of, frame_of}
+use Rattle.movie_machine.specs.Outcomes.{FrameOutcome, Played, Failed, frame_of}
+use Rattle.movie_machine.specs.States.{memory_of}
+use Rattle.movie_machine.specs.declared.cart.Cart.{Cart}
+use Rattle.movie_machine.specs.declared.state.State.{State}
 use Rattle.vcs_machine.specs.Pictures.{Rows}
 use Rattle.vcs_machine.specs.declared.fault.FaultKind.{FaultKind}
-use Rattle.vcs_machine.specs.declared.fields.StateFields.{StateFields}
 use Rattle.movie_file.specs.Movie.{MovieData}
-use Rattle.movie_file.specs.Record.{record_of}
+use Rattle.movie_file.specs.Record.{record_in}
 use Rattle.movie_file.specs.Run.{run}
 use Rattle.movie_file.specs.declared.checkpoint.Checkpoint.{Checkpoint}
 use Rattle.movie_report.specs.VerdictHeads.{fault_members}
@@ -48,48 +50,49 @@ told_claim Lines number false = codes ", checkpoint " ++ (decimal number ++ code
 told_claim Json number true = codes ",\"checkpoint\":" ++ (decimal number ++ codes ",\"claim_is_true\":true")
 told_claim Json number false = codes ",\"checkpoint\":" ++ (decimal number ++ codes ",\"claim_is_true\":false")
 
--- It is if the state that it claims has the same record as this one.
-abbrev pub claim_text : Notation → ℕ → Option Checkpoint → StateFields → List ℕ
-claim_text notation number None state = []
-claim_text notation number (Some c) state = told_claim notation number (bytes_eq (record_of c.state) (record_of state))
+-- It is if the state that it claims has the same record, with this cartridge, as this one.
+abbrev pub claim_text : Notation → Cart → ℕ → Option Checkpoint → State → List ℕ
+claim_text notation cartridge number None state = []
+claim_text notation cartridge number (Some c) state =
+    told_claim notation number (bytes_eq (record_in cartridge c.state) (record_in cartridge state))
 
 -- The one that stands after a frame, if one does, which the run leaves in this state.
-abbrev pub checkpoint_text : Notation → List Checkpoint → ℕ → StateFields → List ℕ
-checkpoint_text notation cs frame state =
-    let j = position_or_len (λ c. c.frame == frame) cs in
-    claim_text notation (j + 1) (slice_get cs j) state
+abbrev pub checkpoint_text : Notation → MovieData → ℕ → State → List ℕ
+checkpoint_text notation m frame state =
+    let j = position_or_len (λ c. c.frame == frame) m.checkpoints in
+    claim_text notation m.cartridge (j + 1) (slice_get m.checkpoints j) state
 
 -- The byte of the memory at an address.
-abbrev pub byte_at : StateFields → Address → ℕ
-byte_at state a = slice_index state.riot.ram (a.number - first_address)
+abbrev pub byte_at : State → Address → ℕ
+byte_at state a = slice_index (memory_of state) (a.number - first_address)
 
 -- An address and its byte, as an object.
 abbrev pub byte_object : ℕ → ℕ → List ℕ
 byte_object address byte = codes "{\"address\":\"" ++ (hex2 address ++ (codes "\",\"byte\":\"" ++ (hex2 byte ++ codes "\"}")))
 
 -- A byte of the memory, after others.
-abbrev pub byte_text : Notation → StateFields → Address → List ℕ
+abbrev pub byte_text : Notation → State → Address → List ℕ
 byte_text Lines state a = codes ", memory " ++ (hex2 a.number ++ (codes " " ++ hex2 (byte_at state a)))
 byte_text Json state a = codes "," ++ byte_object a.number (byte_at state a)
 
 -- The bytes that are watched. An array has no comma before the first.
-abbrev pub watched_text : Notation → StateFields → List Address → List ℕ
+abbrev pub watched_text : Notation → State → List Address → List ℕ
 watched_text Lines state addresses = flat_map (byte_text Lines state) addresses
 watched_text Json state [] = []
 watched_text Json state (first ∷ others) =
     codes ",\"watched\":[" ++ (byte_object first.number (byte_at state first) ++ (flat_map (byte_text Json state) others ++ codes "]"))
 
 -- All bytes of the memory, in the order of their addresses.
-abbrev pub memory_text : Notation → StateFields → List ℕ
-memory_text Lines state = codes ", memory " ++ encode_upper state.riot.ram
-memory_text Json state = codes ",\"memory\":\"" ++ (encode_upper state.riot.ram ++ codes "\"")
+abbrev pub memory_text : Notation → State → List ℕ
+memory_text Lines state = codes ", memory " ++ encode_upper (memory_of state)
+memory_text Json state = codes ",\"memory\":\"" ++ (encode_upper (memory_of state) ++ codes "\"")
 
--- The SHA-256 of the state's record and of the picture's file.
-abbrev pub digests_text : Notation → StateFields → Rows → List ℕ
-digests_text Lines state picture =
-    codes ", state " ++ (encode_lower (sha256 (record_of state)) ++ (codes ", picture " ++ encode_lower (sha256 (picture_bytes picture))))
-digests_text Json state picture =
-    codes ",\"state\":\"" ++ (encode_lower (sha256 (record_of state)) ++ (codes "\",\"picture\":\""
+-- The SHA-256 of the state's record, with this cartridge, and of the picture's file.
+abbrev pub digests_text : Notation → Cart → State → Rows → List ℕ
+digests_text Lines cartridge state picture =
+    codes ", state " ++ (encode_lower (sha256 (record_in cartridge state)) ++ (codes ", picture " ++ encode_lower (sha256 (picture_bytes picture))))
+digests_text Json cartridge state picture =
+    codes ",\"state\":\"" ++ (encode_lower (sha256 (record_in cartridge state)) ++ (codes "\",\"picture\":\""
     ++ (encode_lower (sha256 (picture_bytes picture)) ++ codes "\"")))
 
 -- The end of a line or of an object.
@@ -98,25 +101,26 @@ end_text Lines = 10 ∷ []
 end_text Json = codes "}" ++ 10 ∷ []
 
 -- The line or the object of a frame that took so many cycles, left this state, and drew this picture.
-abbrev pub ended_line : List Checkpoint → Notation → Details → ℕ → ℕ → StateFields → Rows → List ℕ
-ended_line cs notation details frame cycles state picture =
+abbrev pub ended_line : MovieData → Notation → Details → ℕ → ℕ → State → Rows → List ℕ
+ended_line m notation details frame cycles state picture =
     length_text notation frame cycles (length picture)
-    ++ (checkpoint_text notation cs frame state
+    ++ (checkpoint_text notation m frame state
     ++ (watched_text notation state details.watches
     ++ ((if details.memory then memory_text notation state else [])
-    ++ ((if details.digests then digests_text notation state picture else []) ++ end_text notation))))
+    ++ ((if details.digests then digests_text notation m.cartridge state picture else []) ++ end_text notation))))
 
 -- The same of a frame from its outcome. One that faults has none.
-abbrev pub outcome_line : List Checkpoint → Notation → Details → ℕ → ℕ → FrameOutcome → List ℕ
-outcome_line cs notation details frame cycles (Played state picture) = ended_line cs notation details frame cycles state picture
-outcome_line cs notation details frame cycles (Failed kind left) = []
+abbrev pub outcome_line : MovieData → Notation → Details → ℕ → Option FrameOutcome → List ℕ
+outcome_line m notation details frame (Some (Played state picture cycles)) = ended_line m notation details frame cycles state picture
+outcome_line m notation details frame (Some (Failed kind left)) = []
+outcome_line m notation details frame None = []
 
 -- Of a frame that plays from this state with this input.
-abbrev pub played_line : MovieData → Notation → Details → ℕ → Option StateFields → Option InputData → List ℕ
+abbrev pub played_line : MovieData → Notation → Details → ℕ → Option State → Option InputData → List ℕ
 played_line m notation details frame None input = []
 played_line m notation details frame (Some state) None = []
 played_line m notation details frame (Some state) (Some input) =
-    outcome_line m.checkpoints notation details frame (cycles_of m.cartridge state input) (frame_of m.cartridge state input)
+    outcome_line m notation details frame (frame_of m.cartridge state input)
 
 -- Of frame k + 1 of the movie's one unbroken run.
 abbrev pub frame_line : MovieData → Notation → Details → ℕ → List ℕ

@@ -1,6 +1,7 @@
 -- What `info` says about a movie, without a replay. This project's own.
 use Rattle.std.specs.Prelude.{ℕ, List, [], ◌∷◌, ◌++◌, codes, length}
 use Rattle.std.specs.Fmt.{decimal}
+use Rattle.movie_machine.specs.Carts.{bytes_of}
 use Rattle.movie_file.specs.Movie.{MovieData}
 use Rattle.replay_plan.specs.declared.notation.Notation.{Notation}
 use Rattle.replay_plan.specs.declared.notation.Notation.TheVariants.{Lines, Json}
@@ -12,10 +13,10 @@ use Rattle.commands.specs.declared.status.Status.TheVariants.{Done}
 -- of JSON,
 abbrev pub object_text : MovieData → List ℕ
 object_text m =
-    codes "{\"version\":" ++ (decimal m.version ++ (codes ",\"cartridge\":" ++ (decimal (length m.cartridge) ++ (codes ",\"frames\":" ++ (decimal (length m.inputs)
+    codes "{\"version\":" ++ (decimal m.version ++ (codes ",\"cartridge\":" ++ (decimal (length (bytes_of m.cartridge)) ++ (codes ",\"frames\":" ++ (decimal (length m.inputs)
     ++ (codes ",\"checkpoints\":" ++ (decimal (length m.checkpoints) ++ (codes "}" ++ 10 ∷ []))))))))
 
 -- or as a line.
 abbrev pub information_in : Notation → MovieData → AnswerData
-information_in Lines m = line_answer (lines.Movie m.version (length m.cartridge) (length m.inputs) (length m.checkpoints))
+information_in Lines m = line_answer (lines.Movie m.version (length (bytes_of m.cartridge)) (length m.inputs) (length m.checkpoints))
 information_in Json m = text_answer Done (object_text m)

@@ -9,9 +9,12 @@ use Rattle.std.specs.Io.KnownBytes.{Keeps}
 use Rattle.riot_map.specs.Cart.{is_cart_length}
 use Rattle.input_text.specs.Texts.{inputs_in}
 use Rattle.vcs_machine.specs.Inputs.{InputData}
-use Rattle.vcs_machine.specs.States.{state_at_power_on}
+use Rattle.movie_machine.specs.Carts.{bytes_of}
+use Rattle.movie_machine.specs.States.{state_at_power_on}
+use Rattle.movie_machine.specs.declared.cart.Cart.{Cart}
+use Rattle.movie_machine.specs.declared.cart.Cart.TheVariants.{Guide}
+use Rattle.movie_machine.specs.declared.state.State.{State}
 use Rattle.vcs_machine.specs.declared.fault.FaultKind.{FaultKind}
-use Rattle.vcs_machine.specs.declared.fields.StateFields.{StateFields}
 use Rattle.movie_file.specs.Format.{most_checkpoints}
 use Rattle.movie_file.specs.InputLists.{all_inputs_at}
 use Rattle.movie_file.specs.Judgement.{IsGenuine}
@@ -51,23 +54,23 @@ abbrev pub is_last_claimed : ℕ → ℕ → Bool → Bool
 is_last_claimed frames every to_the_end = to_the_end && not (frames % every == 0)
 
 -- It claims this state.
-abbrev pub last_claim : ℕ → ℕ → Bool → StateFields → List Checkpoint
+abbrev pub last_claim : ℕ → ℕ → Bool → State → List Checkpoint
 last_claim frames every to_the_end state =
     if is_last_claimed frames every to_the_end then record { frame = frames; state = state } ∷ [] else []
 
 -- The movie of a run from power-on with a checkpoint after every so many frames, and to the end with
 -- the state after the last one.
-pub record IsMadeMovie (cartridge : List ℕ) (inputs : List InputData) (every : ℕ) (to_the_end : Bool) (m : MovieData) : Type 0 where
+pub record IsMadeMovie (cartridge : Cart) (inputs : List InputData) (every : ℕ) (to_the_end : Bool) (m : MovieData) : Type 0 where
   pub claims : List Checkpoint
-  pub last : StateFields
+  pub last : State
   pub made : IsMadeOf cartridge inputs every (record m { checkpoints = claims })
   pub ran : run m m.start 0 (length inputs) ≡ Some last
   pub checkpoints_are : m.checkpoints ≡ claims ++ last_claim (length inputs) every to_the_end last
 
 -- The movie of a run from power-on of which this frame is the first that faults: it ends with that
 -- frame, and has a checkpoint after every so many of the frames before.
-pub record IsMadeToTheFault (cartridge : List ℕ) (inputs : List InputData) (every frame : ℕ) (m : MovieData) : Type 0 where
-  pub version : m.version ≡ version_made (length cartridge) frame
+pub record IsMadeToTheFault (cartridge : Cart) (inputs : List InputData) (every frame : ℕ) (m : MovieData) : Type 0 where
+  pub version : m.version ≡ version_made (length (bytes_of cartridge)) frame
   pub cartridge_is : m.cartridge ≡ cartridge
   pub start : m.start ≡ state_at_power_on cartridge
   pub inputs_are : m.inputs ≡ take frame inputs
@@ -77,7 +80,7 @@ pub record IsMadeToTheFault (cartridge : List ℕ) (inputs : List InputData) (ev
 
 -- What is written of a run's first fault: its line, and where a movie to the fault is asked for that
 -- movie, of which this fault is the verdict.
-abbrev pub WritesFault : List ℕ → List InputData → ℕ → Bool → ℕ → FaultKind → AnswerData → Type 0
+abbrev pub WritesFault : Cart → List InputData → ℕ → Bool → ℕ → FaultKind → AnswerData → Type 0
 WritesFault cartridge inputs every false frame kind answer = answer ≡ line_answer (lines.Fault frame kind)
 WritesFault cartridge inputs every true frame kind answer =
     (m : MovieData) × IsMadeToTheFault cartridge inputs every frame m × ((keep : Keep) → IsVerdict m keep (Fault frame kind))
@@ -90,7 +93,7 @@ IsStoredAs Text input stored = IfSome stored (TellsStorage input)
 
 -- What is written of a cartridge and inputs that are stored so: the movie of their run, which is genuine,
 -- or the run's first fault; or that their counts are refused, with what is wrong with them.
-abbrev pub MakesOf : List ℕ → List InputData → Option Hint → ℕ → Bool → Bool → AnswerData → Type 0
+abbrev pub MakesOf : Cart → List InputData → Option Hint → ℕ → Bool → Bool → AnswerData → Type 0
 MakesOf cartridge inputs stored every to_the_end to_the_fault answer =
     (IsTrue (do_claims_fit (length inputs) every to_the_end)
     × (((m : MovieData) × IsMadeMovie cartridge inputs every to_the_end m × IsGenuine m
@@ -109,13 +112,13 @@ abbrev pub RefusesInputs : List ℕ → Line → AnswerData → Type 0
 RefusesInputs input line answer = (answer ≡ record (line_answer line) { remark = answer.remark }) × BlamesInputs input line answer.remark
 
 -- What is written of a cartridge and what reading the inputs found.
-abbrev pub MakesFound : List ℕ → InputForm → List ℕ → Result (List InputData) Line → ℕ → Bool → Bool → AnswerData → Type 0
+abbrev pub MakesFound : Cart → InputForm → List ℕ → Result (List InputData) Line → ℕ → Bool → Bool → AnswerData → Type 0
 MakesFound cartridge form input (Ok inputs) every to_the_end to_the_fault answer =
     (stored : Option Hint) × IsStoredAs form input stored × MakesOf cartridge inputs stored every to_the_end to_the_fault answer
 MakesFound cartridge form input (Err line) every to_the_end to_the_fault answer = RefusesInputs input line answer
 
 -- Of a cartridge and the bytes of inputs.
-abbrev pub MakesFrom : List ℕ → InputForm → List ℕ → ℕ → Bool → Bool → AnswerData → Type 0
+abbrev pub MakesFrom : Cart → InputForm → List ℕ → ℕ → Bool → Bool → AnswerData → Type 0
 MakesFrom cartridge form input every to_the_end to_the_fault answer =
     MakesFound cartridge form input (inputs_by form input) every to_the_end to_the_fault answer
 
@@ -125,5 +128,5 @@ abbrev pub Makes : InputForm → Making → List ℕ → Option (List ℕ) → O
 Makes form making rom old new answer =
     (IsTrue (is_cart_length (length rom))
     × ((input : List ℕ) × ReadsAll old new input
-    × MakesFrom rom form input (non_zero_u32_get making.every) making.to_the_end making.to_the_fault answer))
+    × MakesFrom (Guide rom) form input (non_zero_u32_get making.every) making.to_the_end making.to_the_fault answer))
     ⊎ ((¬ IsTrue (is_cart_length (length rom))) × Keeps old new × RefusesRom First Lines program_name rom answer)

@@ -5,6 +5,8 @@ use Rattle.std.specs.Prelude.{Option}
 use Rattle.std.specs.Io.KnownBytes.{Appends}
 use Rattle.std.specs.List.{flat_map}
 use Rattle.riot_map.specs.Cart.{has_banks}
+use Rattle.movie_machine.specs.Carts.{bytes_of}
+use Rattle.movie_machine.specs.declared.state.State.TheVariants.{Guide}
 use Rattle.vcs_machine.specs.Faults.{kind_of}
 use Rattle.vcs_machine.specs.Frame.{Ended, Faulted, Machine, Overlong, Reaches, Stop}
 use Rattle.vcs_machine.specs.Inputs.{InputData}
@@ -43,19 +45,19 @@ status_of (Faulted fault m) = statuses.Fault
 -- The first so many instructions of a frame, which begins in this state with this input.
 abbrev pub instructions : MovieData → StateFields → InputData → ℕ → List ℕ
 instructions m state input count =
-    lines_of (has_banks (length m.cartridge)) (begun undrawn_meaning (undrawn_of m.cartridge state input) count)
+    lines_of (has_banks (length (bytes_of m.cartridge))) (begun undrawn_meaning (undrawn_of (bytes_of m.cartridge) state input) count)
 
 -- All of them, up to where the frame stops, and its line.
 pub record TracesFrame (m : MovieData) (frame : ℕ) (state : StateFields) (input : InputData) (status : Status) (text : List ℕ) : Type 0 where
   pub count : ℕ
   pub stop : Stop Undrawn
-  pub stops : StopsAfter undrawn_meaning (undrawn_of m.cartridge state input) count stop
+  pub stops : StopsAfter undrawn_meaning (undrawn_of (bytes_of m.cartridge) state input) count stop
   pub text_is : text ≡ instructions m state input count ++ line_bytes (last_line frame (line_cycle_of state) stop)
   pub status_is : status ≡ status_of stop
 
--- The frame of this number, counted from 1, begins in this state with this input.
+-- The frame of this number, counted from 1, begins in this state by the guide's rules with this input.
 abbrev pub BeginsIn : MovieData → ℕ → StateFields → InputData → Type 0
-BeginsIn m frame state input = (run m m.start 0 (frame - 1) ≡ Some state) × (slice_get m.inputs (frame - 1) ≡ Some input)
+BeginsIn m frame state input = (run m m.start 0 (frame - 1) ≡ Some (Guide state)) × (slice_get m.inputs (frame - 1) ≡ Some input)
 
 -- What is written of it: that the movie has fewer frames; the first fault before it; or its trace.
 abbrev pub Traces : MovieData → ℕ → Status → List ℕ → Type 0
@@ -69,4 +71,4 @@ Traces m frame status text =
 abbrev pub AppendsInstructions : MovieData → ℕ → Option (List ℕ) → Option (List ℕ) → Type 0
 AppendsInstructions m frame old new =
     (state : StateFields) × (input : InputData) × (count : ℕ) × (here : Machine Undrawn) × BeginsIn m frame state input
-    × Reaches undrawn_meaning (undrawn_of m.cartridge state input) count here × Appends old new (instructions m state input count)
+    × Reaches undrawn_meaning (undrawn_of (bytes_of m.cartridge) state input) count here × Appends old new (instructions m state input count)

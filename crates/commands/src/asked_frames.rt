@@ -3,6 +3,7 @@ ghost use Rattle.std.specs.Prelude.{◌≡◌, ◌≤◌, ◌<◌, ◌+◌, ◌-
 ghost use Rattle.std.specs.Io.KnownBytes.{Appends};
 ghost use Rattle.std.specs.NonZero.{non_zero_u32_get};
 ghost use Rattle.movie_file.specs.Movie.{IsMovie};
+ghost use Rattle.movie_machine.specs.Carts.{ram_length};
 ghost use Rattle.picture_file.specs.PictureBytes.{picture_bytes};
 ghost use Rattle.picture_file.specs.Prefixes.{AppendsPrefix};
 ghost use Rattle.replay_segments.specs.NextCheckpoint.{IsNext};
@@ -17,13 +18,14 @@ use crate::frame_line::played_line;
 use crate::run_error::RunError;
 use movie_file::{Movie, Progress, Work};
 use picture_file::{WriteFault, ppm, write_bytes};
+use refused::Refused;
 use replay_plan::{Details, Notation};
 use replay_segments::checkpoints_before;
 use run_cursor::{Cursor, RunFault};
-use std::alloc::Global;
+use std::alloc::{AllocError, Global};
 use std::io::Write;
 use std::num::NonZeroU32;
-use vcs_machine::{FrameError, Picture};
+use vcs_machine::{FaultKind, Picture};
 
 /// What is written of a frame.
 #[derive(Clone, Copy)]
@@ -74,42 +76,48 @@ pub(crate) fn frames_asked(movie: &Movie, first: NonZeroU32, count: u32) -> u32
 }
 
 /// A cursor after so many frames of the run, or the first fault of these. The frames are a work of
-/// their own, if there are some. It takes no memory.
+/// their own, if there are some. Memory is taken for the RAM of the cartridge alone.
 pub(crate) fn cursor_after<'a, P: Progress>(
+    alloc: Global,
     movie: &'a Movie,
     frames: u32,
     progress: &P,
-) -> Result<Cursor<'a>, RunFault>
+) -> Result<Result<Cursor<'a>, RunFault>, AllocError>
     requires { frames ≤ length movie.now.inputs }
-    ensures ok { IfOk result (IsAt movie.now frames) }
-    ensures err { IfErr result (λ fault. FaultsWithin movie.now frames fault.frame fault.kind) }
+    ensures at { IfOk result (λ come. IfOk come (IsAt movie.now frames)) }
+    ensures faults { IfOk result (λ come. IfErr come (λ fault. FaultsWithin movie.now frames fault.frame fault.kind)) }
+    ensures memory { OnErr result (0 < ram_length movie.now.cartridge) }
 {
-    let mut cursor = Cursor::at_start(movie);
-    match cursor.work_to(frames, progress) {
-        Ok(()) => Ok(cursor),
-        Err(fault) => Err(fault),
+    let mut cursor = Cursor::at_start(alloc, movie)?;
+    match cursor.work_to(alloc, frames, progress) {
+        Ok(()) => Ok(Ok(cursor)),
+        Err(Refused::Of(fault)) => Ok(Err(fault)),
+        Err(Refused::NoMemory) => Err(AllocError),
     }
 }
 
 /// The same, where the frames are a part of a work that has begun.
 pub(crate) fn cursor_in_work<'a, P: Progress>(
+    alloc: Global,
     movie: &'a Movie,
     frames: u32,
     progress: &P,
-) -> Result<Cursor<'a>, RunFault>
+) -> Result<Result<Cursor<'a>, RunFault>, AllocError>
     requires { frames ≤ length movie.now.inputs }
-    ensures ok { IfOk result (IsAt movie.now frames) }
-    ensures err { IfErr result (λ fault. FaultsWithin movie.now frames fault.frame fault.kind) }
+    ensures at { IfOk result (λ come. IfOk come (IsAt movie.now frames)) }
+    ensures faults { IfOk result (λ come. IfErr come (λ fault. FaultsWithin movie.now frames fault.frame fault.kind)) }
+    ensures memory { OnErr result (0 < ram_length movie.now.cartridge) }
 {
-    let mut cursor = Cursor::at_start(movie);
-    match cursor.advance_to(frames, progress) {
-        Ok(()) => Ok(cursor),
-        Err(fault) => Err(fault),
+    let mut cursor = Cursor::at_start(alloc, movie)?;
+    match cursor.advance_to(alloc, frames, progress) {
+        Ok(()) => Ok(Ok(cursor)),
+        Err(Refused::Of(fault)) => Ok(Err(fault)),
+        Err(Refused::NoMemory) => Err(AllocError),
     }
 }
 
 /// Plays the next frame; the answer is its picture.
-fn played_picture(alloc: Global, cursor: &mut Cursor<'_>) -> Result<Picture, FrameError>
+fn played_picture(alloc: Global, cursor: &mut Cursor<'_>) -> Result<Picture, Refused<FaultKind>>
     requires more { cursor.old.frame < length cursor.old.movie.inputs }
     ensures ok { OnOk result (IsAt cursor.old.movie (cursor.old.frame + 1) cursor.new) }
     ensures picture { IfOk result (λ rows. picture_bytes rows ≡ picture_of_frame cursor.old.movie cursor.old.frame) }
@@ -126,7 +134,7 @@ fn play(
     view: View<'_>,
     next: u16,
     cursor: &mut Cursor<'_>,
-) -> Result<Shown, FrameError>
+) -> Result<Shown, Refused<FaultKind>>
     requires more { cursor.old.frame < length cursor.old.movie.inputs }
     requires next { IsNext cursor.old.movie next (cursor.old.frame + 1) }
     ensures ok { OnOk result (IsAt cursor.old.movie (cursor.old.frame + 1) cursor.new) }
@@ -169,8 +177,8 @@ fn write_frames<W: Write, P: Progress>(
         next = checkpoints_before(movie, next, frame);
         match play(alloc, view, next, cursor) {
             Ok(shown) => shown.write(writer)?,
-            Err(FrameError::Fault(kind)) => return Ok(Some(RunFault { frame, kind })),
-            Err(FrameError::NoMemory) => return Err(RunError::NoMemory),
+            Err(Refused::Of(kind)) => return Ok(Some(RunFault { frame, kind })),
+            Err(Refused::NoMemory) => return Err(RunError::NoMemory),
         }
         progress.advance();
     }
@@ -201,7 +209,7 @@ pub(crate) fn write_asked<W: Write, P: Progress>(
     if frames == 0 {
         return Ok(None);
     }
-    let mut cursor = match cursor_after(movie, first.get() - 1, progress) {
+    let mut cursor = match cursor_after(alloc, movie, first.get() - 1, progress)? {
         Ok(cursor) => cursor,
         Err(fault) => return Ok(Some(fault)),
     };

@@ -12,7 +12,7 @@ pub(crate) fn cartridge(alloc: Global, movie: &Movie) -> Result<Answer, AllocErr
     ensures { IfOk result (λ answer. answer ≡ cartridge_answer movie.now) }
 {
     let cart = movie.cart();
-    let bytes = u32::from(cart.len());
+    let bytes = cart.len();
     let line = Line::Cartridge { bytes };
     Answer::of_bytes(alloc, Vec::from_slice(alloc, cart.bytes())?, line)
 }

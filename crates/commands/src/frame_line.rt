@@ -1,7 +1,10 @@
 //! The line of a frame of a run.
-ghost use Rattle.std.specs.Prelude.{◌≡◌, ◌<◌, ◌+◌, length, Some, None, IfOk, IfErr, OnOk};
+ghost use Rattle.std.specs.Prelude.{◌≡◌, ◌<◌, ◌+◌, length, Some, None, IfOk, IfErr, IsTrue, OnOk};
 ghost use Rattle.std.specs.Prelude.{if◌then◌else◌, string_bytes};
 ghost use Rattle.std.specs.List.{flat_map};
+ghost use Rattle.movie_machine.specs.Carts.{rules_of};
+ghost use Rattle.movie_machine.specs.States.{is_of};
+ghost use Rattle.movie_machine.specs.declared.rules.Rules.TheVariants.{Guide as ByGuide};
 ghost use Rattle.vcs_machine.specs.Pictures.{Rows};
 ghost use Rattle.picture_file.specs.PictureBytes.{picture_bytes};
 ghost use Rattle.replay_segments.specs.NextCheckpoint.{IsNext};
@@ -13,14 +16,16 @@ ghost use Rattle.commands.specs.Frames.{told_claim, watched_text};
 
 use crate::line::Line;
 use hex::{encode, encode_upper};
-use movie_file::{Movie, write_state};
+use movie_file::{Movie, have_one_record, state_record};
+use movie_machine::{Cart, State, TimedFrame};
 use picture_file::{HEADER_BYTES, ROW_BYTES, ppm};
+use refused::Refused;
 use replay_plan::{Address, Details, Notation};
 use run_cursor::Cursor;
 use sha2::{Digest, Sha256};
 use std::alloc::{AllocError, Global};
 use std::fmt;
-use vcs_machine::{FrameError, HexByte, Picture, State, TimedFrame};
+use vcs_machine::{FaultKind, HexByte, Picture};
 
 /// How a line or an object about a frame begins: how many cycles it took, and how many rows its picture
 /// has.
@@ -80,7 +85,7 @@ fn told_claim(
 
 /// What is said of the checkpoint after a frame, if one stands there. `next` is the index of the first
 /// that is not before the frame.
-#[tactic(auto, using(crate::proofs::StandingCheckpoints::what_is_told))]
+#[tactic(auto, using(crate::proofs::StandingCheckpoints::what_is_told, movie_file::proofs::StateLemmas::claim_of))]
 fn told_checkpoint(
     alloc: Global,
     notation: Notation,
@@ -89,9 +94,9 @@ fn told_checkpoint(
     frame: u32,
     state: &State,
 ) -> Result<String, AllocError>
-    requires { IsNext movie.now next frame }
-    ensures { IfOk result (λ text. string_bytes text
-        ≡ checkpoint_text notation movie.now.checkpoints frame state.now) }
+    requires next { IsNext movie.now next frame }
+    requires cartridge { IsTrue (is_of movie.now.cartridge state.now) }
+    ensures { IfOk result (λ text. string_bytes text ≡ checkpoint_text notation movie.now frame state.now) }
 {
     if next == movie.checkpoints() {
         return Ok(String::new(alloc));
@@ -101,7 +106,7 @@ fn told_checkpoint(
     if checkpoint.frame != frame {
         return Ok(String::new(alloc));
     }
-    let is_true = write_state(&checkpoint.state) == write_state(state);
+    let is_true = have_one_record(movie.cart(), &checkpoint.state, state);
     told_claim(alloc, notation, number, is_true)
 }
 
@@ -132,8 +137,7 @@ impl fmt::Display for ByteObject {
 fn byte_at(state: &State, address: Address) -> u8
     ensures { result ≡ byte_at state.now address }
 {
-    let ram = state.fields().riot.ram;
-    ram[address.place() as usize]
+    state.memory()[address.place() as usize]
 }
 
 /// What is said of a byte of the memory, after others.
@@ -195,7 +199,7 @@ fn told_watches(
 fn told_memory(alloc: Global, notation: Notation, state: &State) -> Result<String, AllocError>
     ensures { IfOk result (λ text. string_bytes text ≡ memory_text notation state.now) }
 {
-    let digits = encode_upper(alloc, state.fields().riot.ram)?;
+    let digits = encode_upper(alloc, state.memory())?;
     match notation {
         Notation::Lines => format!(in alloc; ", memory {digits}"),
         Notation::Json => format!(in alloc; ",\"memory\":\"{digits}\""),
@@ -218,12 +222,15 @@ fn file_of(alloc: Global, picture: &Picture) -> Result<Vec<u8>, AllocError>
 fn told_digests(
     alloc: Global,
     notation: Notation,
+    cart: &Cart,
     state: &State,
     picture: &Picture,
 ) -> Result<String, AllocError>
-    ensures { IfOk result (λ text. string_bytes text ≡ digests_text notation state.now picture.now) }
+    requires rules { rules_of cart.now ≡ ByGuide }
+    requires cartridge { IsTrue (is_of cart.now state.now) }
+    ensures { IfOk result (λ text. string_bytes text ≡ digests_text notation cart.now state.now picture.now) }
 {
-    let state = encode(alloc, Sha256::digest(&write_state(state)))?;
+    let state = encode(alloc, Sha256::digest(&state_record(cart, state)))?;
     let file = file_of(alloc, picture)?;
     let picture = encode(alloc, Sha256::digest(&file))?;
     match notation {
@@ -255,11 +262,13 @@ fn line_of(
     state: &State,
 ) -> Result<String, AllocError>
     requires next { IsNext movie.now next frame }
+    requires cartridge { IsTrue (is_of movie.now.cartridge state.now) }
     requires picture { (rows : Rows) × (timed.now.rows ≡ length rows)
         × (timed.now.picture ≡ (if details.now.digests then Some rows else None)) }
     ensures { IfOk result (λ text. (rows : Rows) → timed.now.rows ≡ length rows → timed.now.picture ≡ (if details.now.digests then Some rows else None)
-        → string_bytes text ≡ ended_line movie.now.checkpoints notation details.now frame timed.now.cycles state.now rows) }
+        → string_bytes text ≡ ended_line movie.now notation details.now frame timed.now.cycles state.now rows) }
 {
+    let _ = movie.frames();
     let length = FrameLength {
         notation,
         frame,
@@ -274,7 +283,7 @@ fn line_of(
         String::new(alloc)
     };
     let digests = match &timed.picture {
-        Some(picture) => told_digests(alloc, notation, state, picture)?,
+        Some(picture) => told_digests(alloc, notation, movie.cart(), state, picture)?,
         None => String::new(alloc),
     };
     let end = end(notation);
@@ -289,7 +298,7 @@ pub(crate) fn played_line(
     details: &Details,
     next: u16,
     cursor: &mut Cursor<'_>,
-) -> Result<String, FrameError>
+) -> Result<String, Refused<FaultKind>>
     requires more { cursor.old.frame < length cursor.old.movie.inputs }
     requires next { IsNext cursor.old.movie next (cursor.old.frame + 1) }
     ensures ok { OnOk result (IsAt cursor.old.movie (cursor.old.frame + 1) cursor.new) }
@@ -309,6 +318,6 @@ pub(crate) fn played_line(
         cursor.state(),
     ) {
         Ok(text) => Ok(text),
-        Err(AllocError) => Err(FrameError::NoMemory),
+        Err(AllocError) => Err(Refused::NoMemory),
     }
 }

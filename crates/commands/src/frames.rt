@@ -42,6 +42,7 @@ pub(crate) fn frames<L: Write, P: Progress>(
         × Describes movie.now notation details.now (non_zero_u32_get first) count status text
         × AppendsPrefix (L.contents lines.old) (L.contents lines.new) text }
 {
+    let _ = movie.frames();
     match write_asked(
         alloc,
         movie,

@@ -14,7 +14,7 @@ pub(crate) fn info(alloc: Global, notation: Notation, movie: &Movie) -> Result<A
     ensures { IfOk result (λ answer. answer ≡ information_in notation movie.now) }
 {
     let version = movie.version();
-    let cartridge = u32::from(movie.cart().len());
+    let cartridge = movie.cart().len();
     let frames = movie.frames();
     let checkpoints = movie.checkpoints();
     match notation {

@@ -4,6 +4,7 @@ ghost use Rattle.std.specs.NonZero.{non_zero_u32_get};
 ghost use Rattle.input_text.specs.Texts.{inputs_in};
 ghost use Rattle.movie_file.specs.Spelling.{spelling};
 ghost use Rattle.commands.specs.Answers.{line_answer};
+ghost use Rattle.movie_machine.specs.declared.cart.Cart.TheVariants.{Guide as GuideCart};
 ghost use Rattle.commands.specs.Make.{Makes, MakesFrom, MakesOf, RefusesInputs};
 ghost use Rattle.commands.specs.RunErrors.{IsOfReading};
 ghost use Rattle.commands.specs.Private.MadeRuns.{line_of, remark_of};
@@ -20,9 +21,10 @@ use crate::remark::{Cause, Remark, WhichInput};
 use crate::run_error::RunError;
 use crate::streams::read_all;
 use command_line::Making;
-use input_text::{TextError, read_text};
-use movie_file::{MakeError, MovieError, Progress, Refused, read_inputs};
+use input_text::read_text;
+use movie_file::{MakeError, MovieError, Progress, read_inputs};
 use movie_hints::{Hint, hint_of_counts, hint_of_storage};
+use refused::Refused;
 use replay_plan::{InputForm, Notation};
 use riot_map::Cart;
 use std::alloc::{AllocError, Global};
@@ -102,7 +104,7 @@ fn of_inputs<P: Progress>(
     making: Making,
     progress: &P,
 ) -> Result<Answer, AllocError>
-    ensures { IfOk result (λ answer. MakesOf cart inputs.items stored (non_zero_u32_get making.every) making.to_the_end making.to_the_fault answer) }
+    ensures { IfOk result (λ answer. MakesOf (GuideCart cart) inputs.items stored (non_zero_u32_get making.every) making.to_the_end making.to_the_fault answer) }
 {
     let frames = inputs.len();
     match make_run(
@@ -136,7 +138,7 @@ fn of_bytes<P: Progress>(
     making: Making,
     progress: &P,
 ) -> Result<Answer, AllocError>
-    ensures { IfOk result (λ answer. MakesFrom cart form bytes.items (non_zero_u32_get making.every) making.to_the_end making.to_the_fault answer) }
+    ensures { IfOk result (λ answer. MakesFrom (GuideCart cart) form bytes.items (non_zero_u32_get making.every) making.to_the_end making.to_the_fault answer) }
 {
     match form {
         InputForm::Bytes => match read_inputs(alloc, &bytes) {
@@ -153,8 +155,8 @@ fn of_bytes<P: Progress>(
                 making,
                 progress,
             ),
-            Err(TextError::NoMemory) => Err(AllocError),
-            Err(TextError::BadLine(number)) => bad_line(alloc, bytes, number),
+            Err(Refused::NoMemory) => Err(AllocError),
+            Err(Refused::Of(bad)) => bad_line(alloc, bytes, bad.number),
         },
     }
 }

@@ -1,23 +1,26 @@
 //! Movies of runs from power-on, with the checkpoints that `make` is asked for.
 ghost use Rattle.std.specs.Prelude.{◌≡◌, ◌≤◌, ◌<◌, ◌++◌, ◌/◌, [], length, IfErr, IfOk, IfSome, IsTrue, None};
-ghost use Rattle.std.specs.Prelude.{true, vec_capacity, vec_len};
-ghost use Rattle.riot_map.specs.Cart.{is_cart_length};
-ghost use Rattle.vcs_machine.specs.States.{state_at_power_on};
+ghost use Rattle.std.specs.Prelude.{OnErr, true, vec_capacity, vec_len};
+ghost use Rattle.movie_machine.specs.Carts.{IsCart, ram_length, rules_of};
+ghost use Rattle.movie_machine.specs.States.{is_of, ram_of, state_at_power_on};
+ghost use Rattle.movie_machine.specs.declared.cart.Cart.TheVariants.{Guide as GuideCart};
+ghost use Rattle.movie_machine.specs.declared.rules.Rules.TheVariants.{Guide as ByGuide};
 ghost use Rattle.movie_file.specs.Judgement.{IsGenuine};
 ghost use Rattle.movie_file.specs.Making.{counts_fit};
-ghost use Rattle.movie_file.specs.Movie.{IsMovie, IsState};
+ghost use Rattle.movie_file.specs.Movie.{CanBeClaimed, IsMovie, IsStateOf};
 ghost use Rattle.movie_hints.specs.Counts.{checkpoints_of};
 ghost use Rattle.commands.specs.Make.{IsMadeMovie, do_claims_fit, is_last_claimed, last_claim};
 ghost use Rattle.commands.specs.Private.MadeRuns.{Explains, HasFault, HasRun, IsMadeRun, movie_up_to};
 
 use movie_file::{
-    Checkpoint, MOST_CHECKPOINTS, MakeError, Movie, Progress, Refused, Work, claim, do_counts_fit,
-    movie_of, version_made,
+    Checkpoint, MOST_CHECKPOINTS, MakeError, Movie, Progress, Work, claim, copy_state,
+    do_counts_fit, movie_of, version_made,
 };
-use riot_map::Cart;
+use movie_machine::{Cart, State, halt};
+use refused::Refused;
 use run_cursor::RunFault;
-use std::alloc::Global;
-use vcs_machine::{Input, State, halt};
+use std::alloc::{AllocError, Global};
+use vcs_machine::Input;
 
 /// A movie that is made, and the fault of its last frame, if that faults.
 #[derive(Drop)]
@@ -58,94 +61,107 @@ fn do_claims_fit(frames: usize, every: u32, to_the_end: bool) -> bool
 
 /// The run from power-on. The checkpoints are put into an empty list that has room for them.
 fn run_of<P: Progress>(
+    alloc: Global,
     mut checkpoints: Vec<Checkpoint>,
     cart: &Cart,
     start: &State,
     inputs: &[Input],
     every: u32,
     progress: &P,
-) -> MadeRun
+) -> Result<MadeRun, AllocError>
     requires empty { checkpoints.items ≡ [] }
     requires start { start.now ≡ state_at_power_on cart.now }
+    requires cartridge { IsTrue (is_of cart.now start.now) }
     requires fits { IsTrue (counts_fit (length inputs.now) every) }
     requires room { length inputs.now / every ≤ vec_capacity checkpoints }
-    ensures ends { result.fault ≡ None → HasRun cart.now inputs.now every (length inputs.now) result.checkpoints.items result.state }
-    ensures faults { IfSome result.fault (λ fault. HasFault cart.now inputs.now every fault.frame fault.kind result.checkpoints.items) }
-    ensures capacity { vec_capacity result.checkpoints ≡ vec_capacity checkpoints }
+    ensures ends { IfOk result (λ run. run.fault ≡ None → HasRun cart.now inputs.now every (length inputs.now) run.checkpoints.items run.state) }
+    ensures faults { IfOk result (λ run. IfSome run.fault (λ fault. HasFault cart.now inputs.now every fault.frame fault.kind run.checkpoints.items)) }
+    ensures capacity { IfOk result (λ run. vec_capacity run.checkpoints ≡ vec_capacity checkpoints) }
+    ensures cartridge { IfOk result (λ run. IsTrue (is_of cart.now run.state)) }
+    ensures lawful { IfOk result (λ _. IsStateOf cart.now start.now) }
+    ensures memory { OnErr result (0 < ram_length cart.now) }
 {
-    let mut state = start.copy();
+    let mut state = copy_state(alloc, start)?;
     for i in 0..inputs.len() {
         let frame = i as u32 + 1;
-        match halt(cart, &mut state, inputs[i]) {
-            None => claim(&mut checkpoints, every, frame, &state),
+        match halt(alloc, cart, &mut state, inputs[i]) {
+            None => claim(alloc, &mut checkpoints, every, frame, &state)?,
             Some(halt) => {
                 let kind = halt.kind;
-                return MadeRun {
+                return Ok(MadeRun {
                     checkpoints,
                     state,
                     fault: Some(RunFault { frame, kind }),
-                };
+                });
             }
         }
         progress.advance();
     }
-    MadeRun {
+    Ok(MadeRun {
         checkpoints,
         state,
         fault: None,
-    }
+    })
 }
 
-/// Adds the checkpoint after the last frame, if it is asked for and none stands there. It takes no
-/// memory.
+/// Adds the checkpoint after the last frame, if it is asked for and none stands there. Memory is taken
+/// for the RAM of the cartridge alone.
 fn with_last_claim(
+    alloc: Global,
     mut checkpoints: Vec<Checkpoint>,
     frames: u32,
     every: u32,
     to_the_end: bool,
     state: &State,
-) -> Vec<Checkpoint>
+) -> Result<Vec<Checkpoint>, AllocError>
     requires every { 1 ≤ every }
     requires room { is_last_claimed frames every to_the_end ≡ true → vec_len checkpoints < vec_capacity checkpoints }
-    ensures items { result.items ≡ checkpoints.items ++ last_claim frames every to_the_end state.now }
-    ensures lawful { IsState state.now }
+    ensures items { IfOk result (λ all. all.items ≡ checkpoints.items ++ last_claim frames every to_the_end state.now) }
+    ensures lawful { IfOk result (λ _. is_last_claimed frames every to_the_end ≡ true → CanBeClaimed state.now) }
+    ensures memory { OnErr result (0 < length (ram_of state.now)) }
 {
-    let state = state.copy();
     if to_the_end && frames % every != 0 {
+        let state = copy_state(alloc, state)?;
         checkpoints.push_reserved(Checkpoint {
             frame: frames,
             state,
         });
     }
-    checkpoints
+    Ok(checkpoints)
 }
 
-/// The movie of a run that ended. It takes no memory.
+/// The movie of a run that ended. Memory is taken for the RAM of the cartridge alone.
 fn movie_of_run(
+    alloc: Global,
     cart: Cart,
     start: State,
     inputs: Vec<Input>,
     run: MadeRun,
     every: u32,
     to_the_end: bool,
-) -> Movie
+) -> Result<Movie, AllocError>
+    requires rules { rules_of cart ≡ ByGuide }
     requires start { start ≡ state_at_power_on cart }
+    requires cartridge { IsTrue (is_of cart run.state) }
+    requires first { IsStateOf cart start }
     requires fits { IsTrue (do_claims_fit (length inputs.items) every to_the_end) }
     requires ran { HasRun cart inputs.items every (length inputs.items) run.checkpoints.items run.state }
     requires room { checkpoints_of (length inputs.items) every to_the_end ≤ vec_capacity run.checkpoints }
-    ensures made { IsMadeMovie cart inputs.items every to_the_end result }
-    ensures genuine { IsGenuine result }
+    ensures made { IfOk result (λ movie. IsMadeMovie cart inputs.items every to_the_end movie) }
+    ensures genuine { IfOk result (λ movie. IsGenuine movie) }
+    ensures memory { OnErr result (0 < length (ram_of run.state)) }
 {
     let frames = inputs.len();
     let checkpoints = with_last_claim(
+        alloc,
         run.checkpoints,
         frames as u32,
         every,
         to_the_end,
         &run.state,
-    );
-    let version = version_made(&cart, frames);
-    movie_of(version, cart, start, inputs, checkpoints)
+    )?;
+    let version = version_made(cart.len(), frames);
+    Ok(movie_of(version, cart, start, inputs, checkpoints))
 }
 
 /// The movie of a run that faults in this frame, whose input is its last one. It takes no memory.
@@ -156,13 +172,12 @@ fn movie_to_the_fault(
     checkpoints: Vec<Checkpoint>,
     frame: u32,
 ) -> Movie
-    requires { IsTrue (is_cart_length (length cart)) → IsState start
-        → IsMovie (movie_up_to cart start inputs.items checkpoints.items frame) }
+    requires { IsCart cart → IsMovie (movie_up_to cart start inputs.items checkpoints.items frame) }
     ensures value { result ≡ movie_up_to cart start inputs.items checkpoints.items frame }
     ensures lawful { IsMovie result }
 {
     inputs.truncate(frame as usize);
-    let version = version_made(&cart, frame as usize);
+    let version = version_made(cart.len(), frame as usize);
     movie_of(version, cart, start, inputs, checkpoints)
 }
 
@@ -175,16 +190,16 @@ fn movie_to_the_fault(
 /// that faults. The frames are told as one work, which begins after that memory was taken.
 pub(crate) fn make_run<P: Progress>(
     alloc: Global,
-    cart: Cart,
+    cart: riot_map::Cart,
     inputs: Vec<Input>,
     every: u32,
     to_the_end: bool,
     to_the_fault: bool,
     progress: &P,
 ) -> Result<MadeMovie, Refused<MakeError>>
-    ensures made { IfOk result (λ made. IsMadeRun cart inputs.items every to_the_end to_the_fault made.movie made.fault) }
+    ensures made { IfOk result (λ made. IsMadeRun (GuideCart cart) inputs.items every to_the_end to_the_fault made.movie made.fault) }
     ensures fits { IfOk result (λ _. IsTrue (do_claims_fit (length inputs.items) every to_the_end)) }
-    ensures refused { IfErr result (Explains cart inputs.items every to_the_end to_the_fault) }
+    ensures refused { IfErr result (Explains (GuideCart cart) inputs.items every to_the_end to_the_fault) }
 {
     let frames = inputs.len();
     if !do_claims_fit(frames, every, to_the_end) {
@@ -194,12 +209,21 @@ pub(crate) fn make_run<P: Progress>(
     let Ok(checkpoints) = Vec::with_capacity(alloc, count) else {
         return Err(Refused::NoMemory);
     };
-    let start = State::power_on(&cart);
+    let cart = Cart::Guide(cart);
+    let Ok(start) = State::power_on(alloc, &cart) else {
+        return Err(Refused::NoMemory);
+    };
     progress.begin(Work::Frames(frames as u32));
-    let run = run_of(checkpoints, &cart, &start, &inputs, every, progress);
+    let run = run_of(alloc, checkpoints, &cart, &start, &inputs, every, progress);
     progress.end();
+    let Ok(run) = run else {
+        return Err(Refused::NoMemory);
+    };
     let Some(fault) = run.fault else {
-        let movie = movie_of_run(cart, start, inputs, run, every, to_the_end);
+        let movie = movie_of_run(alloc, cart, start, inputs, run, every, to_the_end);
+        let Ok(movie) = movie else {
+            return Err(Refused::NoMemory);
+        };
         return Ok(MadeMovie { movie, fault: None });
     };
     if !to_the_fault {

@@ -36,6 +36,7 @@ fn draw<P: Write, G: Progress>(
     ensures fault { result ≡ Err RunError.WriteFault → (answer : AnswerData) × Draws movie.now (non_zero_u32_get first) count answer
         × AppendsPrefix (P.contents pictures.old) (P.contents pictures.new) answer.file }
 {
+    let _ = movie.frames();
     match write_asked(
         alloc,
         movie,

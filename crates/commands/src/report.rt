@@ -76,7 +76,7 @@ fn report_of<T: Threads + Wait + Sync + AllocGlobal, G: Gate + Progress + Sync>(
     let alloc = rt.alloc();
     let plan = Plan::without_pictures(line.workers);
     let verdict = verdict_of(rt, alloc, movie, &plan, gate)?;
-    let agreement = Agreement::of(movie, rom, expectations);
+    let agreement = Agreement::of(alloc, movie, rom, expectations)?;
     let facts = movie_report::report(
         rt,
         alloc,

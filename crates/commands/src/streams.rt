@@ -5,7 +5,8 @@ ghost use Rattle.commands.specs.RunErrors.{IsOfReading};
 ghost use Rattle.commands.specs.Streams.{ReadsAll, IsTooLong, input_limit};
 
 use crate::run_error::RunError;
-use movie_file::{Movie, MovieError, Refused, read_movie};
+use movie_file::{Movie, MovieError, read_movie};
+use refused::Refused;
 use std::alloc::Global;
 use std::io::Read;
 

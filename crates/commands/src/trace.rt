@@ -3,6 +3,8 @@ ghost use Rattle.std.specs.Prelude.{◌≡◌, ◌≤◌, ◌<◌, ◌-◌, ◌�
 ghost use Rattle.std.specs.Io.KnownBytes.{Appends, Keeps};
 ghost use Rattle.std.specs.NonZero.{non_zero_u32_get};
 ghost use Rattle.movie_file.specs.Run.{run};
+ghost use Rattle.movie_machine.specs.Carts.{bytes_of};
+ghost use Rattle.movie_machine.specs.declared.state.State.TheVariants.{Guide as GuideState};
 ghost use Rattle.picture_file.specs.Prefixes.{AppendsPrefix};
 ghost use Rattle.commands.specs.RunErrors.{IsOfWriting};
 ghost use Rattle.commands.specs.TraceLines.{trace_line};
@@ -18,11 +20,12 @@ use crate::run_error::RunError;
 use crate::status::Status;
 use crate::trace_line::trace_line;
 use movie_file::{Movie, Progress};
+use movie_machine::{Cart, State};
 use picture_file::write_bytes;
 use std::alloc::Global;
 use std::io::Write;
 use std::num::NonZeroU32;
-use vcs_machine::{Executed, FaultKind, State, Stepping};
+use vcs_machine::{Executed, FaultKind, Stepping};
 
 /// Writes the line of an instruction.
 fn write_instruction<L: Write>(
@@ -76,17 +79,19 @@ fn write_instructions<L: Write>(
     }
 }
 
-/// Writes the trace of a frame, counted from 1, that begins in this state.
+/// Writes the trace of a frame, counted from 1, that begins in this state by the guide's rules.
 fn trace_frame<L: Write>(
     alloc: Global,
     movie: &Movie,
+    cart: &riot_map::Cart,
     frame: u32,
-    state: &State,
+    state: &vcs_machine::State,
     lines: &mut L,
 ) -> Result<Status, RunError>
     requires first { 0 < frame }
     requires last { frame ≤ length movie.now.inputs }
-    requires ran { run movie.now movie.now.start 0 (frame - 1) ≡ Some state.now }
+    requires cartridge { cart.now ≡ bytes_of movie.now.cartridge }
+    requires ran { run movie.now movie.now.start 0 (frame - 1) ≡ Some (GuideState state.now) }
     ensures ok { IfOk result (λ status. (text : List ℕ) × Traces movie.now frame status text
         × Appends (L.contents lines.old) (L.contents lines.new) text) }
     ensures only { IfErr result IsOfWriting }
@@ -94,7 +99,6 @@ fn trace_frame<L: Write>(
     ensures fault { result ≡ Err RunError.WriteFault → (status : Status) × (text : List ℕ) × Traces movie.now frame status text
         × AppendsPrefix (L.contents lines.old) (L.contents lines.new) text }
 {
-    let cart = movie.cart();
     let mut stepping = Stepping::begin(cart, state, movie.input(frame));
     match write_instructions(alloc, &mut stepping, cart.has_banks(), lines)? {
         None => {
@@ -140,8 +144,13 @@ pub(crate) fn trace<L: Write, P: Progress>(
         write_last(alloc, Line::NoFrame(frame), lines)?;
         return Ok(Status::Refused);
     }
-    match cursor_after(movie, frame - 1, progress) {
-        Ok(cursor) => trace_frame(alloc, movie, frame, cursor.state(), lines),
+    match cursor_after(alloc, movie, frame - 1, progress)? {
+        Ok(cursor) => match (movie.cart(), cursor.state()) {
+            (Cart::Guide(cart), State::Guide(state)) => {
+                trace_frame(alloc, movie, cart, frame, state, lines)
+            }
+            _ => unreachable!(),
+        },
         Err(fault) => {
             let line = Line::Fault {
                 frame: fault.frame,

@@ -6,7 +6,8 @@ ghost use Rattle.commands.specs.Verify.{Verifies};
 
 use crate::answer::Answer;
 use crate::run_error::RunError;
-use movie_file::{Movie, Progress, Refused};
+use movie_file::{Movie, Progress};
+use refused::Refused;
 use replay_plan::{Notation, Plan};
 use replay_segments::{Cuts, Verdict};
 use std::alloc::Global;

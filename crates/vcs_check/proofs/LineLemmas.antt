@@ -1,5 +1,5 @@
 -- The words of a command line, one by one, and what is known of their line.
-use Rattle.std.proofs.Common.{◌≡◌, ◌↔◌, ◌+◌, ◌<◌, ◌++◌, ℕ, Global, IfOk, List, [], ◌∷◌, Result, Ok, Err, String, ap, append-nil, codes, cond, false}
+use Rattle.std.proofs.Common.{◌≡◌, ◌⊎◌, inl, inr, ◌↔◌, ◌+◌, ◌<◌, ◌++◌, ℕ, Global, IfOk, List, [], ◌∷◌, Result, Ok, Err, String, ap, append-nil, codes, cond, false}
 use Rattle.std.proofs.Common.{Bool, get_or, length, not, refl, string_bytes, subst, sym, take, true, ◌∙◌}
 use Rattle.std.specs.Str.{bytes_eq}
 use Rattle.std.proofs.lemmas.List.{map_push, take_more}
@@ -54,12 +54,14 @@ not_true false is = refl
 not_true true is = sym is
 
 -- What is known of a line for each of two reasons.
-pub line_for_both : (words : List Text) (answer : Result CommandLine LineFault) → IfOk answer (IsLine (subcommand_of program_app words))
+pub line_for_both : {E : Type 0} (words : List Text) (answer : Result CommandLine E) → IfOk answer (IsLine (subcommand_of program_app words))
     → IfOk answer (λ line. (line.explain ≡ true) ↔ AsksForReasons (matches_of program_app words) (subcommand_of program_app words))
     → IfOk answer (IsLineOf words)
 line_for_both words (Ok line) one two = (one, two)
 line_for_both words (Err fault) one two = tt
 
 -- A mistake stays one.
-pub mistake_advised : (fault told : LineFault) (kind : ErrorKind) (text : String Global) → fault ≡ Usage kind text → IsMistake told → IsAdvised fault told
-mistake_advised fault told kind text is mistake = let P : LineFault → Type 0 = λ x. IsAdvised x told in subst P (sym is) mistake
+pub mistake_told : (P : Type 0) (fault told : LineFault) (kind : ErrorKind) (text : String Global) → fault ≡ Usage kind text
+    → IsMistake told ⊎ P → IsAdvised fault told ⊎ P
+mistake_told P fault told kind text is (inl mistake) = let Q : LineFault → Type 0 = λ x. IsAdvised x told in inl (subst Q (sym is) mistake)
+mistake_told P fault told kind text is (inr shown) = inr shown

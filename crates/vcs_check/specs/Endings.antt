@@ -3,8 +3,12 @@ use Rattle.std.specs.Prelude.{◌≡◌, ◌⊎◌, ℕ, List, None, Option, Res
 use Rattle.std.specs.Io.KnownBytes.{Keeps}
 use Rattle.std.specs.declared.io.ErrorKind.{ErrorKind}
 use Rattle.std.specs.declared.io.ErrorKind.TheVariants.{OutOfMemory}
+use Rattle.command_line.specs.Faults.{UnlessRefused}
 use Rattle.command_line.specs.declared.command.LineFault.{LineFault}
 use Rattle.command_line.specs.declared.command.LineFault.TheVariants as faults
+use Rattle.refused.specs.declared.Refused.{Refused}
+use Rattle.refused.specs.declared.Refused.TheVariants.{Of}
+use Rattle.refused.specs.declared.Refused.TheVariants as refusals
 use Rattle.vcs_check.specs.Commands.{ReadsTwice}
 use Rattle.vcs_check.specs.ErrorObjects.{GetsErrorObject, SaysErrors}
 use Rattle.vcs_check.specs.Failures.{IsForOutput, IsToldAs}
@@ -35,17 +39,17 @@ abbrev pub of_kind : ErrorKind → Ending
 of_kind OutOfMemory = Failed (Run NoMemory None)
 of_kind _ = NotUtf8
 
--- The arguments are no command.
-abbrev pub of_fault : LineFault → Ending
-of_fault (faults.Help text) = Help text
-of_fault (faults.Usage kind text) = Usage text
-of_fault faults.Memory = Failed (Run NoMemory None)
+-- The arguments are no command, or memory was refused.
+abbrev pub of_refused : Refused LineFault → Ending
+of_refused (Of (faults.Help text)) = Help text
+of_refused (Of (faults.Usage kind text)) = Usage text
+of_refused refusals.NoMemory = Failed (Run NoMemory None)
 
--- It is how the program ends of which these are the words: for a fault, or since both inputs of their
--- command line are standard input.
+-- It is how the program ends of which these are the words: for a fault, or refused memory, or since
+-- both inputs of their command line are standard input.
 abbrev pub IsEndingOfWords : {Z : Type 0} → List (String Z) → Ending → Type 0
 IsEndingOfWords words ending =
-    ((fault : LineFault) × IsFaultOfWords words fault × (ending ≡ of_fault fault))
+    ((refused : Refused LineFault) × UnlessRefused (IsFaultOfWords words) refused × (ending ≡ of_refused refused))
     ⊎ ((line : CommandLine) × IsLineOfWords words line × ReadsTwice line × (ending ≡ Twice))
 
 -- What standard output gets after a failure: of a command that answers in JSON there an object, and

@@ -8,7 +8,7 @@ use Rattle.command_line.specs.Meanings.{AsksForReasons, IsLine}
 use Rattle.command_line.specs.Table.{program_app}
 use Rattle.command_line.specs.declared.command.CommandLine.{CommandLine}
 use Rattle.command_line.specs.declared.command.LineFault.{LineFault}
-use Rattle.command_line.specs.declared.command.LineFault.TheVariants.{Memory, Usage}
+use Rattle.command_line.specs.declared.command.LineFault.TheVariants.{Usage}
 use Rattle.terminal_text.specs.Names.{shown_text}
 use Rattle.vcs_check.specs.Reasons.{HasExplain}
 
@@ -56,6 +56,6 @@ abbrev pub IsFaultOf : List Text → LineFault → Type 0
 IsFaultOf words told =
     (fault : LineFault) × IsAdvised fault told × (IsRefusal words fault ⊎ IsRefusal (map shown_text words) fault)
 
--- The same of the words that are read. Memory may run out before.
+-- The same of the words that are read.
 abbrev pub IsFaultOfWords : {Z : Type 0} → List (String Z) → LineFault → Type 0
-IsFaultOfWords words told = (told ≡ Memory) ⊎ ((read : List Text) × AreRead words read × IsFaultOf read told)
+IsFaultOfWords words told = (read : List Text) × AreRead words read × IsFaultOf read told

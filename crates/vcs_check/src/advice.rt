@@ -5,6 +5,7 @@ ghost use Rattle.vcs_check.specs.Lines.{ExplainsHelp, texts_of, without_explain}
 use crate::reasons::{has_explain, write_reason};
 use clap::error::ErrorKind;
 use command_line::{CommandLine, LineFault, is_command, parse_line};
+use refused::Refused;
 use std::alloc::{AllocError, Global};
 use std::fmt;
 use std::io::Eprint;
@@ -90,7 +91,7 @@ impl fmt::Display for Advice<'_> {
 /// Whether words are a command.
 fn are_command(alloc: Global, words: &[&str]) -> Result<bool, AllocError> {
     match parse_line(alloc, words) {
-        Err(LineFault::Memory) => Err(AllocError),
+        Err(Refused::NoMemory) => Err(AllocError),
         answer => Ok(answer.is_ok()),
     }
 }
@@ -98,8 +99,8 @@ fn are_command(alloc: Global, words: &[&str]) -> Result<bool, AllocError> {
 /// Why words are no command, if they are none and ask for nothing.
 fn mistake_in(alloc: Global, words: &[&str]) -> Result<Option<Mistake>, AllocError> {
     match parse_line(alloc, words) {
-        Err(LineFault::Memory) => Err(AllocError),
-        Err(LineFault::Usage { kind, text }) => Ok(Some(Mistake { kind, text })),
+        Err(Refused::NoMemory) => Err(AllocError),
+        Err(Refused::Of(LineFault::Usage { kind, text })) => Ok(Some(Mistake { kind, text })),
         _ => Ok(None),
     }
 }
@@ -115,8 +116,10 @@ fn place_of(alloc: Global, words: &[String], kind: ErrorKind) -> Result<Option<u
     }
     for place in 0..words.len() {
         match parse_line(alloc, &words[..place + 1]) {
-            Err(LineFault::Memory) => return Err(AllocError),
-            Err(LineFault::Usage { kind: told, .. }) if told == kind => return Ok(Some(place)),
+            Err(Refused::NoMemory) => return Err(AllocError),
+            Err(Refused::Of(LineFault::Usage { kind: told, .. })) if told == kind => {
+                return Ok(Some(place));
+            }
             _ => {}
         }
     }
@@ -188,7 +191,7 @@ fn are_command_after_verify(alloc: Global, words: &[String]) -> Result<bool, All
     }
     match parse_line(alloc, &advised) {
         Ok(line) => Ok(has_names(&line)),
-        Err(LineFault::Memory) => Err(AllocError),
+        Err(Refused::NoMemory) => Err(AllocError),
         Err(_) => Ok(false),
     }
 }
@@ -367,8 +370,8 @@ pub(crate) fn advised(
 ) -> Result<String, AllocError> {
     let others = without_explain(alloc, words)?;
     match parse_line(alloc, &others) {
-        Err(LineFault::Memory) => Err(AllocError),
-        Err(LineFault::Usage { kind, text }) => {
+        Err(Refused::NoMemory) => Err(AllocError),
+        Err(Refused::Of(LineFault::Usage { kind, text })) => {
             with_good_advice(alloc, &others, Mistake { kind, text })
         }
         _ => with_good_advice(alloc, words, Mistake { kind, text }),
@@ -383,8 +386,8 @@ fn is_negative(word: &str) -> bool {
 /// What to write in place of words that are no command, if that is known and no advice is it.
 fn remark_on(alloc: Global, words: &[String]) -> Result<Option<&'static str>, AllocError> {
     let kind = match parse_line(alloc, words) {
-        Err(LineFault::Memory) => return Err(AllocError),
-        Err(LineFault::Usage { kind, .. }) => kind,
+        Err(Refused::NoMemory) => return Err(AllocError),
+        Err(Refused::Of(LineFault::Usage { kind, .. })) => kind,
         _ => return Ok(None),
     };
     let Some(place) = place_of(alloc, words, kind)? else {

@@ -9,6 +9,7 @@ use crate::reasons::write_reason;
 use command_line::LineFault;
 use commands::RunError;
 use named_files::{FileError, Quota, Reason, STANDARD_OUTPUT, sync_standard_output};
+use refused::Refused;
 use std::io::{self, Eprint, Print};
 use std::process::ExitCode;
 use std::rt::Files;
@@ -143,16 +144,16 @@ impl From<io::Error> for Ending<'_> {
     }
 }
 
-impl From<LineFault> for Ending<'_> {
-    ghost use Rattle.vcs_check.specs.Endings.{of_fault};
+impl From<Refused<LineFault>> for Ending<'_> {
+    ghost use Rattle.vcs_check.specs.Endings.{of_refused};
 
-    ghost from_gives = { λ fault ending. ending ≡ of_fault fault };
+    ghost from_gives = { λ refused ending. ending ≡ of_refused refused };
 
-    fn from(fault: LineFault) -> Self {
-        match fault {
-            LineFault::Help { text } => Ending::Help { text },
-            LineFault::Usage { text, .. } => Ending::Usage { text },
-            LineFault::Memory => Ending::Failed(Failure::Run(RunError::NoMemory, None)),
+    fn from(refused: Refused<LineFault>) -> Self {
+        match refused {
+            Refused::NoMemory => Ending::Failed(Failure::Run(RunError::NoMemory, None)),
+            Refused::Of(LineFault::Help { text }) => Ending::Help { text },
+            Refused::Of(LineFault::Usage { text, .. }) => Ending::Usage { text },
         }
     }
 }

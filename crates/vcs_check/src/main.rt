@@ -22,8 +22,8 @@ ghost use Rattle.vcs_check.specs.Endings.{Concludes, IsEndingOfWords};
 ghost use Rattle.vcs_check.specs.Failures.{IsForOutput};
 ghost use Rattle.vcs_check.specs.ErrorObjects.{GetsErrorObject, SaysErrors};
 ghost use Rattle.vcs_check.specs.Lines.{IsAdvised, IsFaultOf, IsFaultOfWords, IsLineOf, IsLineOfWords, IsMistake, texts_of};
-ghost use Rattle.command_line.specs.Faults.{IsRefusal};
-ghost use Rattle.command_line.specs.declared.command.LineFault.{LineFault as Refused};
+ghost use Rattle.command_line.specs.Faults.{IsRefusal, UnlessRefused};
+ghost use Rattle.command_line.specs.declared.command.LineFault.{LineFault as Fault};
 ghost use Rattle.terminal_text.specs.Names.{shown_text};
 ghost use Rattle.vcs_check.specs.declared.failure.Failure.{Failure as WhyNot};
 ghost use Rattle.vcs_check.specs.declared.answered.Answered.{Answered as Told};
@@ -53,6 +53,7 @@ use named_files::{
 };
 use progress::ProgressLine;
 use reasons::{has_explain, is_explained, write_reason};
+use refused::Refused;
 use std::alloc::{AllocError, Global};
 use std::env::{self, Env};
 use std::io::{self, BufWriter, Eprint, IsTerminal, Print, Read, Write};
@@ -78,14 +79,15 @@ fn advised_fault(alloc: Global, words: &[String], fault: LineFault) -> Result<Li
 /// Why some words are no command, where some of them aren't shown as they are: the reason of those
 /// that are shown in their place.
 fn fault_of_shown(alloc: Global, words: &[String]) -> Result<LineFault, AllocError>
-    ensures { IfOk result (λ told. IsMistake told ⊎ ((fault : Refused) × IsAdvised fault told × IsRefusal (map shown_text (texts_of words.now)) fault)) }
+    ensures { IfOk result (λ told. IsMistake told ⊎ ((fault : Fault) × IsAdvised fault told × IsRefusal (map shown_text (texts_of words.now)) fault)) }
 {
     let mut shown = Vec::with_capacity(alloc, words.len())?;
     for word in words {
         shown.push(format!(in alloc; "{}", Shown::name(word))?)?;
     }
     match parse_line(alloc, &shown) {
-        Err(fault) => advised_fault(alloc, &shown, fault),
+        Err(Refused::NoMemory) => Err(AllocError),
+        Err(Refused::Of(fault)) => advised_fault(alloc, &shown, fault),
         Ok(_) => {
             let text = String::from_str(alloc, "error: no command\n")?;
             Ok(LineFault::Usage {
@@ -96,25 +98,35 @@ fn fault_of_shown(alloc: Global, words: &[String]) -> Result<LineFault, AllocErr
     }
 }
 
-/// The command line of some words. No text about them has a character of theirs that isn't shown as
-/// it is.
-fn line_of(alloc: Global, words: &[String]) -> Result<CommandLine, LineFault>
-    ensures ok { IfOk result (IsLineOf (texts_of words.now)) }
-    ensures err { IfErr result (IsFaultOf (texts_of words.now)) }
+/// The fault that is told of some words, if this is theirs. No text about them has a character of
+/// theirs that isn't shown as it is.
+fn told_fault(alloc: Global, words: &[String], fault: LineFault) -> Result<LineFault, AllocError>
+    ensures { IfOk result (λ told. IsAdvised fault told ⊎ ((shown : Fault) × IsAdvised shown told × IsRefusal (map shown_text (texts_of words.now)) shown)) }
 {
-    let answer = parse_line(alloc, words);
-    let is_plain = words.iter().all(|word| Shown::name(word).is_all_plain());
-    match answer {
-        Err(LineFault::Usage { .. }) if !is_plain => Err(fault_of_shown(alloc, words)?),
-        Err(fault) => Err(advised_fault(alloc, words, fault)?),
+    if words.iter().all(|word| Shown::name(word).is_all_plain()) {
+        return advised_fault(alloc, words, fault);
+    }
+    match fault {
+        LineFault::Usage { .. } => fault_of_shown(alloc, words),
+        LineFault::Help { text } => Ok(LineFault::Help { text }),
+    }
+}
+
+/// The command line of some words.
+fn line_of(alloc: Global, words: &[String]) -> Result<CommandLine, Refused<LineFault>>
+    ensures ok { IfOk result (IsLineOf (texts_of words.now)) }
+    ensures err { IfErr result (UnlessRefused (IsFaultOf (texts_of words.now))) }
+{
+    match parse_line(alloc, words) {
+        Err(Refused::Of(fault)) => Err(Refused::Of(told_fault(alloc, words, fault)?)),
         answer => answer,
     }
 }
 
 /// The same, also where `--explain` stands after `help`.
-fn line_of_all(alloc: Global, words: &[String]) -> Result<CommandLine, LineFault>
+fn line_of_all(alloc: Global, words: &[String]) -> Result<CommandLine, Refused<LineFault>>
     ensures ok { IfOk result (IsLineOfWords words.now) }
-    ensures err { IfErr result (IsFaultOfWords words.now) }
+    ensures err { IfErr result (UnlessRefused (IsFaultOfWords words.now)) }
 {
     match help_without_explain(alloc, words)? {
         Some(asked) => line_of(alloc, &asked),

@@ -16,7 +16,7 @@ returns-in-Err-clause-faults g c =
     let last = last_is c.args.movie.now _ c.args.count _ _ first frames c.if-frames-eq0.false in
     let faults = faults_before c.args.movie.now (bytes_shown c.args.movie.now c.args.view)
     (nothing_shown c.args.movie.now c.args.view) (c.get.result - 1) c.frames_asked-frames.result
-    _ _ (g.W.Write.contents c.args.writer.now) c.in-Err.ensures.err in
+    _ _ (g.W.Write.contents c.args.writer.now) (rw c.in-Err.is at c.in_ok-cursor.ensures.faults) in
     rw last at faults.0
 
 pub returns-in-Err-clause-ok : goal.returns-in-Err-clause-ok
@@ -25,27 +25,27 @@ returns-in-Err-clause-ok g c =
     let frames = c.frames_asked-frames.ensures.value in
     let faults = faults_before c.args.movie.now (bytes_shown c.args.movie.now c.args.view)
     (nothing_shown c.args.movie.now c.args.view) (c.get.result - 1) c.frames_asked-frames.result
-    _ _ (g.W.Write.contents c.args.writer.now) c.in-Err.ensures.err in
+    _ _ (g.W.Write.contents c.args.writer.now) (rw c.in-Err.is at c.in_ok-cursor.ensures.faults) in
     rw (first, frames) at faults.1
 
 pub returns-clause-err : goal.returns-clause-err
 returns-clause-err g c =
-    let at = c.in-Ok.ensures.ok in
+    let at = rw c.in-Ok.is at c.in_ok-cursor.ensures.at in
     rw (at.movie_is, at.frame_is, c.get.ensures.value, c.frames_asked-frames.ensures.value) at c.write_frames-written.ensures.err
 
 pub returns-clause-ends : goal.returns-clause-ends
 returns-clause-ends g c =
-    let at = c.in-Ok.ensures.ok in
+    let at = rw c.in-Ok.is at c.in_ok-cursor.ensures.at in
     let last = last_is c.args.movie.now _ c.args.count _ _ c.get.ensures.value c.frames_asked-frames.ensures.value c.if-frames-eq0.false in
     rw (at.movie_is, at.frame_is, last) at c.write_frames-written.ensures.ends
 
 pub returns-clause-faults : goal.returns-clause-faults
 returns-clause-faults g c =
-    let at = c.in-Ok.ensures.ok in
+    let at = rw c.in-Ok.is at c.in_ok-cursor.ensures.at in
     let last = last_is c.args.movie.now _ c.args.count _ _ c.get.ensures.value c.frames_asked-frames.ensures.value c.if-frames-eq0.false in
     rw (at.movie_is, at.frame_is, last) at c.write_frames-written.ensures.faults
 
 pub returns-clause-ok : goal.returns-clause-ok
 returns-clause-ok g c =
-    let at = c.in-Ok.ensures.ok in
+    let at = rw c.in-Ok.is at c.in_ok-cursor.ensures.at in
     rw (at.movie_is, at.frame_is, c.get.ensures.value, c.frames_asked-frames.ensures.value) at c.write_frames-written.ensures.ok

@@ -32,18 +32,18 @@ returns-in_err-write-in-Ok-clause-err g c =
     line c.loop-k.invariant.written _ c.loop-k-test.true
     c.in_err-write-in-Ok.ensures.err)
 
-pub returns-in-Err-Fault-clause-faults : goal.returns-in-Err-Fault-clause-faults
-returns-in-Err-Fault-clause-faults g c =
-    rw (c.frame-from.ensures.value, c.in-Err-Fault.field-0-is)
+pub returns-in-Err-Of-clause-faults : goal.returns-in-Err-Of-clause-faults
+returns-in-Err-Of-clause-faults g c =
+    rw (c.frame-from.ensures.value, c.in-Err-Of.field-0-is)
     (faults_here c.args.cursor.now.movie (bytes_shown c.args.cursor.now.movie c.args.view) (nothing_shown c.args.cursor.now.movie c.args.view)
-    _ _ _ c.in-Err-Fault.kind _ _ c.loop-k-test.true
-    (rw (c.loop-k.invariant.at.movie_is, c.loop-k.invariant.at.frame_is, c.in-Err-Fault.field-0-is) at c.in-Err-Fault.ensures.err) c.loop-k.invariant.written).0
+    _ _ _ c.in-Err-Of.kind _ _ c.loop-k-test.true
+    (rw (c.loop-k.invariant.at.movie_is, c.loop-k.invariant.at.frame_is, c.in-Err-Of.field-0-is) at c.in-Err-Of.ensures.err) c.loop-k.invariant.written).0
 
-pub returns-in-Err-Fault-clause-ok : goal.returns-in-Err-Fault-clause-ok
-returns-in-Err-Fault-clause-ok g c =
+pub returns-in-Err-Of-clause-ok : goal.returns-in-Err-Of-clause-ok
+returns-in-Err-Of-clause-ok g c =
     (faults_here c.args.cursor.now.movie (bytes_shown c.args.cursor.now.movie c.args.view) (nothing_shown c.args.cursor.now.movie c.args.view)
-    _ _ _ c.in-Err-Fault.kind _ _ c.loop-k-test.true
-    (rw (c.loop-k.invariant.at.movie_is, c.loop-k.invariant.at.frame_is, c.in-Err-Fault.field-0-is) at c.in-Err-Fault.ensures.err) c.loop-k.invariant.written).1
+    _ _ _ c.in-Err-Of.kind _ _ c.loop-k-test.true
+    (rw (c.loop-k.invariant.at.movie_is, c.loop-k.invariant.at.frame_is, c.in-Err-Of.field-0-is) at c.in-Err-Of.ensures.err) c.loop-k.invariant.written).1
 
 pub returns-in-Err-NoMemory-clause-err : goal.returns-in-Err-NoMemory-clause-err
 returns-in-Err-NoMemory-clause-err g c = (c.loop-k.k, omega (arith, c.loop-k-test.true), c.loop-k.invariant.written)

@@ -20,8 +20,10 @@ loop-k-preserved g c =
     let here = c.args.cursor.now.frame in
     let next : here + c.loop-k.k + 1 ≡ here + (c.loop-k.k + 1) = omega arith in
     let at = rw (c.loop-k.invariant.at.movie_is, c.loop-k.invariant.at.frame_is, next) at c.in-Ok.ensures.ok in
+    let can = rw c.state.ensures.value at c.in_ok-claim.ensures.lawful in
     record {
-      made = Claims-next _ _ _ _ _ _ _ c.requires.every c.loop-k.invariant.made at.ran (rw c.state.ensures.value at c.claim.ensures.items) (rw c.state.ensures.value at c.claim.ensures.lawful);
+      made = Claims-next _ _ _ _ _ _ _ c.requires.every c.loop-k.invariant.made at.ran (rw c.state.ensures.value at c.in_ok-claim.ensures.items)
+          (λ h. can h c.args.cursor.now.movie.cartridge at.cartridge);
       at = at;
       room = rw c.claim.ensures.capacity c.loop-k.invariant.room;
     }

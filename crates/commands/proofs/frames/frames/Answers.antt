@@ -13,7 +13,7 @@ returns-in_err-write_asked-clause-memory g c = λ is.
 
 pub returns-in_err-write_asked-clause-fault : goal.returns-in_err-write_asked-clause-fault
 returns-in_err-write_asked-clause-fault g c = λ is.
-    lines_in_part c.args.movie.now c.args.notation c.args.details.now (non_zero_u32_get c.args.first) c.args.count _ _
+    lines_in_part c.args.movie.now c.frames.ensures.lawful c.args.notation c.args.details.now (non_zero_u32_get c.args.first) c.args.count _ _
     (rw (the_error c.from_residual.result _ _ c.from_residual.ensures.1 is) at c.in_err-write_asked.ensures.err)
 
 pub returns-in-None-clause-ok : goal.returns-in-None-clause-ok

@@ -2,21 +2,24 @@ use Rattle.std.proofs.Common.{◌≡◌, ◌∙◌, below_more, ◌/◌, ℕ, �
 use Rattle.std.specs.Prelude.{IsTrue, vec_len}
 use Rattle.std.proofs.lemmas.List.Elements.{All-more}
 use Rattle.std.proofs.lemmas.Option.{slice_get_read}
+use Rattle.std.proofs.lemmas.Result.{err_from_is_err_and}
 use Rattle.vcs_machine.specs.Inputs.{is_input}
 use Rattle.movie_file.specs.Judgement.{IsSound}
 use Rattle.movie_file.specs.Making.{bare}
 use Rattle.movie_file.proofs.MakingRuns.{Claims-next, Claims-none, has_room, counts_are}
 use Rattle.movie_file.proofs.RunLemmas.{faults-here, run-next}
+use Rattle.movie_file.proofs.StateLemmas.{ram_is}
 use Rattle.commands.proofs.make_run.run_of.Goals as goal
 
 pub loop-i-init : goal.loop-i-init
 loop-i-init g c = record {
   made = record {
     sound = λ i less. absurd (omega arith);
-    ran = rw (c.copy-state.ensures.value, c.requires.start) refl;
+    ran = rw (c.in_ok-state.ensures.value, c.requires.start) refl;
     claims = rw c.requires.empty (Claims-none _ _ _);
     inputs_are = λ k d less. absurd (omega arith);
   };
+  cartridge = rw c.in_ok-state.ensures.value c.requires.cartridge;
   room = c.requires.room;
   capacity = refl;
 }
@@ -51,20 +54,33 @@ loop-i-preserved g c =
     let input = c.index-inputs-i.result in
     let fit = counts_are (length c.args.inputs.now) c.args.every c.requires.fits in
     let at = slice_get_read c.args.inputs.now (length c.args.inputs.now) i input refl c.loop-i-test.true c.index-inputs-i.is in
-    let ran = run-next m m.start 0 i i _ input c.loop-i.invariant.made.ran (omega arith) at _ c.in-None.ensures.ended.0 c.in-None.ensures.ended.1 in
+    let ran = run-next m m.start 0 i i _ input c.loop-i.invariant.made.ran (omega arith) at _ _ _ c.in-None.ensures.ended.2 in
     let place : i + 1 ≡ 0 + (i + 1) = omega arith in
     record {
       made = record {
         sound = below_more (λ (i : ℕ). IsSound m m.start 0 i) i c.loop-i.invariant.made.sound (c.halt.new.state, ran, λ j d e here. absurd cc);
         ran = ran;
-        claims = Claims-next m 0 c.args.every i _ _ _ fit.2 c.loop-i.invariant.made.claims (rw place at ran) c.claim.ensures.items c.claim.ensures.lawful;
+        claims = Claims-next m 0 c.args.every i _ _ _ fit.2 c.loop-i.invariant.made.claims (rw place at ran) c.in_ok-claim-in-None.ensures.items
+            (λ h. c.in_ok-claim-in-None.ensures.lawful h c.args.cart.now c.halt.ensures.cartridge);
         inputs_are =
             All-more (λ i. IsTrue (is_input i)) c.args.inputs.now i input c.loop-i-test.true c.loop-i.invariant.made.inputs_are
             (rw c.index-inputs-i.is at c.halt.ensures.lawful);
       };
-      room = rw c.claim.ensures.capacity c.loop-i.invariant.room;
-      capacity = c.claim.ensures.capacity ∙ c.loop-i.invariant.capacity;
+      cartridge = c.halt.ensures.cartridge;
+      room = rw c.in_ok-claim-in-None.ensures.capacity c.loop-i.invariant.room;
+      capacity = c.in_ok-claim-in-None.ensures.capacity ∙ c.loop-i.invariant.capacity;
     }
 
 pub returns-clause-ends : goal.returns-clause-ends
 returns-clause-ends g c = λ none. let all : c.loop-i.i ≡ length c.args.inputs.now = omega arith in rw all at c.loop-i.invariant.made
+
+pub returns-clause-lawful : goal.returns-clause-lawful
+returns-clause-lawful g c = c.copy_state.ensures.lawful c.args.cart.now c.requires.cartridge
+
+pub returns-in-Some-clause-lawful : goal.returns-in-Some-clause-lawful
+returns-in-Some-clause-lawful g c = c.copy_state.ensures.lawful c.args.cart.now c.requires.cartridge
+
+pub returns-in_err-claim-in-None-clause-memory : goal.returns-in_err-claim-in-None-clause-memory
+returns-in_err-claim-in-None-clause-memory g c =
+    let p = err_from_is_err_and c.from_residual-in_err-claim-in-None.result c.from_residual-in_err-claim-in-None.ensures.1 in
+    rw (p.1, ← ram_is c.args.cart.now c.halt.new.state c.halt.ensures.cartridge) c.in_err-claim-in-None.ensures.memory

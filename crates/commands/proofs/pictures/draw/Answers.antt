@@ -26,4 +26,4 @@ returns-in_err-write_asked-clause-memory g c = λ is.
 pub returns-in_err-write_asked-clause-fault : goal.returns-in_err-write_asked-clause-fault
 returns-in_err-write_asked-clause-fault g c = λ is.
     let error = the_error c.from_residual.result _ _ c.from_residual.ensures.1 is in
-    told_in_part c.args.movie.now (non_zero_u32_get c.args.first) c.args.count _ _ (rw error at c.in_err-write_asked.ensures.err)
+    told_in_part c.args.movie.now (non_zero_u32_get c.args.first) c.args.count _ _ c.frames.ensures.lawful (rw error at c.in_err-write_asked.ensures.err)
