@@ -4,6 +4,7 @@ use crate::case::Case;
 use crate::named_bytes::malformed;
 use command_line::{CommandLine, LineFault, parse_line};
 use commands::{Conclusion, NoGate, Request, RunError, Status, run_command};
+use refused::Refused;
 use std::alloc::{AllocError, Global};
 use std::sync::Wait;
 use std::thread::Threads;
@@ -31,11 +32,11 @@ impl fmt::Display for Answer {
 }
 
 /// The command line of words.
-fn line_of(alloc: Global, words: &str) -> Result<CommandLine, LineFault> {
+fn line_of(alloc: Global, words: &str) -> Result<CommandLine, Refused<LineFault>> {
     let mut all = Vec::new(alloc);
-    all.push("vcs_check").map_err(AllocError::from)?;
+    all.push("vcs_check")?;
     for word in words.split_whitespace() {
-        all.push(word).map_err(AllocError::from)?;
+        all.push(word)?;
     }
     parse_line(alloc, &all)
 }
@@ -45,7 +46,6 @@ fn answer_of_fault(alloc: Global, fault: LineFault) -> Result<Answer, AllocError
     let (status, text) = match fault {
         LineFault::Usage { text, .. } => (NO_COMMAND, text),
         LineFault::Help { text } => (Status::Done.code(), text),
-        LineFault::Memory => return Err(AllocError),
     };
     Ok(Answer {
         status,
@@ -113,6 +113,7 @@ pub(crate) fn answer_to<R: Threads + Wait + Sync + AllocGlobal>(
 ) -> io::Result<Answer> {
     match line_of(rt.alloc(), case.words) {
         Ok(line) => answer_to_line(rt, &line, case),
-        Err(fault) => Ok(answer_of_fault(rt.alloc(), fault)?),
+        Err(Refused::NoMemory) => Err(io::Error::from(AllocError)),
+        Err(Refused::Of(fault)) => Ok(answer_of_fault(rt.alloc(), fault)?),
     }
 }

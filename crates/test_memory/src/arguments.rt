@@ -2,6 +2,7 @@
 
 use crate::call_failure::{CallFailure, OUT_OF_MEMORY, right};
 use command_line::{Command, CommandLine, LineFault, parse_line};
+use refused::Refused;
 use replay_plan::Keep;
 use std::alloc::Global;
 
@@ -15,7 +16,7 @@ pub(crate) fn are_command(alloc: Global) -> Result<(), CallFailure> {
                 ..
             },
         ) => right(Keep::new(1, 600) == Ok(keep)),
-        Err(LineFault::Memory) => Err(OUT_OF_MEMORY),
+        Err(Refused::NoMemory) => Err(OUT_OF_MEMORY),
         _ => Err(CallFailure::Wrong),
     }
 }
@@ -23,8 +24,8 @@ pub(crate) fn are_command(alloc: Global) -> Result<(), CallFailure> {
 /// Words that are no command.
 pub(crate) fn are_usage(alloc: Global) -> Result<(), CallFailure> {
     match parse_line(alloc, &["vcs_check", "verify", "m", "--workers", "65"]) {
-        Err(LineFault::Usage { .. }) => Ok(()),
-        Err(LineFault::Memory) => Err(OUT_OF_MEMORY),
+        Err(Refused::Of(LineFault::Usage { .. })) => Ok(()),
+        Err(Refused::NoMemory) => Err(OUT_OF_MEMORY),
         _ => Err(CallFailure::Wrong),
     }
 }
@@ -32,8 +33,8 @@ pub(crate) fn are_usage(alloc: Global) -> Result<(), CallFailure> {
 /// Words that ask for help.
 pub(crate) fn are_help(alloc: Global) -> Result<(), CallFailure> {
     match parse_line(alloc, &["vcs_check", "--help"]) {
-        Err(LineFault::Help { .. }) => Ok(()),
-        Err(LineFault::Memory) => Err(OUT_OF_MEMORY),
+        Err(Refused::Of(LineFault::Help { .. })) => Ok(()),
+        Err(Refused::NoMemory) => Err(OUT_OF_MEMORY),
         _ => Err(CallFailure::Wrong),
     }
 }

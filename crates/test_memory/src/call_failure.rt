@@ -2,7 +2,8 @@
 
 use command_line::LineFault;
 use commands::RunError;
-use movie_file::{MakeError, MovieError, Refused};
+use movie_file::{MakeError, MovieError};
+use refused::Refused;
 use replay_plan::BadKeep;
 use replay_segments::{BadCuts, Missing};
 use std::alloc::{AllocError, AllocFailed};
@@ -49,11 +50,8 @@ impl<T: Drop> From<AllocFailed<T>> for CallFailure {
 }
 
 impl From<LineFault> for CallFailure {
-    fn from(fault: LineFault) -> CallFailure {
-        match fault {
-            LineFault::Memory => OUT_OF_MEMORY,
-            _ => CallFailure::Wrong,
-        }
+    fn from(_fault: LineFault) -> CallFailure {
+        CallFailure::Wrong
     }
 }
 

@@ -4,8 +4,9 @@ use crate::call_failure::{CallFailure, OUT_OF_MEMORY, right};
 use crate::movies::put;
 use cart_board::{Board, Cart, MappedCart};
 use chip_machine::{State, Stepping, frame, read_state, write_state};
+use refused::Refused;
 use std::alloc::Global;
-use vcs_machine::{FaultKind, FrameError, Input};
+use vcs_machine::{FaultKind, Input};
 
 /// LDA #02, STA F000, STA VSYNC, LDA #00, STA VSYNC, JMP F100: a frame of 14 cycles, then one of 17.
 /// F000 leads to the first byte of the cartridge's RAM.
@@ -174,7 +175,7 @@ fn is_played(alloc: Global) -> Result<(), CallFailure> {
                 && timed.rows == 1
                 && timed.picture.is_some(),
         ),
-        Err(FrameError::NoMemory) if ONE_FRAME.is_of(&state) => Err(OUT_OF_MEMORY),
+        Err(Refused::NoMemory) if ONE_FRAME.is_of(&state) => Err(OUT_OF_MEMORY),
         Err(_) => Err(CallFailure::Wrong),
     }
 }
@@ -185,13 +186,13 @@ fn is_faulty(alloc: Global) -> Result<(), CallFailure> {
     let cart = without_opcode(alloc)?;
     let mut state = State::power_on(alloc, &cart)?;
     match frame(alloc, &cart, &mut state, idle, true) {
-        Err(FrameError::Fault(kind)) => right(
+        Err(Refused::Of(kind)) => right(
             kind == FaultKind::BadOpcode {
                 opcode: 0x02,
                 at: 0xF000,
             },
         ),
-        Err(FrameError::NoMemory) => Err(OUT_OF_MEMORY),
+        Err(Refused::NoMemory) => Err(OUT_OF_MEMORY),
         Ok(_) => Err(CallFailure::Wrong),
     }
 }

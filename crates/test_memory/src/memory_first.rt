@@ -6,13 +6,14 @@ use crate::call_failure::{CallFailure, OUT_OF_MEMORY};
 use crate::movies::{LENGTH, cartridge, two_frames};
 use command_line::Command;
 use commands::Status;
-use movie_file::{MakeError, MovieError, NoProgress, Refused, make_movie, read_inputs, read_movie};
+use movie_file::{MakeError, MovieError, NoProgress, make_movie, read_inputs, read_movie};
+use refused::Refused;
 use replay_plan::Workers;
 use std::alloc::Global;
 use std::num::NonZeroU32;
 use std::sync::Wait;
 use std::thread::Threads;
-use vcs_machine::{FrameError, Input, State, frame};
+use vcs_machine::{Input, State, frame};
 
 /// The movie of two frames with 02, which is no opcode, where its program begins.
 fn without_opcode() -> [u8; LENGTH] {
@@ -63,8 +64,8 @@ pub(crate) fn is_faulty_frame(alloc: Global) -> Result<(), CallFailure> {
     let cart = cartridge(alloc, &without_opcode())?;
     let mut state = State::power_on(&cart);
     match frame(alloc, &cart, &mut state, idle, true) {
-        Err(FrameError::Fault(_)) => Ok(()),
-        Err(FrameError::NoMemory) => Err(OUT_OF_MEMORY),
+        Err(Refused::Of(_)) => Ok(()),
+        Err(Refused::NoMemory) => Err(OUT_OF_MEMORY),
         Ok(_) => Err(CallFailure::Wrong),
     }
 }

@@ -6,7 +6,8 @@ use crate::movies::{
     two_frames_with_a_last_checkpoint,
 };
 use crate::verdicts::{FIRST_FALSE, picture_count, verdict_of};
-use movie_file::{Movie, NoProgress, Refused};
+use movie_file::{Movie, NoProgress};
+use refused::Refused;
 use replay_plan::Keep;
 use replay_segments::{BadCuts, Cuts, Missing, Piece, Verdict, gather, replay};
 use std::alloc::Global;
