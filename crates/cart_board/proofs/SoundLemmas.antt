@@ -1,17 +1,21 @@
 -- The rows of the table are sound, and what follows.
-use Rattle.std.proofs.Common.{◌≡◌, ◌∙◌, ℕ, zero, suc, ◌+◌, ◌%◌, ◌<◌, ◌≤◌, Bool, true, false, ◌&&◌, if◌then◌else◌, ◌||◌, List, [], ◌∷◌, length, Option, Some, None, refl, sym, ap, subst, arith}
+use Rattle.std.proofs.Common.{◌≡◌, ◌∙◌, ℕ, ◌+◌, ◌%◌, ◌<◌, ◌≤◌, Bool, true, false, ◌&&◌, if◌then◌else◌, ◌||◌, List, [], ◌∷◌, length, Option, Some, None, refl, sym, ap, subst, arith}
 use Rattle.std.specs.Prelude.{find, slice_get, slice_index, slice_set, nat_le, nat_eq, ◌==◌, bit_and}
 use Rattle.std.specs.List.{list_all, list_any}
 use Rattle.std.proofs.lemmas.Bool.{and_parts, and_from, cond_both, eqb-true, leb-true, le-leb, ltb-true}
 use Rattle.std.proofs.lemmas.Nat.{and_le_r}
 use Rattle.std.proofs.Math.Nat.{mul-le-mul_left}
 use Rattle.cart_board.specs.Access.{is_at, bank_selected, banks_by, banks_selected, banks_of_byte, start_at, offset_of, size_of, is_in, target_by, target_of}
-use Rattle.cart_board.specs.Board.{Row, has_length, index_of, last_bank}
+use Rattle.cart_board.specs.Board.{Row, has_length, index_of, last_bank, last_number, last_of}
 use Rattle.cart_board.specs.Boards.{boards, IsBoard}
-use Rattle.cart_board.specs.CartState.{CartState, is_bank, are_banks, banks_at_power_on, cart_target}
+use Rattle.cart_board.proofs.RowLemmas.{of_boards}
+use Rattle.cart_board.specs.CartState.{CartState, is_bank, are_banks, bank_at_power_on, banks_at_power_on, cart_target}
 use Rattle.cart_board.specs.Private.Sound.{last_start, is_slice_sound, is_window_sound, selects_at_most, is_spot_sound, is_trigger_sound, is_sound}
 use Rattle.cart_board.specs.declared.bank.BankByte.{BankByte}
 use Rattle.cart_board.specs.declared.bank.BankByte.TheVariants.{First, Second, Third}
+use Rattle.cart_board.specs.declared.bank.BankNumbers.{BankNumbers}
+use Rattle.cart_board.specs.declared.bank.LastBank.{LastBank}
+use Rattle.cart_board.specs.declared.bank.LastBank.TheVariants.{Number, ByLength}
 use Rattle.cart_board.specs.declared.hot_spot.HotSpot.{HotSpot}
 use Rattle.cart_board.specs.declared.hot_spot.Selects.{Selects}
 use Rattle.cart_board.specs.declared.hot_spot.Selects.TheVariants.{Bank, Next, Written}
@@ -22,14 +26,6 @@ use Rattle.cart_board.specs.declared.window.Start.{Start}
 use Rattle.cart_board.specs.declared.window.Start.TheVariants as start
 use Rattle.cart_board.specs.declared.window.Target.{Target}
 use Rattle.cart_board.specs.declared.window.Window.{Window}
-
--- what each element passes, one of them passes
-all_at : {X : Type 0} (q : X → Bool) (xs : List X) (k : ℕ) (x : X) → list_all q xs ≡ true → slice_get xs k ≡ Some x → q x ≡ true
-all_at q [] k x all is = cc
-all_at q (y ∷ ys) zero x all is =
-    let same : y ≡ x = cc in
-    ap q (sym same) ∙ (and_parts (q y) (list_all q ys) all).0
-all_at q (y ∷ ys) (suc k) x all is = all_at q ys k x (and_parts (q y) (list_all q ys) all).1 is
 
 -- and a number that equals one of them
 all_any : (q : ℕ → Bool) (xs : List ℕ) (n : ℕ) → list_all q xs ≡ true → list_any (nat_eq n) xs ≡ true → q n ≡ true
@@ -56,7 +52,7 @@ table_is_sound : list_all sound_at_each boards ≡ true
 table_is_sound = refl
 
 pub board_is_sound : (row : Row) (bytes : ℕ) → IsBoard row → has_length row bytes ≡ true → is_sound row bytes ≡ true
-board_is_sound row bytes is size = all_any (is_sound row) row.lengths bytes (all_at sound_at_each boards is.0 row table_is_sound is.1) size
+board_is_sound row bytes is size = all_any (is_sound row) row.lengths bytes (of_boards sound_at_each table_is_sound row is) size
 
 -- the parts of soundness
 record Sound (row : Row) (bytes : ℕ) : Type 0 where
@@ -64,7 +60,6 @@ record Sound (row : Row) (bytes : ℕ) : Type 0 where
   trigger : is_trigger_sound row bytes row.trigger ≡ true
   windows : list_all (is_window_sound row bytes) row.windows ≡ true
   rest : is_slice_sound row bytes Rom row.rest ≡ true
-  power_on : are_banks row bytes (banks_at_power_on row) ≡ true
   few : nat_le (length row.banks) 3 ≡ true
 
 sound_parts : (row : Row) (bytes : ℕ) → is_sound row bytes ≡ true → Sound row bytes
@@ -73,20 +68,15 @@ sound_parts row bytes sound =
     let trigger = is_trigger_sound row bytes row.trigger in
     let windows = list_all (is_window_sound row bytes) row.windows in
     let rest = is_slice_sound row bytes Rom row.rest in
-    let power_on = are_banks row bytes (banks_at_power_on row) in
     let few = nat_le (length row.banks) 3 in
-    let a = and_parts spots (trigger && (windows && (rest && (power_on && few)))) sound in
-    let b = and_parts trigger (windows && (rest && (power_on && few))) a.1 in
-    let c = and_parts windows (rest && (power_on && few)) b.1 in
-    let d = and_parts rest (power_on && few) c.1 in
-    let e = and_parts power_on few d.1 in
-    record { spots = a.0; trigger = b.0; windows = c.0; rest = d.0; power_on = e.0; few = e.1 }
+    let a = and_parts spots (trigger && (windows && (rest && few))) sound in
+    let b = and_parts trigger (windows && (rest && few)) a.1 in
+    let c = and_parts windows (rest && few) b.1 in
+    let d = and_parts rest few c.1 in
+    record { spots = a.0; trigger = b.0; windows = c.0; rest = d.0; few = d.1 }
 
 pub few_banks : (row : Row) (bytes : ℕ) → is_sound row bytes ≡ true → length row.banks ≤ 3
 few_banks row bytes sound = leb-true (length row.banks) 3 (sound_parts row bytes sound).few
-
-pub power_on_banks : (row : Row) (bytes : ℕ) → is_sound row bytes ≡ true → are_banks row bytes (banks_at_power_on row) ≡ true
-power_on_banks row bytes sound = (sound_parts row bytes sound).power_on
 
 -- each bank byte is at most its last bank
 pub bank_at_most : (row : Row) (bytes : ℕ) (banks : List ℕ) (byte : BankByte) → are_banks row bytes banks ≡ true
@@ -108,6 +98,35 @@ three_banks row bytes a b c first second third =
     let y = nat_le b (last_bank row bytes Second) in
     let z = nat_le c (last_bank row bytes Third) in
     and_from (x && y) z (and_from x y (le-leb a (last_bank row bytes First) first) (le-leb b (last_bank row bytes Second) second)) (le-leb c (last_bank row bytes Third) third)
+
+-- one that starts so is at most its last bank, however long the cartridge is
+abbrev is_low : LastBank → ℕ → Bool
+is_low (Number n) bank = nat_le bank n
+is_low ByLength bank = bank == 0
+
+abbrev starts_low : Option BankNumbers → Bool
+starts_low None = true
+starts_low (Some numbers) = is_low numbers.last numbers.power_on
+
+abbrev each_starts_low : Row → Bool
+each_starts_low row = starts_low (slice_get row.banks 0) && starts_low (slice_get row.banks 1) && starts_low (slice_get row.banks 2)
+
+low_at_most : (last : LastBank) (bank bytes : ℕ) → is_low last bank ≡ true → bank ≤ last_number last bytes
+low_at_most (Number n) bank bytes low = leb-true bank n low
+low_at_most ByLength bank bytes low = let none = eqb-true bank 0 low in omega arith
+
+low_start : (numbers : Option BankNumbers) (bytes : ℕ) → starts_low numbers ≡ true → bank_at_power_on numbers ≤ last_of numbers bytes
+low_start None bytes low = omega arith
+low_start (Some numbers) bytes low = low_at_most numbers.last numbers.power_on bytes low
+
+pub power_on_banks : (row : Row) (bytes : ℕ) → IsBoard row → are_banks row bytes (banks_at_power_on row) ≡ true
+power_on_banks row bytes is =
+    let first = slice_get row.banks 0 in
+    let second = slice_get row.banks 1 in
+    let third = slice_get row.banks 2 in
+    let all = and_parts (starts_low first && starts_low second) (starts_low third) (of_boards each_starts_low refl row is) in
+    let both = and_parts (starts_low first) (starts_low second) all.0 in
+    three_banks row bytes _ _ _ (low_start first bytes both.0) (low_start second bytes both.1) (low_start third bytes all.1)
 
 -- a bank byte that is set
 set_keeps : (row : Row) (bytes : ℕ) (banks : List ℕ) (byte : BankByte) (n : ℕ) → length banks ≡ 3 → are_banks row bytes banks ≡ true

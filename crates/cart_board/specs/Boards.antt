@@ -223,6 +223,6 @@ boards =
     board_2k ∷ board_4k ∷ board_f8 ∷ board_f8sc ∷ board_f6 ∷ board_f6sc ∷ board_f4 ∷ board_f4sc ∷ board_fa
     ∷ board_e0 ∷ board_3f ∷ board_fe ∷ board_e7 ∷ board_ua ∷ board_cv ∷ board_0840 ∷ board_f0 ∷ board_0fa0 ∷ []
 
--- A row of the table.
+-- A row of the table: the one at the place of its code.
 abbrev pub IsBoard : Row → Type 0
-IsBoard row = (place : ℕ) × (slice_get boards place ≡ Some row)
+IsBoard row = slice_get boards row.code ≡ Some row

@@ -15,7 +15,7 @@ pub enum BankByte {
 
 impl BankByte {
     /// Its place among the three.
-    pub(crate) fn index(self) -> usize
+    pub fn index(self) -> usize
         ensures value { result ≡ index_of self }
         ensures range { result < 3 }
     {

@@ -14,7 +14,7 @@ use crate::hot_spot::{FIRST_HIGH, HotSpot};
 use crate::window::{Slice, Window};
 
 /// A board, as a row of the table `BOARDS`.
-#[derive(Clone, Copy)]
+#[derive(Clone, Copy, Debug)]
 pub struct Board {
     /// The number that stands for it in a movie.
     pub code: u8,
@@ -44,7 +44,7 @@ impl Board {
     }
 
     /// The board of a code.
-    pub fn of_code(code: u8) -> Option<&'static Board>
+    pub(crate) fn of_code(code: u8) -> Option<&'static Board>
         ensures row { option_map (λ board. row_of board.now) result ≡ find (λ row. row.code == code) boards }
         ensures known { IfSome result (λ board. IsBoard (row_of board.now)) }
     {
@@ -52,7 +52,7 @@ impl Board {
     }
 
     /// The board of a name.
-    pub fn of_name(name: &str) -> Option<&'static Board>
+    pub(crate) fn of_name(name: &str) -> Option<&'static Board>
         ensures row { option_map (λ board. row_of board.now) result ≡ find (λ row. bytes_eq row.name name.now) boards }
         ensures known { IfSome result (λ board. IsBoard (row_of board.now)) }
     {
@@ -104,7 +104,7 @@ impl Board {
 
     /// The last bank that a bank byte can select, of a cartridge of so many bytes; 0 of a bank byte
     /// that the board hasn't.
-    pub(crate) fn last_bank(&self, bytes: usize, byte: BankByte) -> u8
+    pub fn last_bank(&self, bytes: usize, byte: BankByte) -> u8
         ensures { result ≡ last_bank (row_of self.now) bytes byte }
     {
         match self.banks.get(byte.index()) {

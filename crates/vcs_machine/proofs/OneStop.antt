@@ -1,6 +1,6 @@
 -- A frame stops in one way, and the search for it finds that one.
-use Rattle.std.proofs.Common.{◌≡◌, ℕ, zero, suc, ◌+◌, ◌-◌, ◌*◌, ◌<◌, ◌≤◌, true, false, inl, inr}
-use Rattle.std.proofs.Common.{zero-add, suc-add, refl, sym, ap, ◌∙◌, arith}
+use Rattle.std.proofs.Common.{◌≡◌, ℕ, zero, suc, ◌+◌, ◌*◌, ◌<◌, ◌≤◌, true, false, inl, inr}
+use Rattle.std.proofs.Common.{refl, sym, ap, ◌∙◌, arith}
 use Rattle.std.specs.Prelude.{Result, Ok, Err, nat_le, if◌then◌else◌}
 use Rattle.std.proofs.lemmas.Bool.{cases_Bool, cases_lt, or_parts}
 use Rattle.std.proofs.lemmas.Bool.Decides.{nat_tests}
@@ -8,7 +8,7 @@ use Rattle.mos_cpu.proofs.StepLaws.{step_of-least}
 use Rattle.mos_cpu.specs.Execution.{step_of}
 use Rattle.mos_cpu.specs.declared.fault.CpuFault.{CpuFault}
 use Rattle.vcs_machine.specs.Frame.{FrameMeaning, Machine, Turn, Faulty, Went, turn, turn_after, turn_by, turns}
-use Rattle.vcs_machine.specs.Frame.{is_over, Reaches, Faults, Stop, Ended}
+use Rattle.vcs_machine.specs.Frame.{is_over, Reaches, Stop, Ended}
 use Rattle.vcs_machine.specs.Frame.{Overlong, Faulted, machine_at, StopsAs, stop_after, stop_within}
 use Rattle.vcs_machine.specs.Frame.{stop_of, most_turns, overlong_cycles}
 
@@ -189,16 +189,3 @@ module _ {B : Type 0} (meaning : FrameMeaning B) where
     unended = λ some. absurd (omega arith);
     begun = λ long. absurd (omega arith);
   }))
-
-  -- ---- no turn that went follows a faulty one
-  faulty-on : (start : Machine B) (n : ℕ) (fault : CpuFault) → turns meaning n start ≡ Faulty fault → (k : ℕ) → turns meaning (k + n) start ≡ Faulty fault
-  faulty-on start n fault e zero = rw zero-add e
-  faulty-on start n fault e (suc k) = rw suc-add (rw (faulty-on start n fault e k) refl)
-
-  pub none-after : (start a here : Machine B) (fault : CpuFault) (f : Faults meaning start here fault) (m : ℕ) → turns meaning m start ≡ Went a → f.count < m → ⊥
-  none-after start a here fault f m reached gt =
-      let last : turns meaning (suc f.count) start ≡ Faulty fault = rw f.reaches.reached f.fails in
-      let faulty = faulty-on start (suc f.count) fault last (m - suc f.count) in
-      let at : m - suc f.count + suc f.count ≡ m = omega arith in
-      let same : turns meaning m start ≡ Faulty fault = rw at at faulty in
-      absurd (cc)

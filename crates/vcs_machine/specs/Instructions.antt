@@ -1,6 +1,6 @@
 -- The instructions of a frame, one after another: each as it is before it begins, and its data
 -- accesses. This project's own.
-use Rattle.std.specs.Prelude.{ℕ, zero, suc, ◌+◌, ◌/◌, ◌%◌, List, [], ◌∷◌, ◌++◌, unwrap_or, Result}
+use Rattle.std.specs.Prelude.{ℕ, ◌+◌, ◌/◌, ◌%◌, List, [], ◌∷◌, unwrap_or, Result}
 use Rattle.std.specs.Prelude.{Ok, Err, true, false}
 use Rattle.mos_cpu.specs.Accesses.{accesses_of, instruction_cycles}
 use Rattle.mos_cpu.specs.Buses.{Meaning}
@@ -14,8 +14,8 @@ use Rattle.mos_cpu.specs.declared.access.Transfer.TheVariants.{Read, Write}
 use Rattle.mos_cpu.specs.declared.fault.CpuFault.{CpuFault}
 use Rattle.mos_cpu.specs.declared.operation.Operation.{Operation}
 use Rattle.vcs_machine.specs.Consoles.{Console, frame_meaning_of, meaning_of}
-use Rattle.vcs_machine.specs.Frame.{Faulty, FrameMeaning, Machine, Reaches, Stop, StopsAs, Turn, Went}
-use Rattle.vcs_machine.specs.Frame.{machine_at, turns}
+use Rattle.vcs_machine.specs.Frame.{FrameMeaning, Machine, Reaches, Stop, StopsAs}
+use Rattle.vcs_machine.specs.Frame.{machine_at}
 use Rattle.vcs_machine.specs.Inputs.{InputData}
 use Rattle.vcs_machine.specs.Outcomes.{machine_of}
 use Rattle.vcs_machine.specs.declared.executed.DataAccess.{DataAccess}
@@ -77,17 +77,7 @@ executed_at drawn m =
       accesses = data_accesses (meaning_of drawn) m.registers m.bus;
     }
 
--- ---- one after another
-abbrev pub machine_in : {B : Type 0} → Turn B → List (Machine B)
-machine_in (Faulty fault) = []
-machine_in (Went m) = m ∷ []
-
 module _ {B : Type 0} (meaning : FrameMeaning B) where
-  -- The machines at which the first so many instructions of a frame begin.
-  abbrev pub begun : Machine B → ℕ → List (Machine B)
-  begun start zero = []
-  begun start (suc n) = begun start n ++ machine_in (turns meaning n start)
-
   -- A frame stops so, after so many instructions.
   abbrev pub StopsAfter : Machine B → ℕ → Stop B → Type 0
   StopsAfter start count stop = Reaches meaning start count (machine_at stop) × StopsAs meaning start stop

@@ -5,7 +5,6 @@ use Rattle.std.specs.Prelude.{ℕ, Option, Some, None, ◌+◌, ◌-◌, ◌*◌
 use Rattle.std.specs.List.{list_all}
 use Rattle.cart_board.specs.Board.{Row, last_bank}
 use Rattle.cart_board.specs.Access.{size_of}
-use Rattle.cart_board.specs.CartState.{are_banks, banks_at_power_on}
 use Rattle.cart_board.specs.declared.bank.BankByte.TheVariants.{First, Second}
 use Rattle.cart_board.specs.declared.hot_spot.HotSpot.{HotSpot}
 use Rattle.cart_board.specs.declared.hot_spot.Selects.{Selects}
@@ -47,5 +46,4 @@ is_sound row bytes =
     && (is_trigger_sound row bytes row.trigger
     && (list_all (is_window_sound row bytes) row.windows
     && (is_slice_sound row bytes Rom row.rest
-    && (are_banks row bytes (banks_at_power_on row)
-    && nat_le (length row.banks) 3))))
+    && nat_le (length row.banks) 3)))

@@ -2,7 +2,7 @@ use Rattle.cart_board.proofs.SoundLemmas.{board_is_sound, power_on_banks, select
 use Rattle.cart_board.proofs.laws.law_of_boards.Goals as goal
 
 pub returns-clause-power_on : goal.returns-clause-power_on
-returns-clause-power_on c = λ row bytes is size. power_on_banks row bytes (board_is_sound row bytes is size)
+returns-clause-power_on c = λ row bytes is size. power_on_banks row bytes is
 
 pub returns-clause-select : goal.returns-clause-select
 returns-clause-select c = λ row bytes banks address written is size long are. select_keeps row bytes banks address written (board_is_sound row bytes is size) long are
