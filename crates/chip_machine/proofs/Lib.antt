@@ -17,6 +17,6 @@ mod SettledRows
 mod SettledTia
 mod SinkLemmas
 mod StateLemmas
-mod StopLemmas
+pub mod StopLemmas
 mod TiaNumberLemmas
 mod TurnLemmas

@@ -1,27 +1,28 @@
 -- A record that is read is the record that was written, and what was written is read again.
 use Rattle.std.proofs.Common.{◌≡◌, ℕ, zero, suc, ◌+◌, ◌-◌, ◌≤◌, true, false, List, [], ◌∷◌, ◌++◌}
 use Rattle.std.proofs.Common.{length, take, drop, Option, Some, None, refl, sym, ap, subst, ◌∙◌, append_assoc, arith}
-use Rattle.std.specs.Prelude.{◌&&◌, ◌==◌, if◌then◌else◌, nat_le, nat_lt, slice_get, slice_index}
-use Rattle.std.specs.List.{list_all}
+use Rattle.std.specs.Prelude.{◌&&◌, ◌==◌, IfSome, if◌then◌else◌, nat_le, nat_lt, slice_index}
 use Rattle.std.proofs.Math.Seq.{take-add}
-use Rattle.std.proofs.lemmas.Bool.{and_parts, and_right, and_left, and_from, cond-true, cond-false, eqb-true, leb-true, ltb-false, false_from_ne_true}
+use Rattle.std.proofs.lemmas.Bool.{and_parts, and_right, and_left, and_from, cond-true, cond-false, eq-eqb, eqb-true, leb-true, ltb-false, false_from_ne_true}
 use Rattle.std.proofs.lemmas.Option.{cond_some}
 use Rattle.std.proofs.lemmas.List.{take_all, take_at, drop_at, take-append-drop, length-append, length-take, length-drop}
 use Rattle.std.proofs.lemmas.Slice.Eq.{bytes_eq-Decides}
 use borrow.Rule.Slice.PartMut.{put_mid}
 use Rattle.record_table.specs.Numbers.{bytes_of}
 use Rattle.cart_board.specs.Board.{Row}
-use Rattle.cart_board.specs.Boards.{boards, IsBoard}
+use Rattle.cart_board.specs.Boards.{IsBoard}
 use Rattle.cart_board.specs.CartState.{Cartridge, are_banks, fits}
 use Rattle.cart_board.specs.Record.{banks_in, record_length}
 use Rattle.cart_board.proofs.RecordLemmas.{is_spelled}
+use Rattle.cart_board.proofs.RowLemmas.{of_boards}
 use Rattle.mos_cpu.specs.Registers.{Registers, is_status, processor_numbers}
 use Rattle.riot_chip.specs.declared.fields.RiotFields.{RiotFields}
 use Rattle.tia_chip.specs.Numbers.{tia_numbers}
 use Rattle.tia_chip.specs.declared.state.TiaState.{TiaState}
 use Rattle.chip_machine.specs.Record.{IsStateOf, record_of, riot_bytes}
 use Rattle.chip_machine.specs.RecordNumbers.{cart_part, cart_place, cpu_at, cpu_length, cpu_part, fields_at, riot_at}
-use Rattle.chip_machine.specs.RecordNumbers.{riot_length, riot_part, spells_tia, tia_at, tia_length, tia_part, tia_place}
+use Rattle.chip_machine.specs.RecordNumbers.{is_spelled as is_spelled_by, record_length as record_length_on, recorded_state, riot_length, riot_part}
+use Rattle.chip_machine.specs.RecordNumbers.{spells_tia, state_at, tia_at, tia_length, tia_part, tia_place}
 use Rattle.chip_machine.specs.States.{StateData, is_of, is_state}
 use Rattle.chip_machine.specs.declared.fields.StateFields.{StateFields}
 use Rattle.chip_machine.proofs.ByteLemmas.{IsBytes, IsBytes-drop, IsBytes-take}
@@ -32,17 +33,8 @@ use Rattle.chip_machine.proofs.TiaNumberLemmas.{tia_again, tia_parts}
 -- ---- boards
 
 -- a board has at most three bank bytes
-few_at : (rows : List Row) (place : ℕ) (row : Row) → list_all (λ (row : Row). nat_le (length row.banks) 3) rows ≡ true
-    → slice_get rows place ≡ Some row → nat_le (length row.banks) 3 ≡ true
-few_at [] place row all is = cc
-few_at (r ∷ rows) zero row all is =
-    let same : r ≡ row = cc in
-    ap (λ (x : Row). nat_le (length x.banks) 3) (sym same) ∙ (and_parts (nat_le (length r.banks) 3) (list_all (λ (row : Row). nat_le (length row.banks) 3) rows) all).0
-few_at (r ∷ rows) (suc place) row all is =
-    few_at rows place row (and_parts (nat_le (length r.banks) 3) (list_all (λ (row : Row). nat_le (length row.banks) 3) rows) all).1 is
-
 pub few_banks : (row : Row) → IsBoard row → length row.banks ≤ 3
-few_banks row is = leb-true (length row.banks) 3 (few_at boards is.0 row refl is.1)
+few_banks row is = leb-true (length row.banks) 3 (of_boards (λ (row : Row). nat_le (length row.banks) 3) refl row is)
 
 -- ---- a record that is read is written again
 
@@ -257,6 +249,55 @@ pub state_only : (cartridge : Cartridge) (b : List ℕ) (s t : StateData) → Is
 state_only cartridge b s t board same h is =
     let read = is_read cartridge t b board h is in
     sym same ∙ same_parts_of _ _ _ _ read.fields read.ram
+
+-- ---- the state that a record spells
+
+-- what is found is a state of the cartridge, and the bytes are its record
+pub recorded_takes : (cartridge : Cartridge) (b : List ℕ) (s : StateData) → IsBytes b → IsBoard cartridge.row → recorded_state cartridge b ≡ Some s
+    → IsStateOf cartridge s × (b ≡ record_of cartridge.row s)
+unfolding recorded_state
+recorded_takes cartridge b s fits board e =
+    let row = cartridge.row in
+    let t = state_at row b in
+    let c = cond_some ((length b == record_length_on row) && is_spelled_by cartridge t b) t s e in
+    let parts = and_parts (length b == record_length_on row) (is_spelled_by cartridge t b) c.0 in
+    let cart = and_parts (is_state t.fields && spells_tia (tia_part b)) (is_of cartridge t) parts.1 in
+    let numbers = and_parts (is_state t.fields) (spells_tia (tia_part b)) cart.0 in
+    let whole = eqb-true (length b) (record_length_on row) parts.0 in
+    state_found cartridge b s fits whole board numbers.0 numbers.1 c.1 (ap (is_of cartridge) (sym c.1) ∙ cart.1)
+
+-- and it is found
+pub recorded_again : (cartridge : Cartridge) (s : StateData) → IsBoard cartridge.row → IsStateOf cartridge s
+    → recorded_state cartridge (record_of cartridge.row s) ≡ Some s
+unfolding recorded_state
+recorded_again cartridge s board h =
+    let row = cartridge.row in
+    let b = record_of row s in
+    let read : IsRead cartridge s b = read_again cartridge s board h in
+    let same : state_at row b ≡ s = same_parts_of _ _ _ _ read.fields read.ram in
+    let numbers = and_from (is_state s.fields) (spells_tia (tia_part b)) h.numbers read.spelled in
+    let is : is_spelled_by cartridge s b ≡ true = and_from (is_state s.fields && spells_tia (tia_part b)) (is_of cartridge s) numbers h.cart in
+    let spelled : is_spelled_by cartridge (state_at row b) b ≡ true = ap (λ (t : StateData). is_spelled_by cartridge t b) same ∙ is in
+    let whole = eq-eqb (length b) (record_length_on row) read.whole in
+    cond-true _ _ _ (and_from (length b == record_length_on row) (is_spelled_by cartridge (state_at row b) b) whole spelled)
+    ∙ ap (λ (t : StateData). Some t) same
+
+-- it is as long as its board's
+pub length-record_on : (cartridge : Cartridge) (s : StateData) → IsBoard cartridge.row → IsStateOf cartridge s
+    → length (record_of cartridge.row s) ≡ record_length_on cartridge.row
+length-record_on cartridge s board h = let read : IsRead cartridge s (record_of cartridge.row s) = read_again cartridge s board h in read.whole
+
+-- what is a state of the cartridge with this record, if there is one, is what is recorded
+pub found_is_recorded : (cartridge : Cartridge) (b : List ℕ) (found : Option StateData) → IsBytes b → IsBoard cartridge.row
+    → IfSome found (λ s. IsStateOf cartridge s × (b ≡ record_of cartridge.row s))
+    → ((s : StateData) → IsStateOf cartridge s → b ≡ record_of cartridge.row s → found ≡ Some s) → found ≡ recorded_state cartridge b
+found_is_recorded cartridge b (Some s) fits board is only =
+    sym (ap (recorded_state cartridge) is.1 ∙ recorded_again cartridge s board is.0)
+found_is_recorded cartridge b None fits board is only = by (recorded_state cartridge b) refl
+  where
+    by : (recorded : Option StateData) → recorded_state cartridge b ≡ recorded → None ≡ recorded
+    by (Some s) e = let takes = recorded_takes cartridge b s fits board e in only s takes.0 takes.1
+    by None e = refl
 
 -- two states have the same TIA exactly where its bytes are the same
 pub same_tias : (f g : StateFields) → is_state f ≡ true → is_state g ≡ true → bytes_of tia_numbers f.tia ≡ bytes_of tia_numbers g.tia → f.tia ≡ g.tia

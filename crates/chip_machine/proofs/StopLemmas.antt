@@ -25,7 +25,7 @@ module _ {S : Type 0} (drawn : S → ℕ → ℕ → ℕ → S) where
   turn-faulty m fault answer = rw answer refl
 
   -- It takes a cycle at least.
-  turn-more : (m next : Machine S) → m.console.cycles < overlong_cycles → turn drawn m ≡ Went next → m.console.cycles < next.console.cycles
+  pub turn-more : (m next : Machine S) → m.console.cycles < overlong_cycles → turn drawn m ≡ Went next → m.console.cycles < next.console.cycles
   unfolding turn
   turn-more m next short e = by (step_of (meaning_of drawn) m.registers m.console).answer refl e
     where
@@ -81,9 +81,6 @@ module _ {S : Type 0} (drawn : S → ℕ → ℕ → ℕ → S) where
   pub stops-later : (m next : Machine S) → m.console.cycles < overlong_cycles → turn drawn m ≡ Went next → next.console.has_ended ≡ false
       → stop_of drawn m ≡ stop_of drawn next
   stops-later m next short e unended = rw (stops-turn m short, e, unended) refl
-
-  pub turn-later : (m next : Machine S) → m.console.cycles < overlong_cycles → turn drawn m ≡ Went next → m.console.cycles < next.console.cycles
-  turn-later m next short e = turn-more m next short e
 
   -- An instruction that went, with its stop.
   pub went : (m : Machine S) (n : ℕ) (r : Registers) (bus console : Console S)

@@ -1,11 +1,12 @@
--- The numbers that the bytes of a record spell, part by part. That a state's record spells its numbers
--- is a contract of `read_state`. This project's own.
-use Rattle.std.specs.Prelude.{ℕ, List, [], ◌∷◌, ◌+◌, ◌-◌, ◌*◌, ◌==◌, take, drop, slice_index, bytes_eq}
+-- The numbers that the bytes of a record spell, part by part, and the state that they spell. That a
+-- state's record spells its numbers is a contract of `read_state`. This project's own.
+use Rattle.std.specs.Prelude.{ℕ, List, [], ◌∷◌, ◌+◌, ◌-◌, ◌*◌, ◌==◌, ◌&&◌, length, take, drop, slice_index, bytes_eq}
 use Rattle.std.specs.Prelude.{Bool, false, Option, Some, None, if◌then◌else◌}
 use Rattle.std.specs.Int.{w16, from_be_bytes}
 use Rattle.record_table.specs.Numbers.{bytes_of, table_length}
 use Rattle.cart_board.specs.Board.{Row}
-use Rattle.cart_board.specs.Record.{banks_in}
+use Rattle.cart_board.specs.CartState.{Cartridge}
+use Rattle.cart_board.specs.Record.{banks_in, ram_in, record_length as cart_record_length}
 use Rattle.mos_cpu.specs.Registers.{Registers, processor_numbers}
 use Rattle.riot_chip.specs.Riot.{riot_numbers}
 use Rattle.riot_chip.specs.declared.fields.RiotFields.{RiotFields}
@@ -17,6 +18,7 @@ use Rattle.tia_chip.specs.declared.missile.MissileCopy.{MissileCopy}
 use Rattle.tia_chip.specs.declared.player.Player.{Player}
 use Rattle.tia_chip.specs.declared.player.PlayerCopy.{PlayerCopy}
 use Rattle.tia_chip.specs.declared.state.TiaState.{TiaState}
+use Rattle.chip_machine.specs.States.{StateData, is_of, is_state}
 use Rattle.chip_machine.specs.declared.fields.StateFields.{StateFields}
 
 abbrev pub cpu_at : List ℕ → Registers
@@ -187,3 +189,23 @@ fields_at row bytes = record {
   tia = tia_at (tia_part bytes);
   banks = banks_in row (cart_part bytes);
 }
+
+-- ---- the state
+
+-- the bytes of a record on a board
+abbrev pub record_length : Row → ℕ
+record_length row = cart_place + cart_record_length row
+
+-- the state that they spell
+abbrev pub state_at : Row → List ℕ → StateData
+state_at row bytes = record { fields = fields_at row bytes; ram = ram_in row (cart_part bytes) }
+
+-- whether such a state of a cartridge has these bytes as its record
+abbrev pub is_spelled : Cartridge → StateData → List ℕ → Bool
+is_spelled cartridge s bytes = is_state s.fields && spells_tia (tia_part bytes) && is_of cartridge s
+
+-- the state of a cartridge whose record the bytes are, if they are one
+unfoldable pub recorded_state : Cartridge → List ℕ → Option StateData
+recorded_state cartridge bytes =
+    let s = state_at cartridge.row bytes in
+    if (length bytes == record_length cartridge.row) && is_spelled cartridge s bytes then Some s else None

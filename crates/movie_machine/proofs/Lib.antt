@@ -1,2 +1,3 @@
 pub mod CartLemmas
 pub mod FrameLemmas
+pub mod StepLemmas

@@ -1,7 +1,9 @@
 //! Cartridges.
-ghost use Rattle.std.specs.Prelude.{◌≡◌, length, IfOk};
+ghost use Rattle.std.specs.Prelude.{◌≡◌, ◌↔◌, length, IfOk, IsOk};
+ghost use Rattle.cart_board.specs.Known.{known_row};
 
 use crate::rules::Rules;
+use cart_board::{BadCartSize, KnownBoard};
 use std::alloc::{AllocError, Global};
 
 /// A cartridge, by the rules by which it is played.
@@ -12,7 +14,34 @@ pub enum Cart {
 }
 
 impl Cart {
-    ghost use Rattle.movie_machine.specs.Carts.{IsCart, bytes_of, rules_of};
+    ghost use Rattle.movie_machine.specs.Carts.{IsCart, board_of, bytes_of, cart_on, rules_of};
+
+    /// The cartridge of these bytes: on a board by the chip's rules, on none by the guide's. Takes no
+    /// memory.
+    pub fn on(board: Option<KnownBoard>, bytes: Vec<u8>) -> Result<Cart, BadCartSize>
+        ensures size { IsOk result ↔ IsCart (cart_on (known_row board) bytes.items) }
+        ensures value { IfOk result (λ cart. cart ≡ cart_on (known_row board) bytes.items) }
+    {
+        match board {
+            None => match riot_map::Cart::new(bytes) {
+                Ok(cart) => Ok(Cart::Guide(cart)),
+                Err(_) => Err(BadCartSize),
+            },
+            Some(known) => Ok(Cart::Chip(cart_board::Cart::new(known.board, bytes)?)),
+        }
+    }
+
+    /// The board that it is on; none by the guide's rules.
+    pub fn board(&self) -> Option<KnownBoard>
+        ensures value { known_row result ≡ board_of self.now }
+    {
+        match self {
+            Cart::Guide(_) => None,
+            Cart::Chip(cart) => Some(KnownBoard {
+                board: cart.board(),
+            }),
+        }
+    }
 
     /// Its rules.
     pub fn rules(&self) -> Rules

@@ -3,7 +3,7 @@ use Rattle.chip_machine.specs.Frame.{Machine, overlong_cycles}
 use Rattle.chip_machine.proofs.CartLemmas.{step-cart, stop-kept}
 use Rattle.chip_machine.proofs.FrameOutcomes.{stop-kind}
 use Rattle.chip_machine.proofs.LagLemmas.{stop-over}
-use Rattle.chip_machine.proofs.StopLemmas.{stops-ended, stops-faulty, stops-later, stops-long, turn-faulty, turn-later, went}
+use Rattle.chip_machine.proofs.StopLemmas.{stops-ended, stops-faulty, stops-later, stops-long, turn-faulty, turn-more, went}
 use Rattle.chip_machine.proofs.frame_loop.run_until_stop.Goals as goal
 
 pub returns-in-Err-clause-err : goal.returns-in-Err-clause-err
@@ -46,7 +46,7 @@ loop-cpu-smaller g c =
     let short : c.loop-cpu.console.cycles < overlong_cycles = omega (arith, c.cycles.ensures, c.loop-cpu-test.true) in
     let there = went drawn m c.in_default.field-0 c.step_running.new.cpu c.step_running.new.bus c.pass_stop.new.self (sym c.in_default.is ∙ c.step_running.ensures.answer)
     c.step_running.ensures.registers c.step_running.ensures.bus c.pass_stop.ensures in
-    let later = turn-later drawn m next short there in
+    let later = turn-more drawn m next short there in
     omega (arith, later, short, c.pass_rounds_after_read.ensures.later)
 
 pub loop-cpu-preserved : goal.loop-cpu-preserved

@@ -1,0 +1,3 @@
+-- Definitions of how things are kept. Only private contracts and proofs cite them: what is promised
+-- can be read without them.
+pub mod Stepping
