@@ -1,8 +1,14 @@
 -- A movie in version 2 is the movie.
-use Rattle.std.proofs.Common.{◌≡◌, ℕ, ◌+◌, refl, sym, ◌∙◌, arith}
+use Rattle.std.proofs.Common.{◌≡◌, ℕ, ◌+◌, length, refl, sym, ◌∙◌, arith}
+use Rattle.std.specs.Prelude.{IsTrue}
 use Rattle.std.proofs.lemmas.Bool.Decides.{nat_tests}
 use Rattle.vcs_machine.specs.declared.fault.FaultKind.{FaultKind}
+use Rattle.movie_machine.specs.Carts.{board_of, bytes_of, rules_of}
+use Rattle.movie_machine.specs.declared.cart.Cart.{Cart}
+use Rattle.movie_machine.specs.declared.cart.Cart.TheVariants.{Guide as GuideCart, Chip as ChipCart}
+use Rattle.movie_machine.specs.declared.rules.Rules.TheVariants.{Guide as ByGuide}
 use Rattle.movie_machine.specs.declared.state.State.{State}
+use Rattle.movie_file.specs.Format.{takes_cart}
 use Rattle.movie_file.specs.Conversion.{in_version_2}
 use Rattle.movie_file.specs.Judgement.{IsSound, FaultsAt, IsFalseAt}
 use Rattle.movie_file.specs.Movie.{MovieData, IsMovie}
@@ -10,12 +16,19 @@ use Rattle.movie_file.specs.Run.{run}
 use Rattle.movie_file.proofs.VersionLemmas.{most_frames-most}
 use Rattle.movie_file.proofs.RunLemmas.{run_same}
 
--- version 2 has room for each movie
-pub converted-lawful : (m : MovieData) → IsMovie m → IsMovie (in_version_2 m)
-converted-lawful m h = record {
+-- version 2 has the cartridges by the guide's rules
+takes_guide : (cartridge : Cart) (version : ℕ) → rules_of cartridge ≡ ByGuide → IsTrue (takes_cart version (board_of cartridge) (length (bytes_of cartridge)))
+    → IsTrue (takes_cart 2 (board_of cartridge) (length (bytes_of cartridge)))
+takes_guide (GuideCart bytes) version rules takes = grind (arith, nat_tests)
+takes_guide (ChipCart cartridge) version rules takes = absurd cc
+
+-- and room for each movie by them
+pub converted-lawful : (m : MovieData) → IsMovie m → rules_of m.cartridge ≡ ByGuide → IsMovie (in_version_2 m)
+converted-lawful m h rules = record {
   version = refl;
-  rules = h.rules;
-  cartridge = let cartridge = h.cartridge in grind (arith, nat_tests);
+  rules = rules;
+  board = h.board;
+  cartridge = takes_guide m.cartridge m.version rules h.cartridge;
   start = h.start;
   some_frames = h.some_frames;
   few_frames = omega (arith, h.few_frames, most_frames-most m.version);

@@ -5,9 +5,12 @@ use Rattle.std.specs.List.{flat_map}
 use Rattle.std.proofs.lemmas.List.{append-nil, drop_at, length-drop, take-append-drop}
 use Rattle.std.proofs.lemmas.List.Concat.{flat_map-cons}
 use Rattle.movie_file.specs.declared.error.MovieError.{MovieError}
+use Rattle.movie_file.specs.MovieError.{GivesUnlessRefused}
 use Rattle.movie_file.specs.Reading.{◌>>=◌}
 use Rattle.movie_file.proofs.ByteLemmas.{IsBytes, IsBytes-drop}
 use Rattle.movie_file.proofs.ReadLemmas.{bind_ok, ok_is, Takes}
+use Rattle.refused.specs.declared.Refused.{Refused}
+use Rattle.refused.specs.declared.Refused.TheVariants.{NoMemory, Of}
 
 -- what was read before, and what is still read
 abbrev pub with_prefix : {A : Type 0} → List A → Result (List A × List ℕ) MovieError → Result (List A × List ℕ) MovieError
@@ -45,6 +48,13 @@ module _ {A S : Type 0} {item : S → List ℕ → Result A MovieError} {next : 
   pub ends : (e : MovieError) (prefix : List A) (count i : ℕ) (s : S) (bytes : List ℕ) → i < count → item s bytes ≡ Err e
       → with_prefix prefix (items (count - i) s bytes) ≡ Err e
   ends e prefix count i s bytes lt fails = let k : count - i ≡ suc (count - (i + 1)) = omega arith in rw (k, reads.more, fails) refl
+
+  -- and so does one for which memory was refused
+  pub stops : (e : Refused MovieError) (prefix : List A) (count i : ℕ) (s : S) (bytes : List ℕ) → i < count
+      → GivesUnlessRefused {X = A} (λ a. a) (Err e) (item s bytes)
+      → GivesUnlessRefused {X = List A × List ℕ} (λ x. x) (Err e) (with_prefix prefix (items (count - i) s bytes))
+  stops (Of e) prefix count i s bytes lt fails = ends e prefix count i s bytes lt fails
+  stops NoMemory prefix count i s bytes lt fails = tt
 
   -- and none are left at its end
   pub done : (prefix : List A) (count i : ℕ) (s : S) (bytes : List ℕ) → count ≤ i → with_prefix prefix (items (count - i) s bytes) ≡ Ok (prefix, bytes)

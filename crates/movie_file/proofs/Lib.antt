@@ -1,4 +1,5 @@
-pub mod ByteLemmas
+pub mod BoardLemmas
+mod ByteLemmas
 pub mod CheckpointLemmas
 pub mod CheckpointReads
 pub mod Conversions

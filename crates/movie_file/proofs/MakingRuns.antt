@@ -1,10 +1,10 @@
 -- A run frame by frame, and the checkpoints that are made of it.
 use Rattle.std.proofs.Common.{◌≡◌, ◌≢◌, ℕ, zero, suc, ◌+◌, ◌*◌, ◌/◌, ◌%◌, ◌<◌, ◌≤◌}
-use Rattle.std.proofs.Common.{eqb, List, [], ◌∷◌, ◌++◌, length, Some}
+use Rattle.std.proofs.Common.{eqb, List, [], ◌∷◌, ◌++◌, length, Some, None}
 use Rattle.std.proofs.Common.{refl, sym, subst, ◌∙◌, arith, rules}
-use Rattle.std.specs.Prelude.{◌&&◌, nat_le, slice_get, IsTrue}
+use Rattle.std.specs.Prelude.{◌&&◌, nat_le, slice_get, IfSome, IsTrue}
 use Rattle.std.specs.List.{AllByRecursion}
-use Rattle.std.proofs.lemmas.Bool.{and_parts, cases_Bool, cond_both, eqb-true, eqb-false, leb-true}
+use Rattle.std.proofs.lemmas.Bool.{and_from, and_parts, cases_Bool, cond_both, eqb-true, eqb-false, le-leb, leb-true}
 use Rattle.std.proofs.Common.{inl, inr}
 use Rattle.std.proofs.lemmas.Bool.Decides.{nat_tests}
 use Rattle.std.proofs.lemmas.List.{append-nil, length-append}
@@ -12,19 +12,20 @@ use Rattle.std.proofs.lemmas.Nat.{le-div, div_below, div-add-mod', div-mul-add, 
 use Rattle.std.proofs.Common.{◌-◌}
 use Rattle.std.proofs.Math.Nat.{div-mul-le_self, add-mul, mul_comm}
 use Rattle.vcs_machine.specs.Inputs.{InputData, is_input}
-use Rattle.riot_map.specs.Cart.{is_cart_length}
-use Rattle.movie_machine.specs.Carts.{IsCart, bytes_of, rules_of}
+use Rattle.cart_board.specs.Board.{has_length}
+use Rattle.cart_board.specs.Boards.{IsBoard}
+use Rattle.movie_machine.proofs.CartLemmas.{few_bytes}
+use Rattle.movie_machine.specs.Carts.{IsCart, board_of, bytes_of, rules_of}
 use Rattle.movie_machine.specs.States.{state_at_power_on}
 use Rattle.movie_machine.specs.declared.cart.Cart.{Cart}
 use Rattle.movie_machine.specs.declared.cart.Cart.TheVariants.{Guide as GuideCart, Chip as ChipCart}
-use Rattle.movie_machine.specs.declared.rules.Rules.TheVariants.{Guide as ByGuide}
 use Rattle.movie_machine.specs.declared.state.State.{State}
 use Rattle.movie_file.specs.declared.checkpoint.Checkpoint.{Checkpoint}
 use Rattle.movie_file.specs.declared.error.MakeError.{MakeError}
 use Rattle.movie_file.specs.declared.error.MakeError.TheVariants.{Fault, BadCounts}
 use Rattle.refused.specs.declared.Refused.{Refused}
 use Rattle.refused.specs.declared.Refused.TheVariants.{NoMemory, Of}
-use Rattle.movie_file.specs.Format.{is_version, takes_cart, most_frames, most_checkpoints}
+use Rattle.movie_file.specs.Format.{is_version, rules_by, takes_cart, most_frames, most_checkpoints}
 use Rattle.movie_file.specs.Judgement.{AllSound, IsGenuine}
 use Rattle.movie_file.specs.Making.{bare, counts_fit, version_made, Explains, IsMadeOf}
 use Rattle.movie_file.specs.ClaimedStates.{checkpoint_if, Claims}
@@ -100,15 +101,29 @@ abbrev pub parts : ℕ → Cart → State → List InputData → List Checkpoint
 parts version cartridge start inputs checkpoints = record { version = version; cartridge = cartridge; start = start; inputs = inputs; checkpoints = checkpoints }
 
 -- a movie has a version that takes its cartridge and its frames
-version_fits : (cartridge_length frames : ℕ) → IsTrue (is_cart_length cartridge_length) → frames ≤ most_frames 2
-    → let version = version_made cartridge_length frames in
-    IsTrue (is_version version) × IsTrue (takes_cart version cartridge_length) × (frames ≤ most_frames version)
-version_fits cartridge_length frames lawful few =
-    let old = takes_cart 1 cartridge_length in
+pub record Fits (number : ℕ) (cartridge : Cart) (frames : ℕ) : Type 0 where
+  pub version : IsTrue (is_version number)
+  pub rules : rules_of cartridge ≡ rules_by number
+  pub takes : IsTrue (takes_cart number (board_of cartridge) (length (bytes_of cartridge)))
+  pub few : frames ≤ most_frames number
+
+pub version_fits : (cartridge : Cart) (frames : ℕ) → IsCart cartridge → frames ≤ most_frames 2 → Fits (version_made cartridge frames) cartridge frames
+version_fits (GuideCart bytes) frames lawful few =
+    let old = takes_cart 1 None (length bytes) in
     let short = nat_le frames (most_frames 1) in
-    cond_both (old && short) 1 2 (λ (v : ℕ). IsTrue (is_version v) × IsTrue (takes_cart v cartridge_length) × (frames ≤ most_frames v))
-    (λ fits. let parts = and_parts old short fits in (refl, parts.0, leb-true frames (most_frames 1) parts.1))
-    (λ _. (refl, grind (arith, nat_tests), few))
+    cond_both (old && short) 1 2 (λ (v : ℕ). Fits v (GuideCart bytes) frames)
+    (λ fits. let parts = and_parts old short fits in
+    record { version = refl; rules = refl; takes = parts.0; few = leb-true frames (most_frames 1) parts.1 })
+    (λ _. record { version = refl; rules = refl; takes = grind (arith, nat_tests); few = few })
+version_fits (ChipCart cartridge) frames lawful few =
+    let bytes = length cartridge.bytes in
+    let most = le-leb bytes 524288 (few_bytes cartridge.row bytes lawful.0 lawful.1) in
+    record { version = refl; rules = refl; takes = and_from (has_length cartridge.row bytes) (nat_le bytes 524288) lawful.1 most; few = few }
+
+-- the board of a cartridge is one of the table
+pub board_is : (cartridge : Cart) → IsCart cartridge → IfSome (board_of cartridge) IsBoard
+board_is (GuideCart bytes) lawful = tt
+board_is (ChipCart cartridge) lawful = lawful.0
 
 -- checkpoints at multiples rise
 rising : (cartridge : Cart) (every n b last : ℕ) (cs : List Checkpoint) → 1 ≤ every → last ≤ every * b
@@ -121,13 +136,8 @@ rising cartridge every n b last (d ∷ cs) some low places lawful fits =
     let later = rising cartridge every n (b + 1) d.frame cs some (omega (arith, first)) (λ j c e. omega (arith, places (suc j) c e)) next (omega arith) in
     (omega arith, omega arith, lawful 0 d refl, later)
 
--- the length of a cartridge by the guide's rules
-guide_length : (cartridge : Cart) → rules_of cartridge ≡ ByGuide → IsCart cartridge → IsTrue (is_cart_length (length (bytes_of cartridge)))
-guide_length (GuideCart bytes) rules lawful = lawful
-guide_length (ChipCart cartridge) rules lawful = absurd cc
-
 module _ (m : MovieData) (from every version : ℕ) (cartridge : Cart) (start : State) (inputs : List InputData) (cs : List Checkpoint)
-    (cartridge_is : cartridge ≡ m.cartridge) (version_is : version ≡ version_made (length (bytes_of cartridge)) (length inputs))
+    (cartridge_is : cartridge ≡ m.cartridge) (version_is : version ≡ version_made cartridge (length inputs))
     (fits : IsTrue (counts_fit (length inputs) every)) (far : Claims m from every (length inputs) cs) where
   claims_rise : AreCheckpoints m.cartridge 0 (length inputs) cs
   claims_rise =
@@ -135,18 +145,19 @@ module _ (m : MovieData) (from every version : ℕ) (cartridge : Cart) (start : 
       (λ j c e. omega (arith, far.places j c e)) far.lawful (rw far.count (omega arith))
 
   -- the parts make a movie
-  pub IsMovie-parts : rules_of cartridge ≡ ByGuide → IsCart cartridge → IsStateOf cartridge start → AllByRecursion (λ i. IsTrue (is_input i)) inputs
+  pub IsMovie-parts : IsCart cartridge → IsStateOf cartridge start → AllByRecursion (λ i. IsTrue (is_input i)) inputs
       → IsMovie (parts version cartridge start inputs cs)
-  IsMovie-parts rules lawful state all =
+  IsMovie-parts lawful state all =
       let fit = counts_are (length inputs) every fits in
-      let made = version_fits (length (bytes_of cartridge)) (length inputs) (guide_length cartridge rules lawful) fit.1 in
+      let made : Fits (version_made cartridge (length inputs)) cartridge (length inputs) = version_fits cartridge (length inputs) lawful fit.1 in
       record {
-        version = rw version_is made.0;
-        rules = rules;
-        cartridge = rw version_is made.1;
+        version = rw version_is made.version;
+        rules = rw version_is made.rules;
+        board = board_is cartridge lawful;
+        cartridge = rw version_is made.takes;
         start = state;
         some_frames = fit.0;
-        few_frames = rw version_is made.2;
+        few_frames = rw version_is made.few;
         few_checkpoints = omega (arith, far.count, fit.3);
         inputs = all;
         checkpoints = rw cartridge_is claims_rise;
@@ -157,7 +168,7 @@ pub made_movie : (cartridge : Cart) (inputs : List InputData) (every : ℕ) (cs 
     → AllSound (bare cartridge inputs) (state_at_power_on cartridge) 0 (length inputs) → Claims (bare cartridge inputs) 0 every (length inputs) cs
     → IsStateOf cartridge (state_at_power_on cartridge) → AllByRecursion (λ i. IsTrue (is_input i)) inputs
     → let m : MovieData = record (bare cartridge inputs) { checkpoints = cs } in
-    IsMadeOf cartridge inputs every m × IsGenuine m × (rules_of cartridge ≡ ByGuide → IsCart cartridge → IsMovie m)
+    IsMadeOf cartridge inputs every m × IsGenuine m × (IsCart cartridge → IsMovie m)
 made_movie cartridge inputs every cs fit sound far state all =
     let m : MovieData = record (bare cartridge inputs) { checkpoints = cs } in
     let same = λ (k : ℕ). run_same m (bare cartridge inputs) m.start 0 k refl refl in
@@ -169,7 +180,7 @@ made_movie cartridge inputs every cs fit sound far state all =
         same (i + 1) ∙ here.1,
         λ j c e place. let frame : c.frame ≡ i + 1 = omega arith in let claim = rw frame at (claimed j c e) in let ran = here.1 in cc,
       ),
-      λ rules lawful. IsMovie-parts (bare cartridge inputs) 0 every m.version cartridge m.start inputs cs refl refl fit far rules lawful state all,
+      λ lawful. IsMovie-parts (bare cartridge inputs) 0 every m.version cartridge m.start inputs cs refl refl fit far lawful state all,
     )
 
 -- why a run stopped is why no movie is made

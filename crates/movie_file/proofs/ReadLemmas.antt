@@ -1,7 +1,8 @@
 -- Reading step by step, and the reading of numbers.
-use Rattle.std.proofs.Common.{◌≡◌, ℕ, ◌^◌, ◌<◌, ◌≤◌, Bool, true, false, cond, ltb, List, ◌++◌}
+use Rattle.std.proofs.Common.{◌≡◌, ℕ, ◌^◌, ◌<◌, ◌≤◌, Bool, true, false, cond, ltb, List, [], ◌∷◌, ◌++◌}
 use Rattle.std.proofs.Common.{length, take, drop, Option, Some, None, Result, Ok, Err, refl, sym}
 use Rattle.std.proofs.Common.{arith}
+use Rattle.std.specs.Prelude.{slice_index}
 use Rattle.std.specs.Option.{ok_or}
 use Rattle.std.specs.Int.{Width, w16, w32, byte_len, from_be_bytes, to_be_bytes}
 use Rattle.std.proofs.lemmas.Bool.{ltb-false, le-ltb}
@@ -10,7 +11,7 @@ use Rattle.std.proofs.lemmas.Nat.{be_bytes_2, be_bytes_4, from_be_bytes-to_be_by
 use Rattle.std.proofs.lemmas.Nat.{from_be_bytes-to_be_bytes_4}
 use Rattle.movie_file.specs.declared.error.MovieError.{MovieError}
 use Rattle.movie_file.specs.declared.error.MovieError.TheVariants.{Short}
-use Rattle.movie_file.specs.Reading.{◌>>=◌, number_at}
+use Rattle.movie_file.specs.Reading.{◌>>=◌, byte_at, number_at}
 use Rattle.movie_file.proofs.ByteLemmas.{IsBytes, IsBytes-take, IsBytes-drop}
 
 pub bind_ok : {A B : Type 0} (r : Result A MovieError) (f : A → Result B MovieError) (y : B) → (r >>= f) ≡ Ok y → (x : A) × (r ≡ Ok x) × (f x ≡ Ok y)
@@ -41,6 +42,17 @@ ok_is x y e = cc
 pub record Takes (bytes text rest : List ℕ) : Type 0 where
   pub parts : bytes ≡ text ++ rest
   pub rest_fits : IsBytes rest
+
+-- ---- a byte
+
+-- a byte that is there is read
+pub byte_there : (bytes : List ℕ) → 1 ≤ length bytes → byte_at bytes ≡ Ok (slice_index bytes 0, drop 1 bytes)
+byte_there [] long = absurd (omega arith)
+byte_there (byte ∷ rest) long = refl
+
+pub byte_takes : (bytes : List ℕ) (x : ℕ × List ℕ) → IsBytes bytes → byte_at bytes ≡ Ok x → Takes bytes (x.0 ∷ []) x.1
+byte_takes [] x fits e = absurd cc
+byte_takes (byte ∷ rest) x fits e = rw (← ok_is (byte, rest) x e) (record { parts = refl; rest_fits = IsBytes-drop 1 (byte ∷ rest) fits })
 
 -- ---- numbers
 

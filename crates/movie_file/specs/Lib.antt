@@ -11,4 +11,5 @@ pub mod Reading
 pub mod Record
 pub mod RecordNumbers
 pub mod Run
+pub mod Sizes
 pub mod Spelling

@@ -1,10 +1,11 @@
 -- Making a movie: a run from power-on, with its state after every so many frames as a checkpoint.
 -- This project's own.
 use Rattle.std.specs.Prelude.{◌≡◌, ◌⊎◌, ℕ, ◌+◌, ◌*◌, ◌/◌, ◌<◌, List, [], length, Bool, ◌&&◌}
-use Rattle.std.specs.Prelude.{nat_le, IsTrue, if◌then◌else◌, Some, slice_get}
-use Rattle.movie_machine.specs.Carts.{bytes_of, ram_length}
+use Rattle.std.specs.Prelude.{nat_le, IsTrue, if◌then◌else◌, Some, None, slice_get}
+use Rattle.movie_machine.specs.Carts.{ram_length}
 use Rattle.movie_machine.specs.States.{state_at_power_on}
 use Rattle.movie_machine.specs.declared.cart.Cart.{Cart}
+use Rattle.movie_machine.specs.declared.cart.Cart.TheVariants.{Guide, Chip}
 use Rattle.vcs_machine.specs.Inputs.{InputData}
 use Rattle.vcs_machine.specs.declared.fault.FaultKind.{FaultKind}
 use Rattle.movie_file.specs.declared.checkpoint.Checkpoint.{Checkpoint}
@@ -17,10 +18,15 @@ use Rattle.movie_file.specs.Judgement.{AllSound, FaultsAt}
 use Rattle.movie_file.specs.Movie.{MovieData}
 use Rattle.movie_file.specs.Run.{run}
 
--- the version of a movie that is made of a cartridge of so many bytes and so many inputs: 1 if
--- that has room for them
-abbrev pub version_made : ℕ → ℕ → ℕ
-version_made cartridge_length frames = if takes_cart 1 cartridge_length && nat_le frames (most_frames 1) then 1 else 2
+-- the version of a movie that is made by the guide's rules of a cartridge of so many bytes and so many
+-- inputs: 1 if that has room for them
+abbrev pub guide_version : ℕ → ℕ → ℕ
+guide_version cartridge_length frames = if takes_cart 1 None cartridge_length && nat_le frames (most_frames 1) then 1 else 2
+
+-- the version of a movie that is made of a cartridge and so many inputs
+abbrev pub version_made : Cart → ℕ → ℕ
+version_made (Guide bytes) frames = guide_version (length bytes) frames
+version_made (Chip cartridge) frames = 3
 
 -- frames of which a movie can be made, with a checkpoint after each `every` of them
 abbrev pub counts_fit : ℕ → ℕ → Bool
@@ -30,7 +36,7 @@ counts_fit frames every =
 -- The movie of a run from power-on. Checkpoint j + 1 claims the state of the run after frame every
 -- * (j + 1), and there is one for each multiple of `every` up to the last frame.
 pub record IsMadeOf (cartridge : Cart) (inputs : List InputData) (every : ℕ) (m : MovieData) : Type 0 where
-  pub version : m.version ≡ version_made (length (bytes_of cartridge)) (length inputs)
+  pub version : m.version ≡ version_made cartridge (length inputs)
   pub cartridge_is : m.cartridge ≡ cartridge
   pub start : m.start ≡ state_at_power_on cartridge
   pub inputs_are : m.inputs ≡ inputs
@@ -42,7 +48,7 @@ pub record IsMadeOf (cartridge : Cart) (inputs : List InputData) (every : ℕ) (
 abbrev pub bare : Cart → List InputData → MovieData
 bare cartridge inputs =
     record {
-      version = version_made (length (bytes_of cartridge)) (length inputs);
+      version = version_made cartridge (length inputs);
       cartridge = cartridge;
       start = state_at_power_on cartridge;
       inputs = inputs;

@@ -1,19 +1,19 @@
 -- What a movie is, wherever it lies in memory. This project's own.
-use Rattle.std.specs.Prelude.{◌≡◌, ℕ, ◌<◌, ◌≤◌, ◌^◌, List, [], ◌∷◌, length, IsTrue}
+use Rattle.std.specs.Prelude.{◌≡◌, ℕ, ◌<◌, ◌≤◌, ◌^◌, List, [], ◌∷◌, length, IsTrue, IfSome}
 use Rattle.std.specs.List.{AllByRecursion}
+use Rattle.cart_board.specs.Boards.{IsBoard}
 use Rattle.chip_machine.specs.Record.{IsStateOf as IsStateByChip}
-use Rattle.movie_machine.specs.Carts.{bytes_of, rules_of}
+use Rattle.movie_machine.specs.Carts.{board_of, bytes_of, rules_of}
 use Rattle.movie_machine.specs.States.{is_of}
 use Rattle.movie_machine.specs.declared.cart.Cart.{Cart}
 use Rattle.movie_machine.specs.declared.cart.Cart.TheVariants.{Guide as GuideCart, Chip as ChipCart}
-use Rattle.movie_machine.specs.declared.rules.Rules.TheVariants.{Guide as ByGuide}
 use Rattle.movie_machine.specs.declared.state.State.{State}
 use Rattle.movie_machine.specs.declared.state.State.TheVariants.{Guide, Chip}
 use Rattle.vcs_machine.specs.Inputs.{InputData, is_input}
 use Rattle.vcs_machine.specs.States.{is_state}
 use Rattle.vcs_machine.specs.declared.fields.StateFields.{StateFields}
 use Rattle.movie_file.specs.declared.checkpoint.Checkpoint.{Checkpoint}
-use Rattle.movie_file.specs.Format.{is_version, takes_cart, most_frames, most_checkpoints}
+use Rattle.movie_file.specs.Format.{is_version, rules_by, takes_cart, most_frames, most_checkpoints}
 use Rattle.movie_file.specs.Record.{fits_bank}
 
 -- inputs are those of frames 1, 2, .., and checkpoints have the numbers 1, 2, ..
@@ -58,8 +58,9 @@ AreCheckpoints cartridge last n (c ∷ cs) =
 -- what a movie keeps to
 pub record IsMovie (m : MovieData) : Type 0 where
   pub version : IsTrue (is_version m.version)
-  pub rules : rules_of m.cartridge ≡ ByGuide
-  pub cartridge : IsTrue (takes_cart m.version (length (bytes_of m.cartridge)))
+  pub rules : rules_of m.cartridge ≡ rules_by m.version
+  pub board : IfSome (board_of m.cartridge) IsBoard
+  pub cartridge : IsTrue (takes_cart m.version (board_of m.cartridge) (length (bytes_of m.cartridge)))
   pub start : IsStateOf m.cartridge m.start
   pub some_frames : 1 ≤ length m.inputs
   pub few_frames : length m.inputs ≤ most_frames m.version

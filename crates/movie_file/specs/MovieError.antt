@@ -3,7 +3,7 @@
 use Rattle.std.specs.Prelude.{◌≡◌, ℕ, List, ◌++◌, Result, Ok, Err, codes}
 use Rattle.std.specs.Fmt.{decimal}
 use Rattle.movie_file.specs.declared.error.MovieError.{MovieError}
-use Rattle.movie_file.specs.declared.error.MovieError.TheVariants.{Short, BadMagic, BadVersion}
+use Rattle.movie_file.specs.declared.error.MovieError.TheVariants.{Short, BadMagic, BadVersion, BadBoard}
 use Rattle.movie_file.specs.declared.error.MovieError.TheVariants.{BadCartSize, BadCounts, BadState}
 use Rattle.movie_file.specs.declared.error.MovieError.TheVariants.{BadInput, BadOrder, Trailing}
 use Rattle.refused.specs.declared.Refused.{Refused}
@@ -14,6 +14,7 @@ abbrev pub refusal_text : MovieError → List ℕ
 refusal_text Short = codes "Short"
 refusal_text BadMagic = codes "BadMagic"
 refusal_text BadVersion = codes "BadVersion"
+refusal_text BadBoard = codes "BadBoard"
 refusal_text BadCartSize = codes "BadCartSize"
 refusal_text BadCounts = codes "BadCounts"
 refusal_text (BadState k) = codes "BadState " ++ decimal k

@@ -1,7 +1,10 @@
 -- The record of a state: the bytes of its numbers, part by part. This project's own.
 use Rattle.std.specs.Prelude.{ℕ, List, [], ◌++◌, length, take, ◌==◌, ◌&&◌, ◌||◌, Bool}
 use Rattle.std.specs.Prelude.{Option, Some, None, ◌-◌, option_and_then, replicate, if◌then◌else◌}
+use Rattle.std.specs.Option.{option_map}
 use Rattle.chip_machine.specs.Record.{record_of as record_by_chip}
+use Rattle.chip_machine.specs.RecordNumbers.{record_length as length_by_chip, recorded_state as recorded_by_chip}
+use Rattle.cart_board.specs.Board.{Row}
 use Rattle.movie_machine.specs.declared.cart.Cart.{Cart}
 use Rattle.movie_machine.specs.declared.cart.Cart.TheVariants.{Guide as GuideCart, Chip as ChipCart}
 use Rattle.movie_machine.specs.declared.state.State.{State}
@@ -31,7 +34,7 @@ recorded_state bytes = if (length bytes == state_length) && is_state (fields_at 
 
 -- the record of a state by the guide's rules in a movie of this version
 abbrev pub movie_record : ℕ → StateFields → List ℕ
-movie_record version f = take (record_length version) (record_of f)
+movie_record version f = take (record_length version None) (record_of f)
 
 -- the record of a state with a cartridge, by the rules of both
 abbrev pub record_in : Cart → State → List ℕ
@@ -40,6 +43,11 @@ record_in (ChipCart cartridge) (Chip s) = record_by_chip cartridge.row s
 record_in (GuideCart bytes) (Chip s) = []
 record_in (ChipCart cartridge) (Guide f) = []
 
+-- how many bytes it has, of a state of the cartridge, by the cartridge's board
+abbrev pub whole_length : Option Row → ℕ
+whole_length None = state_length
+whole_length (Some row) = length_by_chip row
+
 -- the same in a movie of this version
 abbrev pub state_bytes : ℕ → Cart → State → List ℕ
 state_bytes version (GuideCart bytes) (Guide f) = movie_record version f
@@ -47,16 +55,21 @@ state_bytes version (ChipCart cartridge) (Chip s) = record_by_chip cartridge.row
 state_bytes version (GuideCart bytes) (Chip s) = []
 state_bytes version (ChipCart cartridge) (Guide f) = []
 
--- the whole record of a state in a movie of this version: what was left out is 0
+-- the whole record of a state by the guide's rules in a movie of this version: what was left out is 0
 abbrev pub whole_record : ℕ → List ℕ → List ℕ
-whole_record version bytes = bytes ++ replicate (state_length - record_length version) 0
+whole_record version bytes = bytes ++ replicate (state_length - record_length version None) 0
 
 -- a bank other than 0 is there only if a cartridge of so many bytes has banks
 abbrev pub fits_bank : ℕ → StateFields → Bool
 fits_bank cartridge_length f = has_banks cartridge_length || (f.bank == 0)
 
--- the state whose record in a movie the bytes are: of this version, with a cartridge of so many
--- bytes
-unfoldable pub movie_state_at : ℕ → ℕ → List ℕ → Option StateFields
-movie_state_at version cartridge_length bytes =
+-- the state by the guide's rules whose record in a movie the bytes are: of this version, with a
+-- cartridge of so many bytes
+unfoldable pub guide_state_at : ℕ → ℕ → List ℕ → Option StateFields
+guide_state_at version cartridge_length bytes =
     option_and_then (λ f. if fits_bank cartridge_length f then Some f else None) (recorded_state (whole_record version bytes))
+
+-- the state of a cartridge whose record in a movie of this version the bytes are
+abbrev pub movie_state_at : ℕ → Cart → List ℕ → Option State
+movie_state_at version (GuideCart cartridge) bytes = option_map (λ f. Guide f) (guide_state_at version (length cartridge) bytes)
+movie_state_at version (ChipCart cartridge) bytes = option_map (λ s. Chip s) (recorded_by_chip cartridge bytes)

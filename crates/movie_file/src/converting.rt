@@ -1,27 +1,30 @@
 //! Conversion of movies to version 2.
 ghost use Rattle.std.specs.Prelude.{◌≡◌, IfOk, IfErr};
-ghost use Rattle.movie_file.specs.Conversion.{in_version_2};
-ghost use Rattle.movie_file.specs.declared.converting.ConvertError.TheVariants.{AlreadyTwo};
+ghost use Rattle.movie_file.specs.Conversion.{IsHandedBack, in_version_2};
 
 use crate::movie::Movie;
 
-/// Why a movie is not converted.
+/// Why a movie is not converted. It is handed back.
 #[derive(Drop)]
 pub enum ConvertError {
-    /// The movie has version 2 already. It is handed back.
+    /// The movie has version 2 already.
     AlreadyTwo(Movie),
+    /// The movie has version 3, whose states are another machine's.
+    AlreadyThree(Movie),
 }
 
 /// The movie of version 2 with the same cartridge, start state, inputs and checkpoints. Each bank
 /// is 0.
 ///
-/// Takes no memory. `AlreadyTwo` comes for every movie of version 2, whatever its cartridge.
+/// Takes no memory. `AlreadyTwo` comes for every movie of version 2, and `AlreadyThree` for every
+/// movie of version 3, whatever its cartridge.
 pub fn convert(movie: Movie) -> Result<Movie, ConvertError>
     ensures converted { IfOk result (λ new. (movie.version ≡ 1) × (new ≡ in_version_2 movie)) }
-    ensures refused { IfErr result (λ error. (movie.version ≡ 2) × (error ≡ AlreadyTwo movie)) }
+    ensures refused { IfErr result (IsHandedBack movie) }
 {
-    if movie.version() == 2 {
-        return Err(ConvertError::AlreadyTwo(movie));
+    match movie.version() {
+        1 => Ok(movie.in_version_2()),
+        2 => Err(ConvertError::AlreadyTwo(movie)),
+        _ => Err(ConvertError::AlreadyThree(movie)),
     }
-    Ok(movie.in_version_2())
 }

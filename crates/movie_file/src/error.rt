@@ -18,7 +18,9 @@ pub enum MovieError {
     BadMagic,
     /// There is no such version.
     BadVersion,
-    /// No cartridge of the version has this length.
+    /// No board has this code.
+    BadBoard,
+    /// No cartridge of the version, or of its board, has this length.
     BadCartSize,
     /// No frame or too many, or too many checkpoints.
     BadCounts,
@@ -45,6 +47,7 @@ impl fmt::Display for MovieError {
             MovieError::Short => write!(f, "Short"),
             MovieError::BadMagic => write!(f, "BadMagic"),
             MovieError::BadVersion => write!(f, "BadVersion"),
+            MovieError::BadBoard => write!(f, "BadBoard"),
             MovieError::BadCartSize => write!(f, "BadCartSize"),
             MovieError::BadCounts => write!(f, "BadCounts"),
             MovieError::BadState(k) => write!(f, "BadState {k}"),

@@ -1,8 +1,12 @@
 //! The numbers of the format, and its versions. `specs/Format` has them for contracts.
-ghost use Rattle.std.specs.Prelude.{◌≡◌, ◌≤◌, ◌<◌};
-ghost use Rattle.movie_file.specs.Format.{is_version, most_frames, record_length, row_of};
-ghost use Rattle.movie_file.specs.Format.{takes_cart, versions};
+ghost use Rattle.std.specs.Prelude.{◌≡◌, ◌≤◌, ◌<◌, None};
+ghost use Rattle.cart_board.specs.Known.{known_row};
+ghost use Rattle.movie_file.specs.Format.{has_board, header_length, is_length, is_version, most_frames};
+ghost use Rattle.movie_file.specs.Format.{record_length, row_of, rules_by, takes_cart, versions};
+ghost use Rattle.movie_machine.specs.declared.rules.Rules.TheVariants.{Guide as ByGuide};
 
+use cart_board::KnownBoard;
+use movie_machine::Rules;
 use riot_map::Cart;
 
 /// The first four bytes of a file, `A26M`, as a number.
@@ -14,10 +18,7 @@ pub const MOST_FRAMES: u32 = 262_143;
 /// The most checkpoints of a movie.
 pub const MOST_CHECKPOINTS: u16 = 4_095;
 
-/// The bytes of a header.
-pub const HEADER_LENGTH: usize = 14;
-
-/// The bytes of a state record.
+/// The bytes of a state record by the guide's rules.
 pub const STATE_LENGTH: usize = 188;
 
 /// The bytes of an input.
@@ -27,17 +28,21 @@ pub const INPUT_LENGTH: usize = 3;
 #[derive(Clone, Copy)]
 pub(crate) struct Version {
     pub number: u16,
+    /// The rules of its movies. By the chip's rules its headers name a board.
+    pub rules: Rules,
     /// Whether the length of its cartridge has four bytes in the header, or two.
     pub has_wide_length: bool,
     /// The bytes of its longest cartridge.
     pub longest_cartridge: u32,
-    /// The bytes of a state record in a movie: the first ones of a whole record. The others are 0.
+    /// The bytes of a state record in a movie. By the guide's rules they are the first ones of a whole
+    /// record, and the others are 0; by the chip's rules a board adds some.
     pub record_length: usize,
     pub most_frames: u32,
 }
 
 const VERSION_2: Version = Version {
     number: 2,
+    rules: Rules::Guide,
     has_wide_length: false,
     longest_cartridge: 8192,
     record_length: STATE_LENGTH,
@@ -45,15 +50,24 @@ const VERSION_2: Version = Version {
 };
 
 /// The versions, equal to the definition's list.
-static VERSIONS: [Version; 2] = [
+static VERSIONS: [Version; 3] = [
     Version {
         number: 1,
+        rules: Rules::Guide,
         has_wide_length: false,
         longest_cartridge: 4096,
         record_length: 187,
         most_frames: 65_535,
     },
     VERSION_2,
+    Version {
+        number: 3,
+        rules: Rules::Chip,
+        has_wide_length: true,
+        longest_cartridge: 524_288,
+        record_length: 206,
+        most_frames: MOST_FRAMES,
+    },
 ];
 
 impl Version {
@@ -82,11 +96,50 @@ pub(crate) fn is_version(version: u16) -> bool
     Version::of(version).number == version
 }
 
-/// Whether a version has cartridges of this length.
-pub(crate) fn takes_cart(version: u16, bytes: u32) -> bool
-    ensures { result ≡ takes_cart version bytes }
+/// Whether the headers of a version name the board of the cartridge.
+pub fn has_board(version: u16) -> bool
+    ensures { result ≡ has_board version }
 {
-    Cart::is_length(bytes as usize) && bytes <= Version::of(version).longest_cartridge
+    match Version::of(version).rules {
+        Rules::Guide => false,
+        Rules::Chip => true,
+    }
+}
+
+/// Whether the length of the cartridge has four bytes in the headers of a version, or two.
+pub fn has_wide_length(version: u16) -> bool
+    ensures { result ≡ (row_of version).has_wide_length }
+{
+    Version::of(version).has_wide_length
+}
+
+/// The bytes of a header.
+#[tactic(auto, using(crate::proofs::VersionLemmas::of_each_version))]
+pub fn header_length(version: u16) -> usize
+    ensures value { result ≡ header_length version }
+    ensures least { 14 ≤ result }
+    ensures most { result ≤ 17 }
+{
+    let board = if has_board(version) { 1 } else { 0 };
+    let length = if has_wide_length(version) { 4 } else { 2 };
+    4 + 2 + board + length + 4 + 2
+}
+
+/// Whether cartridges, on this board or on none, have so many bytes.
+pub fn is_length(board: Option<KnownBoard>, bytes: usize) -> bool
+    ensures { result ≡ is_length (known_row board) bytes }
+{
+    match board {
+        None => Cart::is_length(bytes),
+        Some(known) => known.board.has_length(bytes),
+    }
+}
+
+/// Whether a version has cartridges of this length, on this board or on none.
+pub(crate) fn takes_cart(version: u16, board: Option<KnownBoard>, bytes: u32) -> bool
+    ensures { result ≡ takes_cart version (known_row board) bytes }
+{
+    is_length(board, bytes as usize) && bytes <= Version::of(version).longest_cartridge
 }
 
 /// The most frames of a movie of a version.
@@ -98,12 +151,17 @@ pub fn most_frames(version: u16) -> u32
     Version::of(version).most_frames
 }
 
-/// The bytes of a state record in a movie of a version.
-#[tactic(auto, using(crate::proofs::VersionLemmas::of_each_version))]
-pub fn record_length(version: u16) -> usize
-    ensures value { result ≡ record_length version }
+/// The bytes of a state record in a movie of a version whose cartridge is on this board, or on none.
+#[tactic(auto, using(crate::proofs::VersionLemmas::of_each_version, crate::proofs::BoardLemmas::few_added))]
+pub fn record_length(version: u16, board: Option<KnownBoard>) -> usize
+    ensures value { result ≡ record_length version (known_row board) }
     ensures some { 0 < result }
-    ensures most { result ≤ STATE_LENGTH }
+    ensures few { result ≤ 2256 }
+    ensures whole { board ≡ None → rules_by version ≡ ByGuide → result ≤ STATE_LENGTH }
 {
-    Version::of(version).record_length
+    let own = Version::of(version).record_length;
+    match board {
+        None => own,
+        Some(known) => own + known.board.record_length(),
+    }
 }

@@ -13,7 +13,9 @@ ghost use Rattle.movie_file.specs.Spelling.{Spells};
 ghost use Rattle.movie_file.specs.declared.checkpoint.Checkpoint.{Checkpoint};
 ghost use Rattle.vcs_machine.specs.Inputs.{InputData};
 ghost use Rattle.vcs_machine.specs.declared.fault.FaultKind.{FaultKind};
+ghost use Rattle.movie_machine.specs.Carts.{rules_of};
 ghost use Rattle.movie_machine.specs.declared.cart.Cart.{Cart};
+ghost use Rattle.movie_machine.specs.declared.rules.Rules.TheVariants.{Guide as ByGuide};
 ghost use Rattle.movie_machine.specs.declared.state.State.{State};
 ghost use Rattle.vcs_machine.specs.declared.fields.StateFields.{StateFields};
 
@@ -96,9 +98,9 @@ pub const fn law_of_judgements()
         → IsFalseAt m s from k number → IsFalseAt m s from k other → number ≡ other }
 {}
 
-/// A law: a movie in version 2 is a movie, whose run is that of the movie.
+/// A law: a movie by the guide's rules is a movie in version 2, too, whose run is that of the movie.
 pub const fn law_of_conversion()
-    ensures lawful { (m : MovieData) → IsMovie m → IsMovie (in_version_2 m) }
+    ensures lawful { (m : MovieData) → IsMovie m → rules_of m.cartridge ≡ ByGuide → IsMovie (in_version_2 m) }
     ensures run { (m : MovieData) (s : State) (from k : ℕ)
         → run (in_version_2 m) s from k ≡ run m s from k }
 {}

@@ -25,8 +25,8 @@ pub use checkpoint::Checkpoint;
 pub use converting::{ConvertError, convert};
 pub use error::{MakeError, MovieError};
 pub use format::{
-    HEADER_LENGTH, INPUT_LENGTH, MOST_CHECKPOINTS, MOST_FRAMES, STATE_LENGTH, most_frames,
-    record_length,
+    INPUT_LENGTH, MOST_CHECKPOINTS, MOST_FRAMES, STATE_LENGTH, has_board, has_wide_length,
+    header_length, is_length, most_frames, record_length,
 };
 pub use laws::{
     law_of_checkpoints, law_of_conversion, law_of_inputs, law_of_judgements, law_of_making,
@@ -37,8 +37,9 @@ pub use movie::Movie;
 pub use progress::{NoProgress, Progress, Work};
 pub use reading::{read_inputs, read_movie};
 pub use record::{
-    BANK_NUMBERS, BANK_NUMBERS_AT, PROCESSOR_NUMBERS, RIOT_NUMBERS, RIOT_NUMBERS_AT, RecordNumber,
-    TIA_NUMBERS, TIA_NUMBERS_AT, read_state, write_state,
+    BANK_BYTES_AT, BANK_NUMBERS, BANK_NUMBERS_AT, CHIP_RIOT_NUMBERS, CHIP_RIOT_NUMBERS_AT,
+    CHIP_TIA_NUMBERS, CHIP_TIA_NUMBERS_AT, PROCESSOR_NUMBERS, RIOT_NUMBERS, RIOT_NUMBERS_AT,
+    RecordNumber, TIA_NUMBERS, TIA_NUMBERS_AT, read_state, write_state,
 };
 pub use records::{have_one_record, state_record};
 pub use writing::write_movie;

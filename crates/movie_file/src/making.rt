@@ -4,10 +4,8 @@ ghost use Rattle.std.specs.Prelude.{length, vec_len, vec_capacity, if◌then◌e
 ghost use Rattle.std.specs.Prelude.{IsTrue, OnOk, OnErr};
 ghost use Rattle.movie_machine.specs.Carts.{IsCart, rules_of};
 ghost use Rattle.movie_machine.specs.States.{is_of, ram_of, state_at_power_on};
-ghost use Rattle.movie_machine.specs.declared.cart.Cart.TheVariants.{Guide as GuideCart};
-ghost use Rattle.movie_machine.specs.declared.rules.Rules.TheVariants.{Guide as ByGuide};
 ghost use Rattle.movie_file.specs.Judgement.{IsGenuine};
-ghost use Rattle.movie_file.specs.Making.{Explains, IsMadeOf, bare, counts_fit, version_made};
+ghost use Rattle.movie_file.specs.Making.{Explains, IsMadeOf, bare, counts_fit, guide_version, version_made};
 ghost use Rattle.movie_file.specs.ClaimedStates.{checkpoint_if};
 ghost use Rattle.movie_file.specs.Private.MakingSteps.{RunFails};
 ghost use Rattle.movie_file.specs.Movie.{CanBeClaimed, IsMovie};
@@ -33,14 +31,27 @@ pub fn do_counts_fit(frames: usize, every: u32) -> bool
         && frames / every as usize <= MOST_CHECKPOINTS as usize
 }
 
-/// The version of the movie that is made of a cartridge of so many bytes and so many inputs.
-pub fn version_made(cartridge: u32, frames: usize) -> u16
-    ensures { result ≡ version_made cartridge frames }
+/// The version of the movie that is made by the guide's rules of a cartridge of so many bytes and so
+/// many inputs.
+fn guide_version(cartridge: u32, frames: usize) -> u16
+    ensures { result ≡ guide_version cartridge frames }
 {
-    if takes_cart(1, cartridge) && frames <= most_frames(1) as usize {
+    if takes_cart(1, None, cartridge) && frames <= most_frames(1) as usize {
         1
     } else {
         2
+    }
+}
+
+/// The version of the movie that is made of a cartridge and so many inputs.
+pub fn version_made(cart: &Cart, frames: usize) -> u16
+    ensures value { result ≡ version_made cart.now frames }
+    ensures lawful { IsCart cart.now }
+{
+    let bytes = cart.len();
+    match cart {
+        Cart::Guide(_) => guide_version(bytes, frames),
+        Cart::Chip(_) => 3,
     }
 }
 
@@ -107,7 +118,7 @@ fn checkpoints_of_run<P: Progress>(
     ensures ok { IfOk result (λ made.
         let m = record (bare cart.now inputs.now) { checkpoints = made.items } in
         IsMadeOf cart.now inputs.now every m × IsGenuine m
-        × (rules_of cart.now ≡ ByGuide → IsCart cart.now → IsMovie m)) }
+        × (IsCart cart.now → IsMovie m)) }
     ensures err { IfErr result (RunFails cart.now inputs.now) }
 {
     let Ok(mut state) = copy_state(alloc, start) else {
@@ -133,7 +144,8 @@ fn checkpoints_of_run<P: Progress>(
 /// The movie of a run from power-on on a cartridge, one frame for each input, with a checkpoint
 /// after each `every` frames.
 ///
-/// The movie has version 1 if that has room for it, and else version 2.
+/// By the guide's rules the movie has version 1 if that has room for it, and else version 2; by the
+/// chip's rules it has version 3.
 ///
 /// `BadCounts` comes first: for no inputs, more than 262,143, `every` 0, or more than 4,095
 /// checkpoints. Then the memory of the checkpoints is taken, in one allocation; if that is refused
@@ -141,14 +153,14 @@ fn checkpoints_of_run<P: Progress>(
 /// as one work, which begins after that memory was taken.
 pub fn make_movie<P: Progress>(
     alloc: Global,
-    cart: riot_map::Cart,
+    cart: Cart,
     inputs: Vec<Input>,
     every: u32,
     progress: &P,
 ) -> Result<Movie, Refused<MakeError>>
-    ensures made { IfOk result (λ movie. IsMadeOf (GuideCart cart) inputs.items every movie) }
+    ensures made { IfOk result (λ movie. IsMadeOf cart inputs.items every movie) }
     ensures genuine { IfOk result (λ movie. IsGenuine movie) }
-    ensures refused { IfErr result (Explains (GuideCart cart) inputs.items every) }
+    ensures refused { IfErr result (Explains cart inputs.items every) }
     ensures counts { IfOk result (λ movie. IsTrue (counts_fit (length inputs.items) every)) }
 {
     if !do_counts_fit(inputs.len(), every) {
@@ -157,8 +169,7 @@ pub fn make_movie<P: Progress>(
     let Ok(checkpoints) = Vec::with_capacity(alloc, inputs.len() / every as usize) else {
         return Err(Refused::NoMemory);
     };
-    let version = version_made(u32::from(cart.len()), inputs.len());
-    let cart = Cart::Guide(cart);
+    let version = version_made(&cart, inputs.len());
     let Ok(start) = State::power_on(alloc, &cart) else {
         return Err(Refused::NoMemory);
     };

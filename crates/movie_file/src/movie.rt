@@ -132,6 +132,7 @@ impl Movie {
 
     /// The same movie in version 2.
     pub(crate) fn in_version_2(self) -> Movie
+        requires { self.version ≡ 1 }
         ensures { result ≡ in_version_2 self }
     {
         let mut movie = self;

@@ -1,25 +1,32 @@
 //! Records of states with their cartridge.
-ghost use Rattle.std.specs.Prelude.{◌≡◌, IsTrue};
+ghost use Rattle.std.specs.Prelude.{◌≡◌, IfOk, IsTrue, length};
 ghost use Rattle.std.specs.Str.{bytes_eq};
-ghost use Rattle.movie_machine.specs.Carts.{rules_of};
+ghost use Rattle.movie_machine.specs.Carts.{board_of};
 ghost use Rattle.movie_machine.specs.States.{is_of};
-ghost use Rattle.movie_machine.specs.declared.rules.Rules.TheVariants.{Guide as ByGuide};
-ghost use Rattle.movie_file.specs.Record.{record_in};
+ghost use Rattle.movie_file.specs.Record.{record_in, whole_length};
 
-use crate::format::STATE_LENGTH;
 use crate::record::write_state;
 use movie_machine::{Cart, State};
+use std::alloc::{AllocError, Global};
 
-/// The record of a state of a cartridge by the guide's rules.
-pub fn state_record(cart: &Cart, state: &State) -> [u8; STATE_LENGTH]
-    requires rules { rules_of cart.now ≡ ByGuide }
-    requires cartridge { IsTrue (is_of cart.now state.now) }
-    ensures { result ≡ record_in cart.now state.now }
+/// The record of a state with a cartridge, by the rules of both.
+pub fn state_record(alloc: Global, cart: &Cart, state: &State) -> Result<Vec<u8>, AllocError>
+    ensures value { IfOk result (λ spelled. spelled.items ≡ record_in cart.now state.now) }
+    ensures whole { IfOk result (λ spelled. IsTrue (is_of cart.now state.now)
+        → length spelled.items ≡ whole_length (board_of cart.now)) }
 {
+    let mut record = Vec::new(alloc);
     match (cart, state) {
-        (Cart::Guide(_), State::Guide(state)) => write_state(state),
-        _ => unreachable!(),
+        (Cart::Guide(_), State::Guide(state)) => record.extend_from_slice(&write_state(state))?,
+        (Cart::Chip(cart), State::Chip(state)) => {
+            // (the proof then knows how long the record is)
+            let _ = cart.board();
+            let _ = state.fields();
+            chip_machine::write_state(cart, state, &mut record)?;
+        }
+        _ => {}
     }
+    Ok(record)
 }
 
 /// Whether two states of a cartridge have one record. It takes no memory.

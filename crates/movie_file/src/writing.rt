@@ -3,21 +3,32 @@ ghost use Rattle.std.specs.Prelude.{◌≡◌, ◌++◌, length, OnOk, OnErr};
 ghost use Rattle.std.specs.Int.{w16, w32, to_be_bytes};
 ghost use Rattle.std.specs.Io.{StartsWith};
 ghost use Rattle.std.specs.List.{flat_map};
-ghost use Rattle.movie_machine.specs.Carts.{bytes_of, rules_of};
-ghost use Rattle.movie_machine.specs.declared.rules.Rules.TheVariants.{Guide as ByGuide};
+ghost use Rattle.movie_machine.specs.Carts.{board_of, bytes_of, rules_of};
 ghost use Rattle.vcs_machine.specs.Inputs.{input_bytes};
-ghost use Rattle.movie_file.specs.Format.{length_width, magic};
+ghost use Rattle.movie_file.specs.Format.{length_width, magic, rules_by};
 ghost use Rattle.movie_file.specs.Movie.{IsMovie};
-ghost use Rattle.movie_file.specs.Spelling.{header_of, checkpoint_bytes, spelling};
+ghost use Rattle.movie_file.specs.Spelling.{board_bytes, header_of, checkpoint_bytes, spelling};
 ghost use Rattle.movie_file.specs.Record.{state_bytes};
 
 use crate::checkpoint::Checkpoint;
-use crate::format::{HEADER_LENGTH, MAGIC, Version, record_length};
+use crate::format::{MAGIC, Version, header_length, record_length};
 use crate::movie::Movie;
 use crate::record::write_state;
 use movie_machine::{Cart, State};
 use std::alloc::AllocError;
 use vcs_machine::Input;
+
+/// Appends the board of a cartridge, if it is on one.
+fn put_board(out: &mut Vec<u8>, movie: &Movie) -> Result<(), AllocError>
+    ensures ok { OnOk result
+        (out.new.items ≡ out.old.items ++ board_bytes (board_of movie.now.cartridge)) }
+    ensures prefix { StartsWith out.new.items out.old.items }
+{
+    match movie.cart().board() {
+        None => Ok(()),
+        Some(known) => out.extend_from_slice(&[known.board.code]),
+    }
+}
 
 /// Appends the length of a cartridge, in a movie of a version.
 fn put_length(out: &mut Vec<u8>, movie: &Movie) -> Result<(), AllocError>
@@ -67,8 +78,9 @@ fn put_header(out: &mut Vec<u8>, movie: &Movie) -> Result<(), AllocError>
     ensures ok { OnOk result (out.new.items ≡ out.old.items ++ header_of movie.now) }
     ensures prefix { StartsWith out.new.items out.old.items }
 {
-    out.reserve(HEADER_LENGTH)?;
+    out.reserve(header_length(movie.version()))?;
     out.extend_from_slice(&first_fields(movie))?;
+    put_board(out, movie)?;
     put_length(out, movie)?;
     out.extend_from_slice(&counts(movie))?;
     Ok(())
@@ -87,16 +99,16 @@ fn put_inputs(out: &mut Vec<u8>, inputs: &[Input]) -> Result<(), AllocError>
 
 /// Appends a state, in a movie of a version with this cartridge.
 fn put_state(out: &mut Vec<u8>, version: u16, cart: &Cart, state: &State) -> Result<(), AllocError>
-    requires { rules_of cart.now ≡ ByGuide }
+    requires { rules_of cart.now ≡ rules_by version }
     ensures ok { OnOk result (out.new.items ≡ out.old.items ++ state_bytes version cart.now state.now) }
     ensures prefix { StartsWith out.new.items out.old.items }
 {
     match (cart, state) {
         (Cart::Guide(_), State::Guide(state)) => out.extend_from_slice(
-            &write_state(state)[..record_length(version)],
+            &write_state(state)[..record_length(version, None)],
         ),
-        (Cart::Guide(_), State::Chip(_)) => Ok(()),
-        (Cart::Chip(_), _) => unreachable!(),
+        (Cart::Chip(cart), State::Chip(state)) => chip_machine::write_state(cart, state, out),
+        _ => Ok(()),
     }
 }
 
@@ -107,7 +119,7 @@ fn put_checkpoint(
     cart: &Cart,
     checkpoint: &Checkpoint,
 ) -> Result<(), AllocError>
-    requires { rules_of cart.now ≡ ByGuide }
+    requires { rules_of cart.now ≡ rules_by version }
     ensures ok { OnOk result
         (out.new.items ≡ out.old.items ++ checkpoint_bytes version cart.now checkpoint.now) }
     ensures prefix { StartsWith out.new.items out.old.items }
@@ -125,7 +137,7 @@ fn put_checkpoints(
     cart: &Cart,
     checkpoints: &[Checkpoint],
 ) -> Result<(), AllocError>
-    requires { rules_of cart.now ≡ ByGuide }
+    requires { rules_of cart.now ≡ rules_by version }
     ensures ok { OnOk result
         (out.new.items ≡ out.old.items ++ flat_map (checkpoint_bytes version cart.now) checkpoints.now) }
     ensures prefix { StartsWith out.new.items out.old.items }

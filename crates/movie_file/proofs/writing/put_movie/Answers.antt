@@ -2,6 +2,10 @@ use Rattle.std.proofs.Common.{append_assoc}
 use Rattle.movie_file.proofs.PrefixLemmas.{prefix_then}
 use Rattle.movie_file.proofs.writing.put_movie.Goals as goal
 
+pub returns-in_err-put_state-clause-prefix : goal.returns-in_err-put_state-clause-prefix
+returns-in_err-put_state-clause-prefix c =
+    prefix_then _ _ _ _ c.in_ok-put_header.ensures.ok (prefix_then _ _ _ _ c.in_ok-extend_from_slice.ensures.items c.in_err-put_state.ensures.prefix)
+
 pub returns-in_err-put_inputs-clause-prefix : goal.returns-in_err-put_inputs-clause-prefix
 returns-in_err-put_inputs-clause-prefix c =
     prefix_then _ _ _ _ c.in_ok-put_header.ensures.ok (prefix_then _ _ _ _ c.in_ok-extend_from_slice.ensures.items
