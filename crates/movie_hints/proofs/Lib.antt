@@ -1,3 +1,4 @@
 pub mod LeastLemmas
+pub mod LengthTexts
 pub mod TextLemmas
 pub mod WordLemmas

@@ -1,6 +1,6 @@
 -- What a hint says, in words: the second line of a refusal, after the name of a file. This project's
 -- own.
-use Rattle.std.specs.Prelude.{ℕ, List, [], ◌++◌, ◌/◌, ◌%◌, ◌==◌, codes, if◌then◌else◌}
+use Rattle.std.specs.Prelude.{ℕ, List, [], ◌∷◌, ◌++◌, ◌/◌, ◌%◌, ◌==◌, codes, if◌then◌else◌}
 use Rattle.std.specs.Fmt.{decimal}
 use Rattle.vcs_machine.specs.Faults.{hex2, hex4}
 use Rattle.movie_hints.specs.declared.hint.Hint.{Hint}
@@ -20,6 +20,7 @@ use Rattle.movie_hints.specs.declared.mismatch.Mismatch.{Mismatch}
 abbrev pub field_text : Field → List ℕ
 field_text fields.Magic = codes "magic"
 field_text fields.Version = codes "version"
+field_text fields.Board = codes "board"
 field_text fields.CartridgeLength = codes "cartridge length"
 field_text fields.Frames = codes "frames"
 field_text fields.Checkpoints = codes "checkpoints"
@@ -31,11 +32,24 @@ abbrev pub place_text : Field → ℕ → List ℕ
 place_text (fields.Named name) byte = name.now ++ (codes " at byte " ++ decimal byte)
 place_text other byte = codes "byte " ++ decimal byte
 
+-- Lengths, with "or" before the last.
+abbrev pub more_lengths : List ℕ → List ℕ
+more_lengths [] = []
+more_lengths (n ∷ []) = codes " or " ++ decimal n
+more_lengths (n ∷ m ∷ ns) = codes ", " ++ (decimal n ++ more_lengths (m ∷ ns))
+
+abbrev pub lengths_text : List ℕ → List ℕ
+lengths_text [] = []
+lengths_text (n ∷ ns) = decimal n ++ more_lengths ns
+
 -- What was expected of a field.
 abbrev pub expected_text : Expected → List ℕ
 expected_text expected.Magic = codes "4132364D"
-expected_text expected.Version = codes "version 1 or 2"
+expected_text expected.Version = codes "version 1, 2 or 3"
+expected_text expected.Board = codes "the code of a board, 0 to 17"
 expected_text expected.CartridgeLength = codes "a cartridge of 2048 or 4096 bytes, in version 2 also 8192"
+expected_text (expected.LengthOn board lengths) =
+    codes "a cartridge of board " ++ (board.now ++ (codes ", of " ++ (lengths_text lengths.now ++ codes " bytes")))
 expected_text (expected.Frames most) = codes "1 to " ++ (decimal most ++ codes " frames")
 expected_text expected.Checkpoints = codes "at most 4095 checkpoints"
 expected_text (expected.NoBitOutside mask) = codes "no bit outside of " ++ hex2 mask
@@ -87,7 +101,7 @@ look_text Stripped = codes "a movie without its cartridge: vcs_share join puts i
 
 -- The whole of a hint.
 abbrev pub hint_text : Hint → List ℕ
-hint_text (hints.InHeader length) = codes "has " ++ (decimal length ++ codes " bytes, and a header has 14")
+hint_text (hints.InHeader length header) = codes "has " ++ (decimal length ++ (codes " bytes, and a header has " ++ decimal header))
 hint_text (hints.Missing missing said length) =
     decimal missing ++ (codes " bytes too few: its header says " ++ (decimal said ++ (codes ", and it has " ++ decimal length)))
 hint_text (hints.Extra extra said length) =
@@ -98,6 +112,8 @@ hint_text hints.Text = codes "looks like text"
 hint_text hints.LooksLikeCartridge = codes "looks like a cartridge, of which make makes a movie"
 hint_text hints.LooksLikeMovie = codes "looks like a movie"
 hint_text (hints.NoCartridge length) = codes "has " ++ (decimal length ++ codes " bytes, and a cartridge has 2048, 4096 or 8192")
+hint_text (hints.NoCartridgeOn length board lengths) =
+    codes "has " ++ (decimal length ++ (codes " bytes, and a cartridge of board " ++ (board.now ++ (codes " has " ++ lengths_text lengths.now))))
 hint_text hints.Exchanged = codes "has as many bytes as a cartridge, which comes first: make ROM INPUTS"
 hint_text hints.LooksLikeText = codes "looks like text, which is read with --text"
 hint_text hints.LooksLikeBytes = codes "looks like bytes, which are read without --text"

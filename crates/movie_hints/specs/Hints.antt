@@ -13,9 +13,12 @@ use Rattle.input_text.specs.declared.mistake.Mistake.TheVariants.{NoCount, NoNam
 use Rattle.vcs_machine.specs.Inputs.{InputData}
 use Rattle.movie_file.specs.InputLists.{SpellsInputs}
 use Rattle.movie_hints.specs.Looks.{has_at, is_like, looks}
-use Rattle.movie_hints.specs.Places.{checkpoint_place, end_place, four_at, frame_before, header_length, input_place, two_at}
+use Rattle.cart_board.specs.Board.{Row}
+use Rattle.movie_hints.specs.Places.{board_in, board_place, checkpoint_place, count_in, count_place, end_place, four_at}
+use Rattle.movie_hints.specs.Places.{frame_before, frames_in, frames_place, header_end, input_place, length_in, length_place}
+use Rattle.movie_hints.specs.Places.{two_at, version_in}
 use Rattle.riot_map.specs.Cart.{is_cart_length}
-use Rattle.movie_file.specs.Format.{magic, most_checkpoints, most_frames}
+use Rattle.movie_file.specs.Format.{magic, most_checkpoints, most_frames, row_of}
 use Rattle.movie_file.specs.declared.error.MovieError.{MovieError}
 use Rattle.movie_file.specs.declared.error.MovieError.TheVariants as errors
 use Rattle.movie_hints.specs.declared.hint.Hint.{Hint}
@@ -85,7 +88,7 @@ with_extra extra other = other
 -- A hint is that of a field, of which this is said.
 abbrev pub TellsOf : Hint → (Mismatch → Type 0) → Type 0
 TellsOf (hints.Mismatch m) Says = Says m
-TellsOf (hints.InHeader found) Says = ⊥
+TellsOf (hints.InHeader found header) Says = ⊥
 TellsOf (hints.Missing missing said found) Says = ⊥
 TellsOf (hints.Extra extra said found) Says = ⊥
 TellsOf (hints.Looks look) Says = ⊥
@@ -93,6 +96,7 @@ TellsOf hints.Text Says = ⊥
 TellsOf hints.LooksLikeCartridge Says = ⊥
 TellsOf hints.LooksLikeMovie Says = ⊥
 TellsOf (hints.NoCartridge found) Says = ⊥
+TellsOf (hints.NoCartridgeOn found board lengths) Says = ⊥
 TellsOf hints.Exchanged Says = ⊥
 TellsOf hints.LooksLikeText Says = ⊥
 TellsOf hints.LooksLikeBytes Says = ⊥
@@ -138,16 +142,16 @@ TellsExchanged bytes hint = (hint ≡ hints.Exchanged) × (is_cart_length (lengt
 -- The file's length: shorter than a header; else by how much it is shorter or longer than its header
 -- says.
 abbrev pub TellsHeader : List ℕ → Hint → Type 0
-TellsHeader bytes hint = (hint ≡ hints.InHeader (length bytes)) × (length bytes < header_length)
+TellsHeader bytes hint = (hint ≡ hints.InHeader (length bytes) (header_end bytes)) × (length bytes < header_end bytes)
 
 abbrev pub TellsMissing : List ℕ → Hint → Type 0
 TellsMissing bytes hint =
-    (hint ≡ hints.Missing (end_place bytes - length bytes) (end_place bytes) (length bytes)) × (header_length ≤ length bytes)
+    (hint ≡ hints.Missing (end_place bytes - length bytes) (end_place bytes) (length bytes)) × (header_end bytes ≤ length bytes)
     × (length bytes < end_place bytes)
 
 abbrev pub TellsExtra : List ℕ → Hint → Type 0
 TellsExtra bytes hint =
-    (hint ≡ hints.Extra (length bytes - end_place bytes) (end_place bytes) (length bytes)) × (header_length ≤ length bytes)
+    (hint ≡ hints.Extra (length bytes - end_place bytes) (end_place bytes) (length bytes)) × (header_end bytes ≤ length bytes)
     × (end_place bytes ≤ length bytes)
 
 abbrev pub TellsLength : List ℕ → Hint → Type 0
@@ -170,19 +174,36 @@ TellsBeginning bytes hint = TellsLook bytes hint ⊎ TellsText bytes hint ⊎ Te
 -- The counts: too many checkpoints, if the frames are in their range, and else the frames.
 abbrev pub has_many_checkpoints : List ℕ → Bool
 has_many_checkpoints bytes =
-    nat_le 1 (four_at bytes 8) && nat_le (four_at bytes 8) (most_frames (two_at bytes 4)) && nat_lt most_checkpoints (two_at bytes 12)
+    nat_le 1 (frames_in bytes) && nat_le (frames_in bytes) (most_frames (version_in bytes)) && nat_lt most_checkpoints (count_in bytes)
 
 abbrev pub TellsCounts : List ℕ → Hint → Type 0
 TellsCounts bytes hint =
     hint
-    ≡ (if has_many_checkpoints bytes then of_field fields.Checkpoints 12 expected.Checkpoints (found.TwoBytes (two_at bytes 12))
-    else of_field fields.Frames 8 (expected.Frames (most_frames (two_at bytes 4))) (found.FourBytes (four_at bytes 8)))
+    ≡ (if has_many_checkpoints bytes
+    then of_field fields.Checkpoints (count_place bytes) expected.Checkpoints (found.TwoBytes (count_in bytes))
+    else of_field fields.Frames (frames_place bytes) (expected.Frames (most_frames (version_in bytes))) (found.FourBytes (frames_in bytes)))
+
+-- The length of a cartridge: in versions whose headers name its board those of that are told.
+abbrev pub length_found : List ℕ → Found
+length_found bytes =
+    if (row_of (version_in bytes)).has_wide_length then found.FourBytes (length_in bytes) else found.TwoBytes (length_in bytes)
+
+abbrev pub IsLengthOn : Option Row → Expected → Type 0
+IsLengthOn None said = said ≡ expected.CartridgeLength
+IsLengthOn (Some row) (expected.LengthOn board lengths) = (board.now ≡ row.name) × (lengths.now ≡ row.lengths)
+IsLengthOn (Some row) other = ⊥
+
+abbrev pub TellsLengthIn : List ℕ → Hint → Type 0
+TellsLengthIn bytes hint =
+    (said : Expected) × IsLengthOn (board_in bytes) said
+    × (hint ≡ of_field fields.CartridgeLength (length_place bytes) said (length_found bytes))
 
 -- A field has this name.
 abbrev pub IsNamed : Field → List ℕ → Type 0
 IsNamed (fields.Named name) text = name.now ≡ text
 IsNamed fields.Magic text = ⊥
 IsNamed fields.Version text = ⊥
+IsNamed fields.Board text = ⊥
 IsNamed fields.CartridgeLength text = ⊥
 IsNamed fields.Frames text = ⊥
 IsNamed fields.Checkpoints text = ⊥
@@ -226,7 +247,9 @@ Breaks expected.NoLatches n = n ≢ 0
 Breaks expected.OneBank n = n ≢ 0
 Breaks expected.Magic n = ⊥
 Breaks expected.Version n = ⊥
+Breaks expected.Board n = ⊥
 Breaks expected.CartridgeLength n = ⊥
+Breaks (expected.LengthOn board lengths) n = ⊥
 Breaks (expected.Frames most) n = ⊥
 Breaks expected.Checkpoints n = ⊥
 Breaks expected.SetBits n = ⊥
@@ -238,6 +261,7 @@ abbrev pub HasName : Field → Type 0
 HasName (fields.Named name) = Unit {0}
 HasName fields.Magic = ⊥
 HasName fields.Version = ⊥
+HasName fields.Board = ⊥
 HasName fields.CartridgeLength = ⊥
 HasName fields.Frames = ⊥
 HasName fields.Checkpoints = ⊥
@@ -255,14 +279,15 @@ abbrev pub TellsMistake : List ℕ → MovieError → Hint → Type 0
 TellsMistake bytes errors.Short hint = TellsLook bytes hint ⊎ TellsLength bytes hint
 TellsMistake bytes errors.BadMagic hint = TellsBeginning bytes hint
 TellsMistake bytes errors.BadVersion hint = hint ≡ of_field fields.Version 4 expected.Version (found.TwoBytes (two_at bytes 4))
-TellsMistake bytes errors.BadCartSize hint =
-    hint ≡ of_field fields.CartridgeLength 6 expected.CartridgeLength (found.TwoBytes (two_at bytes 6))
+TellsMistake bytes errors.BadBoard hint =
+    hint ≡ of_field fields.Board board_place expected.Board (found.Byte (slice_index bytes board_place))
+TellsMistake bytes errors.BadCartSize hint = TellsLengthIn bytes hint
 TellsMistake bytes errors.BadCounts hint = TellsCounts bytes hint
 TellsMistake bytes (errors.BadState number) hint = TellsState bytes hint
 TellsMistake bytes (errors.BadInput number) hint = number < 2 ^ 62 → TellsInput bytes (input_place bytes (number - 1)) hint
 TellsMistake bytes (errors.BadOrder number) hint =
     hint
-    ≡ of_field fields.FrameNumber (checkpoint_place bytes (number - 1)) (expected.FrameAfter (frame_before bytes number) (four_at bytes 8))
+    ≡ of_field fields.FrameNumber (checkpoint_place bytes (number - 1)) (expected.FrameAfter (frame_before bytes number) (frames_in bytes))
     (found.FourBytes (four_at bytes (checkpoint_place bytes (number - 1))))
 TellsMistake bytes errors.Trailing hint = TellsLength bytes hint
 
@@ -270,6 +295,7 @@ TellsMistake bytes errors.Trailing hint = TellsLength bytes hint
 abbrev pub extra_of : List ℕ → MovieError → ℕ
 extra_of bytes errors.BadMagic = 0
 extra_of bytes errors.BadVersion = 0
+extra_of bytes errors.BadBoard = 0
 extra_of bytes other = length bytes - end_place bytes
 
 -- A hint at a field says that too.
@@ -288,9 +314,14 @@ Explains bytes error hint =
 abbrev pub TellsOther : List ℕ → Hint → Type 0
 TellsOther bytes hint = TellsMovie bytes hint ⊎ TellsLook bytes hint
 
--- Of a ROM: else how many bytes it has.
-abbrev pub TellsRom : List ℕ → Hint → Type 0
-TellsRom bytes hint = TellsOther bytes hint ⊎ ((hint ≡ hints.NoCartridge (length bytes)) × LooksLikeNothing bytes)
+-- Of a ROM: else how many bytes it has, and those of its board, if it is for one.
+abbrev pub TellsSize : Option Row → ℕ → Hint → Type 0
+TellsSize None bytes hint = hint ≡ hints.NoCartridge bytes
+TellsSize (Some row) bytes (hints.NoCartridgeOn found board lengths) = (found ≡ bytes) × (board.now ≡ row.name) × (lengths.now ≡ row.lengths)
+TellsSize (Some row) bytes other = ⊥
+
+abbrev pub TellsRom : Option Row → List ℕ → Hint → Type 0
+TellsRom board bytes hint = TellsOther bytes hint ⊎ (TellsSize board (length bytes) hint × LooksLikeNothing bytes)
 
 -- Of inputs: else that they are a text that can be read, or another one,
 abbrev pub TellsTexts : List ℕ → Hint → Type 0
@@ -303,6 +334,7 @@ TellsTriples bytes errors.Short hint = TellsExchanged bytes hint ⊎ (hint ≡ h
 TellsTriples bytes (errors.BadInput number) hint = number < 2 ^ 62 → TellsInput bytes (3 * (number - 1)) hint
 TellsTriples bytes errors.BadMagic hint = ⊥
 TellsTriples bytes errors.BadVersion hint = ⊥
+TellsTriples bytes errors.BadBoard hint = ⊥
 TellsTriples bytes errors.BadCartSize hint = ⊥
 TellsTriples bytes errors.BadCounts hint = ⊥
 TellsTriples bytes (errors.BadState number) hint = ⊥

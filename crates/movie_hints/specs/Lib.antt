@@ -1,5 +1,6 @@
 pub mod Looks
 pub mod Places
+pub mod Private
 pub mod Words
 pub mod Hints
 pub mod Counts

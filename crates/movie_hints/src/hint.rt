@@ -2,16 +2,17 @@
 ghost use Rattle.std.specs.Prelude.{◌≡◌};
 
 use crate::look::Look;
-use crate::mismatch::{Expected, Field, Found, Mismatch};
+use crate::mismatch::{Expected, Field, Found, Mismatch, write_lengths};
 use std::fmt;
 use thiserror::Error;
 
 /// What was expected of bytes and what they are, or what they look like. Places are counted from 0.
 #[derive(Clone, Copy, Debug, Error)]
 pub enum Hint {
-    /// A file is too short for a header.
+    /// A file is too short for a header, which has so many bytes.
     InHeader {
         length: usize,
+        header: usize,
     },
     Missing {
         missing: usize,
@@ -30,6 +31,12 @@ pub enum Hint {
     LooksLikeMovie,
     /// No cartridge has so many bytes.
     NoCartridge(usize),
+    /// No cartridge on this board has.
+    NoCartridgeOn {
+        length: usize,
+        board: &'static str,
+        lengths: &'static [usize],
+    },
     /// A ROM and inputs are exchanged, or a ROM is given as inputs, too.
     Exchanged,
     LooksLikeText,
@@ -98,7 +105,9 @@ impl fmt::Display for Hint {
 
     fn fmt<W: fmt::Write>(&self, f: &mut fmt::Formatter<W>) -> fmt::Result {
         match *self {
-            Hint::InHeader { length } => { write!(f, "has {length} bytes, and a header has 14") }
+            Hint::InHeader { length, header } => {
+                write!(f, "has {length} bytes, and a header has {header}")
+            }
             Hint::Missing {
                 missing,
                 said,
@@ -127,6 +136,17 @@ impl fmt::Display for Hint {
                     f,
                     "has {length} bytes, and a cartridge has 2048, 4096 or 8192"
                 )
+            }
+            Hint::NoCartridgeOn {
+                length,
+                board,
+                lengths,
+            } => {
+                write!(
+                    f,
+                    "has {length} bytes, and a cartridge of board {board} has "
+                )?;
+                write_lengths(f, lengths)
             }
             Hint::Exchanged => write!(
                 f,

@@ -1,5 +1,6 @@
 //! What is wrong with a ROM or with inputs that are refused.
 ghost use Rattle.std.specs.Prelude.{◌≡◌, ◌<◌, ◌≤◌, ℕ, find, true, None, IfNone, IfSome};
+ghost use Rattle.cart_board.specs.Known.{known_row};
 ghost use Rattle.std.specs.NonZero.{non_zero_u32_get};
 ghost use Rattle.movie_hints.specs.Hints.{LooksLikeNothing, TellsInputs, TellsOther, TellsRom, TellsTexts, TellsTriples};
 ghost use Rattle.movie_file.specs.Format.{most_checkpoints};
@@ -10,6 +11,7 @@ use crate::hint::Hint;
 use crate::look::Look;
 use crate::plain_text::{is_text, is_utf16};
 use crate::refusals::wrong_input;
+use cart_board::KnownBoard;
 use input_text::read_text;
 use movie_file::{MOST_CHECKPOINTS, MOST_FRAMES, MovieError};
 use riot_map::Cart;
@@ -78,13 +80,18 @@ pub fn hint_of_inputs(alloc: Global, bytes: &[u8], error: MovieError) -> Option<
     hint_of_triples(bytes, error)
 }
 
-/// What is wrong with the bytes of a ROM that is no cartridge.
-pub fn hint_of_rom(bytes: &[u8]) -> Hint
-    ensures { TellsRom bytes.now result }
+/// What is wrong with the bytes of a ROM that is no cartridge, on this board or on none.
+pub fn hint_of_rom(bytes: &[u8], board: Option<KnownBoard>) -> Hint
+    ensures { TellsRom (known_row board) bytes.now result }
 {
-    match look_of(bytes) {
-        Some(hint) => hint,
-        None => Hint::NoCartridge(bytes.len()),
+    match (look_of(bytes), board) {
+        (Some(hint), _) => hint,
+        (None, None) => Hint::NoCartridge(bytes.len()),
+        (None, Some(known)) => Hint::NoCartridgeOn {
+            length: bytes.len(),
+            board: known.board.name,
+            lengths: known.board.lengths,
+        },
     }
 }
 

@@ -1,4 +1,6 @@
 //! A field of a file that is not what was expected.
+ghost use Rattle.std.specs.Fmt.{WritesOnOk};
+ghost use Rattle.movie_hints.specs.HintTexts.{lengths_text};
 
 use std::fmt;
 use vcs_machine::{HexByte, HexWord};
@@ -8,6 +10,7 @@ use vcs_machine::{HexByte, HexWord};
 pub enum Field {
     Magic,
     Version,
+    Board,
     CartridgeLength,
     Frames,
     Checkpoints,
@@ -23,19 +26,36 @@ pub enum Field {
 pub enum Expected {
     Magic,
     Version,
+    Board,
     CartridgeLength,
-    Frames { most: u32 },
+    /// One of the lengths of a cartridge on a board.
+    LengthOn {
+        board: &'static str,
+        lengths: &'static [usize],
+    },
+    Frames {
+        most: u32,
+    },
     Checkpoints,
-    NoBitOutside { mask: u8 },
-    AtMost { most: u8 },
-    OneTo { most: u16 },
+    NoBitOutside {
+        mask: u8,
+    },
+    AtMost {
+        most: u8,
+    },
+    OneTo {
+        most: u16,
+    },
     NoLatches,
     OneBank,
     /// The bits of the switches that are always set.
     SetBits,
     /// No bit but those of the two buttons.
     ButtonBits,
-    FrameAfter { before: u32, last: u32 },
+    FrameAfter {
+        before: u32,
+        last: u32,
+    },
 }
 
 /// What a field is: a number of one, two or four bytes, or the bits of one or four.
@@ -69,6 +89,7 @@ impl fmt::Display for Field {
         match *self {
             Field::Magic => write!(f, "magic"),
             Field::Version => write!(f, "version"),
+            Field::Board => write!(f, "board"),
             Field::CartridgeLength => write!(f, "cartridge length"),
             Field::Frames => write!(f, "frames"),
             Field::Checkpoints => write!(f, "checkpoints"),
@@ -76,6 +97,27 @@ impl fmt::Display for Field {
             Field::Named(name) => write!(f, "{name}"),
         }
     }
+}
+
+/// Writes some lengths, with "or" before the last.
+pub(crate) fn write_lengths<W: fmt::Write>(
+    f: &mut fmt::Formatter<W>,
+    lengths: &[usize],
+) -> fmt::Result
+    ensures { WritesOnOk W.write_str_gives f.old result (lengths_text lengths.now) f.new }
+{
+    let count = lengths.len();
+    for i in 0..count {
+        let before = if i == 0 {
+            ""
+        } else if i + 1 < count {
+            ", "
+        } else {
+            " or "
+        };
+        write!(f, "{before}{}", lengths[i])?;
+    }
+    Ok(())
 }
 
 impl fmt::Display for Expected {
@@ -87,11 +129,17 @@ impl fmt::Display for Expected {
     fn fmt<W: fmt::Write>(&self, f: &mut fmt::Formatter<W>) -> fmt::Result {
         match *self {
             Expected::Magic => write!(f, "4132364D"),
-            Expected::Version => write!(f, "version 1 or 2"),
+            Expected::Version => write!(f, "version 1, 2 or 3"),
+            Expected::Board => write!(f, "the code of a board, 0 to 17"),
             Expected::CartridgeLength => write!(
                 f,
                 "a cartridge of 2048 or 4096 bytes, in version 2 also 8192"
             ),
+            Expected::LengthOn { board, lengths } => {
+                write!(f, "a cartridge of board {board}, of ")?;
+                write_lengths(f, lengths)?;
+                write!(f, " bytes")
+            }
             Expected::Frames { most } => write!(f, "1 to {most} frames"),
             Expected::Checkpoints => write!(f, "at most 4095 checkpoints"),
             Expected::NoBitOutside { mask } => write!(f, "no bit outside of {}", HexByte(mask)),

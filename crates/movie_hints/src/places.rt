@@ -1,8 +1,19 @@
 //! Places in the bytes of a movie file, whatever they hold.
-ghost use Rattle.std.specs.Prelude.{◌≡◌, ◌<◌, ◌+◌, ◌^◌, slice_index};
-ghost use Rattle.movie_hints.specs.Places.{after_checkpoints, after_inputs, four_at, two_at};
+ghost use Rattle.std.specs.Prelude.{ℕ, List, ◌≡◌, ◌<◌, ◌+◌, ◌^◌, slice_index, if◌then◌else◌};
+ghost use Rattle.cart_board.specs.Known.{known_row};
+ghost use Rattle.movie_file.specs.Format.{has_board};
+ghost use Rattle.movie_hints.specs.Places.{board_in, board_place, checkpoint_place, count_in, end_place, four_at};
+ghost use Rattle.movie_hints.specs.Places.{frames_in, header_end, input_place, length_in, two_at, version_in};
+ghost use Rattle.movie_hints.specs.Private.Sayings.{IsSaid};
 
-use movie_file::{HEADER_LENGTH, INPUT_LENGTH, record_length};
+use cart_board::KnownBoard;
+use movie_file::{INPUT_LENGTH, has_board, has_wide_length, header_length, record_length};
+
+/// Where the version of a movie stands.
+const VERSION_AT: usize = 4;
+
+/// Where the board stands in versions that name one, and else the length of the cartridge.
+pub(crate) const BOARD_AT: usize = 6;
 
 /// A byte, or 0 after the last one.
 pub(crate) fn byte_at(bytes: &[u8], at: usize) -> u8
@@ -39,10 +50,47 @@ pub(crate) fn four_at(bytes: &[u8], at: usize) -> u32
     u32::from_be_bytes([byte_at(bytes, at), second, third, fourth])
 }
 
+/// The board of a file's cartridge: none where the version names none, or where no board has its code.
+fn board_in(bytes: &[u8], version: u16) -> Option<KnownBoard>
+    requires { version ≡ version_in bytes.now }
+    ensures value { known_row result ≡ board_in bytes.now }
+{
+    if has_board(version) {
+        KnownBoard::of_code(byte_at(bytes, BOARD_AT))
+    } else {
+        None
+    }
+}
+
+/// Where the length of the cartridge stands, in a movie of a version.
+pub(crate) fn length_place(version: u16) -> usize
+    ensures { result ≡ (if has_board version then board_place + 1 else board_place) }
+{
+    if has_board(version) {
+        BOARD_AT + 1
+    } else {
+        BOARD_AT
+    }
+}
+
+/// The length of the cartridge.
+fn length_in(bytes: &[u8], version: u16) -> u32
+    requires { version ≡ version_in bytes.now }
+    ensures { result ≡ length_in bytes.now }
+{
+    let at = length_place(version);
+    if has_wide_length(version) {
+        four_at(bytes, at)
+    } else {
+        u32::from(two_at(bytes, at))
+    }
+}
+
 /// What the header of a file says.
 #[derive(Clone, Copy)]
 pub(crate) struct Places {
     pub(crate) version: u16,
+    pub(crate) board: Option<KnownBoard>,
     pub(crate) cartridge: u32,
     pub(crate) frames: u32,
     pub(crate) checkpoints: u16,
@@ -50,46 +98,50 @@ pub(crate) struct Places {
 
 impl Places {
     pub(crate) fn of(bytes: &[u8]) -> Places
-        ensures version { result.version ≡ two_at bytes.now 4 }
-        ensures cartridge { result.cartridge ≡ two_at bytes.now 6 }
-        ensures frames { result.frames ≡ four_at bytes.now 8 }
-        ensures checkpoints { result.checkpoints ≡ two_at bytes.now 12 }
+        ensures { IsSaid bytes.now result }
     {
+        let version = two_at(bytes, VERSION_AT);
+        let board = board_in(bytes, version);
+        let end = header_length(version);
         Places {
-            version: two_at(bytes, 4),
-            cartridge: u32::from(two_at(bytes, 6)),
-            frames: four_at(bytes, 8),
-            checkpoints: two_at(bytes, 12),
+            version,
+            board,
+            cartridge: length_in(bytes, version),
+            frames: four_at(bytes, end - 6),
+            checkpoints: two_at(bytes, end - 2),
         }
     }
 
     /// Where the start state is.
     pub(crate) fn start(self) -> usize
-        ensures { result ≡ HEADER_LENGTH + self.cartridge }
+        ensures said { (bytes : List ℕ) → IsSaid bytes self → result ≡ header_end bytes + length_in bytes }
+        ensures few { result < 2 ^ 33 }
     {
-        HEADER_LENGTH + self.cartridge as usize
+        header_length(self.version) + self.cartridge as usize
     }
 
     /// Where the input of a frame is, counted from 0.
     pub(crate) fn input(self, frame: u64) -> usize
-        ensures { frame < 2 ^ 62 → result ≡ after_inputs self.version self.cartridge frame }
+        ensures said { (bytes : List ℕ) → IsSaid bytes self → frame < 2 ^ 62 → result ≡ input_place bytes frame }
+        ensures few { frame < 2 ^ 62 → result + 2 < 2 ^ 64 }
     {
         let inputs = (frame as usize).saturating_mul(INPUT_LENGTH);
-        (self.start() + record_length(self.version)).saturating_add(inputs)
+        (self.start() + record_length(self.version, self.board)).saturating_add(inputs)
     }
 
     /// Where a checkpoint is, counted from 0.
     pub(crate) fn checkpoint(self, number: u16) -> usize
-        ensures { result ≡ after_checkpoints self.version self.cartridge self.frames number }
+        ensures { (bytes : List ℕ) → IsSaid bytes self → result ≡ checkpoint_place bytes number }
     {
-        let checkpoints = usize::from(number).saturating_mul(4 + record_length(self.version));
+        let length = 4 + record_length(self.version, self.board);
+        let checkpoints = usize::from(number).saturating_mul(length);
         self.input(u64::from(self.frames))
             .saturating_add(checkpoints)
     }
 
     /// Where the file ends.
     pub(crate) fn end(self) -> usize
-        ensures { result ≡ after_checkpoints self.version self.cartridge self.frames self.checkpoints }
+        ensures { (bytes : List ℕ) → IsSaid bytes self → result ≡ end_place bytes }
     {
         self.checkpoint(self.checkpoints)
     }

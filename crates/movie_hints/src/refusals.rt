@@ -7,10 +7,10 @@ ghost use Rattle.movie_hints.specs.Hints.{TellsMistake, TellsState, extra_of};
 use crate::hint::Hint;
 use crate::look::Look;
 use crate::mismatch::{Expected, Field, Found};
-use crate::places::{Places, byte_at, four_at, two_at};
+use crate::places::{BOARD_AT, Places, byte_at, four_at, length_place, two_at};
 use crate::plain_text::is_text;
 use crate::state_rules::broken_number;
-use movie_file::{HEADER_LENGTH, MOST_CHECKPOINTS, MovieError, most_frames};
+use movie_file::{MOST_CHECKPOINTS, MovieError, has_wide_length, header_length, most_frames};
 use riot_map::Cart;
 
 /// What a file looks like that doesn't begin as a movie does.
@@ -34,10 +34,12 @@ fn wrong_length(bytes: &[u8]) -> Hint
     ensures { TellsLength bytes.now result }
 {
     let length = bytes.len();
-    if length < HEADER_LENGTH {
-        return Hint::InHeader { length };
+    let places = Places::of(bytes);
+    let header = header_length(places.version);
+    if length < header {
+        return Hint::InHeader { length, header };
     }
-    let said = Places::of(bytes).end();
+    let said = places.end();
     if length < said {
         Hint::Missing {
             missing: said - length,
@@ -71,12 +73,33 @@ fn wrong_version(bytes: &[u8]) -> Hint
     Hint::of_field(Field::Version, 4, Expected::Version, found)
 }
 
+/// Which code of a board a header has that is none.
+fn wrong_board(bytes: &[u8]) -> Hint
+    ensures { TellsMistake bytes.now errors.BadBoard result }
+{
+    let found = Found::Byte(byte_at(bytes, BOARD_AT));
+    Hint::of_field(Field::Board, BOARD_AT, Expected::Board, found)
+}
+
 /// Which length of a cartridge a header has that is none.
 fn wrong_cartridge(bytes: &[u8]) -> Hint
     ensures { TellsMistake bytes.now errors.BadCartSize result }
 {
-    let found = Found::TwoBytes(two_at(bytes, 6));
-    Hint::of_field(Field::CartridgeLength, 6, Expected::CartridgeLength, found)
+    let places = Places::of(bytes);
+    let at = length_place(places.version);
+    let expected = match places.board {
+        None => Expected::CartridgeLength,
+        Some(known) => Expected::LengthOn {
+            board: known.board.name,
+            lengths: known.board.lengths,
+        },
+    };
+    let found = if has_wide_length(places.version) {
+        Found::FourBytes(places.cartridge)
+    } else {
+        Found::TwoBytes(two_at(bytes, at))
+    };
+    Hint::of_field(Field::CartridgeLength, at, expected, found)
 }
 
 /// Which of the counts of a header is wrong.
@@ -84,14 +107,15 @@ fn wrong_count(bytes: &[u8]) -> Hint
     ensures { TellsMistake bytes.now errors.BadCounts result }
 {
     let places = Places::of(bytes);
+    let end = header_length(places.version);
     let most = most_frames(places.version);
     let found = places.frames;
     if 1 <= found && found <= most && places.checkpoints > MOST_CHECKPOINTS {
         let found = Found::TwoBytes(places.checkpoints);
-        Hint::of_field(Field::Checkpoints, 12, Expected::Checkpoints, found)
+        Hint::of_field(Field::Checkpoints, end - 2, Expected::Checkpoints, found)
     } else {
         let expected = Expected::Frames { most };
-        Hint::of_field(Field::Frames, 8, expected, Found::FourBytes(found))
+        Hint::of_field(Field::Frames, end - 6, expected, Found::FourBytes(found))
     }
 }
 
@@ -152,6 +176,7 @@ fn mistake_of(bytes: &[u8], error: MovieError) -> Option<Hint>
         MovieError::Trailing => Some(wrong_length(bytes)),
         MovieError::BadMagic => Some(without_magic(bytes)),
         MovieError::BadVersion => Some(wrong_version(bytes)),
+        MovieError::BadBoard => Some(wrong_board(bytes)),
         MovieError::BadCartSize => Some(wrong_cartridge(bytes)),
         MovieError::BadCounts => Some(wrong_count(bytes)),
         MovieError::BadState(number) => wrong_state(bytes, number),
@@ -168,7 +193,7 @@ fn extra_of(bytes: &[u8], error: MovieError) -> usize
     ensures { result ≡ extra_of bytes.now error }
 {
     match error {
-        MovieError::BadMagic | MovieError::BadVersion => 0,
+        MovieError::BadMagic | MovieError::BadVersion | MovieError::BadBoard => 0,
         _ => bytes.len().saturating_sub(Places::of(bytes).end()),
     }
 }

@@ -6,6 +6,7 @@ ghost use Rattle.movie_file.specs.Movie.{IsMovie};
 ghost use Rattle.movie_file.specs.Run.{run};
 ghost use Rattle.movie_machine.specs.Carts.{ram_length};
 ghost use Rattle.movie_machine.specs.Outcomes.{Played, frame_of};
+ghost use Rattle.movie_machine.specs.States.{is_of};
 ghost use Rattle.run_cursor.specs.RunFaults.{FaultsWithin, FrameFails, RunFails};
 ghost use Rattle.vcs_machine.specs.Inputs.{InputData};
 ghost use Rattle.vcs_machine.specs.Pictures.{Rows};
@@ -66,7 +67,6 @@ impl<'a> Cursor<'a> {
     /// After a frame of which this is known to be the run's state, as a true checkpoint claims it.
     ///
     /// AllocError comes only if memory for the RAM of the cartridge was refused.
-    #[tactic(auto, using(crate::proofs::RunStates::run_of))]
     pub fn at_claim(
         alloc: Global,
         movie: &'a Movie,
@@ -75,6 +75,7 @@ impl<'a> Cursor<'a> {
     ) -> Result<Cursor<'a>, AllocError>
         requires within { frame ≤ length movie.now.inputs }
         requires ran { run movie.now movie.now.start 0 frame ≡ Some state.now }
+        requires cartridge { IsTrue (is_of movie.now.cartridge state.now) }
         ensures at { IfOk result (IsAt movie.now frame) }
         ensures memory { OnErr result (0 < ram_length movie.now.cartridge) }
     {
