@@ -1,28 +1,13 @@
 -- The places at which a ROM and a cartridge differ, place by place.
-use Rattle.std.proofs.Common.{◌≡◌, ◌≢◌, ℕ, ◌+◌, ◌<◌, ◌≤◌, ◌^◌, true, List, [], ◌∷◌, ◌++◌, append-nil, get_or, length, min, take, refl, arith, zero-add, inl, inr}
-use Rattle.std.specs.Prelude.{cond, nat_le}
+use Rattle.std.proofs.Common.{◌≡◌, ◌≢◌, ℕ, ◌+◌, List, [], ◌∷◌, ◌++◌, append-nil, get_or, length, min, take, refl, arith, zero-add, inl, inr}
+use Rattle.std.specs.Prelude.{cond}
 use Rattle.std.specs.List.{filter, range_with_len}
-use Rattle.std.proofs.lemmas.Bool.{and_parts, eq-eqb, ne_eqb}
-use Rattle.std.proofs.lemmas.Bool.Decides.{nat_tests}
+use Rattle.std.proofs.lemmas.Bool.{eq-eqb, ne_eqb}
 use Rattle.std.proofs.lemmas.List.{map-id, take_min}
 use Rattle.std.proofs.lemmas.List.FromFn.{filter_of_map_range_with_len_more}
-use Rattle.riot_map.specs.Cart.{is_cart_length}
-use Rattle.movie_machine.specs.Carts.{bytes_of}
-use Rattle.movie_file.specs.Format.{row_of}
-use Rattle.movie_file.specs.Movie.{MovieData, IsMovie}
 use Rattle.movie_report.specs.CartridgeDifferences.{bytes_text, is_different_at}
 use Rattle.movie_report.specs.Private.Elements.{AreElements}
 use Rattle.replay_plan.specs.declared.notation.Notation.TheVariants.{Json}
-
--- A movie's cartridge has so few bytes that two bytes have their places.
-few_of : (n : ℕ) → is_cart_length n ≡ true → n ≤ 8192
-few_of n is = grind (arith, nat_tests)
-
-pub few_bytes : (m : MovieData) → IsMovie m → length (bytes_of m.cartridge) < 2 ^ 16
-few_bytes m movie =
-    let n = length (bytes_of m.cartridge) in
-    let parts = and_parts (is_cart_length n) (nat_le n (row_of m.version).longest_cartridge) movie.cartridge in
-    omega (arith, few_of n parts.0)
 
 -- One place more.
 pub one_place_more : (rom cartridge : List ℕ) (offset : ℕ) → filter (is_different_at rom cartridge) (range_with_len 0 (offset + 1))

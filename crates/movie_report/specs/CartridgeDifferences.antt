@@ -1,7 +1,7 @@
 -- Where the bytes of a ROM that is expected aren't those of a cartridge. This project's own.
 use Rattle.std.specs.Prelude.{ℕ, Bool, not, ◌==◌, List, [], ◌∷◌, ◌++◌, codes, length, slice_index, take, drop, Option, Some, None}
-use Rattle.std.specs.Prelude.{if◌then◌else◌}
-use Rattle.std.specs.Fmt.{decimal}
+use Rattle.std.specs.Prelude.{◌/◌, ◌%◌, true, nat_lt, if◌then◌else◌}
+use Rattle.std.specs.Fmt.{decimal, digits}
 use Rattle.std.specs.List.{filter, flat_map, range_with_len}
 use Rattle.std.specs.Str.{bytes_eq}
 use Rattle.vcs_machine.specs.Faults.{hex2, hex4}
@@ -16,13 +16,17 @@ is_different_at rom cartridge offset = not (slice_index rom offset == slice_inde
 unfoldable pub different_offsets : List ℕ → List ℕ → List ℕ
 different_offsets rom cartridge = filter (is_different_at rom cartridge) (range_with_len 0 (length cartridge))
 
+-- A place as at least four capital hexadecimal digits.
+abbrev pub offset_text : ℕ → List ℕ
+offset_text offset = if nat_lt offset 0x10000 then hex4 offset else digits 16 true (offset / 0x10000) ++ hex4 (offset % 0x10000)
+
 -- What is said of a place: the byte that is expected there and the one that is found, in a line, or as
 -- an element of an array after those before it.
 abbrev pub byte_text : Notation → ℕ → ℕ → ℕ → List ℕ
 byte_text Lines offset expected found =
-    codes "cartridge " ++ (hex4 offset ++ (codes ": expected " ++ (hex2 expected ++ (codes ", found " ++ (hex2 found ++ 10 ∷ [])))))
+    codes "cartridge " ++ (offset_text offset ++ (codes ": expected " ++ (hex2 expected ++ (codes ", found " ++ (hex2 found ++ 10 ∷ [])))))
 byte_text Json offset expected found =
-    codes ",{\"offset\":\"" ++ (hex4 offset ++ (codes "\",\"expected\":\"" ++ (hex2 expected
+    codes ",{\"offset\":\"" ++ (offset_text offset ++ (codes "\",\"expected\":\"" ++ (hex2 expected
     ++ (codes "\",\"found\":\"" ++ (hex2 found ++ codes "\"}")))))
 
 -- What is said of places, in their order.

@@ -1,7 +1,8 @@
 -- The numbers in which two state records differ. This project's own.
-use Rattle.std.specs.Prelude.{ℕ, Bool, not, List, [], ◌∷◌, ◌++◌, codes, count_by, take, drop, if◌then◌else◌}
+use Rattle.std.specs.Prelude.{ℕ, Bool, not, List, [], ◌∷◌, ◌++◌, codes, count_by, take, drop, Option, if◌then◌else◌}
 use Rattle.std.specs.List.{flat_map}
 use Rattle.std.specs.Str.{bytes_eq}
+use Rattle.cart_board.specs.Board.{Row}
 use Rattle.hex.specs.Hex.{encode_upper}
 use Rattle.movie_report.specs.Numbers.{NumberData, state_names}
 use Rattle.movie_report.specs.declared.differences.Comparison.{Comparison}
@@ -37,17 +38,17 @@ difference_text Json Claim pair =
 abbrev pub is_different : Pair → Bool
 is_different pair = not (bytes_eq pair.first pair.second)
 
--- In how many numbers two records differ.
-unfoldable pub difference_count : List ℕ → List ℕ → ℕ
-difference_count a b = count_by is_different (number_pairs state_names a b)
+-- In how many numbers two records differ, by the board of their cartridge.
+unfoldable pub difference_count : Option Row → List ℕ → List ℕ → ℕ
+difference_count board a b = count_by is_different (number_pairs (state_names board) a b)
 
 -- If its bytes are the same, nothing.
 abbrev pub text_if_different : Notation → Comparison → Pair → List ℕ
 text_if_different notation comparison pair = if bytes_eq pair.first pair.second then [] else difference_text notation comparison pair
 
 -- What is said of the numbers of two records, in the record's order.
-unfoldable pub pairs_text : Notation → Comparison → List ℕ → List ℕ → List ℕ
-pairs_text notation comparison a b = flat_map (text_if_different notation comparison) (number_pairs state_names a b)
+unfoldable pub pairs_text : Notation → Comparison → Option Row → List ℕ → List ℕ → List ℕ
+pairs_text notation comparison board a b = flat_map (text_if_different notation comparison) (number_pairs (state_names board) a b)
 
 -- The name of the array.
 abbrev pub array_name : Comparison → List ℕ
@@ -55,7 +56,7 @@ array_name Start = codes "start_differs"
 array_name Claim = codes "differs"
 
 -- The lines, or the array, in which no comma stands before the first element.
-abbrev pub differences_text : Notation → Comparison → List ℕ → List ℕ → List ℕ
-differences_text Lines comparison a b = pairs_text Lines comparison a b
-differences_text Json comparison a b =
-    codes ",\"" ++ (array_name comparison ++ (codes "\":[" ++ (drop 1 (pairs_text Json comparison a b) ++ codes "]")))
+abbrev pub differences_text : Notation → Comparison → Option Row → List ℕ → List ℕ → List ℕ
+differences_text Lines comparison board a b = pairs_text Lines comparison board a b
+differences_text Json comparison board a b =
+    codes ",\"" ++ (array_name comparison ++ (codes "\":[" ++ (drop 1 (pairs_text Json comparison board a b) ++ codes "]")))

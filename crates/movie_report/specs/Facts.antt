@@ -8,7 +8,8 @@ use Rattle.md5.specs.Md5.{md5}
 use Rattle.sha1.specs.Sha1.{sha1}
 use Rattle.sha2.specs.Sha256.{sha256}
 use Rattle.riot_map.specs.Cart.{has_banks}
-use Rattle.movie_machine.specs.Carts.{bytes_of}
+use Rattle.cart_board.specs.Board.{Row}
+use Rattle.movie_machine.specs.Carts.{board_of, bytes_of}
 use Rattle.movie_machine.specs.States.{state_at_power_on}
 use Rattle.movie_machine.specs.declared.cart.Cart.{Cart}
 use Rattle.movie_machine.specs.declared.cart.Cart.TheVariants.{Guide, Chip}
@@ -48,8 +49,9 @@ start_text notation start power =
     word_fact notation (codes "start") (codes "start: ") (if bytes_eq start power then codes "power-on" else codes "not power-on")
 
 -- In which numbers it differs from that, if it does.
-abbrev pub start_differences_text : Notation → List ℕ → List ℕ → List ℕ
-start_differences_text notation start power = if bytes_eq start power then [] else differences_text notation Start start power
+abbrev pub start_differences_text : Notation → Option Row → List ℕ → List ℕ → List ℕ
+start_differences_text notation board start power =
+    if bytes_eq start power then [] else differences_text notation Start board start power
 
 -- The number of the last of some frames in which anything is held, if the first of them has number
 -- `before` + 1; `last` if there is none.
@@ -94,7 +96,7 @@ facts_text notation program bytes m start power =
 abbrev pub notes_and_facts_text : Notation → List ℕ → List ℕ → MovieData → List ℕ → List ℕ → List ℕ
 notes_and_facts_text notation program bytes m start power =
     notes_text notation (notes_of m start power)
-    ++ (facts_text notation program bytes m start power ++ start_differences_text notation start power)
+    ++ (facts_text notation program bytes m start power ++ start_differences_text notation (board_of m.cartridge) start power)
 
 -- A report of the movie that these bytes are and of its verdict, and of how it agrees with a ROM, if one is expected, and with the
 -- rest, by a program of this name.

@@ -3,6 +3,7 @@ use Rattle.std.specs.Prelude.{◌≡◌, ℕ, ◌-◌, List, [], ◌∷◌, ◌+
 use Rattle.std.specs.Fmt.{decimal}
 use Rattle.mos_cpu.specs.Registers.{Registers}
 use Rattle.vcs_machine.specs.Faults.{hex2, hex4}
+use Rattle.movie_machine.specs.Carts.{board_of}
 use Rattle.movie_machine.specs.States.{line_cycle_of, registers_of}
 use Rattle.movie_machine.specs.declared.cart.Cart.{Cart}
 use Rattle.movie_machine.specs.declared.state.State.{State}
@@ -28,7 +29,7 @@ use Rattle.replay_plan.specs.declared.notation.Notation.TheVariants.{Lines, Json
 
 -- In which numbers a claimed state differs from that of the run with this cartridge.
 abbrev pub claim_text : Notation → Cart → Option Checkpoint → Option State → List ℕ
-claim_text notation cartridge (Some c) (Some found) = differences_text notation Claim (record_in cartridge c.state) (record_in cartridge found)
+claim_text notation cartridge (Some c) (Some found) = differences_text notation Claim (board_of cartridge) (record_in cartridge c.state) (record_in cartridge found)
 claim_text notation cartridge c None = []
 claim_text notation cartridge None found = []
 

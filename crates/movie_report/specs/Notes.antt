@@ -5,6 +5,8 @@ use Rattle.std.specs.Prelude.{Option, Some, None, if◌then◌else◌}
 use Rattle.std.specs.Fmt.{decimal}
 use Rattle.std.specs.List.{flat_map}
 use Rattle.std.specs.Str.{bytes_eq}
+use Rattle.cart_board.specs.Board.{Row}
+use Rattle.movie_machine.specs.Carts.{board_of}
 use Rattle.movie_file.specs.Movie.{MovieData}
 use Rattle.movie_file.specs.declared.checkpoint.Checkpoint.{Checkpoint}
 use Rattle.movie_report.specs.CheckpointFacts.{last_of}
@@ -13,10 +15,10 @@ use Rattle.replay_plan.specs.declared.notation.Notation.{Notation}
 use Rattle.replay_plan.specs.declared.notation.Notation.TheVariants.{Lines, Json}
 
 -- In how many numbers the start state differs from that of power-on, if it does: of the records of both.
-abbrev pub start_notes : List ℕ → List ℕ → List (List ℕ)
-start_notes start power =
+abbrev pub start_notes : Option Row → List ℕ → List ℕ → List (List ℕ)
+start_notes board start power =
     if bytes_eq start power then []
-    else (codes "not power-on: " ++ (decimal (difference_count start power) ++ codes " numbers differ")) ∷ []
+    else (codes "not power-on: " ++ (decimal (difference_count board start power) ++ codes " numbers differ")) ∷ []
 
 -- How many of the movie's frames come after its last checkpoint, if any does, or that it has none.
 abbrev pub claim_notes : ℕ → Option Checkpoint → List (List ℕ)
@@ -38,4 +40,4 @@ notes_text Json notes = codes ",\"notes\":[" ++ (drop 1 (note_texts Json notes) 
 
 -- Those of a movie, with the records of its start state and of power-on.
 abbrev pub notes_of : MovieData → List ℕ → List ℕ → List (List ℕ)
-notes_of m start power = start_notes start power ++ claim_notes (length m.inputs) (last_of m.checkpoints)
+notes_of m start power = start_notes (board_of m.cartridge) start power ++ claim_notes (length m.inputs) (last_of m.checkpoints)

@@ -1,5 +1,5 @@
 //! Where the bytes of a ROM that is expected aren't those of a cartridge.
-ghost use Rattle.std.specs.Prelude.{◌≡◌, ◌<◌, ◌^◌, All, IfOk, length, string_bytes};
+ghost use Rattle.std.specs.Prelude.{◌≡◌, ◌<◌, All, IfOk, length, string_bytes};
 ghost use Rattle.std.specs.Option.{option_copied};
 ghost use Rattle.movie_report.specs.CartridgeDifferences.{bytes_text, byte_text, lengths_text};
 ghost use Rattle.movie_report.specs.CartridgeDifferences.{cartridge_differences, different_offsets};
@@ -8,23 +8,43 @@ ghost use Rattle.movie_report.specs.CartridgeDifferences.{places_text};
 use crate::differences::without_comma;
 use replay_plan::Notation;
 use std::alloc::{AllocError, Global};
+use std::fmt;
 use vcs_machine::{HexByte, HexWord};
 
 /// Of how many places the bytes are shown.
 const MOST_SHOWN: usize = 4;
 
+/// A place in a cartridge, as at least four capital hexadecimal digits.
+#[derive(Clone, Copy)]
+struct HexOffset(usize);
+
+impl fmt::Display for HexOffset {
+    ghost use Rattle.std.specs.Prelude.{Some};
+    ghost use Rattle.movie_report.specs.CartridgeDifferences.{offset_text};
+
+    ghost output = { λ place. Some (offset_text place.0) };
+
+    fn fmt<W: fmt::Write>(&self, f: &mut fmt::Formatter<W>) -> fmt::Result {
+        let offset = self.0;
+        if offset < 0x10000 {
+            write!(f, "{}", HexWord(offset as u16))
+        } else {
+            let (high, low) = (offset / 0x10000, HexWord((offset % 0x10000) as u16));
+            write!(f, "{high:X}{low}")
+        }
+    }
+}
+
 /// The offsets at which a ROM differs from a cartridge of its length.
 #[tactic(auto, unfolding(crate::specs::CartridgeDifferences::different_offsets))]
-fn different_offsets(alloc: Global, rom: &[u8], cart: &[u8]) -> Result<Vec<u16>, AllocError>
+fn different_offsets(alloc: Global, rom: &[u8], cart: &[u8]) -> Result<Vec<usize>, AllocError>
     requires lengths { length rom.now ≡ length cart.now }
-    requires few { length cart.now < 2 ^ 16 }
     ensures value { IfOk result (λ offsets. offsets.items ≡ different_offsets rom.now cart.now) }
     ensures within { IfOk result (λ offsets. All (λ offset. offset < length cart.now) offsets.items) }
 {
     let mut offsets = Vec::new(alloc);
-    for offset in 0..cart.len() as u16 {
-        let place = usize::from(offset);
-        if rom[place] != cart[place] {
+    for offset in 0..cart.len() {
+        if rom[offset] != cart[offset] {
             offsets.push(offset)?;
         }
     }
@@ -35,13 +55,14 @@ fn different_offsets(alloc: Global, rom: &[u8], cart: &[u8]) -> Result<Vec<u16>,
 fn byte_text(
     alloc: Global,
     notation: Notation,
-    offset: u16,
+    offset: usize,
     expected: u8,
     found: u8,
 ) -> Result<String, AllocError>
     ensures { IfOk result (λ text. string_bytes text ≡ byte_text notation offset expected found) }
 {
-    let (offset, expected, found) = (HexWord(offset), HexByte(expected), HexByte(found));
+    let offset = HexOffset(offset);
+    let (expected, found) = (HexByte(expected), HexByte(found));
     match notation {
         Notation::Lines => format!(in alloc;
             "cartridge {offset}: expected {expected}, found {found}\n"
@@ -58,7 +79,7 @@ fn bytes_text(
     notation: Notation,
     rom: &[u8],
     cart: &[u8],
-    offsets: &[u16],
+    offsets: &[usize],
 ) -> Result<String, AllocError>
     requires lengths { length rom.now ≡ length cart.now }
     requires within { All (λ offset. offset < length cart.now) offsets.now }
@@ -66,8 +87,7 @@ fn bytes_text(
 {
     let mut text = String::new(alloc);
     for &offset in offsets {
-        let place = usize::from(offset);
-        let piece = byte_text(alloc, notation, offset, rom[place], cart[place])?;
+        let piece = byte_text(alloc, notation, offset, rom[offset], cart[offset])?;
         text.push_str(&piece)?;
     }
     Ok(text)
@@ -82,7 +102,6 @@ fn places_text(
     cart: &[u8],
 ) -> Result<String, AllocError>
     requires lengths { length rom.now ≡ length cart.now }
-    requires few { length cart.now < 2 ^ 16 }
     ensures { IfOk result (λ text. string_bytes text
         ≡ places_text notation rom.now cart.now (different_offsets rom.now cart.now)) }
 {
@@ -124,7 +143,6 @@ pub(crate) fn cartridge_differences(
     rom: Option<&[u8]>,
     cart: &[u8],
 ) -> Result<String, AllocError>
-    requires { length cart.now < 2 ^ 16 }
     ensures { IfOk result (λ text. string_bytes text
         ≡ cartridge_differences notation (option_copied rom.entry) cart.now) }
 {

@@ -1,15 +1,16 @@
 //! What a movie's checkpoints claim.
-ghost use Rattle.std.specs.Prelude.{◌≡◌, ◌<◌, IfOk, IsTrue, string_bytes};
-ghost use Rattle.movie_machine.specs.Carts.{rules_of};
+ghost use Rattle.std.specs.Prelude.{◌≡◌, ◌<◌, IfOk, IsTrue, length, string_bytes};
+ghost use Rattle.cart_board.specs.Known.{known_row};
 ghost use Rattle.movie_machine.specs.States.{is_of};
-ghost use Rattle.movie_machine.specs.declared.rules.Rules.TheVariants.{Guide as ByGuide};
 ghost use Rattle.movie_report.specs.Claims.{claimed_text, claims_text, value_text, values_text};
-ghost use Rattle.movie_report.specs.Private.Places.{state_number_at};
+ghost use Rattle.movie_report.specs.Numbers.{bytes_in, state_names};
+ghost use Rattle.movie_report.specs.Private.Places.{shown};
 
 use crate::differences::without_comma;
-use crate::numbers::{COUNT, Number};
+use crate::numbers::{Number, number_at, number_count};
+use cart_board::KnownBoard;
 use hex::encode_upper;
-use movie_file::{Checkpoint, Movie, STATE_LENGTH, state_record};
+use movie_file::{Checkpoint, Movie, state_record};
 use movie_machine::Cart;
 use replay_plan::Notation;
 use std::alloc::{AllocError, Global};
@@ -22,7 +23,7 @@ fn value(
     bytes: &[u8],
 ) -> Result<String, AllocError>
     ensures { IfOk result (λ text. string_bytes text ≡ value_text notation
-        (record { name = (state_number_at number.place).name; bytes = bytes.now })) }
+        (record { name = (shown number).name; bytes = bytes.now })) }
 {
     let digits = encode_upper(alloc, bytes)?;
     match notation {
@@ -31,21 +32,24 @@ fn value(
     }
 }
 
-/// The numbers of a record, in its order.
+/// The numbers of a record, in its order, by the board of its cartridge.
 #[tactic(auto, using(crate::proofs::ClaimLemmas::value_by_value))]
 fn values(
     alloc: Global,
     notation: Notation,
-    bytes: &[u8; STATE_LENGTH],
+    board: Option<KnownBoard>,
+    bytes: &[u8],
 ) -> Result<String, AllocError>
-    ensures { IfOk result (λ text. string_bytes text ≡ values_text notation bytes.now) }
+    requires whole { length bytes.now ≡ bytes_in (state_names (known_row board)) }
+    ensures { IfOk result (λ text. string_bytes text
+        ≡ values_text notation (known_row board) bytes.now) }
 {
     let mut text = String::new(alloc);
     let mut at = 0;
-    for place in 0..COUNT {
-        let number = Number::at(place);
+    for place in 0..number_count(board) {
+        let number = number_at(board, place);
         let end = at + number.len();
-        prove!(end <= STATE_LENGTH);
+        prove!(end <= bytes.len());
         let piece = value(alloc, notation, number, &bytes[at..end])?;
         text.push_str(&piece)?;
         at = end;
@@ -54,6 +58,7 @@ fn values(
 }
 
 /// The checkpoint of this number, in a movie with this cartridge.
+#[tactic(auto, using(crate::proofs::NumberLemmas::record_bytes))]
 fn claimed(
     alloc: Global,
     notation: Notation,
@@ -61,12 +66,12 @@ fn claimed(
     number: u16,
     checkpoint: &Checkpoint,
 ) -> Result<String, AllocError>
-    requires rules { rules_of cart.now ≡ ByGuide }
     requires cartridge { IsTrue (is_of cart.now checkpoint.now.state) }
     ensures { IfOk result (λ text. string_bytes text ≡ claimed_text notation cart.now number checkpoint.now) }
 {
     let frame = checkpoint.frame;
-    let values = values(alloc, notation, &state_record(cart, &checkpoint.state))?;
+    let record = state_record(alloc, cart, &checkpoint.state)?;
+    let values = values(alloc, notation, cart.board(), &record)?;
     match notation {
         Notation::Lines => format!(in alloc; "checkpoint {number}: frame {frame}\n{values}"),
         Notation::Json => {

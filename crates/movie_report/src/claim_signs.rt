@@ -107,6 +107,7 @@ pub(crate) fn claim_signs<P: Progress>(
 ) -> Result<Vec<Sign>, AllocError>
     requires verdict { HasVerdict movie.now (FalseCheckpoint number frame) }
     requires found { run movie.now movie.now.start 0 frame ≡ Some found.now }
+    requires cartridge { IsTrue (is_of movie.now.cartridge found.now) }
     ensures signs { IfOk result (λ signs. signs.items ≡ claim_signs movie.now) }
     ensures len { IfOk result (λ signs. length signs.items ≡ length movie.now.checkpoints) }
 {

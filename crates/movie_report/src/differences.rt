@@ -1,14 +1,16 @@
 //! The numbers in which two state records differ.
-ghost use Rattle.std.specs.Prelude.{◌≡◌, ◌<◌, IfOk, string_bytes, drop};
+ghost use Rattle.std.specs.Prelude.{◌≡◌, ◌<◌, IfOk, length, string_bytes, drop};
+ghost use Rattle.cart_board.specs.Known.{known_row};
 ghost use Rattle.movie_report.specs.Differences.{array_name, difference_text, differences_text};
 ghost use Rattle.movie_report.specs.Differences.{difference_count, pairs_text};
 ghost use Rattle.movie_report.specs.Differences.{text_if_different};
 ghost use Rattle.movie_report.specs.Private.Elements.{AreElements};
-ghost use Rattle.movie_report.specs.Private.Places.{state_number_at};
+ghost use Rattle.movie_report.specs.Numbers.{bytes_in, state_names};
+ghost use Rattle.movie_report.specs.Private.Places.{shown};
 
-use crate::numbers::{COUNT, Number};
+use crate::numbers::{Number, number_at, number_count};
+use cart_board::KnownBoard;
 use hex::encode_upper;
-use movie_file::STATE_LENGTH;
 use replay_plan::Notation;
 use std::alloc::{AllocError, Global};
 
@@ -42,7 +44,7 @@ impl Comparison {
         second: &[u8],
     ) -> Result<String, AllocError>
         ensures { IfOk result (λ text. string_bytes text ≡ difference_text notation self
-            (record { name = (state_number_at number.place).name; first = first.now; second = second.now })) }
+            (record { name = (shown number).name; first = first.now; second = second.now })) }
     {
         let first = encode_upper(alloc, first)?;
         let second = encode_upper(alloc, second)?;
@@ -72,7 +74,7 @@ impl Comparison {
         second: &[u8],
     ) -> Result<String, AllocError>
         ensures { IfOk result (λ text. string_bytes text ≡ text_if_different notation self
-            (record { name = (state_number_at number.place).name; first = first.now; second = second.now })) }
+            (record { name = (shown number).name; first = first.now; second = second.now })) }
     {
         if first == second {
             return Ok(String::new(alloc));
@@ -81,23 +83,28 @@ impl Comparison {
     }
 }
 
-/// What is said of the numbers in which two records differ, in the order of a record.
+/// What is said of the numbers in which two records differ, in the order of a record, by the board of
+/// their cartridge.
 #[tactic(auto, using(crate::proofs::DifferenceLemmas::number_by_number))]
 fn pairs(
     alloc: Global,
     notation: Notation,
     comparison: Comparison,
-    first: &[u8; STATE_LENGTH],
-    second: &[u8; STATE_LENGTH],
+    board: Option<KnownBoard>,
+    first: &[u8],
+    second: &[u8],
 ) -> Result<String, AllocError>
-    ensures { IfOk result (λ text. string_bytes text ≡ pairs_text notation comparison first.now second.now) }
+    requires first { length first.now ≡ bytes_in (state_names (known_row board)) }
+    requires second { length second.now ≡ bytes_in (state_names (known_row board)) }
+    ensures { IfOk result (λ text. string_bytes text
+        ≡ pairs_text notation comparison (known_row board) first.now second.now) }
 {
     let mut text = String::new(alloc);
     let mut at = 0;
-    for place in 0..COUNT {
-        let number = Number::at(place);
+    for place in 0..number_count(board) {
+        let number = number_at(board, place);
         let end = at + number.len();
-        prove!(end <= STATE_LENGTH);
+        prove!(end <= first.len());
         let (first, second) = (&first[at..end], &second[at..end]);
         let piece = comparison.text_if_different(alloc, notation, number, first, second)?;
         text.push_str(&piece)?;
@@ -106,16 +113,18 @@ fn pairs(
     Ok(text)
 }
 
-/// In how many numbers two records differ.
+/// In how many numbers two records differ, by the board of their cartridge.
 #[tactic(auto, using(crate::proofs::DifferenceLemmas::number_by_number))]
-pub(crate) fn difference_count(first: &[u8; STATE_LENGTH], second: &[u8; STATE_LENGTH]) -> usize
-    ensures { result ≡ difference_count first.now second.now }
+pub(crate) fn difference_count(board: Option<KnownBoard>, first: &[u8], second: &[u8]) -> usize
+    requires first { length first.now ≡ bytes_in (state_names (known_row board)) }
+    requires second { length second.now ≡ bytes_in (state_names (known_row board)) }
+    ensures { result ≡ difference_count (known_row board) first.now second.now }
 {
     let mut count = 0;
     let mut at = 0;
-    for place in 0..COUNT {
-        let end = at + Number::at(place).len();
-        prove!(end <= STATE_LENGTH);
+    for place in 0..number_count(board) {
+        let end = at + number_at(board, place).len();
+        prove!(end <= first.len());
         if first[at..end] != second[at..end] {
             count += 1;
         }
@@ -135,18 +144,22 @@ pub(crate) fn without_comma(text: &str) -> &str
     }
 }
 
-/// The lines, or the array, of the numbers in which two records differ.
+/// The lines, or the array, of the numbers in which two records differ, by the board of their
+/// cartridge.
 pub(crate) fn differences(
     alloc: Global,
     notation: Notation,
     comparison: Comparison,
-    first: &[u8; STATE_LENGTH],
-    second: &[u8; STATE_LENGTH],
+    board: Option<KnownBoard>,
+    first: &[u8],
+    second: &[u8],
 ) -> Result<String, AllocError>
+    requires first { length first.now ≡ bytes_in (state_names (known_row board)) }
+    requires second { length second.now ≡ bytes_in (state_names (known_row board)) }
     ensures { IfOk result (λ text. string_bytes text
-        ≡ differences_text notation comparison first.now second.now) }
+        ≡ differences_text notation comparison (known_row board) first.now second.now) }
 {
-    let pairs = pairs(alloc, notation, comparison, first, second)?;
+    let pairs = pairs(alloc, notation, comparison, board, first, second)?;
     match notation {
         Notation::Lines => Ok(pairs),
         Notation::Json => {

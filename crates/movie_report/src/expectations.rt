@@ -1,5 +1,5 @@
 //! How a movie agrees with what is expected of it.
-ghost use Rattle.std.specs.Prelude.{◌≡◌, ◌<◌, ◌^◌, IfOk, OnErr, length, string_bytes};
+ghost use Rattle.std.specs.Prelude.{◌≡◌, ◌<◌, IfOk, OnErr, length, string_bytes};
 ghost use Rattle.std.specs.Option.{option_copied};
 ghost use Rattle.movie_machine.specs.Carts.{bytes_of, ram_length};
 ghost use Rattle.movie_report.specs.Expectations.{agreement_of, agreement_text, cartridge_agreement};
@@ -122,7 +122,6 @@ impl Agreement {
         rom: Option<&[u8]>,
         cartridge: &[u8],
     ) -> Result<String, AllocError>
-        requires { length cartridge.now < 2 ^ 16 }
         ensures { IfOk result (λ text. string_bytes text
             ≡ agreement_text notation (option_copied rom.entry) cartridge.now self) }
     {

@@ -1,12 +1,14 @@
 //! The facts of a movie, and its report.
-ghost use Rattle.std.specs.Prelude.{◌≡◌, IfOk, string_bytes};
+ghost use Rattle.std.specs.Prelude.{◌≡◌, IfOk, length, string_bytes};
 ghost use Rattle.std.specs.Option.{option_copied};
+ghost use Rattle.movie_machine.specs.Carts.{board_of};
 ghost use Rattle.movie_machine.specs.States.{state_at_power_on};
 ghost use Rattle.movie_file.specs.Record.{record_in};
 ghost use Rattle.replay_segments.specs.Verdicts.{HasVerdict};
 ghost use Rattle.movie_report.specs.Facts.{banks_of, cartridge_text, end_text, facts_text, head_text};
 ghost use Rattle.movie_report.specs.Facts.{held_text, last_held, movie_text, notes_and_facts_text};
 ghost use Rattle.movie_report.specs.Facts.{start_differences_text, start_text, IsReport};
+ghost use Rattle.movie_report.specs.Numbers.{bytes_in, state_names};
 
 use crate::checkpoints::checkpoint_facts;
 use crate::differences::{Comparison, differences};
@@ -18,7 +20,7 @@ use crate::object_head::verdict_head;
 use hex::encode;
 use input_text::is_idle;
 use md5::Md5;
-use movie_file::{Movie, Progress, STATE_LENGTH, state_record};
+use movie_file::{Movie, Progress, state_record};
 use movie_machine::{Cart, State};
 use replay_plan::{Notation, Workers};
 use replay_segments::Verdict;
@@ -61,8 +63,8 @@ fn cartridge_facts(alloc: Global, notation: Notation, cart: &Cart) -> Result<Str
 fn start_fact(
     alloc: Global,
     notation: Notation,
-    start: &[u8; STATE_LENGTH],
-    power_on: &[u8; STATE_LENGTH],
+    start: &[u8],
+    power_on: &[u8],
 ) -> Result<String, AllocError>
     ensures { IfOk result (λ text. string_bytes text ≡ start_text notation start.now power_on.now) }
 {
@@ -78,15 +80,20 @@ fn start_fact(
 fn start_differences(
     alloc: Global,
     notation: Notation,
-    start: &[u8; STATE_LENGTH],
-    power_on: &[u8; STATE_LENGTH],
+    movie: &Movie,
+    start: &[u8],
+    power_on: &[u8],
 ) -> Result<String, AllocError>
-    ensures { IfOk result (λ text. string_bytes text ≡ start_differences_text notation start.now power_on.now) }
+    requires start { length start.now ≡ bytes_in (state_names (board_of movie.now.cartridge)) }
+    requires power_on { length power_on.now ≡ bytes_in (state_names (board_of movie.now.cartridge)) }
+    ensures { IfOk result (λ text. string_bytes text
+        ≡ start_differences_text notation (board_of movie.now.cartridge) start.now power_on.now) }
 {
     if start == power_on {
         return Ok(String::new(alloc));
     }
-    differences(alloc, notation, Comparison::Start, start, power_on)
+    let board = movie.cart().board();
+    differences(alloc, notation, Comparison::Start, board, start, power_on)
 }
 
 /// The last frame of a movie in which anything is held, or 0.
@@ -165,8 +172,8 @@ fn facts(
     program: &str,
     bytes: &[u8],
     movie: &Movie,
-    start: &[u8; STATE_LENGTH],
-    power_on: &[u8; STATE_LENGTH],
+    start: &[u8],
+    power_on: &[u8],
 ) -> Result<String, AllocError>
     ensures { IfOk result (λ text. string_bytes text
         ≡ facts_text notation program.now bytes.now movie.now start.now power_on.now) }
@@ -179,7 +186,7 @@ fn facts(
 }
 
 /// The notes and the facts, and the numbers of a start that isn't power-on.
-#[tactic(auto, using(movie_file::proofs::StateLemmas::start_of))]
+#[tactic(auto, using(crate::proofs::NumberLemmas::record_bytes, movie_file::proofs::StateLemmas::start_of))]
 fn notes_and_facts(
     alloc: Global,
     notation: Notation,
@@ -192,11 +199,12 @@ fn notes_and_facts(
 {
     let _ = movie.frames();
     let cart = movie.cart();
-    let start = state_record(cart, movie.start());
-    let power_on = state_record(cart, &State::power_on(alloc, cart)?);
+    let start = state_record(alloc, cart, movie.start())?;
+    let power_on = State::power_on(alloc, cart)?;
+    let power_on = state_record(alloc, cart, &power_on)?;
     let notes = notes(alloc, notation, movie, &start, &power_on)?;
     let facts = facts(alloc, notation, program, bytes, movie, &start, &power_on)?;
-    let differences = start_differences(alloc, notation, &start, &power_on)?;
+    let differences = start_differences(alloc, notation, movie, &start, &power_on)?;
     format!(in alloc; "{notes}{facts}{differences}")
 }
 
@@ -224,7 +232,6 @@ fn notes_and_facts(
 /// calling thread replays before and after them as others.
 ///
 /// The program's name has no quotation mark, backslash or control character.
-#[tactic(auto, using(crate::proofs::CartridgeDifferenceLemmas::few_bytes))]
 pub fn report<R: Threads + Sync, P: Progress + Sync>(
     rt: &R,
     alloc: Global,
@@ -244,7 +251,6 @@ pub fn report<R: Threads + Sync, P: Progress + Sync>(
 {
     let head = head(alloc, notation, verdict)?;
     let failure = failure_facts(rt, alloc, notation, movie, verdict, workers, progress)?;
-    let _ = movie.frames();
     let expected = agreement.text(alloc, notation, rom, movie.cart().bytes())?;
     let rest = notes_and_facts(alloc, notation, program, bytes, movie)?;
     let end = end(notation);

@@ -1,9 +1,8 @@
 //! What is said of a movie that isn't genuine.
 ghost use Rattle.std.specs.Prelude.{◌≡◌, ◌≤◌, length, IfOk, IsTrue, string_bytes};
 ghost use Rattle.movie_file.specs.Record.{record_in};
-ghost use Rattle.movie_machine.specs.Carts.{rules_of};
+ghost use Rattle.movie_machine.specs.Carts.{board_of};
 ghost use Rattle.movie_machine.specs.States.{is_of};
-ghost use Rattle.movie_machine.specs.declared.rules.Rules.TheVariants.{Guide as ByGuide};
 ghost use Rattle.replay_segments.specs.RunStates.{left_at};
 ghost use Rattle.replay_segments.specs.Verdicts.{HasVerdict};
 ghost use Rattle.replay_segments.specs.declared.verdict.Verdict.TheVariants.{FalseCheckpoint};
@@ -30,6 +29,7 @@ use std::thread::Threads;
 use vcs_machine::{FaultKind, HexByte, HexWord};
 
 /// The numbers in which the first false checkpoint differs from the run, whose state there this is.
+#[tactic(auto, using(crate::proofs::NumberLemmas::record_bytes))]
 fn claim_facts(
     alloc: Global,
     notation: Notation,
@@ -37,15 +37,16 @@ fn claim_facts(
     claimed: &State,
     found: &State,
 ) -> Result<String, AllocError>
-    requires rules { rules_of cart.now ≡ ByGuide }
     requires claimed { IsTrue (is_of cart.now claimed.now) }
     requires found { IsTrue (is_of cart.now found.now) }
     ensures { IfOk result (λ text. string_bytes text
-        ≡ differences_text notation Comparison.Claim (record_in cart.now claimed.now) (record_in cart.now found.now)) }
+        ≡ differences_text notation Comparison.Claim (board_of cart.now)
+        (record_in cart.now claimed.now) (record_in cart.now found.now)) }
 {
-    let claimed = state_record(cart, claimed);
-    let found = state_record(cart, found);
-    differences(alloc, notation, Comparison::Claim, &claimed, &found)
+    let claimed = state_record(alloc, cart, claimed)?;
+    let found = state_record(alloc, cart, found)?;
+    let board = cart.board();
+    differences(alloc, notation, Comparison::Claim, board, &claimed, &found)
 }
 
 /// The processor's registers.

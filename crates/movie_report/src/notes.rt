@@ -1,11 +1,15 @@
 //! What a judge is to mind.
 ghost use Rattle.std.specs.Prelude.{◌≡◌, IfOk, length, string_bytes};
+ghost use Rattle.cart_board.specs.Known.{known_row};
+ghost use Rattle.movie_machine.specs.Carts.{board_of};
 ghost use Rattle.movie_report.specs.CheckpointFacts.{last_of};
 ghost use Rattle.movie_report.specs.Notes.{claim_notes, note_text, note_texts, notes_of, notes_text};
 ghost use Rattle.movie_report.specs.Notes.{start_notes};
+ghost use Rattle.movie_report.specs.Numbers.{bytes_in, state_names};
 
 use crate::differences::{difference_count, without_comma};
-use movie_file::{Movie, STATE_LENGTH};
+use cart_board::KnownBoard;
+use movie_file::Movie;
 use replay_plan::Notation;
 use std::alloc::{AllocError, Global};
 
@@ -23,15 +27,19 @@ fn note(alloc: Global, notation: Notation, note: &str) -> Result<String, AllocEr
 fn start_note(
     alloc: Global,
     notation: Notation,
-    start: &[u8; STATE_LENGTH],
-    power_on: &[u8; STATE_LENGTH],
+    board: Option<KnownBoard>,
+    start: &[u8],
+    power_on: &[u8],
 ) -> Result<String, AllocError>
-    ensures { IfOk result (λ text. string_bytes text ≡ note_texts notation (start_notes start.now power_on.now)) }
+    requires start { length start.now ≡ bytes_in (state_names (known_row board)) }
+    requires power_on { length power_on.now ≡ bytes_in (state_names (known_row board)) }
+    ensures { IfOk result (λ text. string_bytes text ≡ note_texts notation
+        (start_notes (known_row board) start.now power_on.now)) }
 {
     if start == power_on {
         return Ok(String::new(alloc));
     }
-    let count = difference_count(start, power_on);
+    let count = difference_count(board, start, power_on);
     let text = format!(in alloc; "not power-on: {count} numbers differ")?;
     note(alloc, notation, &text)
 }
@@ -59,12 +67,15 @@ pub(crate) fn notes(
     alloc: Global,
     notation: Notation,
     movie: &Movie,
-    start: &[u8; STATE_LENGTH],
-    power_on: &[u8; STATE_LENGTH],
+    start: &[u8],
+    power_on: &[u8],
 ) -> Result<String, AllocError>
+    requires start { length start.now ≡ bytes_in (state_names (board_of movie.now.cartridge)) }
+    requires power_on { length power_on.now ≡ bytes_in (state_names (board_of movie.now.cartridge)) }
     ensures { IfOk result (λ text. string_bytes text ≡ notes_text notation (notes_of movie.now start.now power_on.now)) }
 {
-    let start = start_note(alloc, notation, start, power_on)?;
+    let board = movie.cart().board();
+    let start = start_note(alloc, notation, board, start, power_on)?;
     let claim = claim_note(alloc, notation, movie)?;
     let texts = format!(in alloc; "{start}{claim}")?;
     match notation {
