@@ -1,8 +1,10 @@
 pub mod Added
 pub mod Addresses
+pub mod BoardTexts
 pub mod ClapAnswers
 pub mod ClapGetters
 pub mod FoundNumbers
 pub mod Lists
+pub mod NamedBoards
 pub mod Numbers
 pub mod Stops

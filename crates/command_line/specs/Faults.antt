@@ -2,6 +2,8 @@
 use Rattle.std.specs.Prelude.{◌≡◌, ◌≢◌, ◌⊎◌, ◌++◌, ℕ, Bool, false, not, nat_le, List, Option, Some, None, Result, Ok, Err}
 use Rattle.std.specs.Prelude.{IsErr, IsSomeAnd, codes, find, length, slice_index, string_bytes}
 use Rattle.std.specs.Fmt.{decimal}
+use Rattle.std.specs.List.{flat_map}
+use Rattle.cart_board.specs.Boards.{boards}
 use Rattle.clap.specs.Words.{IsAmong, Row, Text, fault_of, first_of, subcommand_of}
 use Rattle.clap.specs.declared.error.kind.ErrorKind.{ErrorKind}
 use Rattle.clap.specs.declared.error.kind.ErrorKind.TheVariants.{DisplayHelp, DisplayVersion}
@@ -9,8 +11,8 @@ use Rattle.clap.specs.declared.error.kind.ErrorKind.TheVariants.{OutOfMemory, Va
 use Rattle.hex.specs.Hex.{decode_sized}
 use Rattle.hex.specs.declared.error.FromHexError.{FromHexError}
 use Rattle.replay_plan.specs.Limits.{first_address}
-use Rattle.command_line.specs.Meanings.{HasAddresses, byte_in, words_of}
-use Rattle.command_line.specs.Table.{frames_listed, program_app, report_listed, sha256_row, watch_row}
+use Rattle.command_line.specs.Meanings.{HasAddresses, board_named, byte_in, words_of}
+use Rattle.command_line.specs.Table.{board_row, frames_listed, make_listed, program_app, report_listed, sha256_row, watch_row}
 use Rattle.command_line.specs.declared.command.LineFault.{LineFault}
 use Rattle.command_line.specs.declared.command.LineFault.TheVariants.{Usage, Help}
 use Rattle.refused.specs.declared.Refused.{Refused}
@@ -66,6 +68,18 @@ IsNoReport rows (Usage kind text) =
     × IsSomeAnd (first_of sha256_row.name rows) (λ word. IsErr (decode_sized word 32) × (string_bytes text ≡ digest_mistake word))
 IsNoReport rows (Help text) = ⊥
 
+-- What is said of a word that names no board: which boards there are.
+abbrev pub board_mistake : Text → Text
+board_mistake word =
+    codes "error: invalid value '" ++ (word ++ (codes "' for '--board <NAME>': the boards are" ++ (flat_map (λ row. codes " " ++ row.name) boards ++ codes "\n")))
+
+-- The answer to the values of `make` of which the board is none.
+abbrev pub IsNoMaking : List Row → LineFault → Type 0
+IsNoMaking rows (Usage kind text) =
+    (kind ≡ ValueValidation)
+    × IsSomeAnd (first_of board_row.name rows) (λ word. (board_named word ≡ None) × (string_bytes text ≡ board_mistake word))
+IsNoMaking rows (Help text) = ⊥
+
 -- `clap` finds a mistake or a request of this kind in the words, and this is the answer to it.
 abbrev pub IsFound : List Text → LineFault → Type 0
 IsFound words fault =
@@ -75,6 +89,7 @@ IsFound words fault =
 abbrev pub HasBadValue : Text → List Row → LineFault → Type 0
 HasBadValue name rows fault =
     ((name ≡ frames_listed.name) × IsNoFrames rows fault) ⊎ ((name ≡ report_listed.name) × IsNoReport rows fault)
+    ⊎ ((name ≡ make_listed.name) × IsNoMaking rows fault)
 
 -- The answer to words that are no command.
 abbrev pub IsRefusal : List Text → LineFault → Type 0

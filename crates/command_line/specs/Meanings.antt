@@ -1,9 +1,11 @@
 -- Which command the words of a command line are. This project's own.
 use Rattle.std.specs.Prelude.{◌≡◌, ◌⊎◌, ◌↔◌, ◌≤◌, ℕ, IsSomeAnd, false, true, List, [], ◌∷◌, Option, Some, None}
 use Rattle.std.specs.Prelude.{Ok, Result, if◌then◌else◌, ◌==◌, codes, is_some, length, map, option_map, string_bytes}
-use Rattle.std.specs.Prelude.{unwrap_or}
+use Rattle.std.specs.Prelude.{bytes_eq, find, unwrap_or}
 use Rattle.std.specs.NonZero.{non_zero_u16_get, non_zero_u32_get}
 use Rattle.std.specs.Str.Parse.{digits_value, without_leading_plus}
+use Rattle.cart_board.specs.Board.{Row as Board}
+use Rattle.cart_board.specs.Boards.{boards}
 use Rattle.clap.specs.Words.{Row, Text, all_of, first_of, one_of}
 use Rattle.hex.specs.Hex.{decode_sized}
 use Rattle.hex.specs.declared.error.FromHexError.{FromHexError}
@@ -16,7 +18,8 @@ use Rattle.replay_plan.specs.declared.keep.Keep.{Keep}
 use Rattle.replay_plan.specs.declared.watches.Address.{Address}
 use Rattle.replay_plan.specs.declared.watches.Details.{Details}
 use Rattle.replay_plan.specs.declared.workers.Workers.{Workers}
-use Rattle.command_line.specs.Table.{Argument, asked_row, checkpoints_row}
+use Rattle.command_line.specs.Named.{named_row}
+use Rattle.command_line.specs.Table.{Argument, asked_row, board_row, checkpoints_row}
 use Rattle.command_line.specs.Table.{count_row}
 use Rattle.command_line.specs.Table.{cuts_row, digests_row, explain_row, file_row, first_row, frame_row}
 use Rattle.command_line.specs.Table.{inputs_row, json_row, memory_row, new_row, numbers_row}
@@ -98,6 +101,14 @@ pub record IsMaking (rows : List Row) (making : Making) : Type 0 where
   pub to_the_end : (making.to_the_end ≡ true) ↔ IsGiven to_the_end_row rows
   pub to_the_fault : (making.to_the_fault ≡ true) ↔ IsGiven to_the_fault_row rows
 
+-- The board that a word names, if the word is there.
+abbrev pub board_named : Text → Option Board
+board_named name = find (λ row. bytes_eq row.name name) boards
+
+abbrev pub IsOn : Option Text → Option Board → Type 0
+IsOn None board = board ≡ None
+IsOn (Some name) board = (board ≡ board_named name) × (is_some board ≡ true)
+
 -- The files that a command line names: its input, a second input, and what takes what it writes.
 pub record Files : Type 0 where
   pub input : Text
@@ -134,8 +145,9 @@ IsCommandAt name rows (Report expectations) files notation workers =
     (name ≡ codes "report") × AreExpectations rows expectations
     × (files ≡ record (of_movie rows None) { second = first_of expected_rom_row.name rows })
     × IsNotation rows notation × (number_of workers_row rows ≡ Some workers.number)
-IsCommandAt name rows (Make form making) files notation workers =
+IsCommandAt name rows (Make form making board) files notation workers =
     (name ≡ codes "make") × ((form ≡ forms.Text) ↔ IsGiven text_row rows) × IsMaking rows making
+    × IsOn (first_of board_row.name rows) (named_row board)
     × (files ≡ record { input = word_of rom_row rows; second = Some (word_of inputs_row rows); output = Some (word_of out_row rows) })
     × IsPlain notation workers
 IsCommandAt name rows Info files notation workers =

@@ -2,4 +2,4 @@
 use Rattle.std.specs.Prelude.{ℕ, List, codes}
 
 abbrev pub program_name : List ℕ
-program_name = codes "vcs_check 1.3.0, revision 1 of the machine's rules"
+program_name = codes "vcs_check 2.0.0, revision 1 of the machine's rules"

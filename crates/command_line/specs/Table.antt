@@ -89,6 +89,9 @@ checkpoints_row = record { name = codes "every"; kind = needed_number 1 42949672
 abbrev pub to_the_fault_row : Argument
 to_the_fault_row = record { name = codes "to-the-fault"; kind = switch }
 
+abbrev pub board_row : Argument
+board_row = record { name = codes "board"; kind = word }
+
 abbrev pub out_row : Argument
 out_row = record { name = codes "out"; kind = needed_word }
 
@@ -131,7 +134,7 @@ report_listed = record {
 abbrev pub make_listed : Listed
 make_listed = record {
   name = codes "make";
-  arguments = rom_row ∷ inputs_row ∷ text_row ∷ checkpoints_row ∷ to_the_end_row ∷ to_the_fault_row ∷ out_row ∷ [];
+  arguments = rom_row ∷ inputs_row ∷ text_row ∷ checkpoints_row ∷ to_the_end_row ∷ to_the_fault_row ∷ board_row ∷ out_row ∷ [];
 }
 
 abbrev pub info_listed : Listed

@@ -3,6 +3,7 @@ ghost use Rattle.std.specs.Prelude.{◌≡◌};
 
 use crate::inputs::Listing;
 use crate::make::Making;
+use crate::named_board::NamedBoard;
 use clap::error::ErrorKind;
 use replay_plan::{Details, Expectations, InputForm, Keep, Notation, Workers};
 use std::num::{NonZeroU16, NonZeroU32};
@@ -27,6 +28,8 @@ pub enum Command {
         /// The form of the inputs.
         form: InputForm,
         making: Making,
+        /// The board of the cartridge, by which the movie has version 3.
+        board: Option<NamedBoard>,
     },
     /// Say what it holds.
     Info,
@@ -147,8 +150,8 @@ impl CommandLine {
 pub enum LineFault {
     /// The words are no command.
     Usage {
-        /// The kind of mistake; `ValueValidation` where an address or a digest is none, or addresses are
-        /// too many.
+        /// The kind of mistake; `ValueValidation` where an address, a digest or a board is none, or
+        /// addresses are too many.
         kind: ErrorKind,
         /// Why they are none.
         text: String,

@@ -310,7 +310,7 @@ fn line_at(
     match name {
         "verify" => Ok(verify_of(alloc, matches)?),
         "report" => report_of(alloc, matches),
-        "make" => Ok(make_of(alloc, matches)?),
+        "make" => make_of(alloc, matches),
         "info" => Ok(info_of(alloc, matches)?),
         "claims" => Ok(claims_of(alloc, matches)?),
         "inputs" => Ok(inputs_of(alloc, matches)?),

@@ -237,7 +237,7 @@ static COMMANDS: [Listed; 12] = [
                 name: "rom",
                 value: "ROM",
                 kind: Kind::Operand,
-                help: "The cartridge, of 2048, 4096 or 8192 bytes; - is standard input",
+                help: "The cartridge, of 2048, 4096 or 8192 bytes, or with --board as the board has; - is standard input",
             },
             Argument {
                 name: "inputs",
@@ -263,6 +263,12 @@ static COMMANDS: [Listed; 12] = [
                 value: "",
                 kind: Kind::Switch,
                 help: "If a frame faults, make the movie that ends with it",
+            },
+            Argument {
+                name: "board",
+                value: "NAME",
+                kind: Kind::Word,
+                help: "Make a movie of version 3, by the chip's rules, of a cartridge on this board, as F8SC",
             },
             Argument {
                 name: "out",

@@ -24,7 +24,7 @@ module _ (line : CommandLine) (bytes : List ℕ) (a b : Option (List ℕ)) (end 
     (about : IsAboutMovies line.command) (same : end ≡ conclusion_of answer) where
   about_bytes : (c : Command) (told : AnswerData) (read : Option (List ℕ)) → IsAboutMovies c → ReadsFor line.second (movie_at bytes) a b read
       → AnswersFound c line.notation bytes read (movie_at bytes) told → AnswersBytes c line.notation line.second bytes a b told
-  about_bytes (Make form making) told read never reads found = absurd never
+  about_bytes (Make form making board) told read never reads found = absurd never
   about_bytes other told read never reads found = (read, reads, found)
 
   pub of_movie : (m : MovieData) (read : Option (List ℕ)) → movie_at bytes ≡ Ok m → ReadsNamed line.second a b read

@@ -1,26 +1,23 @@
 -- The movie of a run from power-on that ends with its first fault.
 use Rattle.std.proofs.Common.{◌≡◌, ℕ, zero, suc, ◌+◌, ◌-◌, ◌*◌, ◌/◌, ◌<◌, ◌≤◌, List, [], ◌∷◌, length, take, Some, refl, sym, ap, ◌∙◌, arith, zero-add}
 use Rattle.std.specs.Prelude.{slice_get, IsTrue}
-use Rattle.std.proofs.lemmas.Bool.Decides.{nat_tests}
 use Rattle.std.proofs.lemmas.List.{get_or-take, length-take-le}
 use Rattle.std.proofs.lemmas.List.Elements.{recursion_from_All}
 use Rattle.std.proofs.lemmas.Nat.{le-div}
 use Rattle.std.proofs.lemmas.Option.{slice_get-get_or}
 use Rattle.std.proofs.Math.Nat.{div-mul-le_self}
-use Rattle.riot_map.specs.Cart.{is_cart_length}
-use Rattle.movie_machine.specs.Carts.{bytes_of, rules_of}
+use Rattle.movie_machine.specs.Carts.{IsCart}
 use Rattle.movie_machine.specs.States.{state_at_power_on}
 use Rattle.movie_machine.specs.declared.cart.Cart.{Cart}
-use Rattle.movie_machine.specs.declared.rules.Rules.TheVariants.{Guide as ByGuide}
 use Rattle.vcs_machine.specs.Inputs.{InputData, is_input}
 use Rattle.vcs_machine.specs.declared.fault.FaultKind.{FaultKind}
 use Rattle.movie_file.specs.Format.{most_checkpoints}
 use Rattle.movie_file.specs.Judgement.{AllSound, FaultsAt}
-use Rattle.movie_file.specs.Making.{IsFirstFault, bare, counts_fit}
+use Rattle.movie_file.specs.Making.{IsFirstFault, bare, counts_fit, version_made}
 use Rattle.movie_file.specs.Movie.{MovieData, IsMovie, IsStateOf, AreCheckpoints}
 use Rattle.movie_file.specs.Run.{run}
 use Rattle.movie_file.specs.declared.checkpoint.Checkpoint.{Checkpoint}
-use Rattle.movie_file.proofs.MakingRuns.{counts_are}
+use Rattle.movie_file.proofs.MakingRuns.{Fits, board_is, counts_are, version_fits}
 use Rattle.replay_plan.specs.declared.keep.Keep.{Keep}
 use Rattle.replay_segments.specs.Verdicts.{IsVerdict}
 use Rattle.replay_segments.specs.declared.verdict.Verdict.TheVariants.{Fault}
@@ -76,18 +73,20 @@ module _ (cartridge : Cart) (inputs : List InputData) (every frame : ℕ) (kind 
       far.claims.lawful
       (rw (far.claims.count, long, far.frame_is) (omega arith))
 
-  pub IsMovie-to_the_fault : IsTrue (counts_fit (length inputs) every) → rules_of cartridge ≡ ByGuide → IsTrue (is_cart_length (length (bytes_of cartridge))) → IsStateOf cartridge (state_at_power_on cartridge)
+  pub IsMovie-to_the_fault : IsTrue (counts_fit (length inputs) every) → IsCart cartridge → IsStateOf cartridge (state_at_power_on cartridge)
       → IsMovie m
-  IsMovie-to_the_fault fits rules lawful first =
+  IsMovie-to_the_fault fits lawful first =
       let fit = counts_are (length inputs) every fits in
       let within : frame ≤ length inputs = omega (arith, far.frame_is, far.within) in
+      let made : Fits (version_made cartridge frame) cartridge frame = version_fits cartridge frame lawful (omega (arith, within, fit.1)) in
       record {
-        version = grind (arith, nat_tests);
-        rules = rules;
-        cartridge = grind (arith, nat_tests);
+        version = made.version;
+        rules = made.rules;
+        board = board_is cartridge lawful;
+        cartridge = made.takes;
         start = first;
         some_frames = omega (arith, long, far.frame_is);
-        few_frames = rw long (grind (arith, nat_tests));
+        few_frames = rw long made.few;
         few_checkpoints = few fits;
         inputs = recursion_from_All (λ i. IsTrue (is_input i)) (take frame inputs) far.inputs_are;
         checkpoints = rise fits;

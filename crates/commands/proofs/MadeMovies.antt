@@ -8,10 +8,9 @@ use Rattle.std.proofs.lemmas.List.{append-nil, length-append, take_all}
 use Rattle.std.proofs.lemmas.List.Elements.{recursion_from_All}
 use Rattle.std.proofs.lemmas.Nat.{mod-mul-add}
 use Rattle.std.proofs.Math.Nat.{mul_comm}
-use Rattle.movie_machine.specs.Carts.{IsCart, bytes_of, rules_of}
+use Rattle.movie_machine.specs.Carts.{IsCart}
 use Rattle.movie_machine.specs.States.{state_at_power_on}
 use Rattle.movie_machine.specs.declared.cart.Cart.{Cart}
-use Rattle.movie_machine.specs.declared.rules.Rules.TheVariants.{Guide as ByGuide}
 use Rattle.movie_machine.specs.declared.state.State.{State}
 use Rattle.vcs_machine.specs.Inputs.{InputData, is_input}
 use Rattle.movie_file.specs.Format.{most_checkpoints}
@@ -74,7 +73,7 @@ one_more n every true is =
 module _ (cartridge : Cart) (inputs : List InputData) (every : ℕ) (to_the_end : Bool) (cs : List Checkpoint) (last : State)
     (fits : IsTrue (do_claims_fit (length inputs) every to_the_end)) (ran : HasRun cartridge inputs every (length inputs) cs last)
     (first : IsStateOf cartridge (state_at_power_on cartridge))
-    (state : is_last_claimed (length inputs) every to_the_end ≡ true → IsStateOf cartridge last) (rules : rules_of cartridge ≡ ByGuide)
+    (state : is_last_claimed (length inputs) every to_the_end ≡ true → IsStateOf cartridge last)
     (lawful : IsCart cartridge) where
   abbrev n : ℕ
   n = length inputs
@@ -83,7 +82,7 @@ module _ (cartridge : Cart) (inputs : List InputData) (every : ℕ) (to_the_end 
   d = record { frame = n; state = last }
 
   abbrev made : MovieData
-  made = parts (version_made (length (bytes_of cartridge)) n) cartridge (state_at_power_on cartridge) inputs (cs ++ last_claim n every to_the_end last)
+  made = parts (version_made cartridge n) cartridge (state_at_power_on cartridge) inputs (cs ++ last_claim n every to_the_end last)
 
   abbrev old : MovieData
   old = record (bare cartridge inputs) { checkpoints = cs }
@@ -94,7 +93,7 @@ module _ (cartridge : Cart) (inputs : List InputData) (every : ℕ) (to_the_end 
   all : AllByRecursion (λ i. IsTrue (is_input i)) inputs
   all = recursion_from_All (λ i. IsTrue (is_input i)) inputs (rw (take_all n inputs (omega arith)) at ran.inputs_are)
 
-  before : IsMadeOf cartridge inputs every old × IsGenuine old × (rules_of cartridge ≡ ByGuide → IsCart cartridge → IsMovie old)
+  before : IsMadeOf cartridge inputs every old × IsGenuine old × (IsCart cartridge → IsMovie old)
   before = made_movie cartridge inputs every cs (fits_both n every to_the_end fits).0 ran.sound ran.claims first all
 
   states : (j : ℕ) (c : Checkpoint) → slice_get cs j ≡ Some c → run (bare cartridge inputs) (state_at_power_on cartridge) 0 c.frame ≡ Some c.state
@@ -120,7 +119,7 @@ module _ (cartridge : Cart) (inputs : List InputData) (every : ℕ) (to_the_end 
 
   pub IsMovie-parts : IsMovie made
   IsMovie-parts =
-      let movie : IsMovie old = before.2 rules lawful in
+      let movie : IsMovie old = before.2 lawful in
       let fit = counts_are n every (fits_both n every to_the_end fits).0 in
       elim (cases_Bool (is_last_claimed n every to_the_end)) [
         | inl e ↦
@@ -129,6 +128,7 @@ module _ (cartridge : Cart) (inputs : List InputData) (every : ℕ) (to_the_end 
             rw e (record {
               version = movie.version;
               rules = movie.rules;
+              board = movie.board;
               cartridge = movie.cartridge;
               start = movie.start;
               some_frames = movie.some_frames;

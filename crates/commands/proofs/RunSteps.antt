@@ -14,7 +14,7 @@ use Rattle.movie_file.specs.Run.{run}
 use Rattle.movie_file.proofs.RunLemmas.{run-next, faults-here}
 use Rattle.run_cursor.specs.RunFaults.{FaultsWithin}
 use Rattle.run_cursor.proofs.CursorLemmas.{no_run}
-use Rattle.run_cursor.proofs.RunStates.{frames_are, run_of}
+use Rattle.run_cursor.proofs.RunStates.{frames_are, run_by}
 use Rattle.commands.specs.AskedFrames.{Ends, inputs_asked, frames_asked}
 
 -- it ends, or faults
@@ -40,7 +40,7 @@ ends_or_faults m movie (suc n) le = elim (ends_or_faults m movie n (omega arith)
     play state ran (Some (Played new rows cycles)) e = inl (new, rw add-one at (run-next m m.start 0 n n state input ran (omega arith) there new rows cycles e))
     play state ran (Some (Failed kind left)) e =
         inr (n + 1, kind, (n, omega arith, refl, faults-here m m.start 0 n n state input ran (omega arith) there kind left e))
-    play state ran None e = absurd (false≢true (rw e at (frames_are m.cartridge state input (run_of m movie n state ran))))
+    play state ran None e = absurd (false≢true (rw e at (frames_are m.cartridge state input (run_by m movie n state ran))))
 
 -- what ended before
 pub Ends-below : (m : MovieData) (k n : ℕ) → k ≤ n → Ends m n → Ends m k

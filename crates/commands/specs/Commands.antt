@@ -2,6 +2,7 @@
 use Rattle.std.specs.Prelude.{◌≡◌, ◌⊎◌, ◌≤◌, ℕ, IsSome, List, [], Option, Some, None, Result, Ok, Err}
 use Rattle.std.specs.NonZero.{non_zero_u32_get}
 use Rattle.std.specs.Io.KnownBytes.{Keeps}
+use Rattle.command_line.specs.Named.{named_row}
 use Rattle.command_line.specs.Program.{program_name}
 use Rattle.command_line.specs.declared.command.Command.{Command}
 use Rattle.command_line.specs.declared.command.CommandLine.{CommandLine}
@@ -33,7 +34,7 @@ use Rattle.commands.specs.declared.conclusion.Conclusion.{Conclusion}
 
 -- It is about a movie.
 abbrev pub IsAboutMovies : Command → Type 0
-IsAboutMovies (Make form making) = ⊥
+IsAboutMovies (Make form making board) = ⊥
 IsAboutMovies other = Unit {0}
 
 -- The answer of a command about a movie, which these bytes are, in this notation, where a ROM was read or none.
@@ -41,7 +42,7 @@ IsAboutMovies other = Unit {0}
 abbrev pub Answers : Command → Notation → List ℕ → Option (List ℕ) → MovieData → AnswerData → Type 0
 Answers (Verify every keep) notation bytes read m answer = Verifies notation keep m answer
 Answers (Report expectations) notation bytes read m answer = Reports notation program_name read expectations bytes m answer
-Answers (Make form making) notation bytes read m answer = ⊥
+Answers (Make form making board) notation bytes read m answer = ⊥
 Answers Info notation bytes read m answer = answer ≡ information_in notation m
 Answers Claims notation bytes read m answer = answer ≡ claims_in notation m
 Answers (Inputs listing) notation bytes read m answer = Lists m listing answer
@@ -73,7 +74,8 @@ ReadsFor name (Err error) old new read = Keeps old new × (read ≡ None)
 -- The answer of a command about these bytes. `make` also reads inputs, of which `old` were left before
 -- it and `new` are left after it, and a report may read a ROM.
 abbrev pub AnswersBytes : {Z : Type 0} → Command → Notation → Option Z → List ℕ → (old new : Option (List ℕ)) → AnswerData → Type 0
-AnswersBytes (Make form making) notation name bytes old new answer = Makes form making bytes old new answer
+AnswersBytes (Make form making board) notation name bytes old new answer =
+    Makes form making (named_row board) bytes old new answer
 AnswersBytes command notation name bytes old new answer =
     (read : Option (List ℕ)) × ReadsFor name (movie_at bytes) old new read × AnswersFound command notation bytes read (movie_at bytes) answer
 

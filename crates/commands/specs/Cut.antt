@@ -1,6 +1,5 @@
 -- Cutting a movie: a movie of its own of some of its frames. This project's own.
 use Rattle.std.specs.Prelude.{◌≡◌, ◌⊎◌, ◌<◌, ◌≤◌, ℕ, ◌+◌, ◌-◌, ◌*◌, ◌/◌, length, false, IsTrue, Option, Some, slice_get}
-use Rattle.movie_machine.specs.Carts.{bytes_of}
 use Rattle.vcs_machine.specs.declared.fault.FaultKind.{FaultKind}
 use Rattle.movie_file.specs.Judgement.{IsGenuine}
 use Rattle.movie_file.specs.Making.{counts_fit, version_made}
@@ -22,7 +21,7 @@ use Rattle.commands.specs.declared.remark.WhichInput.TheVariants.{First}
 -- has their inputs, and claims the state of the run after every so many of them. Its version is the
 -- one of a movie that is made of its cartridge and inputs.
 pub record IsCutOf (m : MovieData) (first count every : ℕ) (c : MovieData) : Type 0 where
-  pub version : c.version ≡ version_made (length (bytes_of c.cartridge)) (length c.inputs)
+  pub version : c.version ≡ version_made c.cartridge (length c.inputs)
   pub cartridge_is : c.cartridge ≡ m.cartridge
   pub start : run m m.start 0 (first - 1) ≡ Some c.start
   pub inputs_are : c.inputs ≡ inputs_asked m first count

@@ -6,7 +6,7 @@ use Rattle.movie_file.specs.MovieError.{refusal_text}
 use Rattle.commands.specs.declared.line.Line.{Line}
 use Rattle.commands.specs.declared.line.Line.TheVariants.{Genuine, FalseCheckpoint, Fault}
 use Rattle.commands.specs.declared.line.Line.TheVariants.{Refused, BadLine, Made, Converted}
-use Rattle.commands.specs.declared.line.Line.TheVariants.{AlreadyTwo, Cartridge, Movie, Cut}
+use Rattle.commands.specs.declared.line.Line.TheVariants.{AlreadyTwo, AlreadyThree, Cartridge, Cut}
 use Rattle.commands.specs.declared.line.Line.TheVariants.{Pictures, Frame, NoFrame}
 use Rattle.commands.specs.declared.status.Status.{Status}
 use Rattle.commands.specs.declared.status.Status.TheVariants as statuses
@@ -34,13 +34,12 @@ line_text (BadLine number) = codes "refused: BadLine " ++ decimal number
 line_text (Made frames checkpoints) = codes "made: " ++ counts_text frames checkpoints
 line_text (Converted frames checkpoints) = codes "converted: " ++ counts_text frames checkpoints
 line_text AlreadyTwo = codes "refused: AlreadyTwo"
+line_text AlreadyThree = codes "refused: AlreadyThree"
 line_text (Cartridge bytes) = codes "cartridge: " ++ (decimal bytes ++ codes " bytes")
 line_text (Cut frames checkpoints) = codes "cut: " ++ counts_text frames checkpoints
 line_text (Pictures frames) = codes "pictures: " ++ (decimal frames ++ codes " frames")
 line_text (Frame frame cycles rows) = frame_text frame cycles rows
 line_text (NoFrame frame) = codes "refused: NoFrame " ++ decimal frame
-line_text (Movie version cartridge frames checkpoints) =
-    codes "movie: version " ++ (decimal version ++ (codes ", " ++ contents_text cartridge frames checkpoints))
 
 -- With its end, a line feed.
 abbrev pub line_bytes : Line → List ℕ
@@ -53,5 +52,6 @@ status_of (Fault frame kind) = statuses.Fault
 status_of (Refused error) = statuses.Refused
 status_of (BadLine number) = statuses.Refused
 status_of AlreadyTwo = statuses.Refused
+status_of AlreadyThree = statuses.Refused
 status_of (NoFrame frame) = statuses.Refused
 status_of other = statuses.Done

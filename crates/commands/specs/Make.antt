@@ -6,16 +6,15 @@ use Rattle.std.specs.NonZero.{non_zero_u32_get}
 use Rattle.std.specs.Option.{option_or}
 use Rattle.std.specs.Result.{result_map_both}
 use Rattle.std.specs.Io.KnownBytes.{Keeps}
-use Rattle.riot_map.specs.Cart.{is_cart_length}
+use Rattle.cart_board.specs.Board.{Row}
 use Rattle.input_text.specs.Texts.{inputs_in}
 use Rattle.vcs_machine.specs.Inputs.{InputData}
-use Rattle.movie_machine.specs.Carts.{bytes_of}
+use Rattle.movie_machine.specs.Carts.{cart_on}
 use Rattle.movie_machine.specs.States.{state_at_power_on}
 use Rattle.movie_machine.specs.declared.cart.Cart.{Cart}
-use Rattle.movie_machine.specs.declared.cart.Cart.TheVariants.{Guide}
 use Rattle.movie_machine.specs.declared.state.State.{State}
 use Rattle.vcs_machine.specs.declared.fault.FaultKind.{FaultKind}
-use Rattle.movie_file.specs.Format.{most_checkpoints}
+use Rattle.movie_file.specs.Format.{is_length, most_checkpoints}
 use Rattle.movie_file.specs.InputLists.{all_inputs_at}
 use Rattle.movie_file.specs.Judgement.{IsGenuine}
 use Rattle.movie_file.specs.Making.{IsMadeOf, IsFirstFault, counts_fit, version_made}
@@ -70,7 +69,7 @@ pub record IsMadeMovie (cartridge : Cart) (inputs : List InputData) (every : ℕ
 -- The movie of a run from power-on of which this frame is the first that faults: it ends with that
 -- frame, and has a checkpoint after every so many of the frames before.
 pub record IsMadeToTheFault (cartridge : Cart) (inputs : List InputData) (every frame : ℕ) (m : MovieData) : Type 0 where
-  pub version : m.version ≡ version_made (length (bytes_of cartridge)) frame
+  pub version : m.version ≡ version_made cartridge frame
   pub cartridge_is : m.cartridge ≡ cartridge
   pub start : m.start ≡ state_at_power_on cartridge
   pub inputs_are : m.inputs ≡ take frame inputs
@@ -122,11 +121,11 @@ abbrev pub MakesFrom : Cart → InputForm → List ℕ → ℕ → Bool → Bool
 MakesFrom cartridge form input every to_the_end to_the_fault answer =
     MakesFound cartridge form input (inputs_by form input) every to_the_end to_the_fault answer
 
--- What is written of the bytes of a ROM, and what is read of the inputs: if no cartridge has the
--- ROM's length, nothing.
-abbrev pub Makes : InputForm → Making → List ℕ → Option (List ℕ) → Option (List ℕ) → AnswerData → Type 0
-Makes form making rom old new answer =
-    (IsTrue (is_cart_length (length rom))
+-- What is written of the bytes of a ROM, on a board or on none, and what is read of the inputs: if no such
+-- cartridge has the ROM's length, nothing.
+abbrev pub Makes : InputForm → Making → Option Row → List ℕ → Option (List ℕ) → Option (List ℕ) → AnswerData → Type 0
+Makes form making board rom old new answer =
+    (IsTrue (is_length board (length rom))
     × ((input : List ℕ) × ReadsAll old new input
-    × MakesFrom (Guide rom) form input (non_zero_u32_get making.every) making.to_the_end making.to_the_fault answer))
-    ⊎ ((¬ IsTrue (is_cart_length (length rom))) × Keeps old new × RefusesRom First Lines program_name rom answer)
+    × MakesFrom (cart_on board rom) form input (non_zero_u32_get making.every) making.to_the_end making.to_the_fault answer))
+    ⊎ ((¬ IsTrue (is_length board (length rom))) × Keeps old new × RefusesRom First Lines program_name board rom answer)

@@ -2,6 +2,7 @@
 -- (RFC 8259). This project's own.
 use Rattle.std.specs.Prelude.{◌≡◌, ℕ, List, [], ◌∷◌, ◌++◌, codes, Option, Some, None}
 use Rattle.std.specs.Fmt.{decimal}
+use Rattle.cart_board.specs.Board.{Row}
 use Rattle.hex.specs.Hex.{encode_lower}
 use Rattle.sha2.specs.Sha256.{sha256}
 use Rattle.movie_file.specs.MovieError.{refusal_text}
@@ -71,8 +72,9 @@ abbrev pub rom_refusal_bytes : Notation → List ℕ → Hint → List ℕ
 rom_refusal_bytes Lines program hint = line_bytes (lines.Refused BadCartSize)
 rom_refusal_bytes Json program hint = rom_refusal_object program hint
 
--- The answer that the bytes of this input are no cartridge. It has a reason, likewise.
-abbrev pub RefusesRom : WhichInput → Notation → List ℕ → List ℕ → AnswerData → Type 0
-RefusesRom input notation program rom answer =
-    (hint : Hint) × TellsRom rom hint
+-- The answer that the bytes of this input are no cartridge, on this board or on none. It has a reason,
+-- likewise.
+abbrev pub RefusesRom : WhichInput → Notation → List ℕ → Option Row → List ℕ → AnswerData → Type 0
+RefusesRom input notation program board rom answer =
+    (hint : Hint) × TellsRom board rom hint
     × (answer ≡ record (text_answer statuses.Refused (rom_refusal_bytes notation program hint)) { remark = Some (no_cartridge input hint) })

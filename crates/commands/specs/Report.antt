@@ -1,6 +1,8 @@
 -- A report on a movie for whoever judges it: its verdict, and then facts. This project's own.
 use Rattle.std.specs.Prelude.{◌≡◌, ◌⊎◌, ℕ, List, [], ◌++◌, Option, Some, false, if◌then◌else◌, length}
-use Rattle.riot_map.specs.Cart.{is_cart_length}
+use Rattle.cart_board.specs.Board.{Row}
+use Rattle.movie_machine.specs.Carts.{board_of}
+use Rattle.movie_file.specs.Format.{is_length}
 use Rattle.movie_file.specs.Movie.{MovieData}
 use Rattle.movie_report.specs.Expectations.{agreement_of, disagrees}
 use Rattle.movie_report.specs.Facts.{IsReport}
@@ -36,12 +38,12 @@ ReportsMovie notation program rom expectations bytes m answer =
     × (answer ≡ text_answer (status_with (agreement_of m rom expectations) (status_of (verdict_line m verdict)))
     (line_in notation (line_bytes (verdict_line m verdict)) ++ facts))
 
--- A ROM whose length no cartridge has.
-abbrev pub IsNoCartridge : Option (List ℕ) → List ℕ → Type 0
-IsNoCartridge rom bytes = (rom ≡ Some bytes) × (is_cart_length (length bytes) ≡ false)
+-- A ROM whose length no cartridge has, on a board or on none.
+abbrev pub IsNoCartridge : Option Row → Option (List ℕ) → List ℕ → Type 0
+IsNoCartridge board rom bytes = (rom ≡ Some bytes) × (is_length board (length bytes) ≡ false)
 
 -- The same where a ROM was read, which may be no cartridge. Then it is refused, and nothing is said of the movie.
 abbrev pub Reports : Notation → List ℕ → Option (List ℕ) → Expectations → List ℕ → MovieData → AnswerData → Type 0
 Reports notation program rom expectations bytes m answer =
-    (((other : List ℕ) → IsNoCartridge rom other → ⊥) × ReportsMovie notation program rom expectations bytes m answer)
-    ⊎ ((other : List ℕ) × IsNoCartridge rom other × RefusesRom Second notation program other answer)
+    (((other : List ℕ) → IsNoCartridge (board_of m.cartridge) rom other → ⊥) × ReportsMovie notation program rom expectations bytes m answer)
+    ⊎ ((other : List ℕ) × IsNoCartridge (board_of m.cartridge) rom other × RefusesRom Second notation program (board_of m.cartridge) other answer)

@@ -1,38 +1,51 @@
 //! Instructions as an assembler writes them.
-ghost use Rattle.std.specs.Prelude.{◌≡◌, ◌∷◌, [], take};
-ghost use Rattle.mos_cpu.specs.Operands.{length_of};
+ghost use Rattle.std.specs.Prelude.{◌≡◌};
+ghost use Rattle.std.specs.Fmt.{WritesOnOk};
 ghost use Rattle.commands.specs.Assembly.{branch_address, operand_text, word};
-ghost use Rattle.commands.specs.Columns.{left};
+ghost use Rattle.commands.specs.Columns.{blanks, left};
 ghost use Rattle.commands.specs.TraceLines.{spaced};
 
 use mos_cpu::Mode;
 use std::fmt;
 use vcs_machine::{HexByte, HexWord};
 
-/// The bytes of an instruction with this addressing mode, in 8 columns.
+/// The bytes of an instruction, in 8 columns.
 #[derive(Clone, Copy)]
-pub(crate) struct InstructionBytes {
-    pub mode: Mode,
-    pub opcode: u8,
-    pub low: u8,
-    pub high: u8,
+pub(crate) struct InstructionBytes<'a>(pub &'a [u8]);
+
+/// Writes bytes with a space between.
+fn write_spaced<W: fmt::Write>(f: &mut fmt::Formatter<W>, bytes: &[u8]) -> fmt::Result
+    ensures { WritesOnOk W.write_str_gives f.old result (spaced bytes.now) f.new }
+{
+    let Some((first, more)) = bytes.split_first() else {
+        return Ok(());
+    };
+    write!(f, "{}", HexByte(*first))?;
+    for byte in more {
+        write!(f, " {}", HexByte(*byte))?;
+    }
+    Ok(())
 }
 
-impl fmt::Display for InstructionBytes {
+/// Writes so many blanks.
+fn write_blanks<W: fmt::Write>(f: &mut fmt::Formatter<W>, count: usize) -> fmt::Result
+    ensures { WritesOnOk W.write_str_gives f.old result (blanks count) f.new }
+{
+    for _ in 0..count {
+        f.write_str(" ")?;
+    }
+    Ok(())
+}
+
+impl fmt::Display for InstructionBytes<'_> {
     ghost use Rattle.std.specs.Prelude.{Some};
 
-    ghost output = { λ i. Some (left 8 (spaced (take (length_of i.mode) (i.opcode ∷ i.low ∷ i.high ∷ [])))) };
+    ghost output = { λ i. Some (left 8 (spaced i.0.now)) };
 
     fn fmt<W: fmt::Write>(&self, f: &mut fmt::Formatter<W>) -> fmt::Result {
-        let opcode = HexByte(self.opcode);
-        let low = HexByte(self.low);
-        match self.mode {
-            Mode::Implied | Mode::Accumulator => write!(f, "{opcode}      "),
-            Mode::Absolute | Mode::AbsoluteX | Mode::AbsoluteY | Mode::Indirect => {
-                write!(f, "{opcode} {low} {}", HexByte(self.high))
-            }
-            _ => write!(f, "{opcode} {low}   "),
-        }
+        write_spaced(f, self.0)?;
+        let width = self.0.len().saturating_mul(3).saturating_sub(1);
+        write_blanks(f, 8usize.saturating_sub(width))
     }
 }
 

@@ -34,7 +34,7 @@ use crate::status::Status;
 use crate::streams::{read_all, read_input};
 use crate::trace::trace;
 use crate::verify::verify;
-use command_line::{Command, CommandLine};
+use command_line::{Command, CommandLine, NamedBoard};
 use movie_file::{Movie, Progress};
 use replay_plan::Plan;
 use std::alloc::Global;
@@ -219,9 +219,15 @@ pub fn run_command<
 {
     let Request { rt, line, gate } = *request;
     let alloc = rt.alloc();
-    if let Command::Make { form, making } = &line.command {
+    if let Command::Make {
+        form,
+        making,
+        board,
+    } = &line.command
+    {
         let rom = read_all(alloc, input)?;
-        let answer = make(alloc, rom, *form, inputs, *making, gate)?;
+        let board = NamedBoard::known_of(*board);
+        let answer = make(alloc, rom, board, *form, inputs, *making, gate)?;
         return Ok(answer.write_file_first(file, text)?);
     }
     let (bytes, found) = read_input(alloc, input)?;

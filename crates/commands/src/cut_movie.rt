@@ -94,7 +94,7 @@ fn cut_of<P: Progress>(
     let asked = &movie.inputs()[from as usize..(from + frames) as usize];
     let inputs = Vec::from_slice(alloc, asked)?;
     let cart = movie.cart().copy(alloc)?;
-    let version = version_made(cart.len(), frames as usize);
+    let version = version_made(&cart, frames as usize);
     Ok(Ok(movie_of(version, cart, start, inputs, checkpoints)))
 }
 

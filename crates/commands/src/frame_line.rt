@@ -2,9 +2,7 @@
 ghost use Rattle.std.specs.Prelude.{◌≡◌, ◌<◌, ◌+◌, length, Some, None, IfOk, IfErr, IsTrue, OnOk};
 ghost use Rattle.std.specs.Prelude.{if◌then◌else◌, string_bytes};
 ghost use Rattle.std.specs.List.{flat_map};
-ghost use Rattle.movie_machine.specs.Carts.{rules_of};
 ghost use Rattle.movie_machine.specs.States.{is_of};
-ghost use Rattle.movie_machine.specs.declared.rules.Rules.TheVariants.{Guide as ByGuide};
 ghost use Rattle.vcs_machine.specs.Pictures.{Rows};
 ghost use Rattle.picture_file.specs.PictureBytes.{picture_bytes};
 ghost use Rattle.replay_segments.specs.NextCheckpoint.{IsNext};
@@ -226,11 +224,10 @@ fn told_digests(
     state: &State,
     picture: &Picture,
 ) -> Result<String, AllocError>
-    requires rules { rules_of cart.now ≡ ByGuide }
-    requires cartridge { IsTrue (is_of cart.now state.now) }
     ensures { IfOk result (λ text. string_bytes text ≡ digests_text notation cart.now state.now picture.now) }
 {
-    let state = encode(alloc, Sha256::digest(&state_record(cart, state)))?;
+    let record = state_record(alloc, cart, state)?;
+    let state = encode(alloc, Sha256::digest(&record))?;
     let file = file_of(alloc, picture)?;
     let picture = encode(alloc, Sha256::digest(&file))?;
     match notation {

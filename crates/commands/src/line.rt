@@ -13,63 +13,33 @@ use vcs_machine::FaultKind;
 /// A line of output, without its end.
 #[derive(Clone, Copy)]
 pub enum Line {
-    Genuine {
-        frames: u32,
-        checkpoints: u16,
-    },
-    FalseCheckpoint {
-        number: u16,
-        frame: u32,
-    },
-    Fault {
-        frame: u32,
-        kind: FaultKind,
-    },
+    Genuine { frames: u32, checkpoints: u16 },
+    FalseCheckpoint { number: u16, frame: u32 },
+    Fault { frame: u32, kind: FaultKind },
     Refused(MovieError),
     /// The line of this number, from 1, is the first of a text of inputs that can't be read, or
     /// with which there are too many frames.
     BadLine(u64),
-    Made {
-        frames: u32,
-        checkpoints: u16,
-    },
-    Converted {
-        frames: u32,
-        checkpoints: u16,
-    },
+    Made { frames: u32, checkpoints: u16 },
+    Converted { frames: u32, checkpoints: u16 },
     /// A movie of version 2 is not converted.
     AlreadyTwo,
+    /// Nor is one of version 3.
+    AlreadyThree,
     /// A cartridge of so many bytes was written.
-    Cartridge {
-        bytes: u32,
-    },
-    Cut {
-        frames: u32,
-        checkpoints: u16,
-    },
+    Cartridge { bytes: u32 },
+    Cut { frames: u32, checkpoints: u16 },
     /// The pictures of so many frames were written.
-    Pictures {
-        frames: u32,
-    },
+    Pictures { frames: u32 },
     /// How many cycles a frame took, and how many rows its picture has.
-    Frame {
-        frame: u32,
-        cycles: u32,
-        rows: u16,
-    },
+    Frame { frame: u32, cycles: u32, rows: u16 },
     /// The movie has fewer frames than this.
     NoFrame(u32),
-    Movie {
-        version: u16,
-        cartridge: u32,
-        frames: u32,
-        checkpoints: u16,
-    },
 }
 
 /// How many frames and checkpoints a movie has, in words.
 #[derive(Clone, Copy)]
-struct Counts(u32, u16);
+pub(crate) struct Counts(pub u32, pub u16);
 
 impl fmt::Display for Counts {
     ghost use Rattle.std.specs.Prelude.{Some};
@@ -85,7 +55,7 @@ impl fmt::Display for Counts {
 
 /// The bytes of a movie's cartridge and its counts, in words.
 #[derive(Clone, Copy)]
-struct Contents(u32, Counts);
+pub(crate) struct Contents(pub u32, pub Counts);
 
 impl fmt::Display for Contents {
     ghost use Rattle.std.specs.Prelude.{Some};
@@ -114,9 +84,8 @@ impl Line {
         match self {
             Line::FalseCheckpoint { .. } => Status::False,
             Line::Fault { .. } => Status::Fault,
-            Line::Refused(_) | Line::BadLine(_) | Line::AlreadyTwo | Line::NoFrame(_) => {
-                Status::Refused
-            }
+            Line::Refused(_) | Line::BadLine(_) | Line::NoFrame(_) => Status::Refused,
+            Line::AlreadyTwo | Line::AlreadyThree => Status::Refused,
             _ => Status::Done,
         }
     }
@@ -167,6 +136,7 @@ impl fmt::Display for Line {
                 checkpoints,
             } => write!(f, "converted: {}", Counts(frames, checkpoints)),
             Line::AlreadyTwo => write!(f, "refused: AlreadyTwo"),
+            Line::AlreadyThree => write!(f, "refused: AlreadyThree"),
             Line::Cartridge { bytes } => write!(f, "cartridge: {bytes} bytes"),
             Line::Cut {
                 frames,
@@ -179,15 +149,6 @@ impl fmt::Display for Line {
                 rows,
             } => write!(f, "frame {frame}: {cycles} cycles, {rows} rows"),
             Line::NoFrame(frame) => write!(f, "refused: NoFrame {frame}"),
-            Line::Movie {
-                version,
-                cartridge,
-                frames,
-                checkpoints,
-            } => {
-                let contents = Contents(cartridge, Counts(frames, checkpoints));
-                write!(f, "movie: version {version}, {contents}")
-            }
         }
     }
 }

@@ -1,10 +1,10 @@
 //! A movie that is made of a ROM and of inputs.
 ghost use Rattle.std.specs.Prelude.{◌≡◌, Err, IfErr, IfOk, Some};
+ghost use Rattle.cart_board.specs.Known.{known_row};
 ghost use Rattle.std.specs.NonZero.{non_zero_u32_get};
 ghost use Rattle.input_text.specs.Texts.{inputs_in};
 ghost use Rattle.movie_file.specs.Spelling.{spelling};
 ghost use Rattle.commands.specs.Answers.{line_answer};
-ghost use Rattle.movie_machine.specs.declared.cart.Cart.TheVariants.{Guide as GuideCart};
 ghost use Rattle.commands.specs.Make.{Makes, MakesFrom, MakesOf, RefusesInputs};
 ghost use Rattle.commands.specs.RunErrors.{IsOfReading};
 ghost use Rattle.commands.specs.Private.MadeRuns.{line_of, remark_of};
@@ -20,13 +20,14 @@ use crate::refusal::{counts_refusal, remark_if, rom_refusal};
 use crate::remark::{Cause, Remark, WhichInput};
 use crate::run_error::RunError;
 use crate::streams::read_all;
+use cart_board::KnownBoard;
 use command_line::Making;
 use input_text::read_text;
-use movie_file::{MakeError, MovieError, Progress, read_inputs};
+use movie_file::{MakeError, MovieError, Progress, is_length, read_inputs};
 use movie_hints::{Hint, hint_of_counts, hint_of_storage};
+use movie_machine::Cart;
 use refused::Refused;
 use replay_plan::{InputForm, Notation};
-use riot_map::Cart;
 use std::alloc::{AllocError, Global};
 use std::io::Read;
 use vcs_machine::Input;
@@ -104,7 +105,7 @@ fn of_inputs<P: Progress>(
     making: Making,
     progress: &P,
 ) -> Result<Answer, AllocError>
-    ensures { IfOk result (λ answer. MakesOf (GuideCart cart) inputs.items stored (non_zero_u32_get making.every) making.to_the_end making.to_the_fault answer) }
+    ensures { IfOk result (λ answer. MakesOf cart inputs.items stored (non_zero_u32_get making.every) making.to_the_end making.to_the_fault answer) }
 {
     let frames = inputs.len();
     match make_run(
@@ -138,7 +139,7 @@ fn of_bytes<P: Progress>(
     making: Making,
     progress: &P,
 ) -> Result<Answer, AllocError>
-    ensures { IfOk result (λ answer. MakesFrom (GuideCart cart) form bytes.items (non_zero_u32_get making.every) making.to_the_end making.to_the_fault answer) }
+    ensures { IfOk result (λ answer. MakesFrom cart form bytes.items (non_zero_u32_get making.every) making.to_the_end making.to_the_fault answer) }
 {
     match form {
         InputForm::Bytes => match read_inputs(alloc, &bytes) {
@@ -161,24 +162,27 @@ fn of_bytes<P: Progress>(
     }
 }
 
-/// A movie of the run from power-on with the cartridge of a ROM and these inputs, which claims what is
-/// asked for; or why none is made. The inputs are read if the ROM is a cartridge.
+/// A movie of the run from power-on with the cartridge of a ROM, on this board or on none, and these
+/// inputs, which claims what is asked for; or why none is made. The inputs are read if the ROM is a
+/// cartridge.
 pub(crate) fn make<S: Read, P: Progress>(
     alloc: Global,
     rom: Vec<u8>,
+    board: Option<KnownBoard>,
     form: InputForm,
     inputs: &mut S,
     making: Making,
     progress: &P,
 ) -> Result<Answer, RunError>
-    ensures makes { IfOk result (λ answer. Makes form making rom.items (S.remaining inputs.old) (S.remaining inputs.new) answer) }
+    ensures makes { IfOk result (λ answer. Makes form making (known_row board) rom.items (S.remaining inputs.old) (S.remaining inputs.new) answer) }
     ensures only { IfErr result IsOfReading }
     ensures too_long { result ≡ Err RunError.TooLong → IsTooLong (S.remaining inputs.old) }
 {
-    if !Cart::is_length(rom.len()) {
-        return Ok(rom_refusal(alloc, WhichInput::First, Notation::Lines, &rom)?);
+    if !is_length(board, rom.len()) {
+        let input = WhichInput::First;
+        return Ok(rom_refusal(alloc, input, Notation::Lines, board, &rom)?);
     }
-    let Ok(cart) = Cart::new(rom) else {
+    let Ok(cart) = Cart::on(board, rom) else {
         unreachable!();
     };
     let bytes = read_all(alloc, inputs)?;

@@ -1,10 +1,8 @@
 //! Movies of runs from power-on, with the checkpoints that `make` is asked for.
 ghost use Rattle.std.specs.Prelude.{◌≡◌, ◌≤◌, ◌<◌, ◌++◌, ◌/◌, [], length, IfErr, IfOk, IfSome, IsTrue, None};
 ghost use Rattle.std.specs.Prelude.{OnErr, true, vec_capacity, vec_len};
-ghost use Rattle.movie_machine.specs.Carts.{IsCart, ram_length, rules_of};
+ghost use Rattle.movie_machine.specs.Carts.{IsCart, ram_length};
 ghost use Rattle.movie_machine.specs.States.{is_of, ram_of, state_at_power_on};
-ghost use Rattle.movie_machine.specs.declared.cart.Cart.TheVariants.{Guide as GuideCart};
-ghost use Rattle.movie_machine.specs.declared.rules.Rules.TheVariants.{Guide as ByGuide};
 ghost use Rattle.movie_file.specs.Judgement.{IsGenuine};
 ghost use Rattle.movie_file.specs.Making.{counts_fit};
 ghost use Rattle.movie_file.specs.Movie.{CanBeClaimed, IsMovie, IsStateOf};
@@ -140,7 +138,7 @@ fn movie_of_run(
     every: u32,
     to_the_end: bool,
 ) -> Result<Movie, AllocError>
-    requires rules { rules_of cart ≡ ByGuide }
+    requires lawful { IsCart cart }
     requires start { start ≡ state_at_power_on cart }
     requires cartridge { IsTrue (is_of cart run.state) }
     requires first { IsStateOf cart start }
@@ -160,7 +158,7 @@ fn movie_of_run(
         to_the_end,
         &run.state,
     )?;
-    let version = version_made(cart.len(), frames);
+    let version = version_made(&cart, frames);
     Ok(movie_of(version, cart, start, inputs, checkpoints))
 }
 
@@ -177,7 +175,7 @@ fn movie_to_the_fault(
     ensures lawful { IsMovie result }
 {
     inputs.truncate(frame as usize);
-    let version = version_made(cart.len(), frame as usize);
+    let version = version_made(&cart, frame as usize);
     movie_of(version, cart, start, inputs, checkpoints)
 }
 
@@ -190,16 +188,16 @@ fn movie_to_the_fault(
 /// that faults. The frames are told as one work, which begins after that memory was taken.
 pub(crate) fn make_run<P: Progress>(
     alloc: Global,
-    cart: riot_map::Cart,
+    cart: Cart,
     inputs: Vec<Input>,
     every: u32,
     to_the_end: bool,
     to_the_fault: bool,
     progress: &P,
 ) -> Result<MadeMovie, Refused<MakeError>>
-    ensures made { IfOk result (λ made. IsMadeRun (GuideCart cart) inputs.items every to_the_end to_the_fault made.movie made.fault) }
+    ensures made { IfOk result (λ made. IsMadeRun cart inputs.items every to_the_end to_the_fault made.movie made.fault) }
     ensures fits { IfOk result (λ _. IsTrue (do_claims_fit (length inputs.items) every to_the_end)) }
-    ensures refused { IfErr result (Explains (GuideCart cart) inputs.items every to_the_end to_the_fault) }
+    ensures refused { IfErr result (Explains cart inputs.items every to_the_end to_the_fault) }
 {
     let frames = inputs.len();
     if !do_claims_fit(frames, every, to_the_end) {
@@ -209,7 +207,6 @@ pub(crate) fn make_run<P: Progress>(
     let Ok(checkpoints) = Vec::with_capacity(alloc, count) else {
         return Err(Refused::NoMemory);
     };
-    let cart = Cart::Guide(cart);
     let Ok(start) = State::power_on(alloc, &cart) else {
         return Err(Refused::NoMemory);
     };

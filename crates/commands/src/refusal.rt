@@ -1,5 +1,6 @@
 //! That bytes are no movie, or no cartridge.
 ghost use Rattle.std.specs.Prelude.{◌≡◌, IfOk, string_bytes};
+ghost use Rattle.cart_board.specs.Known.{known_row};
 ghost use Rattle.command_line.specs.Program.{program_name};
 ghost use Rattle.movie_file.specs.declared.error.MovieError.TheVariants.{BadCounts};
 ghost use Rattle.commands.specs.Answers.{line_answer};
@@ -11,6 +12,7 @@ use crate::answer::Answer;
 use crate::line::Line;
 use crate::remark::{Cause, Remark, WhichInput};
 use crate::status::Status;
+use cart_board::KnownBoard;
 use command_line::program_name;
 use hex::encode;
 use movie_file::MovieError;
@@ -172,17 +174,18 @@ fn rom_refusal_text(alloc: Global, notation: Notation, hint: Hint) -> Result<Str
     }
 }
 
-/// That the bytes of this input are no cartridge, and why: a line, or an object of JSON that also says
-/// why.
+/// That the bytes of this input are no cartridge, on this board or on none, and why: a line, or an object
+/// of JSON that also says why.
 pub(crate) fn rom_refusal(
     alloc: Global,
     input: WhichInput,
     notation: Notation,
+    board: Option<KnownBoard>,
     rom: &[u8],
 ) -> Result<Answer, AllocError>
-    ensures { IfOk result (RefusesRom input notation program_name rom.now) }
+    ensures { IfOk result (RefusesRom input notation program_name (known_row board) rom.now) }
 {
-    let hint = hint_of_rom(rom);
+    let hint = hint_of_rom(rom, board);
     let text = rom_refusal_text(alloc, notation, hint)?;
     let remark = Remark {
         input,

@@ -1,5 +1,6 @@
 //! The verdict of a movie, and facts about it.
 ghost use Rattle.std.specs.Prelude.{◌≡◌, ◌≤◌, ◌++◌, List, ℕ, Err, IfErr, IfOk, IfSome, None, string_bytes};
+ghost use Rattle.cart_board.specs.Known.{known_row};
 ghost use Rattle.std.specs.Option.{option_copied};
 ghost use Rattle.command_line.specs.Program.{program_name};
 ghost use Rattle.commands.specs.Lines.{line_bytes};
@@ -15,12 +16,12 @@ use crate::request::Request;
 use crate::run_error::RunError;
 use crate::status::Status;
 use crate::verify::verdict_of;
+use cart_board::KnownBoard;
 use command_line::program_name;
-use movie_file::{Movie, Progress};
+use movie_file::{Movie, Progress, is_length};
 use movie_report::Agreement;
 use replay_plan::{Expectations, Notation, Plan};
 use replay_segments::Verdict;
-use riot_map::Cart;
 use std::alloc::{AllocError, Global};
 use std::sync::Wait;
 use std::thread::Threads;
@@ -95,13 +96,15 @@ fn report_of<T: Threads + Wait + Sync + AllocGlobal, G: Gate + Progress + Sync>(
     Ok(Answer::of_text(alloc, status, text))
 }
 
-/// The ROM that is expected, if it is one that no cartridge can be.
-fn no_cartridge(rom: Option<&[u8]>) -> Option<&[u8]>
-    ensures some { IfSome result (λ other. IsNoCartridge (option_copied rom.entry) other.now) }
-    ensures none { result ≡ None → (other : List ℕ) → IsNoCartridge (option_copied rom.entry) other → ⊥ }
+/// The ROM that is expected, if no cartridge can be it, on this board or on none.
+fn no_cartridge<'a>(board: Option<KnownBoard>, rom: Option<&'a [u8]>) -> Option<&'a [u8]>
+    ensures some { IfSome result (λ other.
+        IsNoCartridge (known_row board) (option_copied rom.entry) other.now) }
+    ensures none { result ≡ None → (other : List ℕ)
+        → IsNoCartridge (known_row board) (option_copied rom.entry) other → ⊥ }
 {
     match rom {
-        Some(bytes) if !Cart::is_length(bytes.len()) => Some(bytes),
+        Some(bytes) if !is_length(board, bytes.len()) => Some(bytes),
         _ => None,
     }
 }
@@ -118,10 +121,12 @@ pub(crate) fn report<T: Threads + Wait + Sync + AllocGlobal, G: Gate + Progress 
     ensures only { IfErr result IsOfJudging }
     ensures no_thread { result ≡ Err RunError.NoThread → 2 ≤ request.now.line.now.workers.number }
 {
-    match no_cartridge(rom) {
+    let board = movie.cart().board();
+    match no_cartridge(board, rom) {
         Some(other) => {
+            let alloc = request.rt.alloc();
             let notation = request.line.notation;
-            Ok(rom_refusal(request.rt.alloc(), WhichInput::Second, notation, other)?)
+            Ok(rom_refusal(alloc, WhichInput::Second, notation, board, other)?)
         }
         None => report_of(request, bytes, movie, rom, expectations),
     }

@@ -1,17 +1,15 @@
 //! The instructions of a frame of a movie.
-ghost use Rattle.std.specs.Prelude.{◌≡◌, ◌≤◌, ◌<◌, ◌-◌, ◌⊎◌, List, ℕ, false, length, Some, IfErr, IfOk, OnOk};
+ghost use Rattle.std.specs.Prelude.{◌≡◌, ◌≤◌, ◌<◌, ◌-◌, ◌⊎◌, List, ℕ, false, length, Some, IfErr, IfOk, IsTrue, OnOk};
 ghost use Rattle.std.specs.Io.KnownBytes.{Appends, Keeps};
 ghost use Rattle.std.specs.NonZero.{non_zero_u32_get};
 ghost use Rattle.movie_file.specs.Run.{run};
-ghost use Rattle.movie_machine.specs.Carts.{bytes_of};
-ghost use Rattle.movie_machine.specs.declared.state.State.TheVariants.{Guide as GuideState};
+ghost use Rattle.movie_machine.specs.Instructions.{Reaches, Stop, StopsAfter, Underway, cycles_of, has_ended};
+ghost use Rattle.movie_machine.specs.States.{is_of};
 ghost use Rattle.picture_file.specs.Prefixes.{AppendsPrefix};
 ghost use Rattle.commands.specs.RunErrors.{IsOfWriting};
 ghost use Rattle.commands.specs.TraceLines.{trace_line};
-ghost use Rattle.vcs_machine.specs.Frame.{Machine, Reaches};
-ghost use Rattle.vcs_machine.specs.Instructions.{StopsAfter, Undrawn, begun, undrawn_meaning};
-ghost use Rattle.commands.specs.Private.Tracing.{stop_at};
-ghost use Rattle.commands.specs.Trace.{AppendsInstructions, Traces, lines_of};
+ghost use Rattle.commands.specs.Private.Tracing.{IsStop};
+ghost use Rattle.commands.specs.Trace.{AppendsInstructions, Traces, instructions};
 
 use crate::asked_frames::cursor_after;
 use crate::last_line::write_last;
@@ -20,26 +18,25 @@ use crate::run_error::RunError;
 use crate::status::Status;
 use crate::trace_line::trace_line;
 use movie_file::{Movie, Progress};
-use movie_machine::{Cart, State};
+use movie_machine::{Executed, State, Stepping};
 use picture_file::write_bytes;
 use std::alloc::Global;
 use std::io::Write;
 use std::num::NonZeroU32;
-use vcs_machine::{Executed, FaultKind, Stepping};
+use vcs_machine::FaultKind;
 
 /// Writes the line of an instruction.
 fn write_instruction<L: Write>(
     alloc: Global,
     executed: &Executed,
-    has_banks: bool,
     lines: &mut L,
 ) -> Result<(), RunError>
-    ensures ok { OnOk result (Appends (L.contents lines.old) (L.contents lines.new) (trace_line has_banks executed.now)) }
+    ensures ok { OnOk result (Appends (L.contents lines.old) (L.contents lines.new) (trace_line executed.now)) }
     ensures only { IfErr result IsOfWriting }
     ensures memory { result ≡ Err RunError.NoMemory → Keeps (L.contents lines.old) (L.contents lines.new) }
-    ensures fault { result ≡ Err RunError.WriteFault → AppendsPrefix (L.contents lines.old) (L.contents lines.new) (trace_line has_banks executed.now) }
+    ensures fault { result ≡ Err RunError.WriteFault → AppendsPrefix (L.contents lines.old) (L.contents lines.new) (trace_line executed.now) }
 {
-    let Ok(text) = trace_line(alloc, executed, has_banks) else {
+    let Ok(text) = trace_line(alloc, executed) else {
         return Err(RunError::NoMemory);
     };
     match write_bytes(text.as_bytes(), lines) {
@@ -53,22 +50,21 @@ fn write_instruction<L: Write>(
 fn write_instructions<L: Write>(
     alloc: Global,
     stepping: &mut Stepping<'_>,
-    has_banks: bool,
     lines: &mut L,
 ) -> Result<Option<FaultKind>, RunError>
-    requires fresh { stepping.old.cycles ≡ 0 }
-    requires unended { stepping.old.bus.ended ≡ false }
-    ensures ok { IfOk result (λ fault. (count : ℕ) × StopsAfter undrawn_meaning stepping.old count (stop_at fault stepping.new)
-        × Appends (L.contents lines.old) (L.contents lines.new) (lines_of has_banks (begun undrawn_meaning stepping.old count))) }
+    requires fresh { cycles_of stepping.old ≡ 0 }
+    requires unended { has_ended stepping.old ≡ false }
+    ensures ok { IfOk result (λ fault. (count : ℕ) × (stop : Stop) × StopsAfter stepping.old count stop × IsStop fault stepping.new stop
+        × Appends (L.contents lines.old) (L.contents lines.new) (instructions stepping.old count)) }
     ensures only { IfErr result IsOfWriting }
-    ensures memory { result ≡ Err RunError.NoMemory → (count : ℕ) × (here : Machine Undrawn) × Reaches undrawn_meaning stepping.old count here
-        × Appends (L.contents lines.old) (L.contents lines.new) (lines_of has_banks (begun undrawn_meaning stepping.old count)) }
-    ensures fault { result ≡ Err RunError.WriteFault → (count : ℕ) × (here : Machine Undrawn) × Reaches undrawn_meaning stepping.old count here
-        × AppendsPrefix (L.contents lines.old) (L.contents lines.new) (lines_of has_banks (begun undrawn_meaning stepping.old count)) }
+    ensures memory { result ≡ Err RunError.NoMemory → (count : ℕ) × (here : Underway) × Reaches stepping.old count here
+        × Appends (L.contents lines.old) (L.contents lines.new) (instructions stepping.old count) }
+    ensures fault { result ≡ Err RunError.WriteFault → (count : ℕ) × (here : Underway) × Reaches stepping.old count here
+        × AppendsPrefix (L.contents lines.old) (L.contents lines.new) (instructions stepping.old count) }
 {
     while !stepping.is_over() {
         match stepping.next() {
-            Ok(executed) => write_instruction(alloc, &executed, has_banks, lines)?,
+            Ok(executed) => write_instruction(alloc, &executed, lines)?,
             Err(kind) => return Ok(Some(kind)),
         }
     }
@@ -79,33 +75,35 @@ fn write_instructions<L: Write>(
     }
 }
 
-/// Writes the trace of a frame, counted from 1, that begins in this state by the guide's rules.
+/// Writes the trace of a frame, counted from 1, that begins in this state.
 fn trace_frame<L: Write>(
     alloc: Global,
     movie: &Movie,
-    cart: &riot_map::Cart,
     frame: u32,
-    state: &vcs_machine::State,
+    state: &State,
     lines: &mut L,
 ) -> Result<Status, RunError>
     requires first { 0 < frame }
     requires last { frame ≤ length movie.now.inputs }
-    requires cartridge { cart.now ≡ bytes_of movie.now.cartridge }
-    requires ran { run movie.now movie.now.start 0 (frame - 1) ≡ Some (GuideState state.now) }
+    requires ran { run movie.now movie.now.start 0 (frame - 1) ≡ Some state.now }
+    requires cartridge { IsTrue (is_of movie.now.cartridge state.now) }
     ensures ok { IfOk result (λ status. (text : List ℕ) × Traces movie.now frame status text
         × Appends (L.contents lines.old) (L.contents lines.new) text) }
     ensures only { IfErr result IsOfWriting }
-    ensures memory { result ≡ Err RunError.NoMemory → AppendsInstructions movie.now frame (L.contents lines.old) (L.contents lines.new) }
+    ensures memory { result ≡ Err RunError.NoMemory → Keeps (L.contents lines.old) (L.contents lines.new)
+        ⊎ AppendsInstructions movie.now frame (L.contents lines.old) (L.contents lines.new) }
     ensures fault { result ≡ Err RunError.WriteFault → (status : Status) × (text : List ℕ) × Traces movie.now frame status text
         × AppendsPrefix (L.contents lines.old) (L.contents lines.new) text }
 {
-    let mut stepping = Stepping::begin(cart, state, movie.input(frame));
-    match write_instructions(alloc, &mut stepping, cart.has_banks(), lines)? {
+    let Ok(mut stepping) = Stepping::begin(alloc, movie.cart(), state, movie.input(frame)) else {
+        return Err(RunError::NoMemory);
+    };
+    match write_instructions(alloc, &mut stepping, lines)? {
         None => {
             let line = Line::Frame {
                 frame,
                 cycles: stepping.cycles(),
-                rows: stepping.rows(state.line_cycle()),
+                rows: stepping.rows(),
             };
             write_last(alloc, line, lines)?;
             Ok(Status::Done)
@@ -145,12 +143,7 @@ pub(crate) fn trace<L: Write, P: Progress>(
         return Ok(Status::Refused);
     }
     match cursor_after(alloc, movie, frame - 1, progress)? {
-        Ok(cursor) => match (movie.cart(), cursor.state()) {
-            (Cart::Guide(cart), State::Guide(state)) => {
-                trace_frame(alloc, movie, cart, frame, state, lines)
-            }
-            _ => unreachable!(),
-        },
+        Ok(cursor) => trace_frame(alloc, movie, frame, cursor.state(), lines),
         Err(fault) => {
             let line = Line::Fault {
                 frame: fault.frame,

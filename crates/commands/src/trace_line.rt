@@ -1,15 +1,16 @@
 //! The line of an instruction.
-ghost use Rattle.std.specs.Prelude.{◌≡◌, IfOk, string_bytes};
+ghost use Rattle.std.specs.Prelude.{◌≡◌, IfOk, slice_index, string_bytes};
 ghost use Rattle.mos_cpu.specs.Opcodes.{row_of};
-ghost use Rattle.commands.specs.TraceLines.{access_text, bank_text, beam_text, code_text};
+ghost use Rattle.commands.specs.TraceLines.{access_text, banks_text, beam_text, code_text};
 ghost use Rattle.commands.specs.TraceLines.{instruction_text, registers_text, trace_line};
 
 use crate::assembly::{InstructionBytes, OperandText};
 use crate::mnemonic::Mnemonic;
 use mos_cpu::{Cpu, row};
+use movie_machine::Executed;
 use std::alloc::{AllocError, Global};
 use std::fmt;
-use vcs_machine::{DataAccess, Executed, HexByte, HexWord};
+use vcs_machine::{DataAccess, HexByte, HexWord};
 
 /// Where the beam was: the scanline of the frame in 3 columns, and the cycle of it in 2.
 #[derive(Clone, Copy)]
@@ -30,40 +31,35 @@ impl fmt::Display for Beam {
 
 /// An instruction at an address: its bytes, and the same as an assembler has it.
 #[derive(Clone, Copy)]
-struct Code {
+struct Code<'a> {
     pc: u16,
-    opcode: u8,
-    low: u8,
-    high: u8,
+    code: &'a [u8],
 }
 
-impl fmt::Display for Code {
-    ghost use Rattle.std.specs.Prelude.{Some};
+impl Code<'_> {
+    /// A byte of it, by its place; 0 after the last.
+    fn at(&self, place: usize) -> u8
+        ensures { result ≡ slice_index self.now.code.now place }
+    {
+        self.code.get(place).copied().unwrap_or(0)
+    }
+}
 
-    ghost output = { λ c. Some (code_text c.pc c.opcode c.low c.high (row_of c.opcode)) };
+impl fmt::Display for Code<'_> {
+    ghost use Rattle.std.specs.Prelude.{Some, slice_index};
+
+    ghost output = { λ c. Some (code_text c.pc c.code.now (row_of (slice_index c.code.now 0))) };
 
     fn fmt<W: fmt::Write>(&self, f: &mut fmt::Formatter<W>) -> fmt::Result {
-        let Code {
-            pc,
-            opcode,
-            low,
-            high,
-        } = *self;
-        let Some(row) = row(opcode) else {
+        let Some(row) = row(self.at(0)) else {
             return Ok(());
         };
-        let mode = row.mode;
-        let bytes = InstructionBytes {
-            mode,
-            opcode,
-            low,
-            high,
-        };
+        let bytes = InstructionBytes(self.code);
         let operand = OperandText {
-            mode,
-            pc,
-            low,
-            high,
+            mode: row.mode,
+            pc: self.pc,
+            low: self.at(1),
+            high: self.at(2),
         };
         write!(f, "{bytes}  {} {operand}", Mnemonic(row.operation))
     }
@@ -99,24 +95,24 @@ impl fmt::Display for Registers {
     }
 }
 
-/// The selected bank, of a cartridge with two.
+/// The selected banks, of a cartridge that has some.
 #[derive(Clone, Copy)]
-struct Bank {
-    has_banks: bool,
-    bank: u8,
-}
+struct Banks<'a>(&'a [u8]);
 
-impl fmt::Display for Bank {
+impl fmt::Display for Banks<'_> {
     ghost use Rattle.std.specs.Prelude.{Some};
 
-    ghost output = { λ b. Some (bank_text b.has_banks b.bank) };
+    ghost output = { λ b. Some (banks_text b.0.now) };
 
     fn fmt<W: fmt::Write>(&self, f: &mut fmt::Formatter<W>) -> fmt::Result {
-        if self.has_banks {
-            write!(f, " B={}", self.bank)
-        } else {
-            Ok(())
+        let Some((first, more)) = self.0.split_first() else {
+            return Ok(());
+        };
+        write!(f, " B={first:X}")?;
+        for bank in more {
+            write!(f, ".{bank:X}")?;
         }
+        Ok(())
     }
 }
 
@@ -141,12 +137,8 @@ impl fmt::Display for Access {
 }
 
 /// The line of an instruction without its accesses.
-fn instruction_text(
-    alloc: Global,
-    executed: &Executed,
-    has_banks: bool,
-) -> Result<String, AllocError>
-    ensures { IfOk result (λ text. string_bytes text ≡ instruction_text has_banks executed.now) }
+fn instruction_text(alloc: Global, executed: &Executed) -> Result<String, AllocError>
+    ensures { IfOk result (λ text. string_bytes text ≡ instruction_text executed.now) }
 {
     let cpu = executed.cpu;
     let beam = Beam {
@@ -155,27 +147,21 @@ fn instruction_text(
     };
     let code = Code {
         pc: cpu.pc,
-        opcode: executed.opcode,
-        low: executed.low,
-        high: executed.high,
+        code: executed.code.as_slice(),
     };
-    let bank = Bank {
-        has_banks,
-        bank: executed.bank,
-    };
+    let banks = Banks(executed.banks.as_slice());
     format!(in alloc;
-        "{beam}  {}  {code}  {}{bank}",
+        "{beam}  {}  {code}  {}{banks}",
         HexWord(cpu.pc),
         Registers(cpu)
     )
 }
 
-/// The line of an instruction in a trace, with its line feed. `has_banks` is whether the cartridge
-/// has two banks: only then is the selected one shown.
-pub fn trace_line(alloc: Global, executed: &Executed, has_banks: bool) -> Result<String, AllocError>
-    ensures { IfOk result (λ line. string_bytes line ≡ trace_line has_banks executed.now) }
+/// The line of an instruction in a trace, with its line feed.
+pub fn trace_line(alloc: Global, executed: &Executed) -> Result<String, AllocError>
+    ensures { IfOk result (λ line. string_bytes line ≡ trace_line executed.now) }
 {
-    let mut line = instruction_text(alloc, executed, has_banks)?;
+    let mut line = instruction_text(alloc, executed)?;
     for access in executed.accesses.as_slice() {
         write!(line, "{}", Access(*access))?;
     }

@@ -4,11 +4,12 @@
 use crate::answered::Answered;
 use crate::command_files::{STANDARD, takes_file};
 use crate::reasons::write_reason;
-use command_line::{Command, CommandLine};
+use cart_board::KnownBoard;
+use command_line::{Command, CommandLine, NamedBoard};
 use commands::{Cause, Remark, Status, WhichInput, read_all};
+use movie_file::is_length;
 use movie_hints::{Hint, TextHint, hint_of_claims};
 use named_files::STANDARD_INPUT;
-use riot_map::Cart;
 use std::alloc::Global;
 use std::io::Eprint;
 use std::rt::Files;
@@ -52,10 +53,18 @@ fn name_of(input: &str) -> &str {
     }
 }
 
-/// Whether an input has as many bytes as a cartridge.
-fn is_cartridge<R: Files>(rt: &R, input: &str) -> bool {
+/// The board for which a ROM is read, if a command names one.
+fn board_of(line: &CommandLine) -> Option<KnownBoard> {
+    match &line.command {
+        Command::Make { board, .. } => NamedBoard::known_of(*board),
+        _ => None,
+    }
+}
+
+/// Whether an input has as many bytes as a cartridge, on this board or on none.
+fn is_cartridge<R: Files>(rt: &R, board: Option<KnownBoard>, input: &str) -> bool {
     match fs::metadata(rt, path_of(input)) {
-        Ok(metadata) => Cart::is_length(metadata.len() as usize),
+        Ok(metadata) => is_length(board, metadata.len() as usize),
         Err(_) => false,
     }
 }
@@ -70,7 +79,7 @@ pub(crate) fn reason_of<R: Files + AllocGlobal>(
     let alloc = rt.alloc();
     let second = line.second.as_deref().unwrap_or("");
     match (remark.input, &remark.cause) {
-        (WhichInput::First, Cause::NoCartridge(_)) if is_cartridge(rt, second) => {
+        (WhichInput::First, Cause::NoCartridge(_)) if is_cartridge(rt, board_of(line), second) => {
             text_of(alloc, name_of(second), TextHint::Whole(Hint::Exchanged))
         }
         (WhichInput::First, _) => text_of(alloc, name_of(&line.input), remark.hint(alloc)?),

@@ -98,8 +98,9 @@ fn fault_of_shown(alloc: Global, words: &[String]) -> Result<LineFault, AllocErr
     }
 }
 
-/// The fault that is told of some words, if this is theirs. No text about them has a character of
-/// theirs that isn't shown as it is.
+/// What is told of words that are no command line. If each of their characters is shown as it is,
+/// that is this fault with advice. Otherwise it is the fault of the words as they are shown, so no
+/// text about them has a character that a reader can't see.
 fn told_fault(alloc: Global, words: &[String], fault: LineFault) -> Result<LineFault, AllocError>
     ensures { IfOk result (λ told. IsAdvised fault told ⊎ ((shown : Fault) × IsAdvised shown told × IsRefusal (map shown_text (texts_of words.now)) shown)) }
 {

@@ -3,7 +3,6 @@
 use Rattle.std.specs.Prelude.{◌≡◌, ℕ, ◌+◌, ◌<◌, List, Bool, true, false, IsTrue, Option, Some, None, length, take}
 use Rattle.std.specs.List.{All}
 use Rattle.vcs_machine.specs.Inputs.{InputData, is_input}
-use Rattle.movie_machine.specs.Carts.{bytes_of}
 use Rattle.movie_machine.specs.States.{state_at_power_on}
 use Rattle.movie_machine.specs.declared.cart.Cart.{Cart}
 use Rattle.movie_machine.specs.declared.state.State.{State}
@@ -50,7 +49,7 @@ pub record HasFault (cartridge : Cart) (inputs : List InputData) (every frame : 
 -- The movie of these parts with the first so many inputs.
 abbrev pub movie_up_to : Cart → State → List InputData → List Checkpoint → ℕ → MovieData
 movie_up_to cartridge start inputs checkpoints frame =
-    record { version = version_made (length (bytes_of cartridge)) frame; cartridge = cartridge; start = start; inputs = take frame inputs; checkpoints = checkpoints }
+    record { version = version_made cartridge frame; cartridge = cartridge; start = start; inputs = take frame inputs; checkpoints = checkpoints }
 
 -- The movie of a run that ended, or the one to its fault, if that is asked for.
 abbrev pub IsMadeRun : Cart → List InputData → ℕ → Bool → Bool → MovieData → Option RunFault → Type 0

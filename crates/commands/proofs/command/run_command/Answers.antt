@@ -9,11 +9,18 @@ use Rattle.commands.proofs.CommandAnswers.{of_movie, of_refusal, text_in_part}
 use Rattle.commands.proofs.WrittenFrames.{the_error}
 use Rattle.commands.proofs.command.run_command.Goals as goal
 
+pub returns-in-Make-clause-ok : goal.returns-in-Make-clause-ok
+returns-in-Make-clause-ok g c =
+    let answer = c.in_ok-answer.answer in
+    let wrote = c.in_ok-write_file_first.ensures.ok in
+    rw (c.in-Make.is, wrote.0)
+    (c.in_ok-rom.rom.items, answer.text, answer.file, c.in_ok-rom.ensures.all, rw c.known_of-board.ensures at c.in_ok-answer.ensures.makes, wrote.2, wrote.1)
+
 pub returns-in_err-write_file_first-clause-write_fault : goal.returns-in_err-write_file_first-clause-write_fault
 returns-in_err-write_file_first-clause-write_fault g c = λ is.
     let answer = c.in_ok-answer.answer in
     rw c.in-Make.is
-    (c.in_ok-rom.rom.items, conclusion_of answer, answer.text, answer.file, c.in_ok-rom.ensures.all, c.in_ok-answer.ensures.makes, c.in_err-write_file_first.ensures.fault)
+    (c.in_ok-rom.rom.items, conclusion_of answer, answer.text, answer.file, c.in_ok-rom.ensures.all, rw c.known_of-board.ensures at c.in_ok-answer.ensures.makes, c.in_err-write_file_first.ensures.fault)
 
 pub returns-in_err-expected-in-Ok-clause-too_long : goal.returns-in_err-expected-in-Ok-clause-too_long
 returns-in_err-expected-in-Ok-clause-too_long g c = λ is.

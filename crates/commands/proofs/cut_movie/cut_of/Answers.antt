@@ -15,8 +15,8 @@ movie_of-requires g c =
     let fits : IsTrue (counts_fit c.frames_asked-frames.result c.args.every) = rw c.frames_asked-frames.ensures.value c.requires in
     let ran : run m m.start 0 (c.get-from.result - 1) ≡ Some c.in_ok-start.start = rw (c.in_ok-start.ensures.value, c.state.ensures.value) at.ran in
     IsMovie-cut m _ c.args.count c.get-from.ensures.value c.frames_asked-frames.ensures.value c.inputs.ensures c.in_ok-inputs.ensures.items
-    same (rw c.len.ensures.value at c.version_made-version.ensures) ran (rw (at.movie_is, at.frame_is) at claims)
-    c.frames_asked-frames.ensures.lawful fits c.len.ensures.lawful (rw (c.in_ok-start.ensures.value, same) state)
+    same c.version_made-version.ensures.value ran (rw (at.movie_is, at.frame_is) at claims)
+    c.frames_asked-frames.ensures.lawful fits (rw (c.in_ok-start.ensures.value, same) state)
 
 pub returns-clause-cut : goal.returns-clause-cut
 returns-clause-cut g c =
@@ -27,7 +27,7 @@ returns-clause-cut g c =
     let ran : run m m.start 0 (c.get-from.result - 1) ≡ Some c.in_ok-start.start = rw (c.in_ok-start.ensures.value, c.state.ensures.value) at.ran in
     rw c.movie_of.ensures
     (IsCutOf-parts m _ c.args.count c.get-from.ensures.value c.frames_asked-frames.ensures.value c.inputs.ensures c.in_ok-inputs.ensures.items
-    (c.in_ok-cart.ensures ∙ c.cart.ensures) (rw c.len.ensures.value at c.version_made-version.ensures) ran (rw (at.movie_is, at.frame_is) at claims)
+    (c.in_ok-cart.ensures ∙ c.cart.ensures) c.version_made-version.ensures.value ran (rw (at.movie_is, at.frame_is) at claims)
     (rw (at.movie_is, at.frame_is) at ends))
 
 pub returns-in-Err-2-clause-faults : goal.returns-in-Err-2-clause-faults

@@ -1,6 +1,5 @@
 use Rattle.std.proofs.Common.{None, refl}
 use Rattle.std.proofs.lemmas.Result.{IfOk-weaker}
-use Rattle.movie_machine.specs.declared.cart.Cart.TheVariants.{Guide}
 use Rattle.commands.proofs.MadeAnswers.{of_read}
 use Rattle.commands.proofs.make.of_bytes.Goals as goal
 
@@ -8,7 +7,7 @@ pub returns-in-Ok : goal.returns-in-Ok
 returns-in-Ok g c =
     let read = rw c.deref.ensures.value at c.in-Ok.ensures.exact in
     IfOk-weaker c.of_inputs.result _ _
-    (λ answer makes. of_read (Guide c.args.cart) c.args.form c.args.bytes.items _ _ _ answer c.in-Ok.inputs.items None
+    (λ answer makes. of_read c.args.cart c.args.form c.args.bytes.items _ _ _ answer c.in-Ok.inputs.items None
     (rw (c.in-Bytes.is, read) refl) (rw c.in-Bytes.is refl) makes)
     c.of_inputs.ensures
 
@@ -17,7 +16,7 @@ returns-in-Ok-read_text g c =
     let read = rw c.deref-in-Text.ensures.value at c.in-Ok-read_text.ensures.found in
     let stored = rw c.deref-in-Ok-read_text.ensures.value at c.hint_of_storage.ensures in
     IfOk-weaker c.of_inputs-in-Ok-read_text.result _ _
-    (λ answer makes. of_read (Guide c.args.cart) c.args.form c.args.bytes.items _ _ _ answer c.in-Ok-read_text.inputs.items c.hint_of_storage.result
+    (λ answer makes. of_read c.args.cart c.args.form c.args.bytes.items _ _ _ answer c.in-Ok-read_text.inputs.items c.hint_of_storage.result
     (rw (c.in-Text.is, read) refl) (rw c.in-Text.is stored) makes)
     c.of_inputs-in-Ok-read_text.ensures
 

@@ -1,7 +1,6 @@
 use Rattle.std.proofs.Common.{◌≡◌, arith, inr, length}
 use Rattle.std.proofs.lemmas.Result.{IfOk-weaker}
 use Rattle.std.specs.NonZero.{non_zero_u32_get}
-use Rattle.movie_machine.specs.declared.cart.Cart.TheVariants.{Guide}
 use Rattle.commands.proofs.MadeAnswers.{of_run}
 use Rattle.commands.proofs.make.of_inputs.Goals as goal
 
@@ -10,7 +9,7 @@ returns-in-Ok g c =
     let made = c.in-Ok.made in
     let run = rw c.get.ensures.value at c.in-Ok.ensures in
     IfOk-weaker c.of_made.result _ _
-    (λ answer is. of_run (Guide c.args.cart) c.args.inputs.items c.args.stored (non_zero_u32_get c.args.making.every) c.args.making.to_the_end c.args.making.to_the_fault answer run.fits
+    (λ answer is. of_run c.args.cart c.args.inputs.items c.args.stored (non_zero_u32_get c.args.making.every) c.args.making.to_the_end c.args.making.to_the_fault answer run.fits
     made.movie made.fault run.made is)
     c.of_made.ensures
 

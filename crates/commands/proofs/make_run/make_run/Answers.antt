@@ -1,7 +1,6 @@
-use Rattle.std.proofs.Common.{length, refl, rules}
+use Rattle.std.proofs.Common.{length, rules}
 use Rattle.std.specs.Prelude.{IsTrue}
 use Rattle.movie_file.specs.Making.{counts_fit}
-use Rattle.movie_machine.specs.declared.cart.Cart.TheVariants.{Guide}
 use Rattle.commands.proofs.FaultMovies.{IsMadeToTheFault-parts, IsMovie-to_the_fault, IsVerdict-to_the_fault, is_first_fault}
 use Rattle.commands.proofs.make_run.make_run.Goals as goal
 
@@ -15,7 +14,7 @@ movie_to_the_fault-movie-requires g c = λ lawful.
     let far = rw (c.deref.ensures.value, c.in-Some.is) at c.in-Ok-run.ensures.faults in
     let fits : IsTrue (counts_fit (length c.args.inputs.items) c.args.every) = search rules in
     let start = c.in-Ok-power_on.ensures.value in
-    rw start (IsMovie-to_the_fault (Guide c.args.cart) c.args.inputs.items c.args.every _ _ _ far fits refl lawful (rw start at c.in-Ok-run.ensures.lawful))
+    rw start (IsMovie-to_the_fault c.args.cart c.args.inputs.items c.args.every _ _ _ far fits lawful (rw start at c.in-Ok-run.ensures.lawful))
 
 pub returns-clause-made : goal.returns-clause-made
 returns-clause-made g c =
@@ -25,6 +24,6 @@ returns-clause-made g c =
     rw (is.value, c.in-Ok-power_on.ensures.value) (
       c.if-not-to_the_fault.false,
       is_first_fault _ _ _ _ _ _ far,
-      IsMadeToTheFault-parts (Guide c.args.cart) c.args.inputs.items c.args.every _ _ _ far movie,
-      IsVerdict-to_the_fault (Guide c.args.cart) c.args.inputs.items c.args.every _ _ _ far movie,
+      IsMadeToTheFault-parts c.args.cart c.args.inputs.items c.args.every _ _ _ far movie,
+      IsVerdict-to_the_fault c.args.cart c.args.inputs.items c.args.every _ _ _ far movie,
     )

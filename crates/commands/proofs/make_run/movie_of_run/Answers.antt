@@ -17,9 +17,8 @@ movie_of-requires c =
     let first : IsStateOf c.args.cart (state_at_power_on c.args.cart) = rw (← c.requires.start) c.requires.first in
     let last = λ (claimed : is_last_claimed (length c.args.inputs.items) c.args.every c.args.to_the_end ≡ true).
     c.in_ok-checkpoints.ensures.lawful (rw count claimed) c.args.cart c.requires.cartridge in
-    rw (c.version_made-version.ensures, c.len.ensures.value, c.in_ok-checkpoints.ensures.items, count, c.requires.start)
-    (IsMovie-parts c.args.cart c.args.inputs.items c.args.every c.args.to_the_end _ _ c.requires.fits c.requires.ran first last c.requires.rules
-    c.len.ensures.lawful)
+    rw (c.version_made-version.ensures.value, c.in_ok-checkpoints.ensures.items, count, c.requires.start)
+    (IsMovie-parts c.args.cart c.args.inputs.items c.args.every c.args.to_the_end _ _ c.requires.fits c.requires.ran first last c.requires.lawful)
 
 pub returns : goal.returns
 returns c =
@@ -27,11 +26,10 @@ returns c =
     let first : IsStateOf c.args.cart (state_at_power_on c.args.cart) = rw (← c.requires.start) c.requires.first in
     let last = λ (claimed : is_last_claimed (length c.args.inputs.items) c.args.every c.args.to_the_end ≡ true).
     c.in_ok-checkpoints.ensures.lawful (rw count claimed) c.args.cart c.requires.cartridge in
-    let rules = c.requires.rules in
-    let lawful = c.len.ensures.lawful in
-    rw (c.movie_of.ensures, c.version_made-version.ensures, c.len.ensures.value, c.in_ok-checkpoints.ensures.items, count, c.requires.start)
+    let lawful = c.requires.lawful in
+    rw (c.movie_of.ensures, c.version_made-version.ensures.value, c.in_ok-checkpoints.ensures.items, count, c.requires.start)
     (record {
-      made = IsMadeMovie-parts c.args.cart c.args.inputs.items c.args.every c.args.to_the_end _ _ c.requires.fits c.requires.ran first last rules lawful;
-      genuine = IsGenuine-parts c.args.cart c.args.inputs.items c.args.every c.args.to_the_end _ _ c.requires.fits c.requires.ran first last rules lawful;
+      made = IsMadeMovie-parts c.args.cart c.args.inputs.items c.args.every c.args.to_the_end _ _ c.requires.fits c.requires.ran first last lawful;
+      genuine = IsGenuine-parts c.args.cart c.args.inputs.items c.args.every c.args.to_the_end _ _ c.requires.fits c.requires.ran first last lawful;
       memory = tt;
     })

@@ -1,8 +1,7 @@
-use Rattle.std.proofs.Common.{◌≡◌, ◌∙◌, sym, arith, Err, ap}
-use Rattle.vcs_machine.specs.Faults.{stop_with}
-use Rattle.vcs_machine.specs.Frame.{Faulted}
-use Rattle.commands.proofs.TraceSteps.{ended_here, faulted_here, halts_as, one_written, overlong_here}
-use Rattle.commands.proofs.TraceSteps.{part_written, short_of, some_written}
+use Rattle.std.proofs.Common.{◌∙◌, sym, arith, Err, ap}
+use Rattle.commands.proofs.TraceSteps.{ended_here, faulted_here, one_written, overlong_here}
+use Rattle.movie_machine.proofs.StepLemmas.{short_of}
+use Rattle.commands.proofs.TraceSteps.{part_written, some_written}
 use Rattle.commands.proofs.WrittenFrames.{the_error}
 use Rattle.commands.proofs.trace.write_instructions.Goals as goal
 
@@ -12,10 +11,8 @@ loop-alloc-smaller g c =
 
 pub returns-in-Err-clause-ok : goal.returns-in-Err-clause-ok
 returns-in-Err-clause-ok g c =
-    let here = c.loop-alloc.stepping in
     let fault = c.in-Err.ensures.fault in
-    let at : stop_with c.in-Err.kind c.next.new.self ≡ Faulted fault.0 here = rw (fault.1, c.in-Err.ensures.same) (halts_as fault.0 here) in
-    rw at (faulted_here c.loop-alloc.invariant (sym c.is_over.ensures ∙ c.loop-alloc-test.true) fault.0 fault.2)
+    faulted_here c.loop-alloc.invariant (sym c.is_over.ensures ∙ c.loop-alloc-test.true) fault.0 c.in-Err.kind c.next.new.self fault.1 fault.2
 
 pub loop-alloc-preserved : goal.loop-alloc-preserved
 loop-alloc-preserved g c =
@@ -34,9 +31,11 @@ returns-in_err-write_instruction-in-Ok-clause-fault g c = λ is.
     (rw c.in-Ok.ensures.executed at (c.in_err-write_instruction-in-Ok.ensures.fault (ap Err error)))
 
 pub returns-then-has_ended-clause-ok : goal.returns-then-has_ended-clause-ok
-returns-then-has_ended-clause-ok g c = ended_here c.loop-alloc.invariant c.requires.unended (sym c.has_ended.ensures ∙ c.if-has_ended.true)
+returns-then-has_ended-clause-ok g c =
+    ended_here c.loop-alloc.invariant c.requires.fresh c.requires.unended (sym c.is_over.ensures ∙ c.loop-alloc-test.false)
+    (sym c.has_ended.ensures ∙ c.if-has_ended.true)
 
 pub returns-else-has_ended-clause-ok : goal.returns-else-has_ended-clause-ok
 returns-else-has_ended-clause-ok g c =
-    overlong_here c.loop-alloc.invariant c.requires.fresh (sym c.has_ended.ensures ∙ c.if-has_ended.false)
-    (sym c.is_over.ensures ∙ c.loop-alloc-test.false)
+    overlong_here c.loop-alloc.invariant c.requires.fresh c.requires.unended (sym c.is_over.ensures ∙ c.loop-alloc-test.false)
+    (sym c.has_ended.ensures ∙ c.if-has_ended.false)

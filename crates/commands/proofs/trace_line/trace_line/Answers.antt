@@ -3,7 +3,7 @@ use Rattle.std.specs.List.{flat_map}
 use Rattle.std.specs.String.{string_bytes}
 use Rattle.std.proofs.lemmas.List.{take_all}
 use Rattle.commands.proofs.AccessTexts.{one_more}
-use Rattle.vcs_machine.specs.Instructions.{ExecutedData}
+use Rattle.movie_machine.specs.Instructions.{ExecutedData}
 use Rattle.vcs_machine.specs.declared.executed.DataAccess.{DataAccess}
 use Rattle.commands.specs.TraceLines.{access_text, instruction_text}
 use Rattle.commands.proofs.trace_line.trace_line.Goals as goal
@@ -30,4 +30,4 @@ returns c =
     ∙ ap (λ (xs : List DataAccess). head ++ flat_map access_text xs) (take_all c.loop-access.access-index items c.loop-access-test.false))
     ∙ append_assoc head (flat_map access_text items) (10 ∷ [])
     ∙ ap (λ (bytes : List ℕ). bytes ++ (flat_map access_text items ++ 10 ∷ [])) c.in_ok-line.ensures
-    ∙ ap (λ (xs : List DataAccess). instruction_text c.args.has_banks c.args.executed.now ++ (flat_map access_text xs ++ 10 ∷ [])) same
+    ∙ ap (λ (xs : List DataAccess). instruction_text c.args.executed.now ++ (flat_map access_text xs ++ 10 ∷ [])) same
