@@ -2,7 +2,7 @@
 
 use crate::step::{Step, byte};
 use crate::trial::Trial;
-use cart_board::{Board, Cart};
+use cart_board::{Cart, KnownBoard};
 use std::alloc::{AllocError, Global};
 
 /// Whether each line of a text is a comment.
@@ -73,7 +73,7 @@ pub(crate) fn difference(alloc: Global, case: &str) -> Result<Option<&str>, Allo
     }
     let (name, rest) = cartridge.split_once(' ').unwrap_or((cartridge, ""));
     let (length, words) = rest.split_once(' ').unwrap_or((rest, ""));
-    let Some(board) = Board::of_name(name) else {
+    let Some(known) = KnownBoard::of_name(name) else {
         return Ok(refused(words, cartridge));
     };
     let is_wanted = words != "refused";
@@ -81,7 +81,7 @@ pub(crate) fn difference(alloc: Global, case: &str) -> Result<Option<&str>, Allo
     let Some(bytes) = bytes_of(alloc, length, words)? else {
         return Ok(Some(cartridge));
     };
-    match Cart::new(board, bytes) {
+    match Cart::new(known.board, bytes) {
         Ok(cart) if is_wanted => difference_on(alloc, &cart, lines),
         Err(_) if !is_wanted => Ok(None),
         _ => Ok(Some(cartridge)),

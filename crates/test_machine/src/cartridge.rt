@@ -1,7 +1,7 @@
 //! Cartridges, as the cases spell them.
 
 use crate::step::byte;
-use cart_board::{Board, Cart};
+use cart_board::{Cart, KnownBoard};
 use std::alloc::{AllocError, Global};
 
 /// The bytes of a bank, in each of which a cartridge has the same vectors.
@@ -48,7 +48,7 @@ fn set_word(bytes: &mut [u8], word: &str) -> bool {
 /// The cartridge of a line as `F8 8192 each:FFC=00F000F0 0FF8=11`; none where it is none.
 pub(crate) fn cartridge(alloc: Global, line: &str) -> Result<Option<Cart>, AllocError> {
     let mut words = line.split_whitespace();
-    let Some(board) = words.next().and_then(Board::of_name) else {
+    let Some(known) = words.next().and_then(KnownBoard::of_name) else {
         return Ok(None);
     };
     let Some(length) = words.next().and_then(|word| word.parse::<u32>().ok()) else {
@@ -60,5 +60,5 @@ pub(crate) fn cartridge(alloc: Global, line: &str) -> Result<Option<Cart>, Alloc
             return Ok(None);
         }
     }
-    Ok(Cart::new(board, bytes).ok())
+    Ok(Cart::new(known.board, bytes).ok())
 }

@@ -15,7 +15,7 @@ use std::thread::Threads;
 pub(crate) type Text = ArrayVec<u8, 4096>;
 
 /// The room for a file.
-pub(crate) type File = ArrayVec<u8, 4096>;
+pub(crate) type File = ArrayVec<u8, 5120>;
 
 /// What a command answered, and what it wrote.
 #[derive(Drop)]

@@ -2,7 +2,7 @@
 
 use crate::call_failure::{CallFailure, OUT_OF_MEMORY, right};
 use crate::movies::put;
-use cart_board::{Board, Cart, MappedCart};
+use cart_board::{Cart, KnownBoard, MappedCart};
 use chip_machine::{State, Stepping, frame, read_state, write_state};
 use refused::Refused;
 use std::alloc::Global;
@@ -31,8 +31,8 @@ pub(crate) fn outcome(alloc: Global, call: &str) -> Option<Result<(), CallFailur
 
 /// The cartridge of these bytes on a board.
 fn cartridge(alloc: Global, board: &str, bytes: &[u8]) -> Result<Cart, CallFailure> {
-    let board = Board::of_name(board).ok_or(CallFailure::Wrong)?;
-    match Cart::new(board, bytes.to_vec(alloc)?) {
+    let known = KnownBoard::of_name(board).ok_or(CallFailure::Wrong)?;
+    match Cart::new(known.board, bytes.to_vec(alloc)?) {
         Ok(cart) => Ok(cart),
         Err(_) => Err(CallFailure::Wrong),
     }

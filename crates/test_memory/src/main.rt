@@ -15,6 +15,7 @@
 
 mod answer;
 mod arguments;
+mod board_movies;
 mod call_failure;
 mod command_calls;
 mod consoles;
@@ -155,6 +156,9 @@ fn outcome_of<R: Threads + Wait + Sync + AllocGlobal>(
         return Some(outcome);
     }
     if let Some(outcome) = consoles::outcome(alloc, call) {
+        return Some(outcome);
+    }
+    if let Some(outcome) = board_movies::outcome(rt, alloc, call) {
         return Some(outcome);
     }
     if let Some(outcome) = outcome_of_workers(rt, alloc, call) {

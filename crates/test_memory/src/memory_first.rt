@@ -7,6 +7,7 @@ use crate::movies::{LENGTH, cartridge, two_frames};
 use command_line::Command;
 use commands::Status;
 use movie_file::{MakeError, MovieError, NoProgress, make_movie, read_inputs, read_movie};
+use movie_machine::Cart;
 use refused::Refused;
 use replay_plan::Workers;
 use std::alloc::Global;
@@ -49,7 +50,7 @@ pub(crate) fn is_faulty_run(alloc: Global) -> Result<(), CallFailure> {
     };
     let cart = cartridge(alloc, &without_opcode())?;
     let inputs = vec![in alloc; idle; 2]?;
-    match make_movie(alloc, cart, inputs, 1, &NoProgress) {
+    match make_movie(alloc, Cart::Guide(cart), inputs, 1, &NoProgress) {
         Err(Refused::Of(MakeError::Fault { frame: 1, kind: _ })) => Ok(()),
         Err(Refused::NoMemory) => Err(OUT_OF_MEMORY),
         _ => Err(CallFailure::Wrong),

@@ -109,7 +109,13 @@ pub(crate) fn make(alloc: Global, frames: usize, every: u32) -> Result<Movie, Ca
     };
     let cart = cartridge(alloc, &two_frames())?;
     let inputs = vec![in alloc; idle; frames]?;
-    Ok(make_movie(alloc, cart, inputs, every, &NoProgress)?)
+    Ok(make_movie(
+        alloc,
+        movie_machine::Cart::Guide(cart),
+        inputs,
+        every,
+        &NoProgress,
+    )?)
 }
 
 /// A cartridge of two banks, which takes no memory beside its bytes.

@@ -4,6 +4,7 @@ use crate::expectation::expect_equal;
 use crate::movies::{ENDLESS_FRAMES, cartridge, power_on, read, two_frames};
 use input_text::write_numbered;
 use movie_file::{MakeError, NoProgress, make_movie, read_state, version_made, write_movie};
+use movie_machine::Cart;
 use refused::Refused;
 use std::num::NonZeroU32;
 use std::test::Fail;
@@ -26,9 +27,9 @@ fn record_without_its_bank_is_no_state(rt: HostRuntime) {
 
 #[test]
 fn movie_of_65536_frames_has_version_2(rt: HostRuntime) -> Result<(), Fail> {
-    let cart = cartridge(rt.alloc(), &ENDLESS_FRAMES)?;
-    expect_equal(&rt, version_made(u32::from(cart.len()), 65_535), 1);
-    expect_equal(&rt, version_made(u32::from(cart.len()), 65_536), 2);
+    let cart = Cart::Guide(cartridge(rt.alloc(), &ENDLESS_FRAMES)?);
+    expect_equal(&rt, version_made(&cart, 65_535), 1);
+    expect_equal(&rt, version_made(&cart, 65_536), 2);
     Ok(())
 }
 
@@ -37,7 +38,7 @@ fn movie_is_not_made_with_a_checkpoint_after_each_0_frames(rt: HostRuntime) -> R
     let idle = Input::new(0xFF, 0x3F, 0).ok_or("an input")?;
     let inputs = vec![in rt.alloc(); idle; 2]?;
     let cart = cartridge(rt.alloc(), &ENDLESS_FRAMES)?;
-    let refusal = make_movie(rt.alloc(), cart, inputs, 0, &NoProgress).err();
+    let refusal = make_movie(rt.alloc(), Cart::Guide(cart), inputs, 0, &NoProgress).err();
     expect_equal(&rt, refusal, Some(Refused::Of(MakeError::BadCounts)));
     assert!(rt; refusal != Some(Refused::NoMemory));
     Ok(())

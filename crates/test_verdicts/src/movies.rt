@@ -154,7 +154,13 @@ pub(crate) fn run_of(alloc: Global, program: &[u8], frames: usize) -> Result<Mov
     let idle = Input::new(0xFF, 0x3F, 0).ok_or("an input")?;
     let cart = cartridge(alloc, program)?;
     let inputs = vec![in alloc; idle; frames]?;
-    Ok(make_movie(alloc, cart, inputs, 1, &NoProgress)?)
+    Ok(make_movie(
+        alloc,
+        movie_machine::Cart::Guide(cart),
+        inputs,
+        1,
+        &NoProgress,
+    )?)
 }
 
 /// The movie of these bytes.
