@@ -2,7 +2,8 @@
 -- has them, and writes the file 'states', a line a frame: what processor, memory, RIOT, TIA and cartridge hold at the frame's end.
 -- It also writes 'writes', a line for each write to the TIA, and of as many frames as PICTURES says 'pictures', what MAME's TIA has
 -- drawn at each frame's end. Of each frame K that TRACED names it writes 'trace-K', a line for each instruction as MAME's debugger
--- has it, and 'accesses-K', a line for each access of the processor. With UNDRIVEN the bits that the TIA doesn't drive are MAME's.
+-- has it, and 'accesses-K', a line for each access of the processor. With UNDRIVEN the bits that the TIA doesn't drive are MAME's, with BOARD
+-- the banks at power-on.
 
 local machine = manager.machine
 local processor = machine.devices[":maincpu"]
@@ -43,7 +44,7 @@ end
 -- MAME doesn't show the selected bank. An address at which the two differ, and the byte of the second; none without banks.
 local function difference_of_banks()
   local rom = machine.memory.regions[":cartslot:cart:rom"]
-  for place = 0, rom.size == 8192 and 0x0FF7 or -1 do
+  for place = 0, rom.size == 8192 and not os.getenv("BOARD") and 0x0FF7 or -1 do
     local byte = rom:read_u8(0x1000 + place)
     if rom:read_u8(place) ~= byte then return 0x1000 + place, byte end
   end
@@ -67,7 +68,7 @@ end
 -- selected, the timer has an interval of 1024 cycles and one to go, the beam is at the beginning of a line, and no collision has been.
 local function power_on(numbers)
   for name, value in pairs({A = 0, X = 0, Y = 0, SP = 0x0102, P = 0x34}) do processor.state[name].value = value end
-  space:read_u8(0x1FF9)
+  if not os.getenv("BOARD") then space:read_u8(0x1FF9) end
   space:write_u8(0x0297, 0)
   numbers["frame_cycles"]:write(0, reset - 76)
   for name, item in pairs(numbers) do

@@ -3,11 +3,13 @@ what it writes down. What doesn't depend on MAME (the parts of a movie, the prog
 
 from __future__ import annotations
 
+import hashlib
 import os
 import pathlib
 import shutil
 import struct
 import subprocess
+import zlib
 
 import movies
 import tia_model
@@ -29,15 +31,44 @@ PORTS = ("m_port[0].m_out", "m_port[0].m_ddr", "m_port[1].m_out", "m_port[1].m_d
 COLLISIONS = ("CXM0P", "CXM1P", "CXP0FB", "CXP1FB", "CXM0FB", "CXM1FB", "CXBLPF", "CXPPMM")
 # MAME's buffer of lines: how many it draws, the colours of each, and where pixel 0 is.
 ROWS, COLOURS, LEFT = 262, 228, 34
+# MAME's boards by the names that movies have, and the bytes of their memory. A cartridge on a named board comes from a list of software.
+SLOTS = {
+    "2K": "a26_2k_4k", "4K": "a26_2k_4k", "F8": "a26_f8", "F8SC": "a26_f8", "F6": "a26_f6", "F6SC": "a26_f6", "F4": "a26_f4",
+    "F4SC": "a26_f4", "FA": "a26_fa", "E0": "a26_e0", "3F": "a26_3f", "FE": "a26_fe", "E7": "a26_e7", "UA": "a26_ua", "CV": "a26_cv",
+    "F0": "a26_dc", "0FA0": "a26_jvp",
+}
+MEMORY = {"F8SC": 128, "F6SC": 128, "F4SC": 128, "FA": 256, "E7": 2048, "CV": 1024}
+LIST = """<?xml version="1.0"?>
+<!DOCTYPE softwarelist SYSTEM "softwarelist.dtd">
+<softwarelist name="a2600" description="one cartridge"><software name="one"><description>one</description><year>2026</year>
+<publisher>none</publisher><part name="cart" interface="a2600_cart"><feature name="slot" value="{slot}"/>
+<dataarea name="rom" size="{size}"><rom name="cartridge.bin" size="{size}" crc="{crc:08x}" sha1="{sha1}" offset="0"/></dataarea>
+{memory}</part></software></softwarelist>
+"""
 
 
-def play(folder: pathlib.Path, pictures: int = 0, traced: list[int] | None = None, undriven: bool = False) -> list[str]:
+def on_board(folder: pathlib.Path, board: str) -> list[str]:
+    """Leaves a list with the cartridge of a folder on a board; MAME's words for it."""
+    cartridge = (folder / "cartridge.bin").read_bytes()
+    memory = f'<dataarea name="ram" size="{MEMORY[board]}"></dataarea>\n' if board in MEMORY else ""
+    sums = {"crc": zlib.crc32(cartridge), "sha1": hashlib.sha1(cartridge).hexdigest()}
+    (folder / "a2600/one").mkdir(parents=True)
+    (folder / "a2600/one/cartridge.bin").write_bytes(cartridge)
+    (folder / "a2600.xml").write_text(LIST.format(slot=SLOTS[board], size=len(cartridge), memory=memory, **sums))
+    return ["one", "-hashpath", str(folder), "-rompath", str(folder)]
+
+
+def play(
+    folder: pathlib.Path, pictures: int = 0, traced: list[int] | None = None, undriven: bool = False, board: str = ""
+) -> list[str]:
     """The states that MAME writes, a line a frame. Its status says nothing: after a script it sometimes crashes at the end."""
-    words = [MAME, "a2600", "-cart", "cartridge.bin", "-bench", str(SECONDS), "-skip_gameinfo", "-noreadconfig"]
+    cartridge = on_board(folder, board) if board else ["-cart", "cartridge.bin"]
+    words = ["timeout", "-k", "10", str(4 * SECONDS), MAME, "a2600", *cartridge]
+    words += ["-bench", str(SECONDS), "-skip_gameinfo", "-noreadconfig"]
     words += ["-noplugins", "-autoboot_script", movies.HOME / "another-emulator.lua", "-autoboot_delay", "0"]
     words += ["-debug", "-debugger", "none"] if traced else []
     environment = os.environ | {"SDL_VIDEODRIVER": "dummy", "HOME": str(folder), "PICTURES": str(pictures)}
-    environment |= {"TRACED": " ".join(map(str, traced or []))} | ({"UNDRIVEN": "1"} if undriven else {})
+    environment |= {"TRACED": " ".join(map(str, traced or []))} | ({"UNDRIVEN": "1"} if undriven else {}) | ({"BOARD": board} if board else {})
     said = subprocess.run(words, cwd=folder, env=environment, capture_output=True, text=True)
     states = folder / "states"
     if not states.exists():

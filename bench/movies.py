@@ -15,7 +15,7 @@ import tia_model
 HOME = pathlib.Path(__file__).resolve().parent
 # (the module alone: with its package SIGINT ends a run at once, and temporary folders stay)
 sys.path.append(str(HOME.parent / "companions" / "votmeshaw"))
-from layout import NoMovie, Parts  # noqa: E402
+from layout import BOARDS, VERSIONS, NoMovie, Parts  # noqa: E402
 
 DEMOS = (HOME.parent / "demo" / "demo.a26m", HOME.parent / "demo" / "harbour.a26m")
 MOST_PICTURES = 600
@@ -56,23 +56,28 @@ def read(movie: pathlib.Path) -> Parts:
         fail(f"no movie: {str(movie)!r}: {error}")
 
 
-def lay_out(movie: pathlib.Path, folder: pathlib.Path) -> None:
+def lay_out(cartridge: bytes, inputs: bytes, folder: pathlib.Path) -> None:
     """Leaves what other emulators play of a movie."""
-    parts = read(movie)
-    lines = ["%d %d %d\n" % tuple(parts.inputs[at : at + 3]) for at in range(0, len(parts.inputs), 3)]
-    (folder / "cartridge.bin").write_bytes(parts.cartridge)
-    (folder / "made.inputs").write_bytes(parts.inputs)
+    lines = ["%d %d %d\n" % tuple(inputs[at : at + 3]) for at in range(0, len(inputs), 3)]
+    (folder / "cartridge.bin").write_bytes(cartridge)
+    (folder / "made.inputs").write_bytes(inputs)
     (folder / "inputs").write_text("".join(lines))
 
 
 def make(program: str, movie: pathlib.Path, folder: pathlib.Path) -> list[bytes]:
-    """Makes a movie again, as 'made', with a checkpoint after every frame; leaves what other emulators play, and returns the states
-    before frame 1, 2, .. and after the last."""
-    lay_out(movie, folder)
-    words = [program, "make", "cartridge.bin", "made.inputs", "--every", "1", "--out", "made"]
+    """Makes a movie again by the guide's rules, as 'made_of' does; leaves what other emulators play."""
+    parts = read(movie)
+    lay_out(parts.cartridge, parts.inputs, folder)
+    return made_of(program, movie.name, folder)
+
+
+def made_of(program: str, name: str, folder: pathlib.Path, board: str = "") -> list[bytes]:
+    """Makes a movie of what 'lay_out' left, as 'made', with a checkpoint after every frame, by the chip's rules if it has a board.
+    Returns the states before frame 1, 2, .. and after the last."""
+    words = [program, "make", "cartridge.bin", "made.inputs", "--every", "1", "--out", "made", *(["--board", board] if board else [])]
     made = subprocess.run(words, cwd=folder, capture_output=True, text=True)
     if made.returncode:
-        fail(f"no movie made of {movie.name}: {(made.stdout + made.stderr).strip()}")
+        fail(f"no movie made of {name}: {(made.stdout + made.stderr).strip()}")
     states = read(folder / "made")
     return [states.start, *(record for _, record in states.checkpoints)]
 
@@ -121,10 +126,12 @@ def memory(found: bytes) -> dict[str, int]:
 
 
 def numbers(record: bytes) -> dict[str, int]:
-    """The numbers of a record that each emulator shows: processor, memory, collisions, beam, bank."""
+    """The numbers of a record that each emulator shows: processor, memory, collisions, beam; in version 2 the bank."""
+    by_chip = len(record) >= VERSIONS[2].record
+    latched, beam = (194, 199) if by_chip else (182, 185)
     found = dict(zip(("A", "X", "Y", "S", "P"), record), PC=int.from_bytes(record[5:7], "big")) | memory(record[7:135])
-    found |= {"collisions": int.from_bytes(record[182:184], "big"), "line cycle": record[185]}
-    return found | ({"bank": record[187]} if len(record) > 187 else {})
+    found |= {"collisions": int.from_bytes(record[latched : latched + 2], "big"), "line cycle": record[beam]}
+    return found | ({"bank": record[187]} if len(record) > 187 and not by_chip else {})
 
 
 def collisions(found: list[int]) -> int:

@@ -14,13 +14,13 @@ import movies
 STELLA = shutil.which("stella", path=f"{os.environ.get('PATH', '')}:/usr/games")
 SCREEN = shutil.which("xauth") and shutil.which("xvfb-run")
 # Seconds that Stella may take: to start, and for a frame. And the numbers of screens, one for each call.
-START, FRAME = 200, 2
+START, FRAME = 500, 4
 SCREENS = itertools.count(100 + os.getpid() % 5000 * 10)
 # Its time machine keeps the states, and with them the pictures.
 OPTIONS = {
     "-video": "software", "-audio.enabled": 0, "-confirmexit": 0, "-exitlauncher": 0, "-dev.settings": 1, "-dev.ramrandom": 0,
     "-dev.tiarandom": 0, "-dev.tiadriven": 0, "-dev.bankrandom": 0, "-dev.colorloss": 0, "-dev.timemachine": 1, "-dev.tm.size": 1000,
-    "-dev.tm.uncompressed": 1000,
+    "-dev.tm.uncompressed": 1000, "-dev.rwportbreak": 0, "-dev.wrportbreak": 0,
 }
 # Power-on as docs/MACHINE.md has it: the processor's registers, then a write of 0 to T1024T and one to HMCLR.
 POWER_ON = ("a 0", "x 0", "y 0", "s ff", "n 0", "v 0", "d 0", "z 0", "c 0", "ram 297 0", "ram 2b 0")
@@ -43,9 +43,10 @@ MOST_ABOVE, SHOWN = 90, 190
 class Stella:
     """A run of Stella in a folder in which 'movies.make' left a cartridge, of so many frames and pictures."""
 
-    def __init__(self, folder: pathlib.Path, inputs: bytes, names: list[str], wanted: int = 0) -> None:
-        """names are those of BY_LATCH; with none the cartridge uses port B itself, and the switches stay as Stella has them."""
-        self.folder, self.inputs, self.names, self.wanted = folder, inputs, names, wanted
+    def __init__(self, folder: pathlib.Path, inputs: bytes, names: list[str], wanted: int = 0, board: str = "") -> None:
+        """names are those of BY_LATCH; with none the cartridge uses port B itself, and the switches stay as Stella has them. Without a
+        board Stella chooses one."""
+        self.folder, self.inputs, self.names, self.wanted, self.board = folder, inputs, names, wanted, board
         self.count = len(inputs) // 3
         self.play()
         found = (re.fullmatch(r".*_dbg_(.+)-(\d+)\.dump", file.name, re.S) for file in folder.iterdir())
@@ -62,7 +63,7 @@ class Stella:
     def write_scripts(self) -> None:
         """The script that the debugger runs when it starts, and those that it runs for each frame, since each call of one has a file."""
         # (a frame of Stella's own ends elsewhere, if it is a long one)
-        scripts = {"state": ["stepWhile { !(_vsync) }", "stepWhile { _vsync }", "dump 80 ff 3"], "collisions": ["dump 0 7 1"]}
+        scripts = {"state": ["stepWhile { !(_vsync) }", "stepWhile { _vsync }", "dump 80 ff 3"], "collisions": ["dump 40 47 1"]}
         scripts |= {name.replace(" ", "-"): [f"ram 282 {{ {BY_LATCH[name]} }}", "dump 282 282 1"] for name in self.names}
         lines = list(POWER_ON)
         for number in range(1, self.count + 1):
@@ -79,9 +80,9 @@ class Stella:
     def play(self) -> None:
         """Plays it."""
         self.write_scripts()
-        words = [SCREEN, "-a", "-n", str(next(SCREENS)), "timeout", str(START + FRAME * self.count)]
+        words = [SCREEN, "-a", "-n", str(next(SCREENS)), "timeout", "-k", "10", str(START + FRAME * self.count)]
         words += [STELLA, "-debug", "-basedir", self.folder / "base", *(str(it) for pair in OPTIONS.items() for it in pair)]
-        words += [self.folder / "cartridge.bin"]
+        words += [*(["-bs", self.board] if self.board else []), self.folder / "cartridge.bin"]
         environment = os.environ | {"SDL_AUDIODRIVER": "dummy", "HOME": str(self.folder), "XDG_RUNTIME_DIR": str(self.folder)}
         said = subprocess.run(words, cwd=self.folder, env=environment, capture_output=True, text=True)
         # The cartridge's own name stands before it, if Stella knows one.
@@ -135,8 +136,18 @@ def uses_port_b(records: list[bytes]) -> bool:
     return any(record[137] or record[138] for record in records)
 
 
+def window(rows: list[bytes], above: int, count: int) -> list[bytes]:
+    """So many rows of a picture, from some row on, with black ones below it."""
+    found = rows[above : above + count]
+    return found + [bytes(WIDTH)] * (count - len(found))
+
+
+def shown_from(theirs: list[bytes], ours: list[bytes]) -> int | None:
+    """The row of our picture from which on a picture of Stella's shows it, or none."""
+    shown = window(theirs, 0, max(SHOWN, len(theirs)))
+    return next((above for above in range(MOST_ABOVE) if window(ours, above, len(shown)) == shown), None)
+
+
 def is_shown(theirs: list[bytes], ours: list[bytes]) -> bool:
     """Whether a picture of Stella's shows our rows, from some row on."""
-    black = [bytes(WIDTH)] * (MOST_ABOVE + ROWS)
-    shown = theirs + black[: max(SHOWN - len(theirs), 0)]
-    return any((ours + black)[above : above + len(shown)] == shown for above in range(MOST_ABOVE))
+    return shown_from(theirs, ours) is not None

@@ -104,14 +104,23 @@ class Assembly:
         self.bytes += value.to_bytes(2, "little")[: 1 if is_short else 2]
 
 
-def assemble(text: str, size: int) -> bytes:
-    """A cartridge, or a bank, of so many bytes, which ends with three vectors: to 'start', and the last to 'break', if there is one."""
-    origin = 0x10000 - size
+def length(text: str) -> int:
+    """How many bytes a text has."""
+    return len(Assembly(text, 0xF000, {}, False).bytes)
+
+
+def part(text: str, origin: int) -> tuple[bytes, dict[str, int]]:
+    """The bytes of a text that begins at an address, and its labels."""
     labels: dict[str, int] = {}
     for _ in range(3):
         labels = Assembly(text, origin, labels, False).found
-    made = Assembly(text, origin, labels, True)
-    if made.here() > 0xFFFA:
-        raise ValueError(f"{len(made.bytes)} bytes are too many")
+    return bytes(Assembly(text, origin, labels, True).bytes), labels
+
+
+def assemble(text: str, size: int) -> bytes:
+    """A cartridge, or a bank, of so many bytes, which ends with three vectors: to 'start', and the last to 'break', if there is one."""
+    made, labels = part(text, 0x10000 - size)
+    if len(made) > size - 6:
+        raise ValueError(f"{len(made)} bytes are too many")
     vectors = [labels["start"], labels["start"], labels.get("break", labels["start"])]
-    return bytes(made.bytes) + bytes(0xFFFA - made.here()) + b"".join(it.to_bytes(2, "little") for it in vectors)
+    return made + bytes(size - 6 - len(made)) + b"".join(it.to_bytes(2, "little") for it in vectors)
