@@ -88,13 +88,29 @@ local function saved_numbers()
   return numbers
 end
 
+-- The addresses whose reads select the banks of power-on, by MAME's boards.
+local SELECTING = {
+  vcs_f8 = {0x1FF9}, vcs_f6 = {0x1FF6}, vcs_f4 = {0x1FF4}, vcs_fa = {0x1FFA}, vcs_e0 = {0x1FE4, 0x1FED, 0x1FF6}, vcs_e7 = {0x1FE0, 0x1FE8},
+  vcs_ua = {0x0220}, vcs_jvp = {0x0FA0},
+}
+
+-- Selects the banks of power-on by docs/MACHINE.md (13.1). On 3F a write does, and on F0 each read goes on by a bank, from 0.
+local function set_banks()
+  for tag, device in pairs(machine.devices) do
+    local board = tag:match("^:cartslot:") and device.shortname or ""
+    for _, address in ipairs(SELECTING[board] or {}) do space:read_u8(address) end
+    if board == "vcs_3f" then space:write_u8(0x003F, 0) end
+    for _ = 1, board == "vcs_dc" and 15 or 0 do space:read_u8(0x1FF0) end
+  end
+end
+
 -- Power-on by docs/MACHINE.md: memory and registers (S is 3 higher, since MAME's reset takes 3 from it, and bits 5 and 4 of P are
--- always set in it), the second of two banks, a timer with an interval of 1024 cycles and one to go, no collision, and the
--- beam at a line's beginning when MAME's reset has taken its six cycles.
+-- always set in it), the board's banks, a timer with an interval of 1024 cycles and one to go, no collision, and the beam at a
+-- line's beginning when MAME's reset has taken its six cycles.
 local function set_power_on(numbers)
   for name, value in pairs({A = 0, X = 0, Y = 0, SP = 0x0102, P = 0x34}) do processor.state[name].value = value end
   for place = 0, 127 do memory:write_u8(place, 0) end
-  space:read_u8(0x1FF9)
+  set_banks()
   space:write_u8(0x0297, 0)
   for name, item in pairs(numbers) do
     if name:match("^CX") then item:write(0, 0) end

@@ -1,15 +1,19 @@
 #!/bin/sh
 # Has Stella play inputs as text from power-on, and writes a memory log for vcs_sync:
 #
-#   stella.sh GAME INPUTS LOG
+#   stella.sh GAME INPUTS LOG [BOARD]
 #
-# Stella runs with its debugger, on a screen in memory if there is none (Debian: apt-get install stella xvfb xauth). A frame ends
-# when the program clears bit 1 of VSYNC, and its line is what memory holds then.
+# BOARD is the game's board, as vcs_import calls it; without it Stella finds one by itself. Stella runs with its debugger, on a screen
+# in memory if there is none (Debian: apt-get install stella xvfb xauth). A frame ends when the program clears bit 1 of VSYNC, and its
+# line is what memory holds then.
 #
-# Set is power-on as docs/MACHINE.md has it, as far as options and debugger can: memory 0, the second of two banks, A, X, Y, S, and P
-# but for I, a timer with an interval of 1024 cycles and one to go, and HMCLR. If the inputs have words of the console's switches, the
+# Set is power-on as docs/MACHINE.md has it, as far as options and debugger can: memory 0, the board's banks, A, X, Y, S, and P but
+# for I, a timer with an interval of 1024 cycles and one to go, and HMCLR. If the inputs have words of the console's switches, the
 # latch and direction of port B are set in each frame, since the debugger has no command for switches. Bits of the TIA's registers
 # that nothing drives are not set: in Stella they are what was on the bus.
+#
+# On 3F Stella's debugger sees no write to 0000 to 003F. Of a game that writes VSYNC there no frame ends, and after minutes nothing is
+# written.
 #
 # Status: 0 the log is written; 1 Stella ended before the inputs did, and the log has the frames until then; 2 nothing was written.
 set -u
@@ -20,9 +24,13 @@ stop() {
     exit 2
 }
 
-[ $# -eq 3 ] || { sed -n '2,/^set /{ /^set /d; s/^# \{0,1\}//p; }' "$0" >&2; exit 2; }
+[ $# -eq 3 ] || [ $# -eq 4 ] || { sed -n '2,/^set /{ /^set /d; s/^# \{0,1\}//p; }' "$0" >&2; exit 2; }
 PATH=$PATH:/usr/games
-game=$1 inputs=$2 log=$3
+game=$1 inputs=$2 log=$3 board=${4-}
+case $board in
+    '' | 2K | 4K | F8 | F8SC | F6 | F6SC | F4 | F4SC | FA | E0 | 3F | FE | E7 | UA | CV | 0840 | F0 | 0FA0) ;;
+    *) stop "no board is called $board" ;;
+esac
 for file in "$game" "$inputs"; do
     if [ ! -f "$file" ] || [ ! -r "$file" ]; then stop "cannot read $file"; fi
 done
@@ -86,8 +94,9 @@ frames=$(cat "$work/frames")
     cd "$work" || exit 2
     export HOME="$work" XDG_RUNTIME_DIR="$work" SDL_AUDIODRIVER=dummy
     # shellcheck disable=SC2086
-    exec timeout $((60 + frames / 2)) $screen stella -debug -basedir "$work/base" -video software -audio.enabled 0 -confirmexit 0 \
-        -exitlauncher 0 -dev.settings 1 -dev.ramrandom 0 -dev.tiarandom 0 -dev.tiadriven 0 -dev.bankrandom 0 cartridge.bin
+    exec timeout -k 10 $((200 + 2 * frames)) $screen stella -debug -basedir "$work/base" -video software -audio.enabled 0 -confirmexit 0 \
+        -exitlauncher 0 -dev.settings 1 -dev.ramrandom 0 -dev.tiarandom 0 -dev.tiadriven 0 -dev.bankrandom 0 \
+        ${board:+-bs "$board"} cartridge.bin
 ) >"$work/said" 2>&1
 
 
@@ -105,7 +114,7 @@ frames=$(cat "$work/frames")
     echo $((frame - 1)) >"$work/done"
 } >"$work/log"
 written=$(cat "$work/done")
-[ "$written" -gt 0 ] || stop "Stella wrote nothing: $(tail -n 1 "$work/said")"
+[ "$written" -gt 0 ] || stop "Stella saw no frame end: $(tail -n 1 "$work/said")"
 if [ -f "$log" ] || [ ! -e "$log" ]; then
     cp -- "$work/log" "$log.new" && mv -f -- "$log.new" "$log" || exit 2
 else

@@ -5,7 +5,7 @@ import signal
 import sys
 
 # The version that a companion prints, which is that of the program beside which it stands.
-VERSION = "1.3.0"
+VERSION = "2.0.0"
 
 if signal.getsignal(signal.SIGINT) == signal.default_int_handler:
     signal.signal(signal.SIGINT, signal.SIG_DFL)

@@ -10,13 +10,14 @@ import threading
 
 from votmeshaw import files, verdicts
 from votmeshaw.command import Stop, say
+from votmeshaw.layout import BOARDS
 from votmeshaw.movies import Folder
 from votmeshaw.names import name_in, named, readable
 
 # The file of digests. It may be taken away at any time.
 NAME = "cartridges.jsonl"
 # No cartridge is longer, and no folder is looked through that has more files as short as one.
-LONGEST, MOST = 65_535, 100_000
+LONGEST, MOST = max(max(it.lengths) for it in BOARDS), 100_000
 # By what a file is known to be the one that was digested: size, times of its bytes and of its inode, and that.
 Known = tuple[int, int, int, int]
 

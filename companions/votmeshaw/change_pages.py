@@ -37,13 +37,14 @@ class Answer:
     line: str
     reason: str
     digest: str
+    rules: str = ""  # if they aren't the guide's
 
     @classmethod
     def read(cls, item: Any) -> Self | None:
         """The answer in a member of an object, which may be null; ValueError if there is none."""
         if item is None:
             return None
-        found = cls(item["verdict"], item["line"], item.get("reason", ""), item["digest"] or "")
+        found = cls(item["verdict"], item["line"], item.get("reason", ""), item["digest"] or "", item.get("rules", ""))
         if not all(isinstance(it, str) for it in dataclasses.astuple(found)):
             raise ValueError("not a text")
         return found
@@ -52,7 +53,8 @@ class Answer:
     def told(self) -> str:
         """The answer on a line. Of a movie that isn't judged the line alone may not say so."""
         said = with_reason(self.line, self.reason)
-        return f"{self.verdict}: {said}" if self.verdict == verdicts.NONE else said or self.verdict
+        rules = f" (by {self.rules})" if self.rules else ""
+        return (f"{self.verdict}: {said}" if self.verdict == verdicts.NONE else said or self.verdict) + rules
 
 
 @dataclasses.dataclass(frozen=True)
@@ -92,6 +94,7 @@ def _cell(style: str, answer: Answer | None) -> str:
         return f'<td class="{style}"></td>'
     sign, of_verdict = SIGNS_OF_VERDICTS.get(answer.verdict, ("", "none"))
     said = f'<span class="{of_verdict}"><span aria-hidden="true">{sign}</span> {text(answer.verdict)}</span>'
+    said += f" by {text(answer.rules)}" if answer.rules else ""
     said += f'<div class="reason">{text(with_reason(answer.line, answer.reason))}</div><code>{text(answer.digest)}</code>'
     return f'<td class="{style}">{said}</td>'
 

@@ -3,7 +3,7 @@ to it, and nothing ever rewrites it.
 
 An object has 'change', 'when', 'path' (and of a name that isn't UTF-8 path_base64), of a movie that was moved 'from', and
 what was kept of it before and after, 'old' and 'new': digest, verdict, line, program with its SHA-256, the time of the verdict, and the
-reason if there is one, that of a false movie too; or null.
+reason if there is one, that of a false movie too; and 'rules' if they are the chip's; or null.
 """
 
 import contextlib
@@ -16,7 +16,7 @@ from collections.abc import Iterable, Iterator
 from typing import Any, Self
 
 from votmeshaw import files, verdicts
-from votmeshaw.facts import KINDS, NONE
+from votmeshaw.facts import CHIP, KINDS, NONE, rules_of
 from votmeshaw.names import name_in, named, readable
 from votmeshaw.verdicts import Verdict
 from votmeshaw.verifier import with_reason
@@ -66,16 +66,23 @@ class Change:
 
 
 def _side(verdict: Verdict | None) -> dict[str, Any] | None:
-    """What the file keeps of a verdict: its reason too, wherever that stands."""
+    """What the file keeps of a verdict: its reason too, wherever that stands, and its rules if they aren't the guide's. One that was read
+    from the file has both."""
     if not verdict:
         return None
-    reason = verdicts.reason_of(verdict)
-    return {key: verdict[key] for key in (*KEPT, *PERHAPS) if key in verdict} | ({"reason": reason} if reason else {})  # type: ignore[literal-required]
+    said = {"reason": verdicts.reason_of(verdict), "rules": verdict.get("rules") or rules_of(verdict.get("facts", {}))}
+    said["rules"] = said["rules"] if said["rules"] == CHIP else ""
+    return {key: verdict[key] for key in (*KEPT, *PERHAPS) if key in verdict} | {key: it for key, it in said.items() if it}  # type: ignore[literal-required]
+
+
+def worded(side: dict[str, Any]) -> str:
+    """The verdict of a side of an object, with the rules if they aren't the guide's."""
+    return side["verdict"] + (f" by {side['rules']}" if side.get("rules") else "")
 
 
 def told(item: dict[str, Any]) -> str:
     """An object of the file as a line."""
-    old, new = (f"{it['verdict']} {it['digest'] or '(no digest)'}" if it else "" for it in (item["old"], item["new"]))
+    old, new = (f"{worded(it)} {it['digest'] or '(no digest)'}" if it else "" for it in (item["old"], item["new"]))
     name = readable(name_in(item, "path"))
     if item["change"] == MOVED:
         name = f"{readable(name_in(item, 'from'))} to {name}"

@@ -5,7 +5,7 @@ import os
 from collections.abc import Iterator
 
 from votmeshaw.cartridges import Cartridges
-from votmeshaw.facts import KINDS, NONE
+from votmeshaw.facts import CHIP, KINDS, NONE, rules_of
 from votmeshaw.names import printable, readable, shell_word
 from votmeshaw.verdicts import Verdict, reason_of
 from votmeshaw.verifier import with_reason
@@ -48,7 +48,8 @@ class Expected:
         for it in answers:
             if it["verdict"] != KINDS[0]:
                 word = NONE if it["verdict"] == NONE else "not genuine"
-                yield f"{word}: {readable(it['path'])}: {printable(with_reason(it['line'], reason_of(it)))}"
+                rules = f" (by {CHIP})" if rules_of(it["facts"]) == CHIP else ""
+                yield f"{word}: {readable(it['path'])}: {printable(with_reason(it['line'], reason_of(it)))}{rules}"
             elif told := self.told(it):
                 yield f"not as expected: {told}"
 

@@ -5,6 +5,11 @@ import re
 from collections.abc import Iterator
 from typing import Any
 
+from votmeshaw.layout import VERSIONS
+
+# The rules by which movies of each version are judged.
+CHIP, GUIDE = "the chip's rules", "the guide's rules"
+RULES = {it.number: CHIP if it.board_bytes else GUIDE for it in VERSIONS}
 # The verdicts in the order of their statuses: status 0 is genuine.
 KINDS = ("genuine", "false checkpoint", "fault", "refused")
 NONE = "not judged"
@@ -35,6 +40,11 @@ def line_of(facts: dict[str, Any]) -> str:
     if kind == KINDS[3]:
         return f"refused: {facts['refusal']}"
     raise ValueError("no such verdict")
+
+
+def rules_of(facts: dict[str, Any]) -> str:
+    """By which rules a movie was judged; nothing of one that is refused, and of reports without a version."""
+    return RULES.get(facts.get("version", 0), "")
 
 
 def is_of(value: Any, types: tuple[type, ...]) -> bool:

@@ -7,46 +7,53 @@ import re
 from collections.abc import Sequence
 
 from votmeshaw.habits import Habit
+from votmeshaw.hot_spots import is_hot_spot
 
 READ = re.compile(r"read ([0-9A-F]{4}) [0-9A-F]{2}")
 COLLISIONS = ("CXM0P", "CXM1P", "CXP0FB", "CXP1FB", "CXM0FB", "CXM1FB", "CXBLPF", "CXPPMM")
 OF_THE_TIA = (*COLLISIONS, "INPT0", "INPT1", "INPT2", "INPT3", "INPT4", "INPT5")
 PORTS = ("SWCHA", "SWACNT", "SWCHB", "SWBCNT")
 TIMER = ("INTIM", "the timer's flag")
+HOT_SPOT = "a hot spot"
 # Of each habit the registers that it has read otherwise.
 EXPLAINED = {Habit.HMOVE: COLLISIONS, Habit.WIDE: COLLISIONS, Habit.BLANKED: COLLISIONS, Habit.TIMER: TIMER, Habit.WHOLE: OF_THE_TIA}
 
 
 @dataclasses.dataclass
 class Read:
-    """A read of a register: its name, and the instruction as 'vcs_check trace' has it."""
+    """A read of a register, or of a hot spot of the board: its name, and the instruction as 'vcs_check trace' has it."""
 
     register: str
     by: str
 
 
-def register_of(address: int) -> str | None:
-    """The name of the register that a read of an address reaches, by docs/MACHINE.md, section 2; none of memory and cartridge."""
-    if address & 0x1080 == 0:
+def register_of(address: int, board: str) -> str | None:
+    """The name of the register that a read of an address reaches, by docs/MACHINE.md, section 2, or that it is a hot spot of this board;
+    none of memory and other addresses of the cartridge."""
+    if is_hot_spot(board, address):
+        return HOT_SPOT
+    if address & 0x1000:
+        return None
+    if address & 0x80 == 0:
         return OF_THE_TIA[address & 0x0F] if address & 0x0F < len(OF_THE_TIA) else None
-    if address & 0x1280 == 0x0280:
+    if address & 0x200:
         return TIMER[address & 1] if address & 4 else PORTS[address & 3]
     return None
 
 
-def names_in(line: str) -> list[str]:
-    """The registers that the instruction of a line reads."""
-    return [name for it in READ.findall(line) if (name := register_of(int(it, 16)))]
+def names_in(line: str, board: str) -> list[str]:
+    """The registers that the instruction of a line reads, of a game on this board."""
+    return [name for it in READ.findall(line) if (name := register_of(int(it, 16), board))]
 
 
-def all_read(trace: Sequence[str]) -> list[str]:
+def all_read(trace: Sequence[str], board: str) -> list[str]:
     """The registers that are read in these lines of a frame, in the order of the first reads."""
-    return list(dict.fromkeys(name for line in trace for name in names_in(line)))
+    return list(dict.fromkeys(name for line in trace for name in names_in(line, board)))
 
 
-def last_read(trace: Sequence[str]) -> Read | None:
+def last_read(trace: Sequence[str], board: str) -> Read | None:
     """The last read of a register in these lines of a frame."""
     for line in reversed(trace):
-        if names := names_in(line):
+        if names := names_in(line, board):
             return Read(names[-1], " ".join(line.split()))
     return None

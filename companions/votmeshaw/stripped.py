@@ -2,13 +2,14 @@
 
 import dataclasses
 import hashlib
-import struct
 
-MAGIC, VERSION = b"A26S", 1
-# Magic, version, length of the cartridge and its SHA-256.
-HEADER = struct.Struct(">4sHH32s")
-# A movie's own header, of which the cartridge's length is this part, and behind which the cartridge stands.
-MOVIE_HEADER, LENGTH = 14, slice(6, 8)
+from votmeshaw.layout import NoMovie, Version, version_of
+
+MAGIC = b"A26S"
+# Each form of such a file, by its number: the bytes of the cartridge's length, as many as the movie's own header has.
+FORMS = {1: 2, 2: 4}
+# The bytes of that number, and of the cartridge's SHA-256.
+FORM, DIGEST = 2, 32
 
 
 class Damaged(Exception):
@@ -17,37 +18,48 @@ class Damaged(Exception):
 
 @dataclasses.dataclass(frozen=True)
 class Stripped:
-    """A movie without its cartridge: what that was, and all other bytes."""
+    """A movie without its cartridge: what that was, the movie's version, and all other bytes, of which its header is the first."""
 
     length: int
     digest: str
+    version: Version
     rest: bytes
 
     @classmethod
     def of(cls, movie: bytes) -> "Stripped":
         """What is left of a movie, which the program has accepted."""
-        end = MOVIE_HEADER + int.from_bytes(movie[LENGTH], "big")
-        cartridge = movie[MOVIE_HEADER:end]
-        return cls(len(cartridge), hashlib.sha256(cartridge).hexdigest(), movie[:MOVIE_HEADER] + movie[end:])
+        version = version_of(movie)
+        begin, length = version.header, int.from_bytes(movie[version.length], "big")
+        digest = hashlib.sha256(movie[begin : begin + length]).hexdigest()
+        return cls(length, digest, version, movie[:begin] + movie[begin + length :])
 
     @classmethod
     def read(cls, data: bytes) -> "Stripped":
         """What a file spells. Whether it is a movie with its cartridge is for the program to say."""
         if not is_stripped(data):
             raise Damaged("not a movie without its cartridge" + (", but one with it" if data.startswith(b"A26M") else ""))
-        if len(data) < HEADER.size + MOVIE_HEADER:
+        form = int.from_bytes(data[len(MAGIC) : (at := len(MAGIC) + FORM)], "big")
+        if len(data) >= at and form not in FORMS:
+            raise Damaged(f"of form {form}, which isn't known here")
+        end = at + FORMS.get(form, 0)
+        length, digest, rest = data[at:end], data[end : end + DIGEST], data[end + DIGEST :]
+        try:
+            version = version_of(rest)
+        except NoMovie as error:
+            raise Damaged(f"damaged: its header {error}" if len(rest) >= 6 else "damaged: it ends too early") from None
+        if len(rest) < version.header:
             raise Damaged("damaged: it ends too early")
-        _, version, length, digest = HEADER.unpack_from(data)
-        if version != VERSION:
-            raise Damaged(f"of version {version}, which isn't known here")
-        rest = data[HEADER.size :]
-        if int.from_bytes(rest[LENGTH], "big") != length:
+        if version.length_bytes != FORMS[form]:
+            raise Damaged(f"damaged: no movie of version {version.number} has the form {form}")
+        if rest[version.length] != length:
             raise Damaged("damaged: it has two lengths of the cartridge")
-        return cls(length, digest.hex(), rest)
+        return cls(int.from_bytes(length, "big"), digest.hex(), version, rest)
 
     def data(self) -> bytes:
         """The bytes of its file."""
-        return HEADER.pack(MAGIC, VERSION, self.length, bytes.fromhex(self.digest)) + self.rest
+        size = self.version.length_bytes
+        form = next(form for form, it in FORMS.items() if it == size)
+        return MAGIC + form.to_bytes(FORM, "big") + self.length.to_bytes(size, "big") + bytes.fromhex(self.digest) + self.rest
 
     def is_of(self, cartridge: bytes) -> bool:
         """Whether this is the cartridge that is missing."""
@@ -55,7 +67,7 @@ class Stripped:
 
     def joined(self, cartridge: bytes) -> bytes:
         """The movie with this cartridge."""
-        return self.rest[:MOVIE_HEADER] + cartridge + self.rest[MOVIE_HEADER:]
+        return self.rest[: self.version.header] + cartridge + self.rest[self.version.header :]
 
     def wanted(self) -> str:
         """The cartridge that is missing, in words."""

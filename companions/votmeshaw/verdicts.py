@@ -59,7 +59,7 @@ TYPES: dict[str, tuple[type, ...]] = {
 }
 # The facts of a verdict in brief.
 IN_BRIEF = ("verdict", "program", "start", "checkpoints", "after_last_checkpoint", "frames", "frame", "cartridge", "md5", "sha1", "sha256",
-            "reason", "fault", "refusal")
+            "reason", "fault", "refusal", "version", "banks")
 # How many objects and lists may stand in one another; the reports of the program have three.
 DEEPEST = 60
 

@@ -9,6 +9,7 @@ from typing import NamedTuple
 from votmeshaw import files, memory_logs
 from votmeshaw.command import Stop
 from votmeshaw.importing import cartridges, making, runs
+from votmeshaw.importing.making import Game
 from votmeshaw.importing.runs import Refused, Run
 from votmeshaw.layout import NoMovie, Parts
 from votmeshaw.memory_logs import Frames
@@ -72,7 +73,7 @@ def _first(frames: runs.Frames, most: int) -> runs.Frames:
     return found
 
 
-def memories(verifier: Verifier, game: bytes, frames: runs.Frames, most: int) -> list[bytes]:
+def memories(verifier: Verifier, game: Game, frames: runs.Frames, most: int) -> list[bytes]:
     """The memory after each of the first frames, at most so many, up to a fault."""
     frames = _first(frames, min(most, LOOKED_AT))
     while frames.count:
@@ -106,7 +107,7 @@ def agreement(log: Frames, ours: list[bytes], shift: int, offset: int) -> Agreem
     return best
 
 
-def aligned(verifier: Verifier, game: bytes, run: Run, log: Frames) -> list[Agreement]:
+def aligned(verifier: Verifier, game: Game, run: Run, log: Frames) -> list[Agreement]:
     """The best agreement of each shift, the best first; Refused if there is none at all."""
     def best(shift: int) -> Agreement:
         ours = memories(verifier, game, shifted(run, shift), max(log) + REACH)

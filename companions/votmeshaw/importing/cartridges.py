@@ -1,4 +1,5 @@
-"""What a cartridge looks like, by its bytes alone: whether its length is one that is played, and which bank scheme it may have.
+"""What a cartridge looks like, by its bytes alone: whether its length is one that is played, and, by the guide's rules, which bank
+scheme it may have.
 
 The patterns are the byte patterns by which Stella and MAME tell schemes apart, and were tried on Stella 6.7. A game that isn't of a
 scheme may have its pattern all the same, so what they say is a doubt."""
@@ -9,7 +10,9 @@ import zlib
 from typing import NamedTuple
 
 from votmeshaw.importing.runs import Refused, shown
+from votmeshaw.layout import BOARDS
 
+# By the guide's rules.
 SIZES = (2048, 4096, 8192)
 BANK = 4096
 # How much of a file is looked at.
@@ -55,11 +58,9 @@ AFTER_FE = (
 )
 # A cartridge in which one of these stands twice isn't taken for FE.
 STORES_OF_F8 = ("8DF91F", "8DF9FF")
-# What BizHawk calls its boards, perhaps behind an 'm', that aren't played here.
-BOARDS = (
-    "0840", "3E", "3F", "4A50", "AR", "BF", "CM", "CV", "DF", "DPC", "DPCPLUS", "E0", "E7", "EF", "EFSC", "F0", "F4", "F4SC", "F6", "F6SC",
-    "F8SC", "FA", "FA2", "FE", "MC", "MDM", "SB", "UA", "X07",
-)
+# What BizHawk calls its boards, perhaps behind an 'm', that aren't played here; and those that aren't by the guide's rules.
+NOT_PLAYED = ("3E", "4A50", "AR", "BF", "CM", "DF", "DPC", "DPCPLUS", "EF", "EFSC", "FA2", "MC", "MDM", "SB", "X07")
+NOT_BY_THE_GUIDE = (*NOT_PLAYED, *(it.name for it in BOARDS if it.name not in ("2K", "4K", "F8")))
 COMMAVID = Scheme("CV", ("9DFFF3", "9900F4"))
 # An instruction with an absolute address, perhaps with an index, that reaches 1FF8 or 1FF9 in one of its mirrors.
 ABSOLUTE = rb"\x0c\x0d\x0e\x2c\x2d\x2e\x4d\x4e\x6d\x6e\x8c\x8d\x8e\xac\xad\xae\xcc\xcd\xce\xec\xed\xee"
@@ -72,27 +73,35 @@ def _has(data: bytes, scheme: Scheme) -> bool:
     return any(data.count(bytes.fromhex(it)) >= scheme.times for it in scheme.patterns)
 
 
-def check_length(data: bytes) -> None:
-    """Refused if this is no cartridge that is played."""
+def check_length(data: bytes, lengths: tuple[int, ...]) -> None:
+    """Refused if this is no cartridge of one of these lengths."""
     if data.startswith(b"PK") and b"Input Log.txt" in data:
         raise Refused("GAME is a BizHawk movie; RUN comes first, and then GAME")
     for begin, what in (*PACKED.items(), *OTHERS.items()):
         if data.startswith(begin):
             raise Refused(f"GAME is {what}" + (": unpack it first" if begin in PACKED else ""))
-    if (length := len(data)) in SIZES:
+    if (length := len(data)) in lengths:
         return
     said = f"more than {MOST:,} bytes" if length > MOST else f"{length} bytes"
     if length in LENGTHS:
         said += f", as {LENGTHS[length]} has"
-    for size in SIZES:
+    for size in lengths:
         if length - size in HEADERS:
             said += f", as a cartridge of {size} behind a header of {length - size} has: take the header away"
-    raise Refused(f"GAME has {said}, and cartridges of 2048, 4096 and 8192 bytes are played")
+    *first, last = map(str, lengths)
+    rules = " by the guide's rules, others without --guide" if lengths == SIZES else ""
+    raise Refused(f"GAME has {said}, and cartridges of {', '.join(first)} and {last} bytes are played{rules}")
+
+
+def bank_scheme(said: str) -> str:
+    """The bank scheme or board that a run names, as it is called here."""
+    return said.upper().removeprefix("M")
 
 
 def doubt(data: bytes, board: str) -> str:
-    """Why a cartridge looks as if it had another scheme than the one by which it is played, or nothing; board is what the run says."""
-    if board.upper().removeprefix("M") in BOARDS:
+    """Why a cartridge looks as if it had another scheme than the one by which the guide's rules play it, or nothing; board is what the
+    run says."""
+    if bank_scheme(board) in NOT_BY_THE_GUIDE:
         return f"the run was played on the board {shown(board)}"
     if len(data) < 2 * BANK:
         return f"it has a byte pattern of cartridges with memory of their own ({COMMAVID.name})" if _has(data, COMMAVID) else ""

@@ -20,6 +20,13 @@ CYCLES_OF_A_LINE = 76
 SHORTEST, PARTING, LONGEST = 240, 288, 325
 
 
+class Game(NamedTuple):
+    """A cartridge, and the name of its board; by the guide's rules it is on none."""
+
+    data: bytes
+    board: str = ""
+
+
 class Made(NamedTuple):
     """What was made of a run: the movie, or none, the line that says so, and the reason why there is none."""
 
@@ -39,14 +46,15 @@ def asked_of(verifier: Verifier, movie: bytes, *words: str) -> Answer:
     return answer
 
 
-def made(verifier: Verifier, game: bytes, frames: Frames, every: int, to_the_end: bool = False, to_the_fault: bool = False) -> Made:
+def made(verifier: Verifier, game: Game, frames: Frames, every: int, to_the_end: bool = False, to_the_fault: bool = False) -> Made:
     """The movie of a game with these inputs, from power-on, with a checkpoint after each so many frames, and to the end after the last
     one too. Of a run that faults there is one to the fault, which ends with the frame that does."""
     with tempfile.TemporaryDirectory(prefix="vcs_import-") as folder:
         rom, inputs, movie = (pathlib.Path(folder, it) for it in ("game", "inputs", "movie"))
-        rom.write_bytes(game)
+        rom.write_bytes(game.data)
         inputs.write_bytes(frames.text())
         end = [word for word, is_asked in (("--to-the-end", to_the_end), ("--to-the-fault", to_the_fault)) if is_asked]
+        end += ["--board", game.board] if game.board else []
         answer = asked_of(verifier, b"", "make", str(rom), str(inputs), "--text", "--every", str(every), *end, "--out", str(movie))
         is_made = answer.status == 0 or (to_the_fault and answer.status == FAULTS)
         if is_made and not movie.exists():
