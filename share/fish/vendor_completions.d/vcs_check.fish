@@ -34,6 +34,7 @@ __vcs_check_option make -l text -d 'INPUTS is text: how many frames and what is 
 __vcs_check_option make -l every -x -d 'Claim the state after every N frames, 1 to 4294967295'
 __vcs_check_option make -l to-the-end -d 'Claim the state after the last frame too'
 __vcs_check_option make -l to-the-fault -d 'If a frame faults, make the movie that ends with it'
+__vcs_check_option make -l board -x -a '2K 4K F8 F8SC F6 F6SC F4 F4SC FA E0 3F FE E7 UA CV 0840 F0 0FA0' -d 'Make a movie of version 3, by the chip'\''s rules, of a cartridge on this board, as F8SC'
 __vcs_check_option make -l out -r -F -d 'The movie that is made; - is standard output'
 __vcs_check_option claims -l json -d 'Write an object of JSON for each checkpoint in place of lines'
 __vcs_check_option inputs -l numbers -d 'Begin each line with the number of its first frame; make --text doesn'\''t read it'
