@@ -15,6 +15,10 @@ OF_THE_TIA = (*COLLISIONS, "INPT0", "INPT1", "INPT2", "INPT3", "INPT4", "INPT5")
 PORTS = ("SWCHA", "SWACNT", "SWCHB", "SWBCNT")
 TIMER = ("INTIM", "the timer's flag")
 HOT_SPOT = "a hot spot"
+# Of boards with memory of their own the places from 000 to FFF where it is read (docs/MACHINE.md, 13.2), and the banks with which they are.
+OF_SC = ((range(0x80, 0x100), ""),)
+MEMORY = {"F8SC": OF_SC, "F6SC": OF_SC, "F4SC": OF_SC, "FA": ((range(0x100, 0x200), ""),), "CV": ((range(0x400), ""),),
+          "E7": ((range(0x400, 0x800), " B=7."), (range(0x900, 0xA00), ""))}
 # Of each habit the registers that it has read otherwise.
 EXPLAINED = {Habit.HMOVE: COLLISIONS, Habit.WIDE: COLLISIONS, Habit.BLANKED: COLLISIONS, Habit.TIMER: TIMER, Habit.WHOLE: OF_THE_TIA}
 
@@ -57,3 +61,14 @@ def last_read(trace: Sequence[str], board: str) -> Read | None:
         if names := names_in(line, board):
             return Read(names[-1], " ".join(line.split()))
     return None
+
+
+def _reads_memory(line: str, board: str) -> bool:
+    """Whether the instruction of a line reads memory of the board's own."""
+    found = [address for it in READ.findall(line) if (address := int(it, 16)) & 0x1000]
+    return any(address & 0xFFF in places and banks in line for places, banks in MEMORY.get(board, ()) for address in found)
+
+
+def last_memory_read(trace: Sequence[str], board: str) -> str | None:
+    """The last instruction in these lines of a frame that reads memory of the board's own."""
+    return next((" ".join(line.split()) for line in reversed(trace) if _reads_memory(line, board)), None)
