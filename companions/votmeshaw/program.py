@@ -11,12 +11,15 @@ import hashlib
 import os
 import pathlib
 import shutil
+import time
 
 from votmeshaw.command import Stop
 
 SCRIPT = b"#!"
 # Nobody writes to the copy any more.
 SEALS = fcntl.F_SEAL_WRITE | fcntl.F_SEAL_GROW | fcntl.F_SEAL_SHRINK | fcntl.F_SEAL_SEAL
+# For how many seconds a busy system is asked for that, and how many it is left alone between two times.
+PATIENCE, PAUSE = 30.0, 0.05
 
 
 def _why_none(name: str) -> str:
@@ -25,6 +28,20 @@ def _why_none(name: str) -> str:
     if not there:
         return f"{name}: " + (os.strerror(errno.ENOENT) if os.path.dirname(name) else "it isn't on the path; --program names another place")
     return (there if there == name else f"{name}: {there}") + f": {os.strerror(errno.EISDIR if os.path.isdir(there) else errno.EACCES)}"
+
+
+def _seal(descriptor: int) -> None:
+    """Lets nobody write to a file in memory any more. While the system itself holds a page of it, as it may for a moment under load, it
+    answers that the file is busy, and is asked again."""
+    last = time.monotonic() + PATIENCE
+    while True:
+        try:
+            fcntl.fcntl(descriptor, fcntl.F_ADD_SEALS, SEALS)
+            return
+        except OSError as error:
+            if error.errno != errno.EBUSY or time.monotonic() > last:
+                raise
+        time.sleep(PAUSE)
 
 
 class Program:
@@ -36,11 +53,11 @@ class Program:
         self.file = pathlib.Path(found)
         try:
             data = self.file.read_bytes()
+            # The path that is executed, and the open file that a process needs for it.
+            self.path, self.needs = (found, ()) if data.startswith(SCRIPT) else self._copied(data)
         except OSError as error:
             raise Stop(f"cannot run {name}: {error.strerror}") from None
         self.digest = hashlib.sha256(data).hexdigest()
-        # The path that is executed, and the open file that a process needs for it.
-        self.path, self.needs = (found, ()) if data.startswith(SCRIPT) else self._copied(data)
 
     @staticmethod
     def _copied(data: bytes) -> tuple[str, tuple[int, ...]]:
@@ -48,7 +65,7 @@ class Program:
         descriptor = os.memfd_create("program", os.MFD_CLOEXEC | os.MFD_ALLOW_SEALING)
         with open(descriptor, "wb", closefd=False) as copy:
             copy.write(data)
-        fcntl.fcntl(descriptor, fcntl.F_ADD_SEALS, SEALS)
+        _seal(descriptor)
         return f"/proc/self/fd/{descriptor}", (descriptor,)
 
     def is_same(self) -> bool:
