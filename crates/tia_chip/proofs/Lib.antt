@@ -4,9 +4,10 @@ pub mod CalmChanged
 pub mod CalmClocks
 pub mod CalmPairs
 pub mod ClocksLemmas
-pub mod DarkLemmas
+pub mod LatchedLines
 pub mod LineClockLemmas
 pub mod LineLemmas
+pub mod LitSteps
 pub mod MeetLemmas
 pub mod NumberLemmas
 pub mod OtherPairs
@@ -18,9 +19,11 @@ pub mod QuietLines
 pub mod QuietMissiles
 pub mod QuietPixels
 pub mod QuietPlayers
+pub mod QuietSteps
 pub mod RangeLemmas
 pub mod RestLemmas
 pub mod ShownLemmas
+pub mod ShownWrites
 pub mod Strides
 pub mod ThereLemmas
 pub mod UnderwayBall
@@ -32,3 +35,4 @@ pub mod UnderwayNumbers
 pub mod UnderwayPlayers
 pub mod UnderwayTables
 pub mod WaitingLemmas
+pub mod WordLemmas

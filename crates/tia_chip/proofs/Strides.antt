@@ -22,12 +22,12 @@ use Rattle.tia_chip.specs.declared.player.PlayerCopy.{PlayerCopy}
 abbrev pub NoneBegins : ℕ → ℕ → ℕ → Type 0
 NoneBegins mode counter n = (k : ℕ) → k < n → begins_copy mode (counter_after k counter) ≡ false
 
-now-none : (mode counter n : ℕ) → counter < 160 → NoneBegins mode counter (suc n) → begins_copy mode counter ≡ false
+pub now-none : (mode counter n : ℕ) → counter < 160 → NoneBegins mode counter (suc n) → begins_copy mode counter ≡ false
 now-none mode counter n l h =
     let e : counter_after 0 counter ≡ counter = omega arith in
     ap (begins_copy mode) (sym e) ∙ h 0 (omega arith)
 
-later-none : (mode counter n : ℕ) → NoneBegins mode counter (suc n) → NoneBegins mode (counter_after 1 counter) n
+pub later-none : (mode counter n : ℕ) → NoneBegins mode counter (suc n) → NoneBegins mode (counter_after 1 counter) n
 later-none mode counter n h k l = ap (begins_copy mode) (counter-later k counter) ∙ h (suc k) (omega arith)
 
 pub none-of : {A : Type 0} (o : Option A) → is_some o ≡ false → o ≡ None

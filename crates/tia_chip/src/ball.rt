@@ -1,6 +1,6 @@
 //! The ball.
 ghost use Rattle.std.specs.Fn.{iterate};
-ghost use Rattle.std.specs.Prelude.{◌≡◌, ◌<◌, ◌≤◌, ◌&&◌, nat_lt, Option, None, ℕ, suc, false, true};
+ghost use Rattle.std.specs.Prelude.{◌≡◌, ◌<◌, ◌≤◌, ◌+◌, ◌&&◌, nat_lt, Option, None, ℕ, suc, false, true};
 ghost use Rattle.tia_chip.specs.Counter.{begins_copy as begins_of};
 ghost use Rattle.tia_chip.specs.Quiet.{counter_after as counter_of};
 ghost use Rattle.tia_chip.specs.Bits.{has_bit};
@@ -11,10 +11,12 @@ ghost use Rattle.tia_chip.specs.Private.Ranges.{IsBallInRange, IsBallPlaceInRang
 ghost use Rattle.tia_chip.specs.Quiet.{IsQuietBall, ball_place_of_age, quiet_ball_after};
 
 use crate::bits::{has_bit, with_pixel};
+use crate::copies::lit_steps;
 use crate::counter::{
-    age, begins_copy, begins_within, counter_after, next_counter, steps_to_copy, strobed_counter,
+    age, begins_copy, begins_within, counter_after, is_free_for, next_counter, steps_to_copy,
+    strobed_counter,
 };
-use crate::missile::{is_dot_of_age, size};
+use crate::missile::{dot_shape, is_dot_of_age, size};
 use crate::register::value_by_delay;
 
 /// The ball, with the registers that are its own.
@@ -41,6 +43,7 @@ pub struct Ball {
 }
 
 /// Whether a copy is drawn.
+#[inline(always)]
 fn is_drawn(place: Option<u8>) -> bool
     ensures { result ≡ is_ball_drawn place }
 {
@@ -51,6 +54,7 @@ fn is_drawn(place: Option<u8>) -> bool
 }
 
 /// A place after a step, unless a copy begins.
+#[inline(always)]
 fn stepped_place(size: u8, place: Option<u8>) -> Option<u8>
     requires place { IsBallPlaceInRange place }
     requires size { size ≤ 8 }
@@ -68,6 +72,7 @@ fn stepped_place(size: u8, place: Option<u8>) -> Option<u8>
 }
 
 /// The own size of a copy that begins.
+#[inline(always)]
 fn begun_size(ctrlpf: u8, phase: u8) -> u8
     ensures value { result ≡ begun_size ctrlpf phase }
     ensures range { result ≤ 8 }
@@ -80,6 +85,7 @@ fn begun_size(ctrlpf: u8, phase: u8) -> u8
 }
 
 /// The place of a quiet ball whose last copy began so many steps ago.
+#[inline(always)]
 fn place_of_age(size: u8, age: u8) -> Option<u8>
     requires size { size ≤ 8 }
     ensures value { result ≡ ball_place_of_age size age }
@@ -90,6 +96,7 @@ fn place_of_age(size: u8, age: u8) -> Option<u8>
 
 impl Ball {
     /// Whether its place follows from its counter.
+    #[inline(always)]
     pub(crate) fn is_quiet(&self, ctrlpf: u8) -> bool
         requires { IsBallInRange self.now }
         ensures { result ≡ true → IsQuietBall ctrlpf self.now }
@@ -97,14 +104,32 @@ impl Ball {
         self.place == place_of_age(size(ctrlpf), age(0, self.counter))
     }
 
-    /// So many steps of a quiet ball. What was seen of it is forgotten.
-    pub(crate) fn pass_quiet(&mut self, ctrlpf: u8, count: u8)
+    /// The steps of a line of a quiet ball, which lead to where it is. What was seen of it is forgotten.
+    #[inline(always)]
+    fn pass_line(&mut self, ctrlpf: u8)
         requires range { IsBallInRange self.old }
+        requires quiet { IsQuietBall ctrlpf self.old }
+        ensures value { self.new ≡ record (quiet_ball_after ctrlpf 160 self.old) { seen = false } }
+        ensures range { IsBallInRange self.new }
+    {
+        self.own_size = begun_size(ctrlpf, self.phase);
+        self.seen = false;
+    }
+
+    /// So many steps of a quiet ball. What was seen of it is forgotten.
+    #[inline(always)]
+    fn pass_quiet(&mut self, ctrlpf: u8, count: u8)
+        requires range { IsBallInRange self.old }
+        requires quiet { IsQuietBall ctrlpf self.old }
         requires some { 1 ≤ count }
         requires most { count ≤ 160 }
         ensures value { self.new ≡ record (quiet_ball_after ctrlpf count self.old) { seen = false } }
         ensures range { IsBallInRange self.new }
     {
+        if count == 160 {
+            self.pass_line(ctrlpf);
+            return;
+        }
         if begins_within(count, self.counter) {
             self.own_size = begun_size(ctrlpf, self.phase);
         }
@@ -114,24 +139,28 @@ impl Ball {
     }
 
     /// Whether it is enabled, as it shows.
+    #[inline(always)]
     pub(crate) fn is_enabled(&self) -> bool
         ensures { result ≡ has_bit (enable_of self.now) 1 }
     {
         has_bit(self.enable(), 1)
     }
 
-    /// Whether it isn't enabled, doesn't move, and its place follows from its counter.
-    fn is_dark(&self, ctrlpf: u8) -> bool
-        requires { IsBallInRange self.now }
-        ensures quiet { result ≡ true → IsQuietBall ctrlpf self.now }
-        ensures dark { result ≡ true → has_bit (enable_of self.now) 1 ≡ false }
-        ensures still { result ≡ true → self.now.moves ≡ false }
+    /// With which of so many steps of a quiet ball it is lit: bit k is that of step k.
+    fn lit_within(&self, ctrlpf: u8, count: u8) -> u64
+        requires range { IsBallInRange self.now }
+        requires most { count ≤ 64 }
+        ensures { (k : ℕ) → has_bit result k ≡ (nat_lt k count && is_ball_lit (quiet_ball_after ctrlpf (suc k) self.now)) }
     {
-        !self.is_enabled() && !self.moves && self.is_quiet(ctrlpf)
+        if self.is_enabled() {
+            lit_steps(dot_shape(size(ctrlpf)), 0, self.counter, count)
+        } else {
+            0
+        }
     }
 
-    /// So many steps of a quiet ball.
-    pub(crate) fn pass_dark(&mut self, ctrlpf: u8, count: u8)
+    /// So many steps of a quiet ball. The last is looked at.
+    fn pass_looked(&mut self, ctrlpf: u8, count: u8)
         requires range { IsBallInRange self.old }
         requires some { 1 ≤ count }
         requires most { count ≤ 160 }
@@ -148,6 +177,7 @@ impl Ball {
     }
 
     /// The enable that it shows.
+    #[inline(always)]
     fn enable(&self) -> u8
         ensures { result ≡ enable_of self.now }
     {
@@ -155,6 +185,7 @@ impl Ball {
     }
 
     /// The size at which its copy is over.
+    #[inline(always)]
     fn ending_size(&self, ctrlpf: u8, in_blank: bool) -> u8
         requires { IsBallInRange self.now }
         ensures value { result ≡ ending_size ctrlpf in_blank self.now }
@@ -168,6 +199,7 @@ impl Ball {
     }
 
     /// The place of a copy that begins.
+    #[inline(always)]
     fn begun_place(&self, ctrlpf: u8, in_blank: bool) -> u8
         ensures value { result ≡ begun_place ctrlpf in_blank self.now }
         ensures range { result ≤ 1 }
@@ -177,6 +209,7 @@ impl Ball {
     }
 
     /// Looks at it: what is seen stays until the next look.
+    #[inline(always)]
     pub(crate) fn look(&mut self)
         requires { IsBallInRange self.old }
         ensures value { self.new ≡ looked_at_ball self.old }
@@ -186,6 +219,7 @@ impl Ball {
     }
 
     /// A step, before which it is looked at.
+    #[inline]
     pub(crate) fn step(&mut self, ctrlpf: u8, in_blank: bool)
         requires { IsBallInRange self.old }
         ensures value { self.new ≡ ball_after_step ctrlpf in_blank self.old }
@@ -213,6 +247,7 @@ impl Ball {
     }
 
     /// Whether it is lit.
+    #[inline(always)]
     pub(crate) fn is_lit(&self) -> bool
         ensures { result ≡ is_ball_lit self.now }
     {
@@ -247,15 +282,6 @@ impl Ball {
         steps
     }
 
-    /// Whether it has no copy, and none begins with the next steps.
-    fn has_no_copy_for(&self, count: u8) -> bool
-        requires { self.now.counter < 160 }
-        ensures none { result ≡ true → self.now.place ≡ None }
-        ensures begins { result ≡ true → (mode k : ℕ) → k < count → begins_of mode (counter_of k self.now.counter) ≡ false }
-    {
-        self.place.is_none() && steps_to_copy(self.counter) >= count
-    }
-
     /// So many steps in the picture, at most 64, and with which of them it is lit: bit k is that of
     /// step k.
     pub(crate) fn steps(&mut self, ctrlpf: u8, count: u8) -> u64
@@ -266,9 +292,15 @@ impl Ball {
         ensures lit { (k : ℕ) → has_bit result k ≡ (nat_lt k count && is_ball_lit (iterate (ball_after_step ctrlpf false) (suc k) self.old)) }
         ensures range { IsBallInRange self.new }
     {
-        if !self.has_no_copy_for(count) && self.is_dark(ctrlpf) {
-            self.pass_dark(ctrlpf, count);
+        if self.is_bare_for(count) {
+            self.counter += count;
+            self.seen = false;
             return 0;
+        }
+        if !self.moves && self.is_quiet(ctrlpf) {
+            let lit = self.lit_within(ctrlpf, count);
+            self.pass_looked(ctrlpf, count);
+            return lit;
         }
         let mut lit = 0;
         let mut passed = 0;
@@ -277,5 +309,54 @@ impl Ball {
             lit = with_pixel(lit, passed - 1, self.is_lit());
         }
         lit
+    }
+
+    /// Whether it has no copy, none begins with the next steps, and its counter doesn't go round.
+    #[inline(always)]
+    fn is_bare_for(&self, count: u8) -> bool
+        ensures none { result ≡ true → self.now.place ≡ None }
+        ensures begins { result ≡ true → (k : ℕ) → k < count → begins_of 0 (counter_of k self.now.counter) ≡ false }
+        ensures sum { result ≡ true → self.now.counter + count ≤ 156 }
+    {
+        self.place.is_none() && is_free_for(0, self.counter, count)
+    }
+
+    /// So many steps in the picture of one that doesn't move. What was seen of it is forgotten.
+    #[inline(always)]
+    pub(crate) fn pass(&mut self, ctrlpf: u8, count: u8)
+        requires range { IsBallInRange self.old }
+        requires still { self.old.moves ≡ false }
+        requires some { 1 ≤ count }
+        requires most { count ≤ 160 }
+        ensures value { self.new ≡ record (iterate (ball_after_step ctrlpf false) count self.old) { seen = false } }
+        ensures range { IsBallInRange self.new }
+    {
+        if self.is_bare_for(count) {
+            self.counter += count;
+            self.seen = false;
+        } else {
+            self.pass_copy(ctrlpf, count);
+        }
+    }
+
+    /// The same where it may have a copy.
+    #[inline(never)]
+    fn pass_copy(&mut self, ctrlpf: u8, count: u8)
+        requires range { IsBallInRange self.old }
+        requires still { self.old.moves ≡ false }
+        requires some { 1 ≤ count }
+        requires most { count ≤ 160 }
+        ensures value { self.new ≡ record (iterate (ball_after_step ctrlpf false) count self.old) { seen = false } }
+        ensures range { IsBallInRange self.new }
+    {
+        if self.is_quiet(ctrlpf) {
+            self.pass_quiet(ctrlpf, count);
+            return;
+        }
+        let mut passed = 0;
+        while passed < count {
+            passed += self.stride(ctrlpf, count - passed);
+        }
+        self.seen = false;
     }
 }

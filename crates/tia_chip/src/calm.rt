@@ -5,7 +5,7 @@ ghost use Rattle.tia_chip.specs.Bits.{has_bit as bit_of};
 ghost use Rattle.tia_chip.specs.Calm.{IsCalm, IsCalmInPicture, after_steps, blank_end};
 ghost use Rattle.tia_chip.specs.Clock.{after_clock, without_seen};
 ghost use Rattle.tia_chip.specs.Clocks.{sink_after_clocks};
-ghost use Rattle.tia_chip.specs.Private.Lines.{AreLit, IsAtRestInBlank, IsLatched, IsQuiet, gone_on, line_of};
+ghost use Rattle.tia_chip.specs.Private.Lines.{AreLit, IsAtRestInBlank, IsLatched, gone_on, line_of};
 ghost use Rattle.tia_chip.specs.Private.Lines.{lit_at, lit_somewhere, shown_playfield, unlatched_line, with_line};
 ghost use Rattle.tia_chip.specs.Private.Ranges.{IsInRange};
 
@@ -21,6 +21,7 @@ use crate::state::TiaState;
 use tia_core::Paint;
 
 /// Whether no write is on its way, nothing moves, and pixels are put where the line's clock is.
+#[inline(always)]
 fn is_calm(tia: &TiaState) -> bool
     ensures { result ≡ true → IsCalm tia.now }
 {
@@ -28,6 +29,7 @@ fn is_calm(tia: &TiaState) -> bool
 }
 
 /// Whether the clocks up to the picture do nothing.
+#[inline(always)]
 pub fn is_at_rest_in_blank(tia: &TiaState) -> bool
     ensures rest { result ≡ true → IsAtRestInBlank tia.now }
     ensures clock { result ≡ true → tia.now.clock < 68 }
@@ -56,6 +58,7 @@ pub fn pass_blank(tia: &mut TiaState, count: u8)
 }
 
 /// Whether the blank is over after so many clocks.
+#[inline(always)]
 fn leaves_blank(tia: &TiaState, count: u8) -> bool
     requires { tia.now.clock + count ≤ 68 }
     ensures { result ≡ (tia.now.clock + count == blank_end tia.now) }
@@ -64,6 +67,7 @@ fn leaves_blank(tia: &TiaState, count: u8) -> bool
 }
 
 /// Whether the clocks up to the line's end are of the picture, and the objects only make steps.
+#[inline(always)]
 pub fn is_calm_in_picture(tia: &TiaState) -> bool
     ensures { result ≡ true → IsCalmInPicture tia.now }
 {
@@ -83,8 +87,8 @@ pub fn pass_some<S: Paint>(tia: &mut TiaState, most: u8, sink: &mut S) -> u8
     ensures sink { sink.new ≡ sink_after_clocks S.drawn sink.old result tia.old }
     ensures range { IsInRange tia.new }
 {
-    if !sink.keeps() && latches_none(tia) && is_quiet(tia) {
-        pass_quiet(tia, most);
+    if !sink.keeps() && latches_none(tia) {
+        pass_latched(tia, most);
         return most;
     }
     let count = most.min(64);
@@ -99,23 +103,10 @@ fn latches_none(tia: &TiaState) -> bool
     has_bit(tia.vblank, 1) || has_pairs(tia.collisions, Objects::lit_somewhere(tia))
 }
 
-/// Whether each object is quiet.
-fn is_quiet(tia: &TiaState) -> bool
-    requires { IsInRange tia.now }
-    ensures { result ≡ true → IsQuiet tia.now }
-{
-    tia.player0.is_quiet()
-        && tia.player1.is_quiet()
-        && tia.missile0.is_quiet(tia.player0.nusiz)
-        && tia.missile1.is_quiet(tia.player1.nusiz)
-        && tia.ball.is_quiet(tia.ctrlpf)
-}
-
-/// So many clocks of the picture that latch no pair, in which each object is quiet.
-fn pass_quiet(tia: &mut TiaState, count: u8)
+/// So many clocks of the picture that latch no pair, wherever the objects are.
+fn pass_latched(tia: &mut TiaState, count: u8)
     requires range { IsInRange tia.old }
     requires calm { IsCalmInPicture tia.old }
-    requires quiet { IsQuiet tia.old }
     requires latched { IsLatched tia.old (lit_somewhere tia.old) }
     requires some { 1 ≤ count }
     requires end { tia.old.clock + count ≤ 228 }
@@ -123,30 +114,30 @@ fn pass_quiet(tia: &mut TiaState, count: u8)
     ensures range { IsInRange tia.new }
 {
     let line = unlatched_line(tia, count);
-    step_quiet(tia, count);
+    pass_objects(tia, count);
     end_pixels(tia, line, count);
 }
 
-/// So many steps of objects that are quiet. What was seen of them is forgotten.
-fn step_quiet(tia: &mut TiaState, count: u8)
+/// So many steps of each object. What was seen of them is forgotten.
+fn pass_objects(tia: &mut TiaState, count: u8)
     requires range { IsInRange tia.old }
     requires calm { IsCalm tia.old }
-    requires quiet { IsQuiet tia.old }
     requires some { 1 ≤ count }
     requires most { count ≤ 160 }
     ensures value { tia.new ≡ without_seen (after_steps count tia.old) }
     ensures range { IsInRange tia.new }
 {
-    let ctrlpf = tia.ctrlpf;
+    let (clock, ctrlpf) = (tia.clock, tia.ctrlpf);
     let (nusiz0, nusiz1) = (tia.player0.nusiz, tia.player1.nusiz);
-    tia.player0.pass_quiet(count);
-    tia.player1.pass_quiet(count);
-    tia.missile0.pass_quiet(nusiz0, count);
-    tia.missile1.pass_quiet(nusiz1, count);
-    tia.ball.pass_quiet(ctrlpf, count);
+    tia.player0.pass(count);
+    tia.player1.pass(count);
+    tia.missile0.pass(nusiz0, clock, count);
+    tia.missile1.pass(nusiz1, clock, count);
+    tia.ball.pass(ctrlpf, count);
 }
 
 /// So many clocks of the picture, at most 64, whose pixels go to the sink in order.
+#[inline(never)]
 fn pass_picture<S: Paint>(tia: &mut TiaState, count: u8, sink: &mut S)
     requires range { IsInRange tia.old }
     requires calm { IsCalmInPicture tia.old }
@@ -235,6 +226,7 @@ fn playfield_in(tia: &TiaState, pixels: u64, count: u8) -> u64
 }
 
 /// Whether the playfield lights the k-th pixel from `first` on, if that is in a set.
+#[inline(always)]
 fn is_in_playfield(tia: &TiaState, pixels: u64, first: u8, k: u8) -> bool
     requires few { k < 64 }
     requires end { first + k < 160 }
@@ -253,8 +245,8 @@ fn unlatched_line(tia: &TiaState, count: u8) -> Line
     let first = tia.clock - 68;
     let last = first + (count - 1);
     Line {
-        playfield: shown_playfield(tia, first, last) && (last + 1) % 4 != 0,
-        mirrored: shown_mirrored(tia, first, last) && last < 156,
+        playfield: (last + 1) % 4 != 0 && shown_playfield(tia, first, last),
+        mirrored: last < 156 && shown_mirrored(tia, first, last),
         collisions: tia.collisions,
     }
 }

@@ -58,6 +58,7 @@ pub fn pairs(objects: Objects) -> u16
 const ALL_PAIRS: u16 = 0x7FFF;
 
 /// A set of collision bits, unless their object is in a set.
+#[inline(always)]
 fn unless(is_in: bool, pairs: u16) -> u16
     ensures { result ≡ (if is_in then 0 else pairs) }
 {
@@ -65,6 +66,7 @@ fn unless(is_in: bool, pairs: u16) -> u16
 }
 
 /// The bits of the pairs of which some object isn't in a set.
+#[inline(always)]
 fn other_pairs(objects: Objects) -> u16
     ensures all { bit_or result (pairs_of objects) ≡ 32767 }
     ensures apart { bit_and result (pairs_of objects) ≡ 0 }
@@ -78,6 +80,7 @@ fn other_pairs(objects: Objects) -> u16
 }
 
 /// Whether the bits of all pairs of a set of objects are among these.
+#[inline(always)]
 pub fn has_pairs(collisions: u16, objects: Objects) -> bool
     ensures { result ≡ true → bit_or collisions (pairs_of objects) ≡ collisions }
 {
@@ -85,6 +88,7 @@ pub fn has_pairs(collisions: u16, objects: Objects) -> bool
 }
 
 /// Whether a clock latches pairs.
+#[inline(always)]
 fn is_latching(tia: &TiaState) -> bool
     ensures { result ≡ is_latching tia.now }
 {
@@ -92,6 +96,7 @@ fn is_latching(tia: &TiaState) -> bool
 }
 
 /// The collision bits `collisions` with those of `pairs`.
+#[inline(always)]
 pub fn with_pairs(collisions: u16, pairs: u16) -> u16
     requires collisions { collisions < 2 ^ 15 }
     requires pairs { pairs < 2 ^ 15 }

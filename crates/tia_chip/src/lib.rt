@@ -8,6 +8,7 @@ mod bits;
 mod calm;
 mod collision;
 mod colour;
+mod copies;
 mod counter;
 mod effect;
 mod lawful;

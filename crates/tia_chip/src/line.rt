@@ -20,6 +20,7 @@ pub struct Line {
 
 impl Line {
     /// Those of a TIA.
+    #[inline(always)]
     pub fn of(tia: &TiaState) -> Self
         ensures { result ≡ line_of tia.now }
     {
@@ -71,6 +72,7 @@ impl Line {
 }
 
 /// Whether the right half is mirrored as pixel `x` is shown, on a line that goes on at `first`.
+#[inline(always)]
 pub fn shown_mirrored(tia: &TiaState, first: u8, x: u8) -> bool
     ensures { result ≡ shown_mirrored tia.now first x }
 {
@@ -83,6 +85,7 @@ pub fn shown_mirrored(tia: &TiaState, first: u8, x: u8) -> bool
 }
 
 /// The playfield's bit at pixel `x`, on a line that goes on at `first`.
+#[inline(always)]
 pub fn shown_playfield(tia: &TiaState, first: u8, x: u8) -> bool
     requires { x < 160 }
     ensures { result ≡ shown_playfield tia.now first x }

@@ -20,6 +20,7 @@ pub struct LitPixels {
 }
 
 /// Whether two objects light a pixel together.
+#[inline(always)]
 fn meet(first: u64, second: u64) -> bool
     ensures { result ≡ not (bit_and first second == 0) }
 {
@@ -48,6 +49,7 @@ impl LitPixels {
     }
 
     /// The objects that light pixel `k`, where the playfield does or doesn't.
+    #[inline(always)]
     pub fn objects(&self, k: u8, playfield: bool) -> Objects
         requires { k < 64 }
         ensures { result ≡ lit_at self.now k playfield }
@@ -63,6 +65,7 @@ impl LitPixels {
     }
 
     /// The pixels that one of them lights.
+    #[inline(always)]
     pub fn union(&self) -> u64
         ensures { result ≡ union_of self.now }
     {

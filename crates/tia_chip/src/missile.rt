@@ -1,6 +1,6 @@
 //! The two missiles.
 ghost use Rattle.std.specs.Fn.{iterate};
-ghost use Rattle.std.specs.Prelude.{◌≡◌, ◌<◌, ◌≤◌, ◌&&◌, nat_lt, Option, None, ℕ, suc, false, true};
+ghost use Rattle.std.specs.Prelude.{◌≡◌, ◌<◌, ◌≤◌, ◌+◌, ◌%◌, ◌&&◌, nat_lt, Option, None, ℕ, suc, false, true};
 ghost use Rattle.tia_chip.specs.Counter.{begins_copy as begins_of};
 ghost use Rattle.tia_chip.specs.Quiet.{counter_after as counter_of};
 ghost use Rattle.tia_chip.specs.Bits.{has_bit};
@@ -12,11 +12,12 @@ ghost use Rattle.tia_chip.specs.Missile.{missile_after_strobe, release_of, resiz
 ghost use Rattle.tia_chip.specs.Missile.{stepped_missile_copy, strobed_missile_copy};
 ghost use Rattle.tia_chip.specs.Private.Ranges.{IsMissileCopyInRange, IsMissileInRange, IsWidth};
 ghost use Rattle.tia_chip.specs.Quiet.{IsQuietMissile, is_dot_of_age, missile_copy_at, missile_copy_of_age};
-ghost use Rattle.tia_chip.specs.Quiet.{quiet_missile_after};
+ghost use Rattle.tia_chip.specs.Quiet.{missile_mask, quiet_missile_after};
 
 use crate::bits::{has_bit, with_pixel};
+use crate::copies::lit_steps;
 use crate::counter::{
-    age, begins_copy, counter_after, next_counter, steps_to_copy, strobed_counter,
+    age, begins_copy, counter_after, is_free_for, next_counter, steps_to_copy, strobed_counter,
 };
 
 /// A copy of a missile that is on its way.
@@ -44,6 +45,7 @@ pub struct Missile {
 }
 
 /// The size of a missile or ball, by bits 5 and 4 of NUSIZ or CTRLPF.
+#[inline(always)]
 pub fn size(register: u8) -> u8
     ensures value { result ≡ size_of register }
     ensures range { result ≤ 8 }
@@ -52,6 +54,7 @@ pub fn size(register: u8) -> u8
 }
 
 /// Whether a copy is drawn.
+#[inline(always)]
 fn is_drawn(copy: Option<MissileCopy>) -> bool
     ensures { result ≡ is_missile_drawn copy }
 {
@@ -62,6 +65,7 @@ fn is_drawn(copy: Option<MissileCopy>) -> bool
 }
 
 /// A copy as the step from place 3 finds it.
+#[inline(always)]
 fn copy_about_to_show(size: u8, clock: u8, moves: bool) -> MissileCopy
     ensures { result ≡ copy_about_to_show size clock moves }
 {
@@ -84,6 +88,7 @@ fn copy_about_to_show(size: u8, clock: u8, moves: bool) -> MissileCopy
 }
 
 /// A copy as a step at this clock finds it.
+#[inline(always)]
 fn copy_before_step(
     size: u8,
     clock: u8,
@@ -102,6 +107,7 @@ fn copy_before_step(
 }
 
 /// A copy after a step, unless another begins.
+#[inline(always)]
 fn stepped_copy(size: u8, moves: bool, copy: Option<MissileCopy>) -> Option<MissileCopy>
     requires copy { IsMissileCopyInRange copy }
     requires size { size ≤ 8 }
@@ -123,11 +129,21 @@ fn stepped_copy(size: u8, moves: bool, copy: Option<MissileCopy>) -> Option<Miss
 }
 
 /// Whether a missile or the ball of this size is drawn at this age.
+#[inline(always)]
 pub fn is_dot_of_age(size: u8, age: u8) -> bool
     requires { size ≤ 8 }
     ensures { result ≡ is_dot_of_age size age }
 {
     age >= 4 && age < 4 + size
+}
+
+/// The ages at which a missile or the ball of this size is drawn.
+#[inline(always)]
+pub fn dot_shape(size: u8) -> u64
+    requires { size ≤ 8 }
+    ensures { (age : ℕ) → has_bit result age ≡ is_dot_of_age size age }
+{
+    (1 << (4 + size)) - 16
 }
 
 /// A copy once NUSIZ has this size.
@@ -192,6 +208,7 @@ fn release(width: u8) -> u8
 }
 
 /// The copy of a quiet missile whose last copy began so many steps ago.
+#[inline(always)]
 fn copy_of_age(size: u8, age: u8) -> Option<MissileCopy>
     requires size { size ≤ 8 }
     ensures value { result ≡ missile_copy_of_age size age }
@@ -209,6 +226,7 @@ fn copy_of_age(size: u8, age: u8) -> Option<MissileCopy>
 
 impl Missile {
     /// The copy that it has if it is quiet and its counter is this.
+    #[inline(always)]
     fn quiet_copy(&self, nusiz: u8, counter: u8) -> Option<MissileCopy>
         requires { counter < 160 }
         ensures value { result ≡ missile_copy_at nusiz self.now counter }
@@ -222,6 +240,7 @@ impl Missile {
     }
 
     /// Whether its copy follows from its counter.
+    #[inline(always)]
     pub(crate) fn is_quiet(&self, nusiz: u8) -> bool
         requires { IsMissileInRange self.now }
         ensures { result ≡ true → IsQuietMissile nusiz self.now }
@@ -229,38 +248,72 @@ impl Missile {
         self.copy == self.quiet_copy(nusiz, self.counter)
     }
 
-    /// So many steps of a quiet missile. What was seen of it is forgotten.
-    pub(crate) fn pass_quiet(&mut self, nusiz: u8, count: u8)
+    /// The steps of a line of a quiet missile, which lead to where it is. What was seen of it is forgotten.
+    #[inline(always)]
+    fn pass_line(&mut self, nusiz: u8)
         requires range { IsMissileInRange self.old }
+        requires quiet { IsQuietMissile nusiz self.old }
+        ensures value { self.new ≡ record (quiet_missile_after nusiz 160 self.old) { seen = false } }
+        ensures range { IsMissileInRange self.new }
+    {
+        self.seen = false;
+    }
+
+    /// So many steps of a quiet missile. What was seen of it is forgotten.
+    #[inline(always)]
+    fn pass_quiet(&mut self, nusiz: u8, count: u8)
+        requires range { IsMissileInRange self.old }
+        requires quiet { IsQuietMissile nusiz self.old }
         requires some { 1 ≤ count }
         requires most { count ≤ 160 }
         ensures value { self.new ≡ record (quiet_missile_after nusiz count self.old) { seen = false } }
         ensures range { IsMissileInRange self.new }
     {
+        if count == 160 {
+            self.pass_line(nusiz);
+            return;
+        }
         self.counter = counter_after(count, self.counter);
         self.copy = self.quiet_copy(nusiz, self.counter);
         self.seen = false;
     }
 
     /// Whether it is enabled.
+    #[inline(always)]
     pub(crate) fn is_enabled(&self) -> bool
         ensures { result ≡ has_bit self.now.enam 1 }
     {
         has_bit(self.enam, 1)
     }
 
-    /// Whether it isn't enabled, doesn't move, and its copy follows from its counter.
-    fn is_dark(&self, nusiz: u8) -> bool
-        requires { IsMissileInRange self.now }
-        ensures quiet { result ≡ true → IsQuietMissile nusiz self.now }
-        ensures dark { result ≡ true → has_bit self.now.enam 1 ≡ false }
-        ensures still { result ≡ true → self.now.moves ≡ false }
+    /// With which of so many steps of a quiet missile its copy is drawn: bit k is that of step k.
+    fn drawn_steps(&self, nusiz: u8, count: u8) -> u64
+        requires range { IsMissileInRange self.now }
+        requires most { count ≤ 64 }
+        ensures { (k : ℕ) → has_bit result k ≡ (nat_lt k count && missile_mask nusiz self.now (counter_of k self.now.counter)) }
     {
-        !self.is_enabled() && !self.moves && self.is_quiet(nusiz)
+        if self.is_locked() {
+            0
+        } else {
+            lit_steps(dot_shape(size(nusiz)), nusiz % 8, self.counter, count)
+        }
     }
 
-    /// So many steps of a quiet missile.
-    pub(crate) fn pass_dark(&mut self, nusiz: u8, count: u8)
+    /// With which of so many steps of a quiet missile it is lit: bit k is that of step k.
+    fn lit_within(&self, nusiz: u8, count: u8) -> u64
+        requires range { IsMissileInRange self.now }
+        requires most { count ≤ 64 }
+        ensures { (k : ℕ) → has_bit result k ≡ (nat_lt k count && is_missile_lit (quiet_missile_after nusiz (suc k) self.now)) }
+    {
+        if self.is_enabled() {
+            self.drawn_steps(nusiz, count)
+        } else {
+            0
+        }
+    }
+
+    /// So many steps of a quiet missile. The last is looked at.
+    fn pass_looked(&mut self, nusiz: u8, count: u8)
         requires range { IsMissileInRange self.old }
         requires some { 1 ≤ count }
         requires most { count ≤ 160 }
@@ -274,6 +327,7 @@ impl Missile {
     }
 
     /// Whether it keeps copies from beginning.
+    #[inline(always)]
     fn is_locked(&self) -> bool
         ensures { result ≡ is_locked self.now }
     {
@@ -281,6 +335,7 @@ impl Missile {
     }
 
     /// Whether a copy begins with this step.
+    #[inline(always)]
     fn begins(&self, nusiz: u8) -> bool
         ensures { result ≡ begins_missile nusiz self.now }
     {
@@ -288,6 +343,7 @@ impl Missile {
     }
 
     /// Looks at it: what is seen stays until the next look.
+    #[inline(always)]
     pub(crate) fn look(&mut self)
         requires { IsMissileInRange self.old }
         ensures value { self.new ≡ looked_at_missile self.old }
@@ -297,6 +353,7 @@ impl Missile {
     }
 
     /// A step at a clock of the line, before which it is looked at.
+    #[inline]
     pub(crate) fn step(&mut self, nusiz: u8, clock: u8)
         requires { IsMissileInRange self.old }
         ensures value { self.new ≡ missile_after_step nusiz clock self.old }
@@ -352,6 +409,7 @@ impl Missile {
     }
 
     /// Whether it is lit.
+    #[inline(always)]
     pub(crate) fn is_lit(&self) -> bool
         ensures { result ≡ is_missile_lit self.now }
     {
@@ -386,15 +444,6 @@ impl Missile {
         steps
     }
 
-    /// Whether it has no copy, and none begins with the next steps.
-    fn has_no_copy_for(&self, count: u8) -> bool
-        requires { self.now.counter < 160 }
-        ensures none { result ≡ true → self.now.copy ≡ None }
-        ensures begins { result ≡ true → (mode k : ℕ) → k < count → begins_of mode (counter_of k self.now.counter) ≡ false }
-    {
-        self.copy.is_none() && steps_to_copy(self.counter) >= count
-    }
-
     /// So many steps in the picture, at most 64, and with which of them it is lit: bit k is that of
     /// step k.
     pub(crate) fn steps(&mut self, nusiz: u8, clock: u8, count: u8) -> u64
@@ -405,9 +454,15 @@ impl Missile {
         ensures lit { (k : ℕ) → has_bit result k ≡ (nat_lt k count && is_missile_lit (iterate (missile_after_step nusiz clock) (suc k) self.old)) }
         ensures range { IsMissileInRange self.new }
     {
-        if !self.has_no_copy_for(count) && self.is_dark(nusiz) {
-            self.pass_dark(nusiz, count);
+        if self.is_bare_for(nusiz, count) {
+            self.counter += count;
+            self.seen = false;
             return 0;
+        }
+        if !self.moves && self.is_quiet(nusiz) {
+            let lit = self.lit_within(nusiz, count);
+            self.pass_looked(nusiz, count);
+            return lit;
         }
         let mut lit = 0;
         let mut passed = 0;
@@ -416,5 +471,54 @@ impl Missile {
             lit = with_pixel(lit, passed - 1, self.is_lit());
         }
         lit
+    }
+
+    /// Whether it has no copy, none begins with the next steps, and its counter doesn't go round.
+    #[inline(always)]
+    fn is_bare_for(&self, nusiz: u8, count: u8) -> bool
+        ensures none { result ≡ true → self.now.copy ≡ None }
+        ensures begins { result ≡ true → (k : ℕ) → k < count → begins_of (nusiz % 8) (counter_of k self.now.counter) ≡ false }
+        ensures sum { result ≡ true → self.now.counter + count ≤ 156 }
+    {
+        self.copy.is_none() && is_free_for(nusiz % 8, self.counter, count)
+    }
+
+    /// So many steps in the picture of one that doesn't move. What was seen of it is forgotten.
+    #[inline(always)]
+    pub(crate) fn pass(&mut self, nusiz: u8, clock: u8, count: u8)
+        requires range { IsMissileInRange self.old }
+        requires still { self.old.moves ≡ false }
+        requires some { 1 ≤ count }
+        requires most { count ≤ 160 }
+        ensures value { self.new ≡ record (iterate (missile_after_step nusiz clock) count self.old) { seen = false } }
+        ensures range { IsMissileInRange self.new }
+    {
+        if self.is_bare_for(nusiz, count) {
+            self.counter += count;
+            self.seen = false;
+        } else {
+            self.pass_copy(nusiz, clock, count);
+        }
+    }
+
+    /// The same where it may have a copy.
+    #[inline(never)]
+    fn pass_copy(&mut self, nusiz: u8, clock: u8, count: u8)
+        requires range { IsMissileInRange self.old }
+        requires still { self.old.moves ≡ false }
+        requires some { 1 ≤ count }
+        requires most { count ≤ 160 }
+        ensures value { self.new ≡ record (iterate (missile_after_step nusiz clock) count self.old) { seen = false } }
+        ensures range { IsMissileInRange self.new }
+    {
+        if self.is_quiet(nusiz) {
+            self.pass_quiet(nusiz, count);
+            return;
+        }
+        let mut passed = 0;
+        while passed < count {
+            passed += self.stride(nusiz, clock, count - passed);
+        }
+        self.seen = false;
     }
 }

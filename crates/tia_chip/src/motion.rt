@@ -12,6 +12,7 @@ use crate::player::Player;
 use crate::state::TiaState;
 
 /// Whether an object that moves still does after so many pulses.
+#[inline(always)]
 fn still_moves(motion: u8, pulses: u8) -> bool
     ensures { result ≡ still_moves motion pulses }
 {
@@ -19,17 +20,15 @@ fn still_moves(motion: u8, pulses: u8) -> bool
 }
 
 /// Whether an object moves.
+#[inline(always)]
 pub fn any_moves(tia: &TiaState) -> bool
     ensures { result ≡ any_moves tia.now }
 {
-    tia.player0.moves
-        || tia.player1.moves
-        || tia.missile0.moves
-        || tia.missile1.moves
-        || tia.ball.moves
+    tia.player0.moves | tia.player1.moves | tia.missile0.moves | tia.missile1.moves | tia.ball.moves
 }
 
 /// Whether a clock pulsed, and an object still moves after it.
+#[inline(always)]
 pub fn pulses_on(tia: &TiaState) -> bool
     ensures { result ≡ pulses_on tia.now }
 {

@@ -1,6 +1,6 @@
 //! The two players.
 ghost use Rattle.std.specs.Fn.{iterate};
-ghost use Rattle.std.specs.Prelude.{◌≡◌, ◌<◌, ◌≤◌, ◌&&◌, ◌==◌, not, nat_lt, Option, None, ℕ, suc, false, true};
+ghost use Rattle.std.specs.Prelude.{◌≡◌, ◌<◌, ◌≤◌, ◌+◌, ◌-◌, ◌%◌, ◌&&◌, ◌==◌, not, nat_lt, if◌then◌else◌, Option, None, ℕ, suc, false, true};
 ghost use Rattle.tia_chip.specs.Counter.{begins_copy as begins_of};
 ghost use Rattle.tia_chip.specs.Quiet.{counter_after as counter_of};
 ghost use Rattle.tia_chip.specs.Bits.{has_bit};
@@ -14,10 +14,12 @@ ghost use Rattle.tia_chip.specs.PlayerWidth.{player_after_nusiz, steps_to_change
 ghost use Rattle.tia_chip.specs.PlayerWidth.{place_at_change};
 ghost use Rattle.tia_chip.specs.Private.Ranges.{IsCopyInRange, IsPlaceInRange, IsPlayerInRange, IsWidth};
 ghost use Rattle.tia_chip.specs.Quiet.{IsQuietPlayer, player_copy_at, player_copy_of_age, quiet_player_after};
+ghost use Rattle.tia_chip.specs.Quiet.{first_drawn, is_drawn_of_age, shows_one_at_age};
 
-use crate::bits::{has_bit, with_pixel};
+use crate::bits::{has_bit, has_pixel, with_pixel};
+use crate::copies::lit_steps;
 use crate::counter::{
-    age, begins_copy, counter_after, next_counter, steps_to_copy, strobed_counter,
+    age, begins_copy, counter_after, is_free_for, next_counter, steps_to_copy, strobed_counter,
 };
 use crate::register::value_by_delay;
 
@@ -55,6 +57,7 @@ pub struct Player {
 }
 
 /// The width of a player's bits by NUSIZ.
+#[inline(always)]
 pub fn width(nusiz: u8) -> u8
     ensures value { result ≡ width_of nusiz }
     ensures range { IsWidth result }
@@ -67,6 +70,7 @@ pub fn width(nusiz: u8) -> u8
 }
 
 /// Whether a copy is drawn at a place.
+#[inline(always)]
 fn is_drawn_at(width: u8, place: u8) -> bool
     ensures { result ≡ is_drawn_at width place }
 {
@@ -74,6 +78,7 @@ fn is_drawn_at(width: u8, place: u8) -> bool
 }
 
 /// Whether a copy is drawn.
+#[inline(always)]
 fn is_drawn(width: u8, copy: Option<PlayerCopy>) -> bool
     ensures { result ≡ is_drawn width copy }
 {
@@ -84,6 +89,7 @@ fn is_drawn(width: u8, copy: Option<PlayerCopy>) -> bool
 }
 
 /// The place after a step.
+#[inline(always)]
 fn next_place(place: u8) -> u8
     requires { IsPlaceInRange place }
     ensures value { result ≡ next_place place }
@@ -93,6 +99,7 @@ fn next_place(place: u8) -> u8
 }
 
 /// Whether the step from a place ends a bit.
+#[inline(always)]
 fn ends_bit(width: u8, place: u8) -> bool
     requires place { IsPlaceInRange place }
     requires width { IsWidth width }
@@ -107,6 +114,7 @@ fn ends_bit(width: u8, place: u8) -> bool
 }
 
 /// A copy after a step.
+#[inline(always)]
 fn stepped_copy(width: u8, copy: Option<PlayerCopy>) -> Option<PlayerCopy>
     requires copy { IsCopyInRange copy }
     requires width { IsWidth width }
@@ -135,6 +143,7 @@ fn stepped_copy(width: u8, copy: Option<PlayerCopy>) -> Option<PlayerCopy>
 }
 
 /// Whether a step from a copy leads to a place at which it is drawn.
+#[inline(always)]
 fn is_drawn_next(width: u8, copy: Option<PlayerCopy>) -> bool
     requires { IsCopyInRange copy }
     ensures { result ≡ is_drawn_next width copy }
@@ -258,13 +267,24 @@ fn copy_in_mode(old: u8, new: u8, counter: u8, copy: Option<PlayerCopy>) -> Opti
     }
 }
 
+/// The age at which a copy of this width is drawn for the first time.
+#[inline(always)]
+fn first_drawn(width: u8) -> u8
+    requires { IsWidth width }
+    ensures value { result ≡ first_drawn width }
+    ensures range { result ≤ 6 }
+{
+    if width == 1 { 5 } else { 6 }
+}
+
 /// The copy of a quiet player whose last copy began so many steps ago.
+#[inline(always)]
 fn copy_of_age(width: u8, age: u8) -> Option<PlayerCopy>
     requires width { IsWidth width }
     ensures value { result ≡ player_copy_of_age width age }
     ensures range { IsCopyInRange result }
 {
-    let first = if width == 1 { 5 } else { 6 };
+    let first = first_drawn(width);
     if age >= first + 8 * width {
         None
     } else {
@@ -277,6 +297,7 @@ fn copy_of_age(width: u8, age: u8) -> Option<PlayerCopy>
 
 impl Player {
     /// The copy that it has if it is quiet and its counter is this.
+    #[inline(always)]
     fn quiet_copy(&self, counter: u8) -> Option<PlayerCopy>
         requires { counter < 160 }
         ensures value { result ≡ player_copy_at self.now counter }
@@ -286,6 +307,7 @@ impl Player {
     }
 
     /// Whether its copy follows from its counter.
+    #[inline(always)]
     pub(crate) fn is_quiet(&self) -> bool
         requires { IsPlayerInRange self.now }
         ensures { result ≡ true → IsQuietPlayer self.now }
@@ -295,51 +317,102 @@ impl Player {
             && self.copy == self.quiet_copy(self.counter)
     }
 
-    /// So many steps of a quiet player. What it showed is forgotten.
-    pub(crate) fn pass_quiet(&mut self, count: u8)
+    /// The steps of a line of a quiet player, which lead to where it is. What it showed is forgotten.
+    #[inline(always)]
+    fn pass_line(&mut self)
         requires range { IsPlayerInRange self.old }
+        requires quiet { IsQuietPlayer self.old }
+        ensures value { self.new ≡ record (quiet_player_after 160 self.old) { seen = false } }
+        ensures range { IsPlayerInRange self.new }
+    {
+        self.seen = false;
+    }
+
+    /// So many steps of a quiet player. What it showed is forgotten.
+    #[inline(always)]
+    fn pass_quiet(&mut self, count: u8)
+        requires range { IsPlayerInRange self.old }
+        requires quiet { IsQuietPlayer self.old }
         requires some { 1 ≤ count }
         requires most { count ≤ 160 }
         ensures value { self.new ≡ record (quiet_player_after count self.old) { seen = false } }
         ensures range { IsPlayerInRange self.new }
     {
+        if count == 160 {
+            self.pass_line();
+            return;
+        }
         self.counter = counter_after(count, self.counter);
         self.copy = self.quiet_copy(self.counter);
         self.seen = false;
     }
 
     /// Whether it shows a bit that is 1 in some place.
+    #[inline(always)]
     pub(crate) fn has_dots(&self) -> bool
         ensures { result ≡ not (graphic_of self.now == 0) }
     {
         self.graphic() != 0
     }
 
-    /// Whether its copy follows from its counter, and it shows no bit that is 1.
-    fn is_dark(&self) -> bool
-        requires { IsPlayerInRange self.now }
-        ensures quiet { result ≡ true → IsQuietPlayer self.now }
-        ensures dark { result ≡ true → graphic_of self.now ≡ 0 }
+    /// Whether its bit with this number, from the left as it is drawn, is 1.
+    #[inline(always)]
+    fn shows_bit(&self, bit: u8) -> bool
+        requires { bit ≤ 7 }
+        ensures { result ≡ has_bit (graphic_of self.now) (if has_bit self.now.refp 3 then bit else 7 - bit) }
     {
-        !self.has_dots() && self.is_quiet()
+        let index = if has_bit(self.refp, 3) { bit } else { 7 - bit };
+        has_bit(self.graphic(), index)
     }
 
-    /// So many steps of a quiet player that shows no bit that is 1.
-    pub(crate) fn pass_dark(&mut self, count: u8)
+    /// Whether a copy of this width shows a bit that is 1 at this age, at which it is drawn.
+    #[inline(always)]
+    fn shows_at(&self, width: u8, age: u8) -> bool
+        requires width { IsWidth width }
+        requires drawn { is_drawn_of_age width age ≡ true }
+        ensures { result ≡ shows_one_at_age self.now width age }
+    {
+        self.shows_bit((age - first_drawn(width)) / width)
+    }
+
+    /// The ages at which a copy of it shows a bit that is 1, while its width is that of NUSIZ.
+    fn shape(&self) -> u64
+        ensures { (age : ℕ) → has_bit result age ≡ shows_one_at_age self.now (width_of self.now.nusiz) age }
+    {
+        if !self.has_dots() {
+            return 0;
+        }
+        let width = width(self.nusiz);
+        let end = first_drawn(width) + 8 * width;
+        let mut shape = 0;
+        let mut age = first_drawn(width);
+        while age < end {
+            shape = with_pixel(shape, age, self.shows_at(width, age));
+            age += 1;
+        }
+        shape
+    }
+
+    /// So many steps of a quiet player, at most 64, and with which of them it is lit: bit k is that of
+    /// step k.
+    fn quiet_steps(&mut self, count: u8) -> u64
         requires range { IsPlayerInRange self.old }
         requires some { 1 ≤ count }
-        requires most { count ≤ 160 }
+        requires most { count ≤ 64 }
         requires quiet { IsQuietPlayer self.old }
-        requires dark { graphic_of self.old ≡ 0 }
         ensures value { self.new ≡ quiet_player_after count self.old }
+        ensures lit { (k : ℕ) → has_bit result k ≡ (nat_lt k count && (quiet_player_after (suc k) self.old).seen) }
         ensures range { IsPlayerInRange self.new }
     {
+        let lit = lit_steps(self.shape(), self.nusiz % 8, self.counter, count);
         self.counter = counter_after(count, self.counter);
         self.copy = self.quiet_copy(self.counter);
-        self.seen = false;
+        self.seen = has_pixel(lit, count - 1);
+        lit
     }
 
     /// The graphic that it shows.
+    #[inline(always)]
     fn graphic(&self) -> u8
         ensures { result ≡ graphic_of self.now }
     {
@@ -347,6 +420,7 @@ impl Player {
     }
 
     /// Whether it shows a bit that is 1.
+    #[inline(always)]
     fn shows_one(&self) -> bool
         requires { IsPlayerInRange self.now }
         ensures { result ≡ shows_one self.now self.now.copy }
@@ -365,6 +439,7 @@ impl Player {
     }
 
     /// Looks at it: what is seen stays until the next look.
+    #[inline(always)]
     pub(crate) fn look(&mut self)
         requires { IsPlayerInRange self.old }
         ensures value { self.new ≡ looked_at_player self.old }
@@ -374,6 +449,7 @@ impl Player {
     }
 
     /// Takes a step off those that a change of width waits for.
+    #[inline(always)]
     fn await_step(&mut self)
         requires { IsPlayerInRange self.old }
         ensures value { self.new ≡ with_awaited_step self.old }
@@ -386,6 +462,7 @@ impl Player {
     }
 
     /// Whether a copy begins with this step.
+    #[inline(always)]
     fn begins(&self) -> bool
         ensures { result ≡ begins_player self.now }
     {
@@ -393,6 +470,7 @@ impl Player {
     }
 
     /// A step, before which it is looked at.
+    #[inline]
     pub(crate) fn step(&mut self)
         requires { IsPlayerInRange self.old }
         ensures value { self.new ≡ player_after_step self.old }
@@ -484,15 +562,6 @@ impl Player {
         steps
     }
 
-    /// Whether it has no copy, and none begins with the next steps.
-    fn has_no_copy_for(&self, count: u8) -> bool
-        requires { self.now.counter < 160 }
-        ensures none { result ≡ true → self.now.copy ≡ None }
-        ensures begins { result ≡ true → (mode k : ℕ) → k < count → begins_of mode (counter_of k self.now.counter) ≡ false }
-    {
-        self.copy.is_none() && steps_to_copy(self.counter) >= count
-    }
-
     /// So many steps in the picture, at most 64, and with which of them it is lit: bit k is that of
     /// step k.
     pub(crate) fn steps(&mut self, count: u8) -> u64
@@ -503,9 +572,13 @@ impl Player {
         ensures lit { (k : ℕ) → has_bit result k ≡ (nat_lt k count && (iterate player_after_step (suc k) self.old).seen) }
         ensures range { IsPlayerInRange self.new }
     {
-        if !self.has_no_copy_for(count) && self.is_dark() {
-            self.pass_dark(count);
+        if self.is_bare_for(count) {
+            self.counter += count;
+            self.seen = false;
             return 0;
+        }
+        if self.is_quiet() {
+            return self.quiet_steps(count);
         }
         let mut lit = 0;
         let mut passed = 0;
@@ -514,5 +587,52 @@ impl Player {
             lit = with_pixel(lit, passed - 1, self.seen);
         }
         lit
+    }
+
+    /// Whether it has no copy, none begins with the next steps, and its counter doesn't go round.
+    #[inline(always)]
+    fn is_bare_for(&self, count: u8) -> bool
+        ensures none { result ≡ true → self.now.copy ≡ None }
+        ensures begins { result ≡ true → (k : ℕ) → k < count → begins_of (self.now.nusiz % 8) (counter_of k self.now.counter) ≡ false }
+        ensures sum { result ≡ true → self.now.counter + count ≤ 156 }
+    {
+        self.copy.is_none() && is_free_for(self.nusiz % 8, self.counter, count)
+    }
+
+    /// So many steps. What it showed is forgotten.
+    #[inline(always)]
+    pub(crate) fn pass(&mut self, count: u8)
+        requires range { IsPlayerInRange self.old }
+        requires some { 1 ≤ count }
+        requires most { count ≤ 160 }
+        ensures value { self.new ≡ record (iterate player_after_step count self.old) { seen = false } }
+        ensures range { IsPlayerInRange self.new }
+    {
+        if self.is_bare_for(count) {
+            self.counter += count;
+            self.seen = false;
+        } else {
+            self.pass_copy(count);
+        }
+    }
+
+    /// The same where it may have a copy.
+    #[inline(never)]
+    fn pass_copy(&mut self, count: u8)
+        requires range { IsPlayerInRange self.old }
+        requires some { 1 ≤ count }
+        requires most { count ≤ 160 }
+        ensures value { self.new ≡ record (iterate player_after_step count self.old) { seen = false } }
+        ensures range { IsPlayerInRange self.new }
+    {
+        if self.is_quiet() {
+            self.pass_quiet(count);
+            return;
+        }
+        let mut passed = 0;
+        while passed < count {
+            passed += self.stride(count - passed);
+        }
+        self.seen = false;
     }
 }

@@ -8,6 +8,7 @@ use crate::bits::has_bit;
 use crate::state::TiaState;
 
 /// Bit `i` of the twenty.
+#[inline(always)]
 pub fn playfield_bit(pf0: u8, pf1: u8, pf2: u8, i: u8) -> bool
     requires { i < 20 }
     ensures { result ≡ playfield_bit pf0 pf1 pf2 i }
@@ -22,6 +23,7 @@ pub fn playfield_bit(pf0: u8, pf1: u8, pf2: u8, i: u8) -> bool
 }
 
 /// Which bit pixel `x` shows.
+#[inline(always)]
 pub fn playfield_index(mirrored: bool, x: u8) -> u8
     requires { x < 160 }
     ensures value { result ≡ playfield_index mirrored x }
@@ -37,6 +39,7 @@ pub fn playfield_index(mirrored: bool, x: u8) -> u8
 }
 
 /// Whether the right half is mirrored, as pixel `x` begins.
+#[inline(always)]
 fn mirrored_at(tia: &TiaState, x: u8) -> bool
     ensures { result ≡ mirrored_at tia.now x }
 {

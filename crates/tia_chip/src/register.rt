@@ -1,6 +1,6 @@
 //! The registers that are written, by name and number, and the bits that each keeps.
 ghost use Rattle.std.specs.Prelude.{◌≡◌, ◌≤◌};
-ghost use Rattle.tia_chip.specs.Private.Late.{acts_late};
+ghost use Rattle.tia_chip.specs.Private.Late.{acts_late, keeps_shown};
 ghost use Rattle.tia_chip.specs.Registers.{register_of, mask_of, register_bits, delay_of, value_by_delay};
 
 use crate::bits::has_bit;
@@ -105,6 +105,7 @@ const REGISTERS: &[Register; 45] = &[
 
 impl Register {
     /// The register with this number, of which the low six bits count.
+    #[inline(always)]
     pub(crate) fn from_number(number: u8) -> Self
         ensures { result ≡ register_of number }
     {
@@ -117,6 +118,7 @@ impl Register {
     }
 
     /// The bits that it keeps of a written value.
+    #[inline(always)]
     pub(crate) fn mask(self) -> u8
         ensures { result ≡ mask_of self }
     {
@@ -136,6 +138,7 @@ impl Register {
     }
 
     /// The bits of a written value that it keeps.
+    #[inline(always)]
     pub(crate) fn keep(self, value: u8) -> u8
         ensures { result ≡ register_bits self value }
     {
@@ -143,6 +146,7 @@ impl Register {
     }
 
     /// Whether all of a write of it is put on its way, in the place of any other write but HMOVE.
+    #[inline(always)]
     pub(crate) fn acts_late(self) -> bool
         ensures { result ≡ acts_late self }
     {
@@ -157,7 +161,24 @@ impl Register {
         }
     }
 
+    /// Whether a write of it surely changes nothing that an object shows.
+    #[inline(always)]
+    pub(crate) fn keeps_shown(self) -> bool
+        ensures { result ≡ keeps_shown self }
+    {
+        match self {
+            Register::Nusiz0 | Register::Nusiz1 => false,
+            Register::Refp0 | Register::Refp1 => false,
+            Register::Grp0 | Register::Grp1 => false,
+            Register::Enam0 | Register::Enam1 | Register::Enabl => false,
+            Register::Vdelp0 | Register::Vdelp1 | Register::Vdelbl => false,
+            Register::Resmp0 | Register::Resmp1 => false,
+            _ => true,
+        }
+    }
+
     /// After how many colour clocks a write of it acts.
+    #[inline(always)]
     pub(crate) fn delay(self) -> u8
         ensures value { result ≡ delay_of self }
         ensures range { result ≤ 6 }
@@ -176,6 +197,7 @@ impl Register {
 }
 
 /// What is shown of a register that may be delayed: its old value if bit 0 of `delay` is set.
+#[inline(always)]
 pub fn value_by_delay(delay: u8, old: u8, new: u8) -> u8
     ensures { result ≡ value_by_delay delay old new }
 {

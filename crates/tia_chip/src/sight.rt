@@ -19,6 +19,7 @@ pub fn look(tia: &mut TiaState)
 }
 
 /// Forgets what was seen.
+#[inline(always)]
 pub fn forget_seen(tia: &mut TiaState)
     requires { IsInRange tia.old }
     ensures value { tia.new ≡ without_seen tia.old }

@@ -56,6 +56,7 @@ pub struct TiaState {
 
 impl TiaState {
     /// Whether the next clock is in the blank.
+    #[inline(always)]
     pub(crate) fn is_in_blank(&self) -> bool
         ensures { result ≡ is_in_blank self.now }
     {
@@ -63,6 +64,7 @@ impl TiaState {
     }
 
     /// How many steps late a strobe takes effect.
+    #[inline(always)]
     pub(crate) fn lateness(&self) -> u8
         ensures value { result ≡ lateness_of self.now }
         ensures range { result ≤ 2 }

@@ -222,6 +222,7 @@ fn end_clock(tia: &mut TiaState)
 }
 
 /// Whether an RSYNC is on its way.
+#[inline(always)]
 fn awaits_rsync(waiting: Option<Waiting>) -> bool
     ensures { result ≡ awaits_rsync waiting }
 {
@@ -255,6 +256,7 @@ impl Tia {
     }
 
     /// The clock of the line that comes next, 0 to 227.
+    #[inline(always)]
     pub fn line_clock(&self) -> u8
         ensures value { result ≡ self.now.clock }
         ensures range { result < 228 }
@@ -264,6 +266,7 @@ impl Tia {
 
     /// The clock of the line that comes next once so many clocks have passed. None if an RSYNC is on
     /// its way, which no write leaves.
+    #[inline(always)]
     #[tactic(auto, using(crate::proofs::LineClockLemmas::later))]
     pub fn line_clock_after(&self, count: u32) -> Option<u8>
         ensures value { result ≡ (if awaits_rsync self.now.waiting then None else Some ((self.now.clock + count) % 228)) }
@@ -403,6 +406,7 @@ impl Tia {
     }
 
     /// One colour clock, whose pixel goes to the sink.
+    #[inline(never)]
     fn put_clock<S: Paint>(&mut self, sink: &mut S)
         ensures state { self.new ≡ after_clock self.old }
         ensures sink { sink.new ≡ with_pixel S.drawn sink.old (pixel_of (at_pixel self.old)) }
@@ -426,6 +430,7 @@ impl Tia {
 
     /// Writes a register so many clocks from now, if it can be put on its way already, and answers
     /// whether it is. That asks for nothing. It can be if it acts late, and no write is on its way.
+    #[inline(always)]
     pub fn write_late(&mut self, lag: u8, number: u8, value: u8) -> bool
         ensures state { IsTrue result → iterate after_clock lag self.new ≡ tia_after_write (iterate after_clock lag self.old) number value }
         ensures pixels { IsTrue result → (n : ℕ) → n < lag → pixel_of (at_pixel (iterate after_clock n self.new)) ≡ pixel_of (at_pixel (iterate after_clock n self.old)) }

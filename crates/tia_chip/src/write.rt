@@ -19,6 +19,7 @@ use crate::state::TiaState;
 use crate::waiting::Waiting;
 
 /// VBLANK by the bit 6 of one value and the bit 1 of another.
+#[inline(always)]
 fn vblank(six: u8, one: u8) -> u8
     ensures { result ≡ vblank_of six one }
 {
@@ -230,6 +231,10 @@ fn act_and_notice(tia: &mut TiaState, register: Register, value: u8)
     ensures value { tia.new ≡ after_action register value tia.old }
     ensures range { IsInRange tia.new }
 {
+    if register.keeps_shown() {
+        act(tia, register, value);
+        return;
+    }
     let before = *tia;
     act(tia, register, value);
     notice(&before, tia);
@@ -317,6 +322,7 @@ pub fn is_there(tia: &TiaState, waiting: Waiting) -> bool
 }
 
 /// A write on its way after so many clocks, if it is still on its way.
+#[inline(always)]
 pub fn waits_after(waiting: Waiting, clocks: u32) -> Option<Waiting>
     ensures { result ≡ waits_after clocks waiting }
 {
@@ -378,6 +384,7 @@ pub fn bring_on(tia: &mut TiaState)
 }
 
 /// What a write asks of the machine around the TIA.
+#[inline(always)]
 pub fn effect(tia: &TiaState, register: Register, value: u8) -> Effect
     ensures { result ≡ effect_after tia.now register value }
 {

@@ -6,7 +6,8 @@ use Rattle.tia_chip.specs.declared.player.Player.{Player}
 use Rattle.tia_chip.specs.declared.register.Register.{Register}
 use Rattle.tia_chip.specs.declared.register.Register.TheVariants.{Refp0, Refp1, Pf0, Pf1, Pf2, Grp0, Grp1}
 use Rattle.tia_chip.specs.declared.register.Register.TheVariants.{Enam0, Enam1, Enabl, Hmp0, Hmp1, Hmm0}
-use Rattle.tia_chip.specs.declared.register.Register.TheVariants.{Hmm1, Hmbl, Hmclr}
+use Rattle.tia_chip.specs.declared.register.Register.TheVariants.{Hmm1, Hmbl, Hmclr, Nusiz0, Nusiz1, Vdelp0}
+use Rattle.tia_chip.specs.declared.register.Register.TheVariants.{Vdelp1, Vdelbl, Resmp0, Resmp1}
 use Rattle.tia_chip.specs.declared.state.TiaState.{TiaState}
 use Rattle.tia_chip.specs.declared.waiting.Waiting.{Waiting}
 
@@ -30,6 +31,25 @@ acts_late Hmm1 = true
 acts_late Hmbl = true
 acts_late Hmclr = true
 acts_late _ = false
+
+-- whether a write of this register surely changes nothing that an object shows: no graphic, enable, REFP,
+-- VDELP, VDELBL or RESMP
+abbrev pub keeps_shown : Register → Bool
+keeps_shown Nusiz0 = false
+keeps_shown Nusiz1 = false
+keeps_shown Refp0 = false
+keeps_shown Refp1 = false
+keeps_shown Grp0 = false
+keeps_shown Grp1 = false
+keeps_shown Enam0 = false
+keeps_shown Enam1 = false
+keeps_shown Enabl = false
+keeps_shown Vdelp0 = false
+keeps_shown Vdelp1 = false
+keeps_shown Vdelbl = false
+keeps_shown Resmp0 = false
+keeps_shown Resmp1 = false
+keeps_shown _ = true
 
 -- ---- writes of what is there already
 -- the registers of objects that wait for their writes, but for motion

@@ -9,7 +9,6 @@ use Rattle.tia_chip.specs.Collision.{Pair, number_from, pair_table, pairs_of}
 use Rattle.tia_chip.specs.Objects.{Object, P0, P1, M0, M1, BL, PF, lit_objects}
 use Rattle.tia_chip.specs.Player.{graphic_of}
 use Rattle.tia_chip.specs.Playfield.{playfield_bit, playfield_index}
-use Rattle.tia_chip.specs.Quiet.{IsQuietBall, IsQuietMissile, IsQuietPlayer}
 use Rattle.tia_chip.specs.declared.ball.Ball.{Ball}
 use Rattle.tia_chip.specs.declared.line.Line.{Line}
 use Rattle.tia_chip.specs.declared.lit_pixels.LitPixels.{LitPixels}
@@ -122,17 +121,7 @@ pub record IsAtRestInBlank (t : TiaState) : Type 0 where
   pub playfield : t.playfield ≡ false
   pub mirrored : t.mirrored ≡ false
 
--- ---- where each object is quiet
-pub record AreQuiet (p q : Player) (m n : Missile) (ctrlpf : ℕ) (b : Ball) : Type 0 where
-  pub player0 : IsQuietPlayer p
-  pub player1 : IsQuietPlayer q
-  pub missile0 : IsQuietMissile p.nusiz m
-  pub missile1 : IsQuietMissile q.nusiz n
-  pub ball : IsQuietBall ctrlpf b
-
-abbrev pub IsQuiet : TiaState → Type 0
-IsQuiet t = AreQuiet t.player0 t.player1 t.missile0 t.missile1 t.ctrlpf t.ball
-
+-- ---- the objects of a line
 -- the objects that may be lit at some pixel of a line, as far as their registers say
 abbrev pub lit_somewhere : TiaState → Objects
 lit_somewhere t = record {

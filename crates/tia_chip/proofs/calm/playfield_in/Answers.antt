@@ -1,26 +1,11 @@
-use Rattle.std.proofs.Common.{◌≡◌, ◌∙◌, ℕ, ◌+◌, ◌-◌, ◌/◌, ◌^◌, ◌<◌, ◌≤◌, ◌==◌, ◌&&◌, ◌||◌, inl, inr, Bool, false, arith, sym, ap}
+use Rattle.std.proofs.Common.{◌≡◌, ◌∙◌, ℕ, ◌+◌, ◌-◌, ◌/◌, ◌^◌, ◌≤◌, ◌==◌, ◌&&◌, ◌||◌, inl, inr, Bool, false, arith, sym, ap}
 use Rattle.std.proofs.lemmas.Bool.{and_left, and_right, cases_lt, lt-ltb}
-use Rattle.std.proofs.lemmas.Bool.Decides.{nat_tests}
 use Rattle.std.specs.Prelude.{nat_lt}
 use Rattle.tia_core.proofs.MaskWordLemmas.{bit-high, bit-zero}
+use Rattle.tia_chip.proofs.WordLemmas.{one-more}
 use Rattle.tia_chip.specs.Bits.{has_bit}
 use Rattle.tia_chip.specs.Private.Lines.{shown_playfield}
 use Rattle.tia_chip.proofs.calm.playfield_in.Goals as goal
-
-below : (j k : ℕ) (a b : Bool) → j < k → ((nat_lt j k && a) || (b && (j == k))) ≡ (nat_lt j (k + 1) && a)
-below j k a b l = grind (arith, nat_tests)
-
-beyond : (j k : ℕ) (a b : Bool) → k < j → ((nat_lt j k && a) || (b && (j == k))) ≡ (nat_lt j (k + 1) && a)
-beyond j k a b l = grind (arith, nat_tests)
-
-here : (j k : ℕ) (a b : Bool) → j ≡ k → a ≡ b → ((nat_lt j k && a) || (b && (j == k))) ≡ (nat_lt j (k + 1) && a)
-here j k a b l e = grind (arith, nat_tests)
-
-one-more : (j k : ℕ) (shown : ℕ → Bool) → ((nat_lt j k && shown j) || (shown k && (j == k))) ≡ (nat_lt j (k + 1) && shown j)
-one-more j k shown = elim (cases_lt j k) [
-  | inl l ↦ below j k (shown j) (shown k) l
-  | inr l ↦ elim (cases_lt k j) [ inl m ↦ beyond j k (shown j) (shown k) m | inr m ↦ let e : j ≡ k = omega arith in here j k (shown j) (shown k) e (ap shown e) ]
-]
 
 pub loop-k-preserved : goal.loop-k-preserved
 loop-k-preserved c =

@@ -1,9 +1,11 @@
-use Rattle.std.proofs.Common.{◌∙◌, suc, ap, sym, arith}
+use Rattle.std.proofs.Common.{◌≡◌, ◌∙◌, ◌+◌, ◌&&◌, suc, false, ap, sym, arith}
 use Rattle.std.specs.Fn.{iterate}
+use Rattle.std.specs.Prelude.{is_some, nat_lt}
 use Rattle.tia_chip.proofs.ClocksLemmas.{iterate-add}
-use Rattle.tia_chip.proofs.DarkLemmas.{missile-quiet_steps, missile-unlit, none-lit}
-use Rattle.tia_chip.proofs.Strides.{shows-on}
+use Rattle.tia_chip.proofs.QuietSteps.{missile-bare, missile-quiet_steps}
+use Rattle.tia_chip.proofs.Strides.{missile-passes, shows-on}
 use Rattle.tia_chip.specs.Missile.{is_missile_lit, missile_after_step}
+use Rattle.tia_chip.specs.Quiet.{counter_after}
 use Rattle.tia_chip.specs.declared.missile.Missile.{Missile}
 use Rattle.tia_chip.proofs.missile.Missile.steps.Goals as goal
 
@@ -24,15 +26,29 @@ loop-passed-preserved c =
       range = made.range;
     }
 
-pub returns-then-is_dark-clause-value : goal.returns-then-is_dark-clause-value
-returns-then-is_dark-clause-value c =
-    let quiet = c.is_dark.ensures.quiet c.if-is_dark.true in
-    let still = c.is_dark.ensures.still c.if-is_dark.true in
-    c.pass_dark.ensures.value ∙ sym (missile-quiet_steps c.args.count c.args.nusiz c.args.clock c.args.self.now quiet still)
+pub returns-then-is_quiet-clause-value : goal.returns-then-is_quiet-clause-value
+returns-then-is_quiet-clause-value c =
+    let quiet = c.is_quiet.ensures c.if-is_quiet.true in
+    c.pass_looked.ensures.value ∙ sym (missile-quiet_steps c.args.count c.args.nusiz c.args.clock c.args.self.now quiet c.if-not-self.true)
 
-pub returns-then-is_dark-clause-lit : goal.returns-then-is_dark-clause-lit
-returns-then-is_dark-clause-lit c =
-    let quiet = c.is_dark.ensures.quiet c.if-is_dark.true in
-    let dark = c.is_dark.ensures.dark c.if-is_dark.true in
-    let still = c.is_dark.ensures.still c.if-is_dark.true in
-    λ k. none-lit c.args.count k (is_missile_lit (iterate (missile_after_step c.args.nusiz c.args.clock) (suc k) c.args.self.now)) (missile-unlit k c.args.nusiz c.args.clock c.args.self.now quiet still dark)
+pub returns-then-is_quiet-clause-lit : goal.returns-then-is_quiet-clause-lit
+returns-then-is_quiet-clause-lit c =
+    let quiet = c.is_quiet.ensures c.if-is_quiet.true in
+    λ k. c.lit_within-lit.ensures k ∙ ap (λ (x : Missile). nat_lt k c.args.count && is_missile_lit x) (sym (missile-quiet_steps (suc k) c.args.nusiz c.args.clock c.args.self.now quiet c.if-not-self.true))
+
+pub returns-then-is_bare_for-clause-value : goal.returns-then-is_bare_for-clause-value
+returns-then-is_bare_for-clause-value c =
+    let x = c.args.self.now in
+    let n = c.args.count in
+    let bare = c.is_bare_for.ensures in
+    let holds = c.if-is_bare_for.true in
+    let none : is_some x.copy ≡ false = ap is_some (bare.none holds) in
+    let sum = bare.sum holds in
+    let counter : x.counter + n ≡ counter_after n x.counter = omega arith in
+    rw counter (sym (missile-passes n c.args.nusiz c.args.clock x none c.requires.some c.requires.range.counter (bare.begins holds)))
+
+pub returns-then-is_bare_for-clause-lit : goal.returns-then-is_bare_for-clause-lit
+returns-then-is_bare_for-clause-lit c =
+    let bare = c.is_bare_for.ensures in
+    let holds = c.if-is_bare_for.true in
+    λ k. missile-bare c.args.count k c.args.nusiz c.args.clock c.args.self.now (bare.none holds) c.requires.range.counter (bare.begins holds)

@@ -1,10 +1,12 @@
-use Rattle.std.proofs.Common.{◌∙◌, suc, refl, ap, sym, arith}
+use Rattle.std.proofs.Common.{◌≡◌, ◌∙◌, ◌+◌, ◌&&◌, suc, false, refl, ap, sym, arith}
 use Rattle.std.specs.Fn.{iterate}
+use Rattle.std.specs.Prelude.{is_some, nat_lt}
 use Rattle.tia_chip.proofs.ClocksLemmas.{iterate-add}
-use Rattle.tia_chip.proofs.DarkLemmas.{none-lit, player-unlit}
 use Rattle.tia_chip.proofs.QuietPlayers.{player-steps}
-use Rattle.tia_chip.proofs.Strides.{shows-on}
+use Rattle.tia_chip.proofs.QuietSteps.{player-bare}
+use Rattle.tia_chip.proofs.Strides.{player-passes, shows-on}
 use Rattle.tia_chip.specs.Player.{player_after_step}
+use Rattle.tia_chip.specs.Quiet.{counter_after}
 use Rattle.tia_chip.specs.declared.player.Player.{Player}
 use Rattle.tia_chip.proofs.player.Player.steps.Goals as goal
 
@@ -25,13 +27,29 @@ loop-passed-preserved c =
       range = made.range;
     }
 
-pub returns-then-is_dark-clause-value : goal.returns-then-is_dark-clause-value
-returns-then-is_dark-clause-value c =
-    let quiet = c.is_dark.ensures.quiet c.if-is_dark.true in
-    c.pass_dark.ensures.value ∙ sym (player-steps c.args.self.now c.args.count quiet)
+pub returns-then-is_quiet-clause-value : goal.returns-then-is_quiet-clause-value
+returns-then-is_quiet-clause-value c =
+    let quiet = c.is_quiet.ensures c.if-is_quiet.true in
+    c.quiet_steps.ensures.value ∙ sym (player-steps c.args.self.now c.args.count quiet)
 
-pub returns-then-is_dark-clause-lit : goal.returns-then-is_dark-clause-lit
-returns-then-is_dark-clause-lit c =
-    let quiet = c.is_dark.ensures.quiet c.if-is_dark.true in
-    let dark = c.is_dark.ensures.dark c.if-is_dark.true in
-    λ k. none-lit c.args.count k ((iterate player_after_step (suc k) c.args.self.now).seen) (player-unlit k c.args.self.now quiet dark)
+pub returns-then-is_quiet-clause-lit : goal.returns-then-is_quiet-clause-lit
+returns-then-is_quiet-clause-lit c =
+    let quiet = c.is_quiet.ensures c.if-is_quiet.true in
+    λ k. c.quiet_steps.ensures.lit k ∙ ap (λ (p : Player). nat_lt k c.args.count && p.seen) (sym (player-steps c.args.self.now (suc k) quiet))
+
+pub returns-then-is_bare_for-clause-value : goal.returns-then-is_bare_for-clause-value
+returns-then-is_bare_for-clause-value c =
+    let p = c.args.self.now in
+    let n = c.args.count in
+    let bare = c.is_bare_for.ensures in
+    let holds = c.if-is_bare_for.true in
+    let none : is_some p.copy ≡ false = ap is_some (bare.none holds) in
+    let sum = bare.sum holds in
+    let counter : p.counter + n ≡ counter_after n p.counter = omega arith in
+    rw counter (sym (player-passes n p none c.requires.some c.requires.range.counter (bare.begins holds)))
+
+pub returns-then-is_bare_for-clause-lit : goal.returns-then-is_bare_for-clause-lit
+returns-then-is_bare_for-clause-lit c =
+    let bare = c.is_bare_for.ensures in
+    let holds = c.if-is_bare_for.true in
+    λ k. player-bare c.args.count k c.args.self.now (bare.none holds) c.requires.range.counter (bare.begins holds)
