@@ -216,18 +216,18 @@ two_held r opcode low = record (opcode_held r.pc opcode) { low = low }
 module _ {S : Type 0} (m : Meaning S) (row : Row) (r : Registers) (s : S) (opcode : ℕ)
     (known : ◌≡◌ {A = Option Row} (row_of opcode) (Some row)) where
   -- The step of an instruction without a place in memory.
-  guide-one : (first second third : ℕ) → (kind_of row.operation ≡ kind.Brk → ⊥)
-      → ◌≡◌ {A = Result Operand CpuFault} (operand_by_mode held_meaning (held_bus (one_held r opcode) first second third) r row.mode) (Ok Register)
-      → step_of held_meaning r (held_bus (one_held r opcode) first second third)
-      ≡ execution_of held_meaning r (held_bus (one_held r opcode) first second third) (record { row = row; operand = Register })
-  guide-one first second third h named =
-      guide-known row r opcode (held_bus (one_held r opcode) first second third) known refl refl (plain-kind row.operation h) Register named
+  guide-one : (low first second third : ℕ) → (kind_of row.operation ≡ kind.Brk → ⊥)
+      → ◌≡◌ {A = Result Operand CpuFault} (operand_by_mode held_meaning (held_bus (two_held r opcode low) first second third) r row.mode) (Ok Register)
+      → step_of held_meaning r (held_bus (two_held r opcode low) first second third)
+      ≡ execution_of held_meaning r (held_bus (two_held r opcode low) first second third) (record { row = row; operand = Register })
+  guide-one low first second third h named =
+      guide-known row r opcode (held_bus (two_held r opcode low) first second third) known refl refl (plain-kind row.operation h) Register named
 
-  pub one-ok : (first second third : ℕ) → (kind_of row.operation ≡ kind.Brk → ⊥)
-      → ◌≡◌ {A = Result Operand CpuFault} (operand_by_mode held_meaning (held_bus (one_held r opcode) first second third) r row.mode) (Ok Register)
-      → IsOk (instruction_at held_meaning (held_bus (one_held r opcode) first second third) r)
-  one-ok first second third h named =
-      guide-ok row r opcode (held_bus (one_held r opcode) first second third) known refl refl (plain-kind row.operation h) Register named
+  pub one-ok : (low first second third : ℕ) → (kind_of row.operation ≡ kind.Brk → ⊥)
+      → ◌≡◌ {A = Result Operand CpuFault} (operand_by_mode held_meaning (held_bus (two_held r opcode low) first second third) r row.mode) (Ok Register)
+      → IsOk (instruction_at held_meaning (held_bus (two_held r opcode low) first second third) r)
+  one-ok low first second third h named =
+      guide-ok row r opcode (held_bus (two_held r opcode low) first second third) known refl refl (plain-kind row.operation h) Register named
 
   -- ---- the byte after the opcode
   two-named : (low : ℕ) → row.mode ≡ Immediate
@@ -258,14 +258,14 @@ module _ {S : Type 0} (m : Meaning S) (row : Row) (r : Registers) (s : S) (opcod
       run ∙ ap (moved (λ (left : HeldBus). after)) (sym guided ∙ sym step ∙ guide)
 
   -- ---- A changed, and registers alone
-  pub change_a-run : kind_of row.operation ≡ kind.Change → row.mode ≡ Accumulator → (cycles : ℕ) (registers : Registers) (left : HeldBus)
-      → IsGuideStep r (held_bus (one_held r opcode) 0 0 0) cycles registers left
+  pub change_a-run : kind_of row.operation ≡ kind.Change → row.mode ≡ Accumulator → (low cycles : ℕ) (registers : Registers) (left : HeldBus)
+      → IsGuideStep r (held_bus (two_held r opcode low) 0 0 0) cycles registers left
       → IsRun m r s opcode row (Ok cycles) registers (m.after_read s Discarded ((r.pc + 1) % 65536))
-  change_a-run is mode cycles registers left guide =
-      let bus = held_bus (one_held r opcode) 0 0 0 in
+  change_a-run is mode low cycles registers left guide =
+      let bus = held_bus (two_held r opcode low) 0 0 0 in
       let plain = plain-kind row.operation (λ e. cc) in
       let fact = rw (is, mode) at (row_of-expected opcode row known) in
-      let step = guide-one 0 0 0 (λ e. cc) (rw mode refl) in
+      let step = guide-one low 0 0 0 (λ e. cc) (rw mode refl) in
       let timed : instruction_cycles (record { row = row; operand = Register }) r.p ≡ 2 =
       rw (changes-used row.operation is, fact.0, fact.1) refl in
       let guided = guide-quiet row r bus Register 2 (λ cycles. rw (changes-used row.operation is) refl) timed in
@@ -277,25 +277,26 @@ module _ {S : Type 0} (m : Meaning S) (row : Row) (r : Registers) (s : S) (opcod
       } = rw (change-cycles row.operation row.mode is, mode, plain) refl in
       run ∙ ap (moved (λ (left : HeldBus). m.after_read s Discarded ((r.pc + 1) % 65536))) (sym guided ∙ sym step ∙ guide)
 
-  pub change_a-ok : kind_of row.operation ≡ kind.Change → row.mode ≡ Accumulator
-      → IsOk (instruction_at held_meaning (held_bus (one_held r opcode) 0 0 0) r)
-  change_a-ok is mode = one-ok 0 0 0 (λ e. cc) (rw mode refl)
+  pub change_a-ok : kind_of row.operation ≡ kind.Change → row.mode ≡ Accumulator → (low : ℕ)
+      → IsOk (instruction_at held_meaning (held_bus (two_held r opcode low) 0 0 0) r)
+  change_a-ok is mode low = one-ok low 0 0 0 (λ e. cc) (rw mode refl)
 
   pub implied-here : kind_of row.operation ≡ kind.Implied → row.mode ≡ Implied
   implied-here is = implied-mode row.mode row (rw is at (row_of-expected opcode row known))
 
-  pub implied-ok : kind_of row.operation ≡ kind.Implied → IsOk (instruction_at held_meaning (held_bus (one_held r opcode) 0 0 0) r)
-  implied-ok is = one-ok 0 0 0 (λ e. cc) (rw (implied-here is) refl)
+  pub implied-ok : kind_of row.operation ≡ kind.Implied → (low : ℕ)
+      → IsOk (instruction_at held_meaning (held_bus (two_held r opcode low) 0 0 0) r)
+  implied-ok is low = one-ok low 0 0 0 (λ e. cc) (rw (implied-here is) refl)
 
-  pub implied-run : kind_of row.operation ≡ kind.Implied → (cycles : ℕ) (registers : Registers) (left : HeldBus)
-      → IsGuideStep r (held_bus (one_held r opcode) 0 0 0) cycles registers left
+  pub implied-run : kind_of row.operation ≡ kind.Implied → (low cycles : ℕ) (registers : Registers) (left : HeldBus)
+      → IsGuideStep r (held_bus (two_held r opcode low) 0 0 0) cycles registers left
       → IsRun m r s opcode row (Ok cycles) registers (m.after_read s Discarded ((r.pc + 1) % 65536))
-  implied-run is cycles registers left guide =
-      let bus = held_bus (one_held r opcode) 0 0 0 in
+  implied-run is low cycles registers left guide =
+      let bus = held_bus (two_held r opcode low) 0 0 0 in
       let mode = implied-here is in
       let plain = plain-kind row.operation (λ e. cc) in
       let fact = rw (is, mode) at (row_of-expected opcode row known) in
-      let step = guide-one 0 0 0 (λ e. cc) (rw mode refl) in
+      let step = guide-one low 0 0 0 (λ e. cc) (rw mode refl) in
       let timed : instruction_cycles (record { row = row; operand = Register }) r.p ≡ 2 =
       rw (implied-used row.operation is, fact.0, fact.1) refl in
       let guided = guide-quiet row r bus Register 2 (λ cycles. rw (implied-used row.operation is) refl) timed in
@@ -312,7 +313,7 @@ module _ {S : Type 0} (m : Meaning S) (row : Row) (r : Registers) (s : S) (opcod
   push-here is = push-mode row.mode row (rw is at (row_of-expected opcode row known))
 
   pub push-ok : kind_of row.operation ≡ kind.Push → IsOk (instruction_at held_meaning (held_bus (one_held r opcode) 0 0 0) r)
-  push-ok is = one-ok 0 0 0 (λ e. cc) (rw (push-here is) refl)
+  push-ok is = one-ok 0 0 0 0 (λ e. cc) (rw (push-here is) refl)
 
   pub push-run : kind_of row.operation ≡ kind.Push → (cycles : ℕ) (registers : Registers) (left : HeldBus)
       → IsGuideStep r (held_bus (one_held r opcode) 0 0 0) cycles registers left
@@ -324,7 +325,7 @@ module _ {S : Type 0} (m : Meaning S) (row : Row) (r : Registers) (s : S) (opcod
       let plain = plain-kind row.operation (λ e. cc) in
       let fact = rw (is, mode) at (row_of-expected opcode row known) in
       let what = push-is row.operation is in
-      let step = guide-one 0 0 0 (λ e. cc) (rw mode refl) in
+      let step = guide-one 0 0 0 0 (λ e. cc) (rw mode refl) in
       let guided : execution_of held_meaning r bus (record { row = row; operand = Register })
       ≡ record {
         answer = Ok 3;
@@ -345,7 +346,7 @@ module _ {S : Type 0} (m : Meaning S) (row : Row) (r : Registers) (s : S) (opcod
   pull-here is = pull-mode row.mode row (rw is at (row_of-expected opcode row known))
 
   pub pull-ok : kind_of row.operation ≡ kind.Pull → (byte : ℕ) → IsOk (instruction_at held_meaning (held_bus (one_held r opcode) byte 0 0) r)
-  pull-ok is byte = one-ok byte 0 0 (λ e. cc) (rw (pull-here is) refl)
+  pull-ok is byte = one-ok 0 byte 0 0 (λ e. cc) (rw (pull-here is) refl)
 
   -- The bus after the cycles that come before a pull.
   abbrev pub before_pull : S
@@ -360,7 +361,7 @@ module _ {S : Type 0} (m : Meaning S) (row : Row) (r : Registers) (s : S) (opcod
       let mode = pull-here is in
       let plain = plain-kind row.operation (λ e. cc) in
       let fact = rw (is, mode) at (row_of-expected opcode row known) in
-      let step = guide-one byte 0 0 (λ e. cc) (rw mode refl) in
+      let step = guide-one 0 byte 0 0 (λ e. cc) (rw mode refl) in
       let guided : execution_of held_meaning r bus (record { row = row; operand = Register })
       ≡ record {
         answer = Ok 4;
@@ -379,7 +380,7 @@ module _ {S : Type 0} (m : Meaning S) (row : Row) (r : Registers) (s : S) (opcod
   rts-here is = rts-mode row.mode row (rw is at (row_of-expected opcode row known))
 
   pub rts-ok : kind_of row.operation ≡ kind.Rts → (low high : ℕ) → IsOk (instruction_at held_meaning (held_bus (one_held r opcode) low high 0) r)
-  rts-ok is low high = one-ok low high 0 (λ e. cc) (rw (rts-here is) refl)
+  rts-ok is low high = one-ok 0 low high 0 (λ e. cc) (rw (rts-here is) refl)
 
   pub rts-run : kind_of row.operation ≡ kind.Rts → (cycles : ℕ) (registers : Registers) (left : HeldBus)
       → (let low = m.read_value before_pull (256 + after_pulls r.s 1) in
@@ -397,7 +398,7 @@ module _ {S : Type 0} (m : Meaning S) (row : Row) (r : Registers) (s : S) (opcod
       let mode = rts-here is in
       let op = rts-is row.operation is in
       let fact = rw (is, mode) at (row_of-expected opcode row known) in
-      let step = guide-one low high 0 (λ e. cc) (rw mode refl) in
+      let step = guide-one 0 low high 0 (λ e. cc) (rw mode refl) in
       let guided : execution_of held_meaning r bus (record { row = row; operand = Register })
       ≡ record {
         answer = Ok 6;
@@ -417,7 +418,7 @@ module _ {S : Type 0} (m : Meaning S) (row : Row) (r : Registers) (s : S) (opcod
 
   pub rti-ok : kind_of row.operation ≡ kind.Rti → (status low high : ℕ)
       → IsOk (instruction_at held_meaning (held_bus (one_held r opcode) status low high) r)
-  rti-ok is status low high = one-ok status low high (λ e. cc) (rw (rti-here is) refl)
+  rti-ok is status low high = one-ok 0 status low high (λ e. cc) (rw (rti-here is) refl)
 
   pub rti-run : kind_of row.operation ≡ kind.Rti → (cycles : ℕ) (registers : Registers) (left : HeldBus)
       → (let status = m.read_value before_pull (256 + after_pulls r.s 1) in
@@ -438,7 +439,7 @@ module _ {S : Type 0} (m : Meaning S) (row : Row) (r : Registers) (s : S) (opcod
       let mode = rti-here is in
       let op = rti-is row.operation is in
       let fact = rw (is, mode) at (row_of-expected opcode row known) in
-      let step = guide-one status low high (λ e. cc) (rw mode refl) in
+      let step = guide-one 0 status low high (λ e. cc) (rw mode refl) in
       let guided : execution_of held_meaning r bus (record { row = row; operand = Register })
       ≡ record {
         answer = Ok 6;

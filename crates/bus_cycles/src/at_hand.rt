@@ -1,134 +1,102 @@
 //! Instructions whose bytes are at hand.
 
-ghost use Rattle.std.specs.Prelude.{◌≡◌, Some};
-ghost use Rattle.mos_cpu.specs.Opcodes.{row_of};
-ghost use Rattle.bus_cycles.specs.Buses.{AtHand};
-ghost use Rattle.bus_cycles.specs.Private.Classes.{class_of};
-ghost use Rattle.bus_cycles.specs.Private.Held.{opcode_held};
-ghost use Rattle.bus_cycles.specs.Private.Steps.{IsStepOf, IsTried};
+ghost use Rattle.std.specs.Prelude.{◌≡◌, IfSome};
+ghost use Rattle.bus_cycles.specs.Private.AtHand.{IsShort, begun, byte_read, ended};
+ghost use Rattle.bus_cycles.specs.Private.Steps.{IsStepOf};
 
 use crate::bus::{CycleBus, Purpose};
 use crate::class::Class;
 use crate::finding::finish_branch;
-use crate::held::{HeldBus, HeldBytes, execute};
+use crate::held::execute_here;
+use crate::near::NearBus;
 use mos_cpu::{Row, RunningCpu, row};
 
-/// An opcode and the byte after it.
-#[inline(always)]
-fn two_bytes(at: u16, opcode: u8, low: u8) -> HeldBytes
-    ensures { result ≡ record (opcode_held at opcode) { low = low } }
-{
-    let mut held = HeldBytes::of(at, opcode);
-    held.low = low;
-    held
+/// An instruction of a class, and the byte after its opcode.
+#[derive(Clone, Copy)]
+pub struct ShortInstruction {
+    pub class: Class,
+    pub row: Row,
+    pub opcode: u8,
+    pub low: u8,
 }
 
-/// An operation on registers alone.
+/// The instruction at an address, if it is of a class and its bytes are at hand.
 #[inline(always)]
-fn implied<B: CycleBus>(cpu: &mut RunningCpu, bus: &mut B, opcode: u8, low: u8, row: Row) -> u8
-    requires known { row_of opcode ≡ Some row }
-    requires class { class_of row ≡ Class.Implied }
-    requires bytes { AtHand B.meaning (B.state bus.old) cpu.old.pc opcode low }
-    ensures { IsStepOf B.meaning cpu.old (B.state bus.old) result cpu.new (B.state bus.new) }
+pub(crate) fn short_at<B: CycleBus>(bus: &B, at: u16) -> Option<ShortInstruction>
+    ensures { IfSome result (λ short. IsShort B.meaning (B.state bus.now) at short) }
 {
-    let start = cpu.registers();
-    bus.read_two(start.pc, Purpose::Discarded);
-    let held = HeldBytes::of(start.pc, opcode);
-    execute(cpu, &mut HeldBus::of(held, 0, 0, 0))
-}
-
-/// An operation that changes A.
-#[inline(always)]
-fn change_a<B: CycleBus>(cpu: &mut RunningCpu, bus: &mut B, opcode: u8, low: u8, row: Row) -> u8
-    requires known { row_of opcode ≡ Some row }
-    requires class { class_of row ≡ Class.Accumulator }
-    requires bytes { AtHand B.meaning (B.state bus.old) cpu.old.pc opcode low }
-    ensures { IsStepOf B.meaning cpu.old (B.state bus.old) result cpu.new (B.state bus.new) }
-{
-    let start = cpu.registers();
-    bus.read_two(start.pc, Purpose::Discarded);
-    let held = HeldBytes::of(start.pc, opcode);
-    execute(cpu, &mut HeldBus::of(held, 0, 0, 0))
-}
-
-/// An operation with the byte after the opcode.
-#[inline(always)]
-fn value<B: CycleBus>(cpu: &mut RunningCpu, bus: &mut B, opcode: u8, low: u8, row: Row) -> u8
-    requires known { row_of opcode ≡ Some row }
-    requires class { class_of row ≡ Class.Immediate }
-    requires bytes { AtHand B.meaning (B.state bus.old) cpu.old.pc opcode low }
-    ensures { IsStepOf B.meaning cpu.old (B.state bus.old) result cpu.new (B.state bus.new) }
-{
-    let start = cpu.registers();
-    bus.read_two(start.pc, Purpose::Code);
-    let held = two_bytes(start.pc, opcode, low);
-    execute(cpu, &mut HeldBus::of(held, 0, 0, 0))
-}
-
-/// A branch.
-#[inline(always)]
-fn branch<B: CycleBus>(cpu: &mut RunningCpu, bus: &mut B, opcode: u8, low: u8, row: Row) -> u8
-    requires known { row_of opcode ≡ Some row }
-    requires class { class_of row ≡ Class.Branch }
-    requires bytes { AtHand B.meaning (B.state bus.old) cpu.old.pc opcode low }
-    ensures { IsStepOf B.meaning cpu.old (B.state bus.old) result cpu.new (B.state bus.new) }
-{
-    let start = cpu.registers();
-    bus.read_two(start.pc, Purpose::Code);
-    let held = two_bytes(start.pc, opcode, low);
-    let cycles = execute(cpu, &mut HeldBus::of(held, 0, 0, 0));
-    let after = cpu.registers();
-    finish_branch(bus, start.pc.wrapping_add(2), after.pc, cycles);
-    cycles
-}
-
-/// An operation that reads a byte of page zero.
-#[inline(always)]
-fn read<B: CycleBus>(cpu: &mut RunningCpu, bus: &mut B, opcode: u8, low: u8, row: Row) -> u8
-    requires known { row_of opcode ≡ Some row }
-    requires class { class_of row ≡ Class.ZeroPageRead }
-    requires bytes { AtHand B.meaning (B.state bus.old) cpu.old.pc opcode low }
-    ensures { IsStepOf B.meaning cpu.old (B.state bus.old) result cpu.new (B.state bus.new) }
-{
-    let start = cpu.registers();
-    bus.read_two(start.pc, Purpose::Code);
-    let byte = bus.read(low as u16, Purpose::Data);
-    let held = two_bytes(start.pc, opcode, low);
-    execute(cpu, &mut HeldBus::of(held, byte, 0, 0))
-}
-
-/// An operation that stores a register in page zero.
-#[inline(always)]
-fn store<B: CycleBus>(cpu: &mut RunningCpu, bus: &mut B, opcode: u8, low: u8, row: Row) -> u8
-    requires known { row_of opcode ≡ Some row }
-    requires class { class_of row ≡ Class.ZeroPageStore }
-    requires bytes { AtHand B.meaning (B.state bus.old) cpu.old.pc opcode low }
-    ensures { IsStepOf B.meaning cpu.old (B.state bus.old) result cpu.new (B.state bus.new) }
-{
-    let start = cpu.registers();
-    bus.read_two(start.pc, Purpose::Code);
-    let bytes = two_bytes(start.pc, opcode, low);
-    let mut held = HeldBus::of(bytes, 0, 0, 0);
-    let cycles = execute(cpu, &mut held);
-    bus.write(low as u16, held.last);
-    cycles
-}
-
-/// The instruction at the program counter, if it is of a class and its bytes are at hand. None, with
-/// nothing done, if not.
-#[inline(always)]
-pub(crate) fn step_at_hand<B: CycleBus>(cpu: &mut RunningCpu, bus: &mut B) -> Option<u8>
-    ensures { IsTried B.meaning cpu.old (B.state bus.old) result cpu.new (B.state bus.new) }
-{
-    let (opcode, low) = bus.at_hand(cpu.registers().pc)?;
+    let (opcode, low) = bus.at_hand(at)?;
     let row = row(opcode)?;
-    match Class::of(row) {
-        Class::Implied => Some(implied(cpu, bus, opcode, low, row)),
-        Class::Accumulator => Some(change_a(cpu, bus, opcode, low, row)),
-        Class::Immediate => Some(value(cpu, bus, opcode, low, row)),
-        Class::Branch => Some(branch(cpu, bus, opcode, low, row)),
-        Class::ZeroPageRead => Some(read(cpu, bus, opcode, low, row)),
-        Class::ZeroPageStore => Some(store(cpu, bus, opcode, low, row)),
-        Class::Other => None,
+    let class = Class::of(row);
+    if class == Class::Other {
+        return None;
     }
+    Some(ShortInstruction {
+        class,
+        row,
+        opcode,
+        low,
+    })
+}
+
+/// The cycles up to the last that reads, and what it reads of page zero, if it does.
+#[inline(always)]
+fn begin<B: CycleBus>(bus: &mut B, at: u16, short: ShortInstruction) -> u8
+    ensures byte { result ≡ byte_read B.meaning (B.state bus.old) at short.low short.class }
+    ensures bus { B.state bus.new ≡ begun B.meaning (B.state bus.old) at short.low short.class }
+{
+    match short.class {
+        Class::Implied | Class::Accumulator => {
+            bus.read_two(at, Purpose::Discarded);
+            0
+        }
+        Class::ZeroPageRead => {
+            bus.read_two(at, Purpose::Code);
+            bus.read(short.low as u16, Purpose::Data)
+        }
+        _ => {
+            bus.read_two(at, Purpose::Code);
+            0
+        }
+    }
+}
+
+/// The cycles after those: a branch finds its target, and a store writes.
+#[inline(always)]
+fn end<B: CycleBus>(
+    bus: &mut B,
+    at: u16,
+    short: ShortInstruction,
+    target: u16,
+    cycles: u8,
+    written: u8,
+)
+    ensures { B.state bus.new ≡ ended B.meaning (B.state bus.old) at short.low target cycles written short.class }
+{
+    if short.class == Class::Branch {
+        finish_branch(bus, at.wrapping_add(2), target, cycles);
+    } else if short.class == Class::ZeroPageStore {
+        bus.write(short.low as u16, written);
+    }
+}
+
+/// Executes such an instruction, if it isn't one of the class that finds its operand in memory, and
+/// answers its cycles.
+#[inline(always)]
+pub(crate) fn step_at_hand<B: CycleBus>(
+    cpu: &mut RunningCpu,
+    bus: &mut B,
+    short: ShortInstruction,
+) -> u8
+    requires short { IsShort B.meaning (B.state bus.old) cpu.old.pc short }
+    requires class { short.class ≡ Class.MemoryRead → ⊥ }
+    ensures { IsStepOf B.meaning cpu.old (B.state bus.old) result cpu.new (B.state bus.new) }
+{
+    let start = cpu.registers();
+    let byte = begin(bus, start.pc, short);
+    let mut held = NearBus::<B>::of(start.pc, short.opcode, short.low, byte);
+    let cycles = execute_here(cpu, &mut held);
+    let after = cpu.registers();
+    end(bus, start.pc, short, after.pc, cycles, held.last());
+    cycles
 }

@@ -6,8 +6,8 @@ ghost use Rattle.bus_cycles.specs.Private.Classes.{class_of};
 use crate::kind::Kind;
 use mos_cpu::{Mode, Row};
 
-/// Instructions of one byte or two that are alike in their cycles, and that programs mostly consist
-/// of.
+/// Instructions that are alike in their cycles, and that programs mostly consist of: of one byte or
+/// two, and those that read memory.
 #[derive(Clone, Copy, Debug, PartialEq, Eq)]
 pub(crate) enum Class {
     /// Touches registers alone.
@@ -22,6 +22,8 @@ pub(crate) enum Class {
     ZeroPageRead,
     /// Stores a register there.
     ZeroPageStore,
+    /// Reads a byte that other modes find.
+    MemoryRead,
     Other,
 }
 
@@ -40,7 +42,7 @@ impl Class {
             Kind::Read => match row.mode {
                 Mode::Immediate => Class::Immediate,
                 Mode::ZeroPage => Class::ZeroPageRead,
-                _ => Class::Other,
+                _ => Class::MemoryRead,
             },
             Kind::Store => match row.mode {
                 Mode::ZeroPage => Class::ZeroPageStore,

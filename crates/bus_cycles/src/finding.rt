@@ -124,6 +124,7 @@ pub(crate) fn find_none<B: CycleBus>(bus: &mut B, cpu: &Cpu, opcode: u8) -> Held
     HeldBytes::of(cpu.pc, opcode)
 }
 
+#[inline(always)]
 fn find_zero_page<B: CycleBus>(
     bus: &mut B,
     cpu: &Cpu,
@@ -143,6 +144,7 @@ fn find_zero_page<B: CycleBus>(
     })
 }
 
+#[inline(always)]
 fn find_zero_page_x<B: CycleBus>(
     bus: &mut B,
     cpu: &Cpu,
@@ -163,6 +165,7 @@ fn find_zero_page_x<B: CycleBus>(
     })
 }
 
+#[inline(always)]
 fn find_zero_page_y<B: CycleBus>(
     bus: &mut B,
     cpu: &Cpu,
@@ -183,6 +186,7 @@ fn find_zero_page_y<B: CycleBus>(
     })
 }
 
+#[inline(always)]
 fn find_absolute<B: CycleBus>(
     bus: &mut B,
     cpu: &Cpu,
@@ -203,6 +207,7 @@ fn find_absolute<B: CycleBus>(
     })
 }
 
+#[inline(always)]
 fn find_absolute_x<B: CycleBus>(
     bus: &mut B,
     cpu: &Cpu,
@@ -222,6 +227,7 @@ fn find_absolute_x<B: CycleBus>(
     Ok(Found { held, address })
 }
 
+#[inline(always)]
 fn find_absolute_y<B: CycleBus>(
     bus: &mut B,
     cpu: &Cpu,
@@ -241,6 +247,7 @@ fn find_absolute_y<B: CycleBus>(
     Ok(Found { held, address })
 }
 
+#[inline(always)]
 fn find_indirect<B: CycleBus>(
     bus: &mut B,
     cpu: &Cpu,
@@ -265,6 +272,7 @@ fn find_indirect<B: CycleBus>(
     })
 }
 
+#[inline(always)]
 fn find_indirect_x<B: CycleBus>(
     bus: &mut B,
     cpu: &Cpu,
@@ -289,6 +297,7 @@ fn find_indirect_x<B: CycleBus>(
     })
 }
 
+#[inline(always)]
 fn find_indirect_y<B: CycleBus>(
     bus: &mut B,
     cpu: &Cpu,
@@ -313,6 +322,7 @@ fn find_indirect_y<B: CycleBus>(
 
 /// The cycles that find where the operand of a mode is. With `always` an index is added without a
 /// carry first whether that was right or not.
+#[inline(always)]
 pub(crate) fn find<B: CycleBus>(
     bus: &mut B,
     cpu: &Cpu,

@@ -5,6 +5,7 @@ ghost use Rattle.mos_cpu.specs.Execution.{step_of};
 ghost use Rattle.mos_cpu.specs.Operands.{instruction_at};
 ghost use Rattle.bus_cycles.specs.Private.Held.{held_meaning, held_bus, opcode_held, IsGuideStep};
 
+use crate::near::NearBus;
 use mos_cpu::{Bus, RunningCpu};
 
 /// The bytes of an instruction, and of its pointer.
@@ -127,7 +128,19 @@ impl Bus for HeldBus {
     }
 }
 
-/// Executes an instruction by its bytes.
+/// Executes an instruction by its bytes, in the place of the call.
+#[inline(always)]
+pub(crate) fn execute_here<B>(cpu: &mut RunningCpu, bus: &mut NearBus<B>) -> u8
+    requires { IsOk (instruction_at held_meaning bus.old cpu.old) }
+    ensures { IsGuideStep cpu.old bus.old result cpu.new bus.new }
+{
+    match mos_cpu::step_running(cpu, bus) {
+        Ok(cycles) => cycles,
+        Err(_) => 0,
+    }
+}
+
+/// The same in a function of its own, for callers that seldom do.
 #[inline(never)]
 pub(crate) fn execute(cpu: &mut RunningCpu, bus: &mut HeldBus) -> u8
     requires { IsOk (instruction_at held_meaning bus.old cpu.old) }

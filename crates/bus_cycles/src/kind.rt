@@ -30,6 +30,7 @@ pub(crate) enum Kind {
 }
 
 impl Kind {
+    #[inline(always)]
     pub(crate) fn of(operation: Operation) -> Kind
         ensures { result ≡ kind_of operation }
     {

@@ -8,6 +8,7 @@ mod finding;
 mod held;
 mod kind;
 mod laws;
+mod near;
 mod processor;
 
 pub use bus::{CycleBus, Purpose};

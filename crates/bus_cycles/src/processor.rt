@@ -1,17 +1,21 @@
 //! One instruction, a cycle at a time.
 
-ghost use Rattle.std.specs.Prelude.{◌≡◌, ◌≤◌, Some, IfOk, OnErr};
+ghost use Rattle.std.specs.Prelude.{◌≡◌, ◌≤◌, true, Some, IfOk, OnErr};
 ghost use Rattle.mos_cpu.specs.Opcodes.{row_of};
 ghost use Rattle.bus_cycles.specs.Execution.{step_of};
+ghost use Rattle.bus_cycles.specs.Private.AtHand.{IsShort};
+ghost use Rattle.bus_cycles.specs.Private.Classes.{class_of};
 ghost use Rattle.bus_cycles.specs.Private.Found.{IsRun};
 ghost use Rattle.bus_cycles.specs.Private.Kinds.{kind_of};
 
-use crate::at_hand::step_at_hand;
+use crate::at_hand::{ShortInstruction, short_at, step_at_hand};
 use crate::bus::{CycleBus, Purpose};
+use crate::class::Class;
 use crate::finding::{discard, fetch, find, find_none, finish_branch, pulled_at, pushed_at};
 use crate::held::{HeldBus, HeldBytes, execute};
 use crate::kind::Kind;
 use mos_cpu::{Cpu, CpuFault, Mode, Row, RunningCpu, row};
+use std::mem;
 
 /// An operation with the byte after the opcode.
 fn value<B: CycleBus>(
@@ -32,6 +36,7 @@ fn value<B: CycleBus>(
 }
 
 /// An operation that reads a place in memory.
+#[inline(always)]
 fn read<B: CycleBus>(
     cpu: &mut RunningCpu,
     bus: &mut B,
@@ -277,6 +282,7 @@ fn run<B: CycleBus>(cpu: &mut RunningCpu, bus: &mut B, opcode: u8, row: Row) -> 
 }
 
 /// The instruction at the program counter, a cycle at a time.
+#[cold]
 #[inline(never)]
 fn step_by_cycles<B: CycleBus>(cpu: &mut RunningCpu, bus: &mut B) -> Result<u8, CpuFault>
     ensures answer { result ≡ (step_of B.meaning cpu.old (B.state bus.old)).answer }
@@ -292,6 +298,73 @@ fn step_by_cycles<B: CycleBus>(cpu: &mut RunningCpu, bus: &mut B) -> Result<u8, 
             at: start.pc,
         }),
     }
+}
+
+/// An operation that reads a place in memory, and whose opcode is at hand.
+#[cold]
+#[inline(never)]
+fn read_at_hand<B: CycleBus>(
+    cpu: &mut RunningCpu,
+    bus: &mut B,
+    opcode: u8,
+    row: Row,
+) -> Result<u8, CpuFault>
+    requires known { row_of opcode ≡ Some row }
+    requires class { class_of row ≡ Class.MemoryRead }
+    requires holds { B.meaning.holds_code (B.state bus.old) cpu.old.pc ≡ true }
+    requires opcode { opcode ≡ B.meaning.read_value (B.state bus.old) cpu.old.pc }
+    ensures answer { result ≡ (step_of B.meaning cpu.old (B.state bus.old)).answer }
+    ensures registers { cpu.new ≡ (step_of B.meaning cpu.old (B.state bus.old)).registers }
+    ensures bus { B.state bus.new ≡ (step_of B.meaning cpu.old (B.state bus.old)).bus }
+{
+    let start = cpu.registers();
+    let _ = bus.read(start.pc, Purpose::Code);
+    read(cpu, bus, opcode, row)
+}
+
+/// Registers in the place of those that a call has taken.
+#[inline(always)]
+fn no_registers() -> RunningCpu {
+    RunningCpu::of(&Cpu {
+        a: 0,
+        x: 0,
+        y: 0,
+        s: 0,
+        p: 0,
+        pc: 0,
+    })
+}
+
+/// The same for a loop that keeps the registers out of memory: they are in it only for this call.
+#[inline(always)]
+fn read_apart<B: CycleBus>(
+    cpu: &mut RunningCpu,
+    bus: &mut B,
+    short: ShortInstruction,
+) -> Result<u8, CpuFault>
+    requires short { IsShort B.meaning (B.state bus.old) cpu.old.pc short }
+    requires class { short.class ≡ Class.MemoryRead }
+    ensures answer { result ≡ (step_of B.meaning cpu.old (B.state bus.old)).answer }
+    ensures registers { cpu.new ≡ (step_of B.meaning cpu.old (B.state bus.old)).registers }
+    ensures bus { B.state bus.new ≡ (step_of B.meaning cpu.old (B.state bus.old)).bus }
+{
+    let mut apart = mem::replace(cpu, no_registers());
+    let answer = read_at_hand(&mut apart, bus, short.opcode, short.row);
+    *cpu = apart;
+    answer
+}
+
+/// An instruction by its cycles, for a loop that keeps the registers out of memory: they are in it only for this call.
+#[inline(always)]
+fn step_apart<B: CycleBus>(cpu: &mut RunningCpu, bus: &mut B) -> Result<u8, CpuFault>
+    ensures answer { result ≡ (step_of B.meaning cpu.old (B.state bus.old)).answer }
+    ensures registers { cpu.new ≡ (step_of B.meaning cpu.old (B.state bus.old)).registers }
+    ensures bus { B.state bus.new ≡ (step_of B.meaning cpu.old (B.state bus.old)).bus }
+{
+    let mut apart = mem::replace(cpu, no_registers());
+    let answer = step_by_cycles(&mut apart, bus);
+    *cpu = apart;
+    answer
 }
 
 /// Executes the instruction at the program counter, and answers its cycles, 2 to 7. Each is one
@@ -317,8 +390,14 @@ pub fn step_running<B: CycleBus>(cpu: &mut RunningCpu, bus: &mut B) -> Result<u8
     ensures registers { cpu.new ≡ (step_of B.meaning cpu.old (B.state bus.old)).registers }
     ensures bus { B.state bus.new ≡ (step_of B.meaning cpu.old (B.state bus.old)).bus }
 {
-    match step_at_hand(cpu, bus) {
-        Some(cycles) => Ok(cycles),
-        None => step_by_cycles(cpu, bus),
+    match short_at(bus, cpu.registers().pc) {
+        Some(short) => {
+            if short.class == Class::MemoryRead {
+                read_apart(cpu, bus, short)
+            } else {
+                Ok(step_at_hand(cpu, bus, short))
+            }
+        }
+        None => step_apart(cpu, bus),
     }
 }

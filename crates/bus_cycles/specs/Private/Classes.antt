@@ -14,6 +14,7 @@ class_by kind.Branch mode = class.Branch
 class_by kind.Change Accumulator = class.Accumulator
 class_by kind.Read Immediate = class.Immediate
 class_by kind.Read ZeroPage = class.ZeroPageRead
+class_by kind.Read mode = class.MemoryRead
 class_by kind.Store ZeroPage = class.ZeroPageStore
 class_by other mode = class.Other
 

@@ -30,6 +30,17 @@ held_bus held first second third = record {
   before = 0;
 }
 
+-- The bytes of an instruction of two bytes at most, which reads one byte at most.
+abbrev pub near_held : ℕ → ℕ → ℕ → ℕ → ℕ → ℕ → HeldBus
+near_held at opcode low first last before = record {
+  held = record (opcode_held at opcode) { low = low };
+  first = first;
+  second = 0;
+  third = 0;
+  last = last;
+  before = before;
+}
+
 -- The byte of an instruction that is held at an address.
 abbrev pub byte_at : HeldBytes → ℕ → ℕ
 byte_at held at = if at == held.at then held.opcode else (if at == (held.at + 1) % 65536 then held.low else held.high)

@@ -1,5 +1,5 @@
--- What is tried before an instruction is done by its cycles. For proofs alone: no public contract names it.
-use Rattle.std.specs.Prelude.{ℕ, ◌≡◌, Option, Some, None, Ok}
+-- What a step does. For proofs alone: no public contract names it.
+use Rattle.std.specs.Prelude.{ℕ, ◌≡◌, Ok}
 use Rattle.mos_cpu.specs.Registers.{Registers}
 use Rattle.bus_cycles.specs.Buses.{Meaning}
 use Rattle.bus_cycles.specs.Execution.{step_of}
@@ -8,8 +8,3 @@ use Rattle.bus_cycles.specs.Execution.{step_of}
 abbrev pub IsStepOf : {S : Type 0} → Meaning S → Registers → S → ℕ → Registers → S → Type 0
 IsStepOf m r s cycles registers after =
     step_of m r s ≡ record { answer = Ok cycles; registers = registers; bus = after }
-
--- The same, or nothing was done.
-abbrev pub IsTried : {S : Type 0} → Meaning S → Registers → S → Option ℕ → Registers → S → Type 0
-IsTried m r s (Some cycles) registers after = IsStepOf m r s cycles registers after
-IsTried m r s None registers after = (registers ≡ r) × (after ≡ s)

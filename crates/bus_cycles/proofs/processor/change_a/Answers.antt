@@ -12,7 +12,7 @@ execute-requires g c =
     let s = g.B.CycleBus.state c.args.bus.now in
     ok-tied c.of.result (held_bus (one_held r c.args.opcode) 0 0 0) r
     (rw (c.of.ensures, c.find_none-held.ensures.held, c.registers-start.ensures) refl)
-    (change_a-ok m c.args.row r s c.args.opcode c.requires.known c.requires.kind c.requires.mode)
+    (change_a-ok m c.args.row r s c.args.opcode c.requires.known c.requires.kind c.requires.mode 0)
 
 pub returns : goal.returns
 returns g c =
@@ -24,5 +24,5 @@ returns g c =
     run-tied m c.args.row r s c.args.opcode (Ok c.execute.result) c.execute.new.cpu (g.B.CycleBus.state c.find_none-held.new.bus)
     (m.after_read s Discarded ((r.pc + 1) % 65536))
     (rw (c.find_none-held.ensures.bus, c.registers-start.ensures) refl)
-    (change_a-run m c.args.row r s c.args.opcode c.requires.known c.requires.kind c.requires.mode c.execute.result c.execute.new.cpu c.execute.new.bus
+    (change_a-run m c.args.row r s c.args.opcode c.requires.known c.requires.kind c.requires.mode 0 c.execute.result c.execute.new.cpu c.execute.new.bus
     (guide-tied r c.of.result bus c.execute.result c.execute.new.cpu c.execute.new.bus held c.execute.ensures))
