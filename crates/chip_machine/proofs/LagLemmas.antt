@@ -1,8 +1,8 @@
 -- Devices that lag.
-use Rattle.std.proofs.Common.{◌≡◌, ◌∙◌, ℕ, zero, suc, ◌+◌, ◌-◌, ◌*◌, ◌<◌, ◌≤◌, Bool, Option, true, false, if◌then◌else◌, refl, sym, ap, arith, inl, inr}
+use Rattle.std.proofs.Common.{◌≡◌, ◌∙◌, ℕ, zero, suc, ◌+◌, ◌-◌, ◌*◌, ◌<◌, ◌≤◌, Bool, Option, true, false, if◌then◌else◌, refl, sym, ap, arith}
 use Rattle.std.specs.Prelude.{min}
 use Rattle.std.specs.Fn.{iterate}
-use Rattle.std.proofs.lemmas.Bool.{cases_Bool, cond-true}
+use Rattle.std.proofs.lemmas.Bool.{cond-true}
 use Rattle.riot_chip.specs.Riot.{RiotState}
 use Rattle.riot_chip.specs.Timer.{TimerState, after_step}
 use Rattle.tia_chip.specs.Clock.{after_clock, at_pixel}
@@ -33,26 +33,6 @@ pub sink-later : {S : Type 0} (drawn : S → ℕ → ℕ → ℕ → S) (left n 
     → sink_after_clocks drawn s (3 * (76 - (left - n))) t
     ≡ sink_after_clocks drawn (sink_after_clocks drawn s (3 * (76 - left)) t) (3 * n) (iterate after_clock (3 * (76 - left)) t)
 sink-later drawn left n t s few most = rw (three left n few most) (sink-add drawn s (3 * (76 - left)) (3 * n) t)
-
--- ---- some of the cycles, and then the rest
-
-pub riot-rest : (left n : ℕ) (r : RiotState) → n ≤ left → riot_after_steps (left - n) (riot_after_steps n r) ≡ riot_after_steps left r
-riot-rest left n r few =
-    let all : n + (left - n) ≡ left = omega arith in
-    rw all at (ap (λ (t : TimerState). record r { timer = t }) (sym (iterate-add after_step n (left - n) r.timer)))
-
-pub tia-rest : (left n : ℕ) (t : TiaState) → n ≤ left
-    → iterate after_clock (3 * (left - n)) (iterate after_clock (3 * n) t) ≡ iterate after_clock (3 * left) t
-tia-rest left n t few =
-    let all : 3 * n + 3 * (left - n) ≡ 3 * left = omega arith in
-    rw all at (sym (iterate-add after_clock (3 * n) (3 * (left - n)) t))
-
-pub sink-rest : {S : Type 0} (drawn : S → ℕ → ℕ → ℕ → S) (left n : ℕ) (t : TiaState) (s : S) → n ≤ left
-    → sink_after_clocks drawn (sink_after_clocks drawn s (3 * n) t) (3 * (left - n)) (iterate after_clock (3 * n) t)
-    ≡ sink_after_clocks drawn s (3 * left) t
-sink-rest drawn left n t s few =
-    let all : 3 * n + 3 * (left - n) ≡ 3 * left = omega arith in
-    rw all at (sym (sink-add drawn s (3 * n) (3 * (left - n)) t))
 
 -- ---- a write that is put on its way ahead
 
@@ -89,6 +69,14 @@ module _ {S : Type 0} (drawn : S → ℕ → ℕ → ℕ → S) where
       cycles-passed n (after_cycle drawn c) (omega arith)
       ∙ rw (clocks, tia, sink, count) refl
 
+  -- Two of them.
+  pub two-passed : (c : Console S) (riot : RiotState) (tia : TiaState) (sink : S) (cycles : ℕ) → c.cycles ≤ most_cycles
+      → riot ≡ riot_after_steps 2 c.riot → tia ≡ iterate after_clock 6 c.tia → sink ≡ sink_after_clocks drawn c.sink 6 c.tia
+      → cycles ≡ min (c.cycles + 2) most_cycles
+      → record c { riot = riot; tia = tia; sink = sink; cycles = cycles } ≡ after_cycle drawn (after_cycle drawn c)
+  two-passed c riot tia sink cycles few riot_is tia_is sink_is cycles_are =
+      rw (riot_is, tia_is, sink_is, cycles_are) (sym (cycles-passed 2 c few))
+
   -- The stop after WSYNC, where so many cycles lead to the next line.
   pub stop-passed : (c : Console S) (n : ℕ) (riot : RiotState) (tia : TiaState) (sink : S) (cycles : ℕ)
       → c.is_stopped ≡ true → c.cycles ≤ most_cycles → n ≡ cycles_to_line_start c.tia.clock → riot ≡ riot_after_steps n c.riot
@@ -100,6 +88,6 @@ module _ {S : Type 0} (drawn : S → ℕ → ℕ → ℕ → S) where
       (sym (cycles-passed n c few) ∙ ap (λ (k : ℕ). iterate (after_cycle drawn) k c) count)
       ∙ sym (cond-true c.is_stopped _ _ stopped))
 
-  -- After it the processor is not stopped.
-  pub stop-over : (c : Console S) → (after_stop drawn c).is_stopped ≡ false
-  stop-over c = elim (cases_Bool c.is_stopped) [ inl stopped ↦ rw stopped refl | inr free ↦ rw free refl ]
+  -- None, where the processor isn't stopped.
+  pub no-stop : (c : Console S) → c.is_stopped ≡ false → c ≡ after_stop drawn c
+  no-stop c free = rw free refl

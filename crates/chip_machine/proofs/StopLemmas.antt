@@ -1,6 +1,6 @@
 -- The search for a frame's stop, by its next instruction.
-use Rattle.std.proofs.Common.{◌≡◌, ℕ, zero, suc, ◌+◌, ◌<◌, ◌≤◌, true, false, refl, sym, arith}
-use Rattle.std.specs.Prelude.{Result, Ok, Err, nat_le, if◌then◌else◌}
+use Rattle.std.proofs.Common.{◌≡◌, ℕ, zero, suc, ◌+◌, ◌<◌, ◌≤◌, ◌↔◌, Bool, true, false, refl, sym, arith}
+use Rattle.std.specs.Prelude.{IsTrue, Result, Ok, Err, nat_le, if◌then◌else◌}
 use Rattle.std.proofs.lemmas.Bool.Decides.{nat_tests}
 use Rattle.mos_cpu.specs.Registers.{Registers}
 use Rattle.mos_cpu.specs.declared.fault.CpuFault.{CpuFault}
@@ -9,6 +9,14 @@ use Rattle.chip_machine.specs.Consoles.{Console, after_stop, meaning_of}
 use Rattle.chip_machine.specs.Frame.{Machine, Turn, Faulty, Went, Ended, Overlong, Faulted, overlong_cycles}
 use Rattle.chip_machine.specs.Frame.{turn, turn_by, stop_after, stop_within, stop_of}
 use Rattle.chip_machine.proofs.GrowthLemmas.{step-more, stop-past}
+
+-- Cycles that aren't below a bound.
+at-least : (n bound : ℕ) (is : Bool) → nat_le bound n ≡ is → (n < bound → ⊥) → bound ≤ n
+at-least n bound true e not = grind (arith, nat_tests)
+at-least n bound false e not = let less : n < bound = grind (arith, nat_tests) in absurd (not less)
+
+pub not-below : (n bound : ℕ) (is_below : Bool) → (IsTrue is_below ↔ (n < bound)) → is_below ≡ false → bound ≤ n
+not-below n bound is_below is isnt = at-least n bound (nat_le bound n) refl (λ less. let yes = is.1 less in cc)
 
 module _ {S : Type 0} (drawn : S → ℕ → ℕ → ℕ → S) where
   -- An instruction that went.

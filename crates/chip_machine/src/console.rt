@@ -1,7 +1,9 @@
 //! A console as its processor's bus.
-ghost use Rattle.std.specs.Prelude.{◌≡◌, ◌/◌, ◌<◌, ◌≤◌, IfSome, IsTrue, None, Some};
+ghost use Rattle.std.specs.Prelude.{◌≡◌, ◌↔◌, ◌/◌, ◌<◌, ◌≤◌, false, IfSome, IsTrue, None, Some, true};
+ghost use Rattle.riot_map.specs.Place.{place_of};
 ghost use Rattle.cart_board.specs.CartState.{fits};
 ghost use Rattle.chip_machine.specs.Consoles.{after_cycle, after_stop, byte_found};
+ghost use Rattle.chip_machine.specs.Consoles.{holds_code_at as holds_code_at_place};
 ghost use Rattle.chip_machine.specs.Consoles.{found_at, meaning_of, read_at, seen, selected, stored_at};
 ghost use Rattle.chip_machine.specs.Consoles.{after_tia_write as after_tia_write_of};
 ghost use Rattle.chip_machine.specs.Outcomes.{begun, riot_left, tia_left};
@@ -9,6 +11,7 @@ ghost use Rattle.chip_machine.specs.Pictures.{rows_of};
 ghost use Rattle.chip_machine.specs.Private.AtHand.{AreAtHand, IsRomAt, ReadsAlone};
 ghost use Rattle.chip_machine.specs.Private.Lag.{after_cycles};
 ghost use Rattle.chip_machine.specs.Private.Polls.{GoOn, IsPoll};
+ghost use Rattle.record_table.specs.Bits.{has_bit};
 ghost use Rattle.riot_chip.specs.Riot.{riot_read};
 ghost use Rattle.riot_map.specs.declared.places.Place.TheVariants.{Io};
 
@@ -69,13 +72,10 @@ impl<'a, S: Paint> CycleBus for Console<'a, S> {
 
     ghost meaning = { meaning_of S.drawn };
 
+    #[inline(always)]
     #[tactic(auto, unfolding(crate::specs::Consoles::meaning_of))]
     fn holds_code(&self, address: u16) -> bool {
-        match place(address) {
-            Place::Cart(address) => self.cart.target(address).kind != Kind::WritePort,
-            Place::Ram(_) => true,
-            Place::Tia(_) | Place::Io(_) => false,
-        }
+        self.rom_at(address).is_some() || self.holds_code_at(address)
     }
 
     #[inline(always)]
@@ -102,8 +102,7 @@ impl<'a, S: Paint> CycleBus for Console<'a, S> {
     fn read_two(&mut self, address: u16, purpose: Purpose) {
         match self.two_at(address) {
             Some((_, second)) => {
-                self.cycle();
-                self.cycle();
+                self.two_cycles();
                 self.byte = second;
             }
             None => {
@@ -142,6 +141,14 @@ impl<'a, S: Paint> Console<'a, S> {
         self.devices.pass(1);
     }
 
+    /// Two of them.
+    #[inline(always)]
+    fn two_cycles(&mut self)
+        ensures { self.new ≡ after_cycle S.drawn (after_cycle S.drawn self.old) }
+    {
+        self.devices.pass(2);
+    }
+
     /// Lets the cycles pass for which WSYNC has stopped the processor, if it has.
     #[inline(always)]
     pub fn pass_stop(&mut self)
@@ -162,6 +169,19 @@ impl<'a, S: Paint> Console<'a, S> {
         match place(address) {
             Place::Cart(_) => self.cart.rom_at(address),
             _ => None,
+        }
+    }
+
+    /// Whether a byte of an instruction can be fetched from an address.
+    #[cold]
+    #[inline(never)]
+    fn holds_code_at(&self, address: u16) -> bool
+        ensures { result ≡ holds_code_at_place self.now (place_of address) }
+    {
+        match place(address) {
+            Place::Cart(address) => self.cart.target(address).kind != Kind::WritePort,
+            Place::Ram(_) => true,
+            Place::Tia(_) | Place::Io(_) => false,
         }
     }
 
@@ -257,16 +277,19 @@ impl<'a, S: Paint> Console<'a, S> {
     }
 
     /// So many rounds of such a loop surely go on.
-    pub fn rounds_ahead(&mut self) -> u32
+    pub fn rounds_ahead(&mut self, poll: Poll) -> u32
+        requires { has_bit poll.register 2 ≡ true }
         ensures console { self.new ≡ self.old }
-        ensures some { 1 ≤ result }
-        ensures going { GoOn self.old.riot result }
+        ensures going { GoOn poll self.old.riot result }
     {
-        self.devices.cycles_at_one().saturating_sub(1) / ROUND_CYCLES as u32 + 1
+        self.devices
+            .cycles_ahead(poll)
+            .div_ceil(ROUND_CYCLES as u32)
     }
 
-    /// Lets cycles pass, and loads from a register of the RIOT.
-    pub fn load_after(&mut self, register: u8, cycles: u32) -> u8
+    /// Lets cycles pass, and reads a register of the RIOT in the last of them.
+    pub fn look_after(&mut self, register: u8, cycles: u32) -> u8
+        requires { cycles ≤ 77824 }
         ensures byte { result ≡ riot_read (after_cycles S.drawn cycles self.old).riot register }
         ensures console { self.new ≡ record (read_at (after_cycles S.drawn cycles self.old) (Io register)) { byte = result } }
     {
@@ -275,6 +298,16 @@ impl<'a, S: Paint> Console<'a, S> {
         let byte = self.devices.riot.read(register);
         self.byte = byte;
         byte
+    }
+
+    /// Whether WSYNC has stopped the processor, the frame has ended, or the RIOT was read since that was
+    /// asked.
+    #[inline(always)]
+    pub fn has_event(&self) -> bool
+        ensures no_stop { result ≡ false → self.now.is_stopped ≡ false }
+        ensures no_end { result ≡ false → self.now.has_ended ≡ false }
+    {
+        self.is_stopped | self.has_ended | self.has_read_riot
     }
 
     /// Whether the RIOT's ports or timer were read since this was asked.
@@ -345,6 +378,15 @@ impl<'a, S: Paint> Console<'a, S> {
         ensures { result ≡ self.now.has_ended }
     {
         self.has_ended
+    }
+
+    /// Whether the cycles of the frame so far are fewer than so many.
+    #[inline(always)]
+    pub fn are_cycles_below(&self, bound: u32) -> bool
+        requires { 76 ≤ bound }
+        ensures { IsTrue result ↔ (self.now.cycles < bound) }
+    {
+        self.devices.are_cycles_below(bound)
     }
 
     /// The cycles of the frame so far.

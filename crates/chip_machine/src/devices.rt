@@ -1,15 +1,18 @@
 //! The devices of a console, which may be behind its processor.
-ghost use Rattle.std.specs.Prelude.{ℕ, ◌≡◌, ◌<◌, ◌≤◌, ◌+◌, ◌-◌, ◌*◌, ◌/◌, min, if◌then◌else◌, IsTrue};
+ghost use Rattle.std.specs.Prelude.{ℕ, ◌≡◌, ◌↔◌, ◌<◌, ◌≤◌, ◌+◌, ◌-◌, ◌*◌, ◌/◌, min, if◌then◌else◌, IsTrue, true};
 ghost use Rattle.std.specs.Fn.{iterate};
 ghost use Rattle.chip_machine.specs.Consoles.{most_cycles};
 ghost use Rattle.chip_machine.specs.Private.Lag.{IsBehind, cycles_seen, riot_after_steps, riot_seen};
 ghost use Rattle.chip_machine.specs.Private.Lag.{sink_seen, tia_seen};
-ghost use Rattle.riot_chip.specs.Timer.{ShowsAtLeast, after_step};
+ghost use Rattle.chip_machine.specs.Private.Polls.{GoesOnAt};
+ghost use Rattle.record_table.specs.Bits.{has_bit};
+ghost use Rattle.riot_chip.specs.Timer.{after_step};
 ghost use Rattle.tia_chip.specs.Clock.{after_clock};
 ghost use Rattle.tia_chip.specs.Clocks.{sink_after_clocks};
 ghost use Rattle.tia_chip.specs.Write.{effect_of, tia_after_write};
 ghost use Rattle.tia_chip.specs.declared.effect.Effect.TheVariants.{Nothing};
 
+use crate::polls::Poll;
 use riot_chip::Riot;
 use tia_chip::{Effect, Tia};
 use tia_core::{NoPaint, Paint, WSYNC};
@@ -74,6 +77,17 @@ impl<S: Paint> Devices<S> {
         ensures { result ≡ cycles_seen self.now }
     {
         self.cycles.saturating_add(self.lag() as u32)
+    }
+
+    /// Whether the cycles of the frame so far are fewer than so many. Where they are by far, the TIA's
+    /// lag isn't asked for.
+    #[inline(always)]
+    pub fn are_cycles_below(&self, bound: u32) -> bool
+        requires behind { IsBehind self.now }
+        requires bound { 76 ≤ bound }
+        ensures { IsTrue result ↔ (cycles_seen self.now < bound) }
+    {
+        self.cycles < bound - MOST_LAG as u32 || self.cycles() < bound
     }
 
     /// Lets the RIOT see the cycles that it has not seen.
@@ -213,29 +227,35 @@ impl<S: Paint> Devices<S> {
 
     /// Lets cycles pass, those of several scanlines perhaps.
     pub fn pass_all(&mut self, cycles: u32)
-        requires { IsBehind self.old }
+        requires behind { IsBehind self.old }
+        requires most { cycles ≤ 77824 }
         ensures behind { IsBehind self.new }
         ensures riot { riot_seen self.new ≡ riot_after_steps cycles (riot_seen self.old) }
         ensures tia { tia_seen self.new ≡ iterate after_clock (3 * cycles) (tia_seen self.old) }
         ensures sink { sink_seen S.drawn self.new ≡ sink_after_clocks S.drawn (sink_seen S.drawn self.old) (3 * cycles) (tia_seen self.old) }
         ensures cycles { cycles_seen self.new ≡ min (cycles_seen self.old + cycles) most_cycles }
     {
-        let mut left = cycles;
-        while left > 0 {
-            let count = left.min(MOST_LAG as u32);
-            self.pass(count as u8);
-            left -= count;
-        }
+        self.catch_up_tia();
+        self.catch_up_riot();
+        self.tia.clocks(3 * cycles, &mut self.sink);
+        self.riot.steps(cycles);
+        self.cycles = self.cycles.saturating_add(cycles);
     }
 
-    /// For how many cycles, from this one on, INTIM shows 1 at least, and the timer's flag isn't set.
-    pub fn cycles_at_one(&mut self) -> u32
-        requires { IsBehind self.old }
+    /// For how many cycles, from this one on, a loop surely goes on after a read of the timer.
+    pub fn cycles_ahead(&mut self, poll: Poll) -> u32
+        requires behind { IsBehind self.old }
+        requires timer { has_bit poll.register 2 ≡ true }
         ensures devices { self.new ≡ record self.old { riot = riot_seen self.old; riot_left = self.old.lag_left } }
-        ensures shown { (n : ℕ) → n < result → ShowsAtLeast 1 (iterate after_step n (riot_seen self.old).timer) }
+        ensures going { (n : ℕ) → n < result → GoesOnAt poll (iterate after_step n (riot_seen self.old).timer) }
     {
         self.catch_up_riot();
-        self.riot.cycles_at_least(1)
+        let cycles = self.riot.cycles_at_least(poll.branch.least());
+        // Where there are any zero is ahead, and so the read changes nothing.
+        if cycles == 0 || !poll.branch.goes_on(self.riot.read(poll.register)) {
+            return 0;
+        }
+        cycles
     }
 
     /// The TIA as it is once it has seen all cycles.

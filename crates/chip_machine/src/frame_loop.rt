@@ -6,7 +6,7 @@ ghost use Rattle.chip_machine.specs.Outcomes.{stop_with};
 use crate::console::Console;
 use crate::polls::ROUND_CYCLES;
 use bus_cycles::step_running;
-use mos_cpu::{Cpu, RunningCpu, load};
+use mos_cpu::{Cpu, RunningCpu};
 use tia_core::Paint;
 use vcs_machine::FaultKind;
 
@@ -14,41 +14,35 @@ use vcs_machine::FaultKind;
 pub const TOO_MANY_CYCLES: u32 = 77_824;
 
 /// Passes the rounds of a loop that waits for the timer, if the processor is at its branch, and they
-/// surely go on and begin before the frame is too long. A frame that goes on from there stops as it
-/// would have stopped.
+/// surely go on and begin before the frame is too long. It answers the processor.
+///
+/// A frame that goes on from there stops as it would have stopped. The processor comes by its value,
+/// so that the loop of a frame can keep its registers out of memory.
 #[inline(never)]
-fn pass_rounds<S: Paint>(cpu: &mut RunningCpu, console: &mut Console<S>)
+fn pass_rounds<S: Paint>(cpu: Cpu, console: &mut Console<S>) -> Cpu
     requires no_stop { console.old.is_stopped ≡ false }
     requires no_end { console.old.has_ended ≡ false }
-    ensures stops { stop_of S.drawn (record { registers = cpu.old; console = console.old })
-        ≡ stop_of S.drawn (record { registers = cpu.new; console = console.new }) }
+    ensures stops { stop_of S.drawn (record { registers = cpu; console = console.old })
+        ≡ stop_of S.drawn (record { registers = result; console = console.new }) }
     ensures cartridge { console.new.cart.cartridge ≡ console.old.cart.cartridge }
     ensures later { console.old.cycles ≤ console.new.cycles }
 {
-    let registers = cpu.registers();
     let cycles = console.cycles();
-    let Some(poll) = console.poll_at(registers.pc) else {
-        return;
+    let Some(poll) = console.poll_at(cpu.pc) else {
+        return cpu;
     };
-    if cycles >= TOO_MANY_CYCLES || registers.p / 2 % 2 == 1 {
-        return;
+    if cycles >= TOO_MANY_CYCLES || !poll.branch.is_taken(cpu.p) {
+        return cpu;
     }
     let round = ROUND_CYCLES as u32;
     let count = console
-        .rounds_ahead()
+        .rounds_ahead(poll)
         .min((TOO_MANY_CYCLES - cycles) / round);
     if count == 0 {
-        return;
+        return cpu;
     }
-    let loaded = load(
-        console.load_after(poll.register, round * count),
-        registers.p,
-    );
-    *cpu = RunningCpu::of(&Cpu {
-        a: loaded.value,
-        p: loaded.p,
-        ..registers
-    });
+    let byte = console.look_after(poll.register, round * count);
+    poll.reader.after(cpu, byte)
 }
 
 /// The same after an instruction, if it read the RIOT.
@@ -62,11 +56,12 @@ fn pass_rounds_after_read<S: Paint>(cpu: &mut RunningCpu, console: &mut Console<
     ensures later { console.old.cycles ≤ console.new.cycles }
 {
     if console.has_read_riot() {
-        pass_rounds(cpu, console);
+        *cpu = RunningCpu::of(&pass_rounds(cpu.registers(), console));
     }
 }
 
 /// Instructions, each with the stop that it leaves, until the frame stops.
+#[inline(always)]
 pub fn run_until_stop<S: Paint>(
     cpu: &mut RunningCpu,
     console: &mut Console<S>,
@@ -77,15 +72,17 @@ pub fn run_until_stop<S: Paint>(
     ensures err { IfErr result (λ kind. stop_of S.drawn (record { registers = cpu.old; console = console.old }) ≡ stop_with kind) }
     ensures cartridge { console.new.cart.cartridge ≡ console.old.cart.cartridge }
 {
-    while console.cycles() < TOO_MANY_CYCLES {
+    while console.are_cycles_below(TOO_MANY_CYCLES) {
         if let Err(fault) = step_running(cpu, console) {
             return Err(FaultKind::from(fault));
         }
-        console.pass_stop();
-        if console.has_ended() {
-            return Ok(());
+        if console.has_event() {
+            console.pass_stop();
+            if console.has_ended() {
+                return Ok(());
+            }
+            pass_rounds_after_read(cpu, console);
         }
-        pass_rounds_after_read(cpu, console);
     }
     Err(FaultKind::Overlong)
 }
