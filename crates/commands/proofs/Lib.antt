@@ -1,5 +1,3 @@
-pub mod AccessTexts
-pub mod ColumnLemmas
 pub mod CommandAnswers
 pub mod CutMovies
 pub mod CutParts
@@ -8,7 +6,6 @@ pub mod MadeAnswers
 pub mod MadeMovies
 pub mod RunFrames
 pub mod RunSteps
-pub mod StandingCheckpoints
 pub mod TraceSteps
 pub mod TracedFrames
 pub mod WrittenFrames

@@ -17,7 +17,7 @@ use Rattle.picture_file.specs.PictureBytes.{pictures_bytes}
 use Rattle.replay_plan.specs.declared.notation.Notation.{Notation}
 use Rattle.replay_plan.specs.declared.watches.Details.{Details}
 use Rattle.replay_segments.specs.KeptPictures.{picture_after}
-use Rattle.commands.specs.Frames.{frame_line, played_line}
+use Rattle.frame_text.specs.FrameLines.{frame_line, played_line}
 use Rattle.commands.specs.Private.Views.{bytes_shown, picture_of_frame}
 use Rattle.commands.specs.declared.asked_frames.View.{View}
 use Rattle.commands.specs.declared.asked_frames.View.TheVariants.{Line, Picture}

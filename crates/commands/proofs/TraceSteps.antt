@@ -20,7 +20,7 @@ use Rattle.movie_machine.specs.declared.cart.Cart.{Cart}
 use Rattle.movie_machine.specs.declared.cart.Cart.TheVariants.{Guide as GuideCart, Chip as ChipCart}
 use Rattle.movie_machine.specs.declared.state.State.{State}
 use Rattle.movie_machine.specs.declared.state.State.TheVariants.{Guide as GuideState, Chip as ChipState}
-use Rattle.commands.specs.TraceLines.{trace_line}
+use Rattle.trace_text.specs.TraceLines.{trace_line}
 use Rattle.picture_file.specs.Prefixes.{AppendsPrefix}
 use Rattle.picture_file.proofs.BytesWritten.{appends_kept, appends_then}
 use Rattle.picture_file.proofs.BytesWritten.{prefix_after}

@@ -1,9 +1,7 @@
 pub mod Answers
 pub mod AskedFrames
-pub mod Assembly
 pub mod Cartridge
 pub mod Claims
-pub mod Columns
 pub mod Commands
 pub mod Convert
 pub mod Cut
@@ -21,5 +19,4 @@ pub mod RunErrors
 pub mod Status
 pub mod Streams
 pub mod Trace
-pub mod TraceLines
 pub mod Verify

@@ -3,6 +3,7 @@ use Rattle.std.specs.Prelude.{ℕ, List, [], ◌∷◌, ◌++◌, codes}
 use Rattle.std.specs.Fmt.{decimal}
 use Rattle.vcs_machine.specs.Faults.{fault_text}
 use Rattle.movie_file.specs.MovieError.{refusal_text}
+use Rattle.frame_text.specs.FrameLines.{frame_text}
 use Rattle.commands.specs.declared.line.Line.{Line}
 use Rattle.commands.specs.declared.line.Line.TheVariants.{Genuine, FalseCheckpoint, Fault}
 use Rattle.commands.specs.declared.line.Line.TheVariants.{Refused, BadLine, Made, Converted}
@@ -18,11 +19,6 @@ counts_text frames checkpoints = decimal frames ++ (codes " frames, " ++ (decima
 -- The bytes of a cartridge, and the counts.
 abbrev pub contents_text : ℕ → ℕ → ℕ → List ℕ
 contents_text cartridge frames checkpoints = codes "cartridge " ++ (decimal cartridge ++ (codes ", " ++ counts_text frames checkpoints))
-
--- How many cycles a frame took, and how many rows its picture has.
-abbrev pub frame_text : ℕ → ℕ → ℕ → List ℕ
-frame_text frame cycles rows =
-    codes "frame " ++ (decimal frame ++ (codes ": " ++ (decimal cycles ++ (codes " cycles, " ++ (decimal rows ++ codes " rows")))))
 
 -- A line, without its end.
 abbrev pub line_text : Line → List ℕ

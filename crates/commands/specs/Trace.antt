@@ -10,7 +10,7 @@ use Rattle.vcs_machine.specs.Faults.{kind_of}
 use Rattle.vcs_machine.specs.Inputs.{InputData}
 use Rattle.vcs_machine.specs.declared.fault.FaultKind.{FaultKind}
 use Rattle.vcs_machine.specs.declared.fault.FaultKind.TheVariants.{Overlong as TooLong}
-use Rattle.commands.specs.TraceLines.{trace_line}
+use Rattle.trace_text.specs.TraceLines.{trace_line}
 use Rattle.movie_file.specs.Movie.{MovieData}
 use Rattle.movie_file.specs.Run.{run}
 use Rattle.commands.specs.declared.status.Status.{Status}

@@ -14,8 +14,8 @@ ghost use Rattle.commands.specs.Private.Stops.{StopsWriting};
 ghost use Rattle.commands.specs.Private.Views.{bytes_shown, picture_of_frame, shown_bytes};
 ghost use Rattle.commands.specs.RunErrors.{IsOfWriting};
 
-use crate::frame_line::played_line;
 use crate::run_error::RunError;
+use frame_text::played_line;
 use movie_file::{Movie, Progress, Work};
 use picture_file::{WriteFault, ppm, write_bytes};
 use refused::Refused;

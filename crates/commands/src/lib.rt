@@ -5,7 +5,6 @@
 
 mod answer;
 mod asked_frames;
-mod assembly;
 mod bad_text;
 mod cartridge;
 mod claims;
@@ -14,7 +13,6 @@ mod conclusion;
 mod convert;
 mod cut;
 mod cut_movie;
-mod frame_line;
 mod frames;
 mod info;
 mod inputs;
@@ -23,7 +21,6 @@ mod laws;
 mod line;
 mod make;
 mod make_run;
-mod mnemonic;
 mod pictures;
 mod refusal;
 mod remark;
@@ -33,7 +30,6 @@ mod run_error;
 mod status;
 mod streams;
 mod trace;
-mod trace_line;
 mod verdict_text;
 mod verify;
 
@@ -49,5 +45,5 @@ pub use replay_plan::{InputForm, Notation};
 pub use request::Request;
 pub use run_error::RunError;
 pub use status::Status;
-pub use streams::{INPUT_LIMIT, read_all};
+pub use streams::read_all;
 pub use verify_pool::{Gate, NoGate, Ticket};

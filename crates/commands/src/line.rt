@@ -4,6 +4,7 @@ ghost use Rattle.commands.specs.Lines.{line_bytes, status_of};
 ghost use Rattle.commands.specs.Verify.{verdict_line};
 
 use crate::status::Status;
+use frame_text::FrameLength;
 use movie_file::{Movie, MovieError};
 use replay_segments::Verdict;
 use std::alloc::{AllocError, Global};
@@ -147,7 +148,15 @@ impl fmt::Display for Line {
                 frame,
                 cycles,
                 rows,
-            } => write!(f, "frame {frame}: {cycles} cycles, {rows} rows"),
+            } => write!(
+                f,
+                "{}",
+                FrameLength {
+                    frame,
+                    cycles,
+                    rows
+                }
+            ),
             Line::NoFrame(frame) => write!(f, "refused: NoFrame {frame}"),
         }
     }

@@ -2,16 +2,15 @@
 ghost use Rattle.std.specs.Prelude.{◌≡◌, ◌≤◌, IfErr, IfOk, length};
 ghost use Rattle.movie_file.specs.Reading.{movie_at};
 ghost use Rattle.commands.specs.RunErrors.{IsOfReading};
-ghost use Rattle.commands.specs.Streams.{ReadsAll, IsTooLong, input_limit};
+ghost use Rattle.input_limit.specs.Limits.{input_limit};
+ghost use Rattle.commands.specs.Streams.{ReadsAll, IsTooLong};
 
 use crate::run_error::RunError;
+use input_limit::INPUT_LIMIT;
 use movie_file::{Movie, MovieError, read_movie};
 use refused::Refused;
 use std::alloc::Global;
 use std::io::Read;
-
-/// The most bytes of one input.
-pub const INPUT_LIMIT: usize = 16_777_216;
 
 /// One read for each byte of the longest input, and one that finds its end or a byte too many.
 const MOST_READS: usize = INPUT_LIMIT + 1;

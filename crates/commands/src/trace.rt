@@ -7,7 +7,7 @@ ghost use Rattle.movie_machine.specs.Instructions.{Reaches, Stop, StopsAfter, Un
 ghost use Rattle.movie_machine.specs.States.{is_of};
 ghost use Rattle.picture_file.specs.Prefixes.{AppendsPrefix};
 ghost use Rattle.commands.specs.RunErrors.{IsOfWriting};
-ghost use Rattle.commands.specs.TraceLines.{trace_line};
+ghost use Rattle.trace_text.specs.TraceLines.{trace_line};
 ghost use Rattle.commands.specs.Private.Tracing.{IsStop};
 ghost use Rattle.commands.specs.Trace.{AppendsInstructions, Traces, instructions};
 
@@ -16,13 +16,13 @@ use crate::last_line::write_last;
 use crate::line::Line;
 use crate::run_error::RunError;
 use crate::status::Status;
-use crate::trace_line::trace_line;
 use movie_file::{Movie, Progress};
 use movie_machine::{Executed, State, Stepping};
 use picture_file::write_bytes;
 use std::alloc::Global;
 use std::io::Write;
 use std::num::NonZeroU32;
+use trace_text::trace_line;
 use vcs_machine::FaultKind;
 
 /// Writes the line of an instruction.

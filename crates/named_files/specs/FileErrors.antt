@@ -7,7 +7,7 @@ use Rattle.named_files.specs.declared.file_error.Reason.TheVariants.{ErrorIsInpu
 use Rattle.std.specs.IoError.{error_kind}
 use Rattle.std.specs.declared.io.ErrorKind.{ErrorKind}
 use Rattle.std.specs.declared.io.ErrorKind.TheVariants.{AlreadyExists, BrokenPipe, InvalidInput, ReadOnlyFilesystem, Unsupported}
-use Rattle.commands.specs.Streams.{input_limit}
+use Rattle.input_limit.specs.Limits.{input_limit}
 
 -- It is the file of this name.
 abbrev pub Names : List ℕ → FileError → Type 0

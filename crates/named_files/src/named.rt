@@ -8,7 +8,7 @@ ghost use Rattle.named_files.specs.declared.file_error.Reason.TheVariants.{Syste
 
 use crate::file_error::{FileError, Reason};
 use crate::replacing::Replacing;
-use commands::INPUT_LIMIT;
+use input_limit::INPUT_LIMIT;
 use std::io::{self, ErrorKind, Read, Write};
 use std::rt::Files;
 

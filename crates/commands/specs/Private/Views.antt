@@ -4,7 +4,7 @@ use Rattle.movie_file.specs.Movie.{MovieData}
 use Rattle.movie_file.specs.Run.{run}
 use Rattle.picture_file.specs.PictureBytes.{picture_bytes, pictures_bytes}
 use Rattle.replay_segments.specs.KeptPictures.{picture_after}
-use Rattle.commands.specs.Frames.{frame_line}
+use Rattle.frame_text.specs.FrameLines.{frame_line}
 use Rattle.commands.specs.declared.asked_frames.Shown.{Shown}
 use Rattle.commands.specs.declared.asked_frames.Shown.TheVariants as shown
 use Rattle.commands.specs.declared.asked_frames.View.{View}

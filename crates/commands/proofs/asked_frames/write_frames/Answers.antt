@@ -3,7 +3,7 @@ use Rattle.std.proofs.lemmas.Result.{err_from_is_err_and}
 use Rattle.picture_file.proofs.BytesWritten.{appends_nothing}
 use Rattle.commands.specs.Private.Views.{bytes_shown}
 use Rattle.replay_segments.proofs.CheckpointLemmas.{none_before}
-use Rattle.commands.proofs.StandingCheckpoints.{stand_before}
+use Rattle.frame_text.proofs.StandingCheckpoints.{stand_before}
 use Rattle.commands.proofs.RunFrames.{nothing_shown}
 use Rattle.commands.proofs.WrittenFrames.{faults_here, one_more, part_of_one}
 use Rattle.commands.proofs.asked_frames.write_frames.Goals as goal

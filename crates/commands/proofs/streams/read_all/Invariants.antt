@@ -1,6 +1,6 @@
 use Rattle.std.proofs.Common.{length, ◌≤◌}
 use Rattle.std.specs.Io.KnownBytes.{Consumes}
-use Rattle.commands.specs.Streams.{input_limit}
+use Rattle.input_limit.specs.Limits.{input_limit}
 use Rattle.commands.proofs.streams.read_all.Given as goal
 
 abbrev pub invariant-loop : goal.invariant-loop

@@ -1,7 +1,0 @@
-use Rattle.std.specs.Fmt.{HasWritten, IsPlainFormatter}
-use Rattle.commands.specs.Columns.{blanks}
-use Rattle.commands.proofs.assembly.write_blanks.Given as goal
-
-abbrev pub invariant-loop : goal.invariant-loop
-invariant-loop g l =
-    IsPlainFormatter l.fn.f → HasWritten g.W.Write.write_str_gives l.fn.f (blanks l.counter) l.f

@@ -1,7 +1,0 @@
-use Rattle.std.proofs.Common.{◌≡◌, take, string_bytes}
-use Rattle.std.specs.List.{flat_map}
-use Rattle.commands.specs.Frames.{byte_text}
-use Rattle.commands.proofs.frame_line.told_bytes.Given as goal
-
-abbrev pub invariant-loop-watched : goal.invariant-loop-watched
-invariant-loop-watched l = string_bytes l.text ≡ flat_map (byte_text l.notation l.state) (take l.watched-index l.addresses)

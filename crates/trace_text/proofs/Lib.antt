@@ -1,0 +1,2 @@
+pub mod AccessTexts
+pub mod ColumnLemmas
