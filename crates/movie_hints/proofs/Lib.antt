@@ -1,4 +1,5 @@
 pub mod LeastLemmas
+pub mod LengthLemmas
 pub mod LengthTexts
 pub mod TextLemmas
 pub mod WordLemmas

@@ -3,6 +3,9 @@
 use Rattle.std.specs.Prelude.{ℕ, List, [], ◌∷◌, ◌++◌, ◌/◌, ◌%◌, ◌==◌, codes, if◌then◌else◌}
 use Rattle.std.specs.Fmt.{decimal}
 use Rattle.vcs_machine.specs.Faults.{hex2, hex4}
+use Rattle.movie_hints.specs.declared.fit.Fit.{Fit}
+use Rattle.movie_hints.specs.declared.fit.Fit.TheVariants.{NoBit, NoChange, Change, NotMirrored, NoPlayfieldBit, NoPulses}
+use Rattle.movie_hints.specs.declared.fit.Fit.TheVariants.{NotLonger, NoOwnSize, NotSeen}
 use Rattle.movie_hints.specs.declared.hint.Hint.{Hint}
 use Rattle.movie_hints.specs.declared.hint.Hint.TheVariants as hints
 use Rattle.movie_hints.specs.declared.look.Look.{Look}
@@ -42,6 +45,18 @@ abbrev pub lengths_text : List ℕ → List ℕ
 lengths_text [] = []
 lengths_text (n ∷ ns) = decimal n ++ more_lengths ns
 
+-- What was expected of a number of a state by the chip's rules, and for which others beside it.
+abbrev pub fit_text : Fit → List ℕ
+fit_text NoBit = codes "0, as its copy is below 7"
+fit_text NoChange = codes "0, as the width is NUSIZ's"
+fit_text Change = codes "1 to 5, as the width isn't NUSIZ's"
+fit_text NotMirrored = codes "0, as the line cycle isn't 50 to 74"
+fit_text NoPlayfieldBit = codes "0, as the line cycle is below 23 or a multiple of 4"
+fit_text NoPulses = codes "0, as nothing moves"
+fit_text NotLonger = codes "0, as the line cycle is 0 or 26 to 74"
+fit_text NoOwnSize = codes "0, as its copy is below 5"
+fit_text NotSeen = codes "0, as the line cycle is 23 or more and longer isn't 1"
+
 -- What was expected of a field.
 abbrev pub expected_text : Expected → List ℕ
 expected_text expected.Magic = codes "4132364D"
@@ -57,6 +72,7 @@ expected_text (expected.AtMost most) = codes "at most " ++ decimal most
 expected_text (expected.OneTo most) = codes "1 to " ++ decimal most
 expected_text expected.NoLatches = codes "0, as VBLANK has no bit 6"
 expected_text expected.OneBank = codes "0, as the cartridge has one bank"
+expected_text (expected.Fit fit) = fit_text fit
 expected_text expected.SetBits = codes "bits 2, 4 and 5"
 expected_text expected.ButtonBits = codes "no bit outside of 03"
 expected_text (expected.FrameAfter before last) =
@@ -111,7 +127,7 @@ hint_text (hints.Looks look) = codes "looks like " ++ look_text look
 hint_text hints.Text = codes "looks like text"
 hint_text hints.LooksLikeCartridge = codes "looks like a cartridge, of which make makes a movie"
 hint_text hints.LooksLikeMovie = codes "looks like a movie"
-hint_text (hints.NoCartridge length) = codes "has " ++ (decimal length ++ codes " bytes, and a cartridge has 2048, 4096 or 8192")
+hint_text (hints.NoCartridge length) = codes "has " ++ (decimal length ++ codes " bytes, and by the guide's rules a cartridge has 2048, 4096 or 8192")
 hint_text (hints.NoCartridgeOn length board lengths) =
     codes "has " ++ (decimal length ++ (codes " bytes, and a cartridge of board " ++ (board.now ++ (codes " has " ++ lengths_text lengths.now))))
 hint_text hints.Exchanged = codes "has as many bytes as a cartridge, which comes first: make ROM INPUTS"

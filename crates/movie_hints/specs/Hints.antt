@@ -12,8 +12,10 @@ use Rattle.input_text.specs.declared.mistake.Mistake.{Mistake}
 use Rattle.input_text.specs.declared.mistake.Mistake.TheVariants.{NoCount, NoName, TooManyFrames}
 use Rattle.vcs_machine.specs.Inputs.{InputData}
 use Rattle.movie_file.specs.InputLists.{SpellsInputs}
+use Rattle.movie_hints.specs.Fits.{is_unfit}
 use Rattle.movie_hints.specs.Looks.{has_at, is_like, looks}
-use Rattle.cart_board.specs.Board.{Row}
+use Rattle.cart_board.specs.Board.{Row, has_length}
+use Rattle.cart_board.specs.Boards.{boards}
 use Rattle.movie_hints.specs.Places.{board_in, board_place, checkpoint_place, count_in, count_place, end_place, four_at}
 use Rattle.movie_hints.specs.Places.{frame_before, frames_in, frames_place, header_end, input_place, length_in, length_place}
 use Rattle.movie_hints.specs.Places.{two_at, version_in}
@@ -133,9 +135,13 @@ TellsUtf16 bytes hint =
     (hint ≡ hints.Utf16)
     × (Begins bytes (0xFF ∷ 0xFE ∷ []) ⊎ Begins bytes (0xFE ∷ 0xFF ∷ []) ⊎ (is_utf16 bytes ≡ true))
 
+-- Some cartridge has so many bytes, by the guide's rules or on a board.
+abbrev pub is_some_length : ℕ → Bool
+is_some_length bytes = is_cart_length bytes || list_any (λ row. has_length row bytes) boards
+
 -- As many bytes as a cartridge has.
 abbrev pub TellsExchanged : List ℕ → Hint → Type 0
-TellsExchanged bytes hint = (hint ≡ hints.Exchanged) × (is_cart_length (length bytes) ≡ true)
+TellsExchanged bytes hint = (hint ≡ hints.Exchanged) × (is_some_length (length bytes) ≡ true)
 
 -- ---- why bytes are no movie
 
@@ -161,12 +167,12 @@ TellsLength bytes hint = TellsHeader bytes hint ⊎ TellsMissing bytes hint ⊎ 
 -- cartridge, else what they are.
 abbrev pub TellsCartridge : List ℕ → Hint → Type 0
 TellsCartridge bytes hint =
-    (hint ≡ hints.LooksLikeCartridge) × LooksLikeNothing bytes × (is_text bytes ≡ false) × (is_cart_length (length bytes) ≡ true)
+    (hint ≡ hints.LooksLikeCartridge) × LooksLikeNothing bytes × (is_text bytes ≡ false) × (is_some_length (length bytes) ≡ true)
 
 abbrev pub TellsMark : List ℕ → Hint → Type 0
 TellsMark bytes hint =
     (hint ≡ of_field fields.Magic 0 expected.Magic (found.Mark (four_at bytes 0))) × LooksLikeNothing bytes × (is_text bytes ≡ false)
-    × (is_cart_length (length bytes) ≡ false)
+    × (is_some_length (length bytes) ≡ false)
 
 abbrev pub TellsBeginning : List ℕ → Hint → Type 0
 TellsBeginning bytes hint = TellsLook bytes hint ⊎ TellsText bytes hint ⊎ TellsCartridge bytes hint ⊎ TellsMark bytes hint
@@ -238,23 +244,24 @@ StandsAt bytes at (found.FourBytes n) = n ≡ four_at bytes at
 StandsAt bytes at (found.Bits n) = n ≡ slice_index bytes at
 StandsAt bytes at (found.Mark n) = n ≡ four_at bytes at
 
--- A number breaks a condition of state records.
-abbrev pub Breaks : Expected → ℕ → Type 0
-Breaks (expected.NoBitOutside mask) n = bit_and n mask ≢ n
-Breaks (expected.AtMost most) n = most < n
-Breaks (expected.OneTo most) n = (n ≡ 0) ⊎ (most < n)
-Breaks expected.NoLatches n = n ≢ 0
-Breaks expected.OneBank n = n ≢ 0
-Breaks expected.Magic n = ⊥
-Breaks expected.Version n = ⊥
-Breaks expected.Board n = ⊥
-Breaks expected.CartridgeLength n = ⊥
-Breaks (expected.LengthOn board lengths) n = ⊥
-Breaks (expected.Frames most) n = ⊥
-Breaks expected.Checkpoints n = ⊥
-Breaks expected.SetBits n = ⊥
-Breaks expected.ButtonBits n = ⊥
-Breaks (expected.FrameAfter before last) n = ⊥
+-- A number that stands here breaks a condition of state records.
+abbrev pub Breaks : List ℕ → ℕ → Expected → ℕ → Type 0
+Breaks bytes at (expected.NoBitOutside mask) n = bit_and n mask ≢ n
+Breaks bytes at (expected.AtMost most) n = most < n
+Breaks bytes at (expected.OneTo most) n = (n ≡ 0) ⊎ (most < n)
+Breaks bytes at expected.NoLatches n = n ≢ 0
+Breaks bytes at expected.OneBank n = n ≢ 0
+Breaks bytes at (expected.Fit fit) n = is_unfit bytes at fit n ≡ true
+Breaks bytes at expected.Magic n = ⊥
+Breaks bytes at expected.Version n = ⊥
+Breaks bytes at expected.Board n = ⊥
+Breaks bytes at expected.CartridgeLength n = ⊥
+Breaks bytes at (expected.LengthOn board lengths) n = ⊥
+Breaks bytes at (expected.Frames most) n = ⊥
+Breaks bytes at expected.Checkpoints n = ⊥
+Breaks bytes at expected.SetBits n = ⊥
+Breaks bytes at expected.ButtonBits n = ⊥
+Breaks bytes at (expected.FrameAfter before last) n = ⊥
 
 -- A field of a state record has a name.
 abbrev pub HasName : Field → Type 0
@@ -269,7 +276,7 @@ HasName fields.FrameNumber = ⊥
 
 -- A state: the number that is said to be in it is there, and isn't what was expected.
 abbrev pub IsOfState : List ℕ → Mismatch → Type 0
-IsOfState bytes m = HasName m.field × StandsAt bytes m.byte m.found × Breaks m.expected (number_of m.found)
+IsOfState bytes m = HasName m.field × StandsAt bytes m.byte m.found × Breaks bytes m.byte m.expected (number_of m.found)
 
 abbrev pub TellsState : List ℕ → Hint → Type 0
 TellsState bytes hint = TellsOf hint (IsOfState bytes)

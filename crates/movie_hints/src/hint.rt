@@ -134,7 +134,7 @@ impl fmt::Display for Hint {
             Hint::NoCartridge(length) => {
                 write!(
                     f,
-                    "has {length} bytes, and a cartridge has 2048, 4096 or 8192"
+                    "has {length} bytes, and by the guide's rules a cartridge has 2048, 4096 or 8192"
                 )
             }
             Hint::NoCartridgeOn {

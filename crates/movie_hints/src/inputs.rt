@@ -8,13 +8,13 @@ ghost use Rattle.movie_hints.specs.Counts.{AreFew, IsCountsHint, checkpoints_of}
 ghost use Rattle.movie_hints.specs.Looks.{is_like, looks};
 
 use crate::hint::Hint;
+use crate::lengths::is_some_length;
 use crate::look::Look;
 use crate::plain_text::{is_text, is_utf16};
 use crate::refusals::wrong_input;
 use cart_board::KnownBoard;
 use input_text::read_text;
 use movie_file::{MOST_CHECKPOINTS, MOST_FRAMES, MovieError};
-use riot_map::Cart;
 use std::alloc::Global;
 use std::num::NonZeroU32;
 
@@ -54,7 +54,7 @@ fn hint_of_triples(bytes: &[u8], error: MovieError) -> Option<Hint>
 {
     let length = bytes.len();
     match error {
-        MovieError::Short if Cart::is_length(length) => Some(Hint::Exchanged),
+        MovieError::Short if is_some_length(length) => Some(Hint::Exchanged),
         MovieError::Short => Some(Hint::OddLength {
             extra: length % 3,
             length,

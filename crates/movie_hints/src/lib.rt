@@ -5,8 +5,11 @@
 #![tactic(auto)]
 
 mod claims;
+mod fit;
+mod fit_rules;
 mod hint;
 mod inputs;
+mod lengths;
 mod look;
 mod mismatch;
 mod places;
@@ -17,6 +20,7 @@ mod text_hint;
 mod word;
 
 pub use claims::hint_of_claims;
+pub use fit::Fit;
 pub use hint::Hint;
 pub use inputs::{hint_of_counts, hint_of_inputs, hint_of_rom};
 pub use look::Look;

@@ -2,6 +2,7 @@
 ghost use Rattle.std.specs.Fmt.{WritesOnOk};
 ghost use Rattle.movie_hints.specs.HintTexts.{lengths_text};
 
+use crate::fit::Fit;
 use std::fmt;
 use vcs_machine::{HexByte, HexWord};
 
@@ -48,6 +49,7 @@ pub enum Expected {
     },
     NoLatches,
     OneBank,
+    Fit(Fit),
     /// The bits of the switches that are always set.
     SetBits,
     /// No bit but those of the two buttons.
@@ -147,6 +149,7 @@ impl fmt::Display for Expected {
             Expected::OneTo { most } => write!(f, "1 to {most}"),
             Expected::NoLatches => write!(f, "0, as VBLANK has no bit 6"),
             Expected::OneBank => write!(f, "0, as the cartridge has one bank"),
+            Expected::Fit(fit) => write!(f, "{fit}"),
             Expected::SetBits => write!(f, "bits 2, 4 and 5"),
             Expected::ButtonBits => write!(f, "no bit outside of 03"),
             Expected::FrameAfter { before, last } => {

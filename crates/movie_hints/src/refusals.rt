@@ -5,13 +5,13 @@ ghost use Rattle.movie_hints.specs.Hints.{Explains, TellsBeginning, TellsInput, 
 ghost use Rattle.movie_hints.specs.Hints.{TellsMistake, TellsState, extra_of};
 
 use crate::hint::Hint;
+use crate::lengths::is_some_length;
 use crate::look::Look;
 use crate::mismatch::{Expected, Field, Found};
 use crate::places::{BOARD_AT, Places, byte_at, four_at, length_place, two_at};
 use crate::plain_text::is_text;
 use crate::state_rules::broken_number;
 use movie_file::{MOST_CHECKPOINTS, MovieError, has_wide_length, header_length, most_frames};
-use riot_map::Cart;
 
 /// What a file looks like that doesn't begin as a movie does.
 fn without_magic(bytes: &[u8]) -> Hint
@@ -21,7 +21,7 @@ fn without_magic(bytes: &[u8]) -> Hint
         Hint::Looks(look)
     } else if is_text(bytes) {
         Hint::Text
-    } else if Cart::is_length(bytes.len()) {
+    } else if is_some_length(bytes.len()) {
         Hint::LooksLikeCartridge
     } else {
         let found = Found::Mark(four_at(bytes, 0));

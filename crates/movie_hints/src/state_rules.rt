@@ -2,6 +2,7 @@
 ghost use Rattle.std.specs.Prelude.{IfSome};
 ghost use Rattle.movie_hints.specs.Hints.{TellsState};
 
+use crate::fit_rules::broken_fit;
 use crate::hint::Hint;
 use crate::mismatch::{Expected, Field, Found};
 use crate::places::{Places, byte_at, two_at};
@@ -216,8 +217,7 @@ fn broken_bank_bytes(bytes: &[u8], at: usize, places: Places, board: &'static Bo
     broken_bank_byte(bytes, at, places, board, BankByte::Third)
 }
 
-/// The same by the chip's rules. A number that is to be 0, since the others leave no room for it, is
-/// passed over.
+/// The same by the chip's rules.
 fn broken_by_chip(bytes: &[u8], at: usize, places: Places, board: &'static Board) -> Option<Hint>
     ensures { IfSome result (TellsState bytes.now) }
 {
@@ -232,6 +232,9 @@ fn broken_by_chip(bytes: &[u8], at: usize, places: Places, board: &'static Board
     let tia = at.saturating_add(CHIP_TIA_NUMBERS_AT);
     let blank = byte_at(bytes, tia.saturating_add(1));
     if let Some(hint) = broken_latches(bytes, blank, tia.saturating_add(54)) {
+        return Some(hint);
+    }
+    if let Some(hint) = broken_fit(bytes, at) {
         return Some(hint);
     }
     broken_bank_bytes(bytes, at, places, board)

@@ -5,11 +5,11 @@ ghost use Rattle.movie_hints.specs.Hints.{IsTrueOfText, TellsStorage, TellsWhole
 
 use crate::hint::Hint;
 use crate::inputs::look_of;
+use crate::lengths::is_some_length;
 use crate::plain_text::{is_frame_number, is_text, is_utf16};
 use crate::word::Word;
 use input_text::{Mistake, line_at, meant_by, mistake_in};
 use movie_file::read_inputs;
-use riot_map::Cart;
 use std::alloc::Global;
 use thiserror::Error;
 
@@ -74,7 +74,7 @@ fn hint_of_whole(alloc: Global, bytes: &[u8]) -> Option<Hint>
     if read_inputs(alloc, bytes).is_ok() {
         return Some(Hint::LooksLikeBytes);
     }
-    if Cart::is_length(bytes.len()) && !is_text(bytes) {
+    if is_some_length(bytes.len()) && !is_text(bytes) {
         return Some(Hint::Exchanged);
     }
     hint_of_storage(bytes)
