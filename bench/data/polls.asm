@@ -1,4 +1,4 @@
-; Frames that wait for the timer nearly all the time, by each loop whose rounds the program passes at once.
+; Frames that wait for the timer nearly all the time, by each loop of LDA whose rounds the program passes at once.
 ; dasm polls.asm -f3 -opolls.rom; vcs_check make polls.rom polls.txt --text --every 300 --out polls.a26m, where polls.txt is '300'.
         processor 6502
 VSYNC   = $00
