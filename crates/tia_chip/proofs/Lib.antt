@@ -4,6 +4,7 @@ pub mod CalmChanged
 pub mod CalmClocks
 pub mod CalmPairs
 pub mod ClocksLemmas
+pub mod ColourClocks
 pub mod LatchedLines
 pub mod LineClockLemmas
 pub mod LineLemmas

@@ -1,5 +1,5 @@
 -- The line's clock after many clocks, and WSYNC, which changes nothing.
-use Rattle.std.proofs.Common.{◌≡◌, ◌∙◌, ℕ, zero, suc, ◌+◌, ◌%◌, ◌<◌, ◌==◌, Option, Some, None, false, refl, ap, arith}
+use Rattle.std.proofs.Common.{◌≡◌, ◌∙◌, ℕ, zero, suc, ◌+◌, ◌%◌, ◌<◌, ◌==◌, Bool, Option, Some, None, true, false, refl, ap, arith, if◌then◌else◌}
 use Rattle.std.proofs.lemmas.Bool.{cond_both}
 use Rattle.std.specs.Fn.{iterate}
 use Rattle.tia_chip.specs.AtRest.{awaits_rsync, is_rsync}
@@ -59,6 +59,24 @@ later zero t k few = omega arith
 later (suc n) t k few =
     let once = ahead t k few in
     later n (after_clock t) once.rsync (omega (arith, once.clock)) ∙ (omega (arith, once.clock))
+
+-- ---- no RSYNC comes
+clock-unsynced : (t : TiaState) → awaits_rsync t.waiting ≡ false → awaits_rsync (after_clock t).waiting ≡ false
+unfolding after_clock
+clock-unsynced t k =
+    let write = with_waited_write t in
+    let same = pixel-same t in
+    let waiting = (next-way (latched (at_pixel t))).0 ∙ same.0 ∙ hmove_in-waiting write.hmove write in
+    ap awaits_rsync waiting ∙ waited-rsync t.waiting t refl k
+
+pub unsynced : (n : ℕ) (t : TiaState) → awaits_rsync t.waiting ≡ false → awaits_rsync (iterate after_clock n t).waiting ≡ false
+unsynced zero t k = k
+unsynced (suc n) t k = unsynced n (after_clock t) (clock-unsynced t k)
+
+-- a clock is told only where none is on its way
+pub told-unsynced : (b : Bool) (x y : ℕ) → (if b then None else Some x) ≡ Some y → b ≡ false
+told-unsynced true x y e = absurd cc
+told-unsynced false x y e = refl
 
 -- ---- WSYNC
 pub wsync-kept : (t : TiaState) (number v : ℕ) → register_of number ≡ Wsync → tia_after_write t number v ≡ t

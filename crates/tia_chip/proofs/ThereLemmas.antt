@@ -8,7 +8,7 @@ use Rattle.std.specs.Prelude.{nat_le, nat_lt}
 use Rattle.tia_chip.proofs.AtRestLemmas.{ball-unchanged, missile-unchanged, player-unchanged}
 use Rattle.tia_chip.proofs.ClocksLemmas.{iterate-add, sink-add}
 use Rattle.tia_chip.proofs.QuietAges.{alike-three}
-use Rattle.tia_chip.proofs.WaitingLemmas.{acts-clock, acts-pixel, free-waiting, none-stays, stays-none, waited-sink, waited-state}
+use Rattle.tia_chip.proofs.WaitingLemmas.{acts-clock, acts-pixel, free-waiting, late-pixel, late-state, late-write, none-stays, stays-none, waited-sink, waited-state, waiting-of}
 use Rattle.tia_chip.specs.Ball.{ball_after_step, is_ball_changed}
 use Rattle.tia_chip.specs.Blank.{is_in_blank}
 use Rattle.tia_chip.specs.Clock.{after_clock, at_line_start, at_next_clock, at_pixel, stepped, with_next_clock}
@@ -20,9 +20,9 @@ use Rattle.tia_chip.specs.Missile.{is_missile_changed}
 use Rattle.tia_chip.specs.Motion.{any_moves, ball_after_pulse, missile_after_pulse, player_after_pulse, pulsed, still_moves}
 use Rattle.tia_chip.specs.Player.{copy_after_step, counts_for_change, is_player_changed, looked_at_player, player_after_step}
 use Rattle.tia_chip.specs.Playfield.{with_playfield}
-use Rattle.tia_chip.specs.Private.Late.{BallRegisters, PlayerRegisters, Written, ball_registers, is_there, player_registers, waits_after, written_of}
-use Rattle.tia_chip.specs.Registers.{register_bits}
-use Rattle.tia_chip.specs.Write.{after_action, is_changed, player_after_write, with_changes, with_hmove_in, with_waited, with_waited_write, with_waited_writes}
+use Rattle.tia_chip.specs.Private.Late.{BallRegisters, PlayerRegisters, Written, acts_late, ball_registers, gives_way, is_there, player_registers, waits_after, written_of}
+use Rattle.tia_chip.specs.Registers.{delay_of, register_bits, register_of}
+use Rattle.tia_chip.specs.Write.{after_action, is_changed, player_after_write, tia_after_write, with_changes, with_hmove_in, with_waited, with_waited_write, with_waited_writes}
 use Rattle.tia_chip.specs.declared.ball.Ball.{Ball}
 use Rattle.tia_chip.specs.declared.missile.Missile.{Missile}
 use Rattle.tia_chip.specs.declared.player.Player.{Player}
@@ -241,3 +241,40 @@ there-sink drawn sink t w n h there =
           ap (λ (k : ℕ). sink_after_clocks drawn sink k (bare t)) (sym sum) ∙ (past-sink drawn sink t w m h there ∙ ap (λ (k : ℕ). sink_after_clocks drawn sink k t) sum)
       | inr l ↦ waited-sink drawn sink t w n h l
     ]
+
+pub there-dot : (t : TiaState) (w : Waiting) (n : ℕ) → t.waiting ≡ Some w → is_there w.register w.value (written_of t) ≡ true
+    → pixel_of (at_pixel (iterate after_clock n (bare t))) ≡ pixel_of (at_pixel (iterate after_clock n t))
+there-dot t w n h there = elim (cases_lt n w.clocks) [
+  | inl l ↦ let whole : record t { waiting = Some w } ≡ t = ap (λ o. record t { waiting = o }) (sym h) in
+      sym (late-pixel n w.clocks 0 (bare t) w refl l (omega arith)) ∙ ap (λ (x : TiaState). pixel_of (at_pixel (iterate after_clock n x))) whole
+  | inr l ↦ elim (cases_lt w.clocks n) [
+    | inl m ↦ let k : ℕ = n - w.clocks - 1 in
+        let sum : w.clocks + suc k ≡ n = omega arith in
+        ap (λ (i : ℕ). pixel_of (at_pixel (iterate after_clock i (bare t)))) (sym sum)
+        ∙ (ap (λ (x : TiaState). pixel_of (at_pixel x)) (past-state t w k h there) ∙ ap (λ (i : ℕ). pixel_of (at_pixel (iterate after_clock i t))) sum)
+    | inr m ↦ let now : w.clocks ≡ n = omega arith in
+        ap (λ (i : ℕ). pixel_of (at_pixel (iterate after_clock i (bare t)))) (sym now)
+        ∙ (ap pixel_of (sym (when-acting t w h there).pixel) ∙ ap (λ (i : ℕ). pixel_of (at_pixel (iterate after_clock i t))) now)
+  ]
+]
+
+-- ---- a write that is put on its way where none is, or one that changes nothing
+there-late : (lag number v : ℕ) (t : TiaState) (w new : Waiting) → t.waiting ≡ Some w → is_there w.register w.value (written_of t) ≡ true → acts_late (register_of number) ≡ true
+    → new ≡ waiting-of (register_of number) v (lag + delay_of (register_of number)) → iterate after_clock lag (record t { waiting = Some new }) ≡ tia_after_write (iterate after_clock lag t) number v
+unfolding tia_after_write
+there-late lag number v t w new h there l e =
+    let r = register_of number in
+    let now = Some (waiting-of r v (delay_of r)) in
+    late-state lag number v (bare t) new refl l e
+    ∙ (late-write r v (iterate after_clock lag (bare t)) l
+    ∙ (ap (λ (x : TiaState). record x { waiting = now }) (there-state t w lag h there) ∙ sym (late-write r v (iterate after_clock lag t) l)))
+
+pub way-late : (o : Option Waiting) (lag number v : ℕ) (t : TiaState) (new : Waiting) → t.waiting ≡ o → gives_way o (written_of t) ≡ true → acts_late (register_of number) ≡ true
+    → new ≡ waiting-of (register_of number) v (lag + delay_of (register_of number)) → iterate after_clock lag (record t { waiting = Some new }) ≡ tia_after_write (iterate after_clock lag t) number v
+way-late None lag number v t new h way l e = late-state lag number v t new h l e
+way-late (Some w) lag number v t new h way l e = there-late lag number v t w new h way l e
+
+pub way-dot : (o : Option Waiting) (n lag d : ℕ) (t : TiaState) (new : Waiting) → t.waiting ≡ o → gives_way o (written_of t) ≡ true → n < lag → new.clocks ≡ lag + d
+    → pixel_of (at_pixel (iterate after_clock n (record t { waiting = Some new }))) ≡ pixel_of (at_pixel (iterate after_clock n t))
+way-dot None n lag d t new h way l e = late-pixel n lag d t new h l e
+way-dot (Some w) n lag d t new h way l e = late-pixel n lag d (bare t) new refl l e ∙ there-dot t w n h way

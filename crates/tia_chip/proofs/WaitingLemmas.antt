@@ -70,7 +70,7 @@ next-on w h t =
     ∙ of-both (t.clock == 227) (at_next_line t) (without_rest (at_next_clock t)) (λ x. on w h x)
 
 -- a clock once the writes have waited
-without-writes : TiaState → TiaState
+unfoldable pub without-writes : TiaState → TiaState
 without-writes t = with_next_clock (latched (stepped (with_playfield (pulsed (at_line_start t)))))
 
 clock-on : (w : Option Waiting) (h : Option ℕ) (t : TiaState) → without-writes (on w h t) ≡ on w h (without-writes t)
@@ -82,7 +82,7 @@ clock-on w h t =
     ∙ (ap (λ (x : TiaState). with_next_clock (latched x)) (step-on w h (with_playfield (pulsed (at_line_start t))))
     ∙ next-on w h (latched (stepped (with_playfield (pulsed (at_line_start t))))))))
 
-clock-is : (t : TiaState) → after_clock t ≡ without-writes (with_waited_writes t)
+pub clock-is : (t : TiaState) → after_clock t ≡ without-writes (with_waited_writes t)
 unfolding after_clock at_pixel without-writes
 clock-is t = refl
 
@@ -279,7 +279,7 @@ acts-sink drawn sink t w (suc n) h z l =
     ∙ ap (λ (x : TiaState). sink_after_clocks drawn (with_pixel drawn sink (pixel_of x)) n (after_clock t)) (acts-pixel t w h z)
 
 -- ---- a write that is put on its way before the clocks that come before it
-late-write : (r : Register) (v : ℕ) (t : TiaState) → acts_late r ≡ true
+pub late-write : (r : Register) (v : ℕ) (t : TiaState) → acts_late r ≡ true
     → after_register_write r v t ≡ record t { waiting = Some (record { register = r; value = v; clocks = delay_of r }) }
 late-write Rsync v t h = cc
 late-write r v t h = cc

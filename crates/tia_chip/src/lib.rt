@@ -6,6 +6,7 @@
 mod ball;
 mod bits;
 mod calm;
+mod chip;
 mod collision;
 mod colour;
 mod copies;

@@ -1,6 +1,6 @@
 //! The registers that are written, by name and number, and the bits that each keeps.
 ghost use Rattle.std.specs.Prelude.{◌≡◌, ◌≤◌};
-ghost use Rattle.tia_chip.specs.Private.Late.{acts_late, keeps_shown};
+ghost use Rattle.tia_chip.specs.Private.Late.{acts_late, is_colour, keeps_shown};
 ghost use Rattle.tia_chip.specs.Registers.{register_of, mask_of, register_bits, delay_of, value_by_delay};
 
 use crate::bits::has_bit;
@@ -157,6 +157,17 @@ impl Register {
             Register::Enam0 | Register::Enam1 | Register::Enabl => true,
             Register::Hmp0 | Register::Hmp1 => true,
             Register::Hmm0 | Register::Hmm1 | Register::Hmbl | Register::Hmclr => true,
+            _ => false,
+        }
+    }
+
+    /// Whether it is one of the four colours.
+    #[inline(always)]
+    pub(crate) fn is_colour(self) -> bool
+        ensures { result ≡ is_colour self }
+    {
+        match self {
+            Register::Colup0 | Register::Colup1 | Register::Colupf | Register::Colubk => true,
             _ => false,
         }
     }

@@ -7,7 +7,7 @@ use Rattle.tia_chip.specs.declared.register.Register.{Register}
 use Rattle.tia_chip.specs.declared.register.Register.TheVariants.{Refp0, Refp1, Pf0, Pf1, Pf2, Grp0, Grp1}
 use Rattle.tia_chip.specs.declared.register.Register.TheVariants.{Enam0, Enam1, Enabl, Hmp0, Hmp1, Hmm0}
 use Rattle.tia_chip.specs.declared.register.Register.TheVariants.{Hmm1, Hmbl, Hmclr, Nusiz0, Nusiz1, Vdelp0}
-use Rattle.tia_chip.specs.declared.register.Register.TheVariants.{Vdelp1, Vdelbl, Resmp0, Resmp1}
+use Rattle.tia_chip.specs.declared.register.Register.TheVariants.{Vdelp1, Vdelbl, Resmp0, Resmp1, Colup0, Colup1, Colupf, Colubk}
 use Rattle.tia_chip.specs.declared.state.TiaState.{TiaState}
 use Rattle.tia_chip.specs.declared.waiting.Waiting.{Waiting}
 
@@ -108,3 +108,22 @@ is_there _ v w = false
 -- a write on its way after n clocks, if it is still on its way
 abbrev pub waits_after : ℕ → Waiting → Option Waiting
 waits_after n w = if nat_le n w.clocks then Some (record w { clocks = w.clocks - n }) else None
+
+-- ---- writes that don't wait for clocks
+-- whether this register is one of the four colours
+abbrev pub is_colour : Register → Bool
+is_colour Colup0 = true
+is_colour Colup1 = true
+is_colour Colupf = true
+is_colour Colubk = true
+is_colour _ = false
+
+-- whether no write is on its way, or one that acts late
+abbrev pub is_free : Option Waiting → Bool
+is_free None = true
+is_free (Some w) = acts_late w.register
+
+-- whether no write is on its way, or one that is known to change nothing
+abbrev pub gives_way : Option Waiting → Written → Bool
+gives_way None w = true
+gives_way (Some x) w = is_there x.register x.value w

@@ -1,29 +1,26 @@
-use Rattle.std.proofs.Common.{◌≡◌, ◌∙◌, ℕ, ◌+◌, true, None, ap, sym}
-use Rattle.tia_chip.proofs.Strides.{none-of}
-use Rattle.tia_chip.proofs.WaitingLemmas.{late-pixel, late-state, waiting-of}
-use Rattle.tia_chip.specs.Private.Late.{acts_late}
-use Rattle.tia_chip.specs.Registers.{delay_of, register_of}
-use Rattle.tia_chip.specs.declared.register.Register.{Register}
+use Rattle.std.proofs.Common.{◌∙◌, ◌+◌, ap, sym, arith}
+use Rattle.tia_chip.proofs.ClocksLemmas.{iterate-add}
+use Rattle.tia_chip.specs.Clock.{after_clock, at_pixel}
+use Rattle.tia_chip.specs.Colour.{pixel_of}
+use Rattle.tia_chip.specs.Write.{effect_of, tia_after_write}
+use Rattle.tia_chip.specs.declared.state.TiaState.{TiaState}
 use Rattle.tia_chip.proofs.tia.Tia.write_late.Goals as goal
 
 pub returns-clause-state : goal.returns-clause-state
 returns-clause-state c = λ h.
-    let t = c.self.inside.state in
-    let lag = c.args.lag in
-    let v = c.args.value in
-    let r = c.from_number-register.result in
-    let none : t.waiting ≡ None = none-of t.waiting (sym c.is_some.ensures ∙ c.if-is_some.false) in
-    let late : acts_late (register_of c.args.number) ≡ true =
-    ap (λ (x : Register). acts_late x) (sym c.from_number-register.ensures) ∙ (sym c.acts_late.ensures ∙ c.if-not-acts_late.false)
-    in
-    let w : waiting-of r v (lag + c.delay.result) ≡ waiting-of (register_of c.args.number) v (lag + delay_of (register_of c.args.number)) =
-    ap (λ (d : ℕ). waiting-of r v (lag + d)) c.delay.ensures.value ∙ ap (λ (x : Register). waiting-of x v (lag + delay_of x)) c.from_number-register.ensures
-    in
-    rw (← c.self.view_is) (late-state lag c.args.number v t (waiting-of r v (lag + c.delay.result)) none late w)
+    let n = c.self.inside.behind in
+    let both = iterate-add after_clock n c.args.lag in
+    rw (← c.self.view_is) (sym (both c.write_late.new.self)
+    ∙ (c.write_late.ensures.state h ∙ ap (λ (x : TiaState). tia_after_write x c.args.number c.args.value) (both c.self.inside.chip)))
 
 pub returns-clause-pixels : goal.returns-clause-pixels
-returns-clause-pixels c = λ h n l.
-    let t = c.self.inside.state in
-    let lag = c.args.lag in
-    let none : t.waiting ≡ None = none-of t.waiting (sym c.is_some.ensures ∙ c.if-is_some.false) in
-    rw (← c.self.view_is) (late-pixel n lag c.delay.result t (waiting-of c.from_number-register.result c.args.value (lag + c.delay.result)) none l (λ i. lag + c.delay.result))
+returns-clause-pixels c = λ h k l.
+    let n = c.self.inside.behind in
+    let both = iterate-add after_clock n k in
+    rw (← c.self.view_is) (sym (ap (λ (x : TiaState). pixel_of (at_pixel x)) (both c.write_late.new.self))
+    ∙ (c.write_late.ensures.pixels h (n + k) (omega arith) ∙ ap (λ (x : TiaState). pixel_of (at_pixel x)) (both c.self.inside.chip)))
+
+pub returns-clause-effect : goal.returns-clause-effect
+returns-clause-effect c = λ h.
+    let both = iterate-add after_clock c.self.inside.behind c.args.lag c.self.inside.chip in
+    rw (← c.self.view_is) (sym (ap (λ (x : TiaState). effect_of x c.args.number c.args.value) both) ∙ c.write_late.ensures.effect h)

@@ -2,7 +2,7 @@ use Rattle.std.proofs.Common.{◌≡◌}
 use Rattle.std.specs.Fn.{iterate}
 use Rattle.tia_chip.specs.Clock.{after_clock}
 use Rattle.tia_chip.specs.Clocks.{sink_after_clocks}
-use Rattle.tia_chip.proofs.tia.Tia.clocks.Given as goal
+use Rattle.tia_chip.proofs.chip.Chip.clocks.Given as goal
 
 -- the clocks that are left lead to where all of them do
 abbrev pub invariant-loop-left : goal.invariant-loop-left

@@ -4,7 +4,7 @@ use Rattle.tia_chip.proofs.WaitingLemmas.{acts-sink, acts-state}
 use Rattle.tia_chip.specs.Clock.{after_clock}
 use Rattle.tia_chip.specs.Clocks.{sink_after_clocks}
 use Rattle.tia_chip.specs.declared.state.TiaState.{TiaState}
-use Rattle.tia_chip.proofs.tia.Tia.some_clocks.Goals as goal
+use Rattle.tia_chip.proofs.chip.Chip.some_clocks.Goals as goal
 
 pub returns-then-waiting-eq0-clause-state : goal.returns-then-waiting-eq0-clause-state
 returns-then-waiting-eq0-clause-state g c =

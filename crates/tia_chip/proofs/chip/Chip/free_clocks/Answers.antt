@@ -1,6 +1,6 @@
 use Rattle.std.proofs.Common.{sym, arith}
 use Rattle.tia_chip.proofs.RestLemmas.{sink-some}
-use Rattle.tia_chip.proofs.tia.Tia.free_clocks.Goals as goal
+use Rattle.tia_chip.proofs.chip.Chip.free_clocks.Goals as goal
 
 pub returns-then-is_at_rest_in_blank-clause-sink : goal.returns-then-is_at_rest_in_blank-clause-sink
 returns-then-is_at_rest_in_blank-clause-sink g c =

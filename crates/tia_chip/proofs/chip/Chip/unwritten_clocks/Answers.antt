@@ -2,7 +2,7 @@ use Rattle.std.proofs.Common.{◌≡◌, ◌∙◌, true, Some, ap}
 use Rattle.tia_chip.proofs.ThereLemmas.{there-sink, there-state}
 use Rattle.tia_chip.specs.Private.Late.{is_there, waits_after, written_of}
 use Rattle.tia_chip.specs.declared.state.TiaState.{TiaState}
-use Rattle.tia_chip.proofs.tia.Tia.unwritten_clocks.Goals as goal
+use Rattle.tia_chip.proofs.chip.Chip.unwritten_clocks.Goals as goal
 
 pub returns-clause-state : goal.returns-clause-state
 returns-clause-state g c =

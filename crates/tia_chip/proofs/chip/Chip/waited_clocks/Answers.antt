@@ -1,7 +1,7 @@
 use Rattle.std.proofs.Common.{◌≡◌, ◌∙◌, ◌-◌, Some, ap, arith}
 use Rattle.tia_chip.proofs.WaitingLemmas.{waited-sink, waited-state}
 use Rattle.tia_chip.specs.declared.state.TiaState.{TiaState}
-use Rattle.tia_chip.proofs.tia.Tia.waited_clocks.Goals as goal
+use Rattle.tia_chip.proofs.chip.Chip.waited_clocks.Goals as goal
 
 pub returns-clause-state : goal.returns-clause-state
 returns-clause-state g c =
