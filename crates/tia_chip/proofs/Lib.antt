@@ -5,6 +5,7 @@ pub mod CalmClocks
 pub mod CalmPairs
 pub mod ClocksLemmas
 pub mod ColourClocks
+pub mod FieldParts
 pub mod LatchedLines
 pub mod LineClockLemmas
 pub mod LineLemmas

@@ -1,5 +1,5 @@
-//! Single bits.
-ghost use Rattle.std.specs.Prelude.{◌≡◌, ◌<◌, ◌==◌, ◌&&◌, ◌||◌, ℕ};
+//! Single bits, and words of bits.
+ghost use Rattle.std.specs.Prelude.{◌≡◌, ◌<◌, ◌≤◌, ◌+◌, ◌-◌, ◌==◌, ◌&&◌, ◌||◌, ℕ, nat_le, nat_lt};
 ghost use Rattle.tia_chip.specs.Bits.{has_bit};
 
 /// Whether bit `index` of `value` is set.
@@ -27,4 +27,34 @@ pub fn with_pixel(word: u64, index: u8, is_lit: bool) -> u64
     ensures { (k : ℕ) → has_bit result k ≡ (has_bit word k || (is_lit && (k == index))) }
 {
     if is_lit { word | (1 << index) } else { word }
+}
+
+/// The first bits of a word.
+#[inline(always)]
+pub fn first_bits(word: u64, count: u8) -> u64
+    requires { count ≤ 64 }
+    ensures { (k : ℕ) → has_bit result k ≡ (nat_lt k count && has_bit word k) }
+{
+    if count < 64 {
+        word & ((1 << count) - 1)
+    } else {
+        word
+    }
+}
+
+/// A word from bit `count` on.
+#[inline(always)]
+pub fn bits_from(word: u64, count: u8) -> u64
+    ensures { (k : ℕ) → has_bit result k ≡ has_bit word (count + k) }
+{
+    if count < 64 { word >> count } else { 0 }
+}
+
+/// A word whose bits begin at `place`.
+#[inline(always)]
+pub fn bits_at(word: u64, place: u8) -> u64
+    requires { place < 64 }
+    ensures { (k : ℕ) → has_bit result k ≡ (nat_lt k 64 && (nat_le place k && has_bit word (k - place))) }
+{
+    word << place
 }

@@ -1,6 +1,6 @@
 //! Many colour clocks at once, where no write is on its way and nothing moves.
 ghost use Rattle.std.specs.Fn.{iterate};
-ghost use Rattle.std.specs.Prelude.{◌≡◌, ◌<◌, ◌≤◌, ◌+◌, ◌-◌, ◌^◌, ◌&&◌, ◌==◌, ℕ, nat_lt, true};
+ghost use Rattle.std.specs.Prelude.{◌≡◌, ◌<◌, ◌≤◌, ◌+◌, ◌-◌, ◌^◌, ◌%◌, ◌&&◌, ◌==◌, ℕ, nat_le, nat_lt, true};
 ghost use Rattle.tia_chip.specs.Bits.{has_bit as bit_of};
 ghost use Rattle.tia_chip.specs.Calm.{IsCalm, IsCalmInPicture, after_steps, blank_end};
 ghost use Rattle.tia_chip.specs.Clock.{after_clock, without_seen};
@@ -9,7 +9,7 @@ ghost use Rattle.tia_chip.specs.Private.Lines.{AreLit, IsAtRestInBlank, IsLatche
 ghost use Rattle.tia_chip.specs.Private.Lines.{lit_at, lit_somewhere, shown_playfield, unlatched_line, with_line};
 ghost use Rattle.tia_chip.specs.Private.Ranges.{IsInRange};
 
-use crate::bits::{has_bit, has_pixel, with_pixel};
+use crate::bits::{bits_at, bits_from, first_bits, has_bit};
 use crate::collision::has_pairs;
 use crate::colour::colour;
 use crate::line::{Line, shown_mirrored, shown_playfield};
@@ -219,20 +219,29 @@ fn playfield_in(tia: &TiaState, pixels: u64, count: u8) -> u64
     let mut lit = 0;
     let mut k = 0;
     while k < count && pixels >> k != 0 {
-        lit = with_pixel(lit, k, is_in_playfield(tia, pixels, first, k));
-        k += 1;
+        let alike = (4 - (first + k) % 4).min(count - k);
+        lit |= playfield_part(tia, pixels, first, k, alike);
+        k += alike;
     }
     lit
 }
 
-/// Whether the playfield lights the k-th pixel from `first` on, if that is in a set.
+/// Which of so many pixels from the k-th on, which show one bit of the playfield, it lights, of those that
+/// are in a set.
 #[inline(always)]
-fn is_in_playfield(tia: &TiaState, pixels: u64, first: u8, k: u8) -> bool
-    requires few { k < 64 }
+fn playfield_part(tia: &TiaState, pixels: u64, first: u8, k: u8, count: u8) -> u64
+    requires some { 1 ≤ count }
+    requires most { k + count ≤ 64 }
+    requires alike { (first + k) % 4 + count ≤ 4 }
     requires end { first + k < 160 }
-    ensures { result ≡ (bit_of pixels k && shown_playfield tia.now first (first + k)) }
+    ensures { (j : ℕ) → bit_of result j ≡ ((nat_le k j && nat_lt j (k + count)) && (bit_of pixels j && shown_playfield tia.now first (first + j))) }
 {
-    has_pixel(pixels, k) && shown_playfield(tia, first, first + k)
+    let part = first_bits(bits_from(pixels, k), count);
+    if part != 0 && shown_playfield(tia, first, first + k) {
+        bits_at(part, k)
+    } else {
+        0
+    }
 }
 
 /// The playfield and the collisions after so many clocks that latch no pair.

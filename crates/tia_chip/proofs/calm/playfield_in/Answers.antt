@@ -1,8 +1,8 @@
-use Rattle.std.proofs.Common.{◌≡◌, ◌∙◌, ℕ, ◌+◌, ◌-◌, ◌/◌, ◌^◌, ◌≤◌, ◌==◌, ◌&&◌, ◌||◌, inl, inr, Bool, false, arith, sym, ap}
+use Rattle.std.proofs.Common.{◌≡◌, ◌∙◌, ℕ, ◌+◌, ◌-◌, ◌/◌, ◌^◌, ◌≤◌, ◌&&◌, inl, inr, Bool, false, arith, sym, ap}
 use Rattle.std.proofs.lemmas.Bool.{and_left, and_right, cases_lt, lt-ltb}
 use Rattle.std.specs.Prelude.{nat_lt}
 use Rattle.tia_core.proofs.MaskWordLemmas.{bit-high, bit-zero}
-use Rattle.tia_chip.proofs.WordLemmas.{one-more}
+use Rattle.tia_chip.proofs.FieldParts.{part-more}
 use Rattle.tia_chip.specs.Bits.{has_bit}
 use Rattle.tia_chip.specs.Private.Lines.{shown_playfield}
 use Rattle.tia_chip.proofs.calm.playfield_in.Goals as goal
@@ -10,13 +10,10 @@ use Rattle.tia_chip.proofs.calm.playfield_in.Goals as goal
 pub loop-k-preserved : goal.loop-k-preserved
 loop-k-preserved c =
     let t = c.args.tia.now in
-    let k = c.loop-k.k in
-    let shown : ℕ → Bool = λ j. has_bit c.args.pixels j && shown_playfield t (t.clock - 68) (t.clock - 68 + j) in
     record {
       most = omega arith;
-      bits = λ j. c.with_pixel-lit.ensures j
-          ∙ (ap (λ (b : Bool). b || (c.is_in_playfield.result && (j == k))) (c.loop-k.invariant.bits j)
-          ∙ (ap (λ (b : Bool). (nat_lt j k && shown j) || (b && (j == k))) c.is_in_playfield.ensures ∙ one-more j k shown));
+      bits = λ j. part-more c.loop-k.lit c.playfield_part-lit.result c.loop-k.k c.min-alike.result j (has_bit c.args.pixels j && shown_playfield t (t.clock - 68) (t.clock - 68 + j))
+          (c.loop-k.invariant.bits j) (c.playfield_part-lit.ensures j);
     }
 
 pub returns-after-loop-k : goal.returns-after-loop-k

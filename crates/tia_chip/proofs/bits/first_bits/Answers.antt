@@ -2,7 +2,7 @@ use Rattle.std.proofs.Common.{◌≡◌, ◌∙◌, ℕ, ◌&&◌, ap, arith}
 use Rattle.std.specs.Prelude.{nat_lt}
 use Rattle.tia_chip.proofs.WordLemmas.{bits-all, bits-kept}
 use Rattle.tia_chip.specs.Bits.{has_bit}
-use Rattle.tia_chip.proofs.copies.first_bits.Goals as goal
+use Rattle.tia_chip.proofs.bits.first_bits.Goals as goal
 
 pub returns-then-count-lt64 : goal.returns-then-count-lt64
 returns-then-count-lt64 c = λ k. bits-kept c.args.word c.args.count k c.if-count-lt64.true
