@@ -403,6 +403,14 @@ impl<'a, S: Paint> Console<'a, S> {
         self.cart.banks()
     }
 
+    /// Lets the TIA see all cycles. It is the same console, and what its TIA is asked next takes less.
+    pub fn settle(&mut self)
+        ensures { self.new ≡ self.old }
+    {
+        self.devices.catch_up_tia();
+        self.devices.tia.settle();
+    }
+
     /// The scanline of the frame, counted from 0, and the cycle of it at which the beam stands.
     pub fn beam(&self) -> (u16, u8)
         ensures line { result.0 ≡ self.now.tia.line }

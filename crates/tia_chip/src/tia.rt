@@ -157,6 +157,15 @@ impl Tia {
         }
     }
 
+    /// Passes the clocks that were only counted. It is the same TIA, and what it is asked next takes less.
+    pub fn settle(&mut self)
+        ensures { self.new ≡ self.old }
+    {
+        if self.behind > 0 {
+            catch_up(&mut self.chip, &mut self.behind);
+        }
+    }
+
     /// Writes a register, of whose number the low six bits count, between two clocks.
     pub fn write(&mut self, number: u8, value: u8) -> Effect
         ensures value { self.new ≡ tia_after_write self.old number value }
