@@ -351,8 +351,21 @@ impl Ball {
     {
         if self.is_quiet(ctrlpf) {
             self.pass_quiet(ctrlpf, count);
-            return;
+        } else {
+            self.pass_strides(ctrlpf, count);
         }
+    }
+
+    /// The same by its strides.
+    #[inline(never)]
+    fn pass_strides(&mut self, ctrlpf: u8, count: u8)
+        requires range { IsBallInRange self.old }
+        requires still { self.old.moves ≡ false }
+        requires some { 1 ≤ count }
+        requires most { count ≤ 160 }
+        ensures value { self.new ≡ record (iterate (ball_after_step ctrlpf false) count self.old) { seen = false } }
+        ensures range { IsBallInRange self.new }
+    {
         let mut passed = 0;
         while passed < count {
             passed += self.stride(ctrlpf, count - passed);

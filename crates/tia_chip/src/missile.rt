@@ -513,8 +513,21 @@ impl Missile {
     {
         if self.is_quiet(nusiz) {
             self.pass_quiet(nusiz, count);
-            return;
+        } else {
+            self.pass_strides(nusiz, clock, count);
         }
+    }
+
+    /// The same by its strides.
+    #[inline(never)]
+    fn pass_strides(&mut self, nusiz: u8, clock: u8, count: u8)
+        requires range { IsMissileInRange self.old }
+        requires still { self.old.moves ≡ false }
+        requires some { 1 ≤ count }
+        requires most { count ≤ 160 }
+        ensures value { self.new ≡ record (iterate (missile_after_step nusiz clock) count self.old) { seen = false } }
+        ensures range { IsMissileInRange self.new }
+    {
         let mut passed = 0;
         while passed < count {
             passed += self.stride(nusiz, clock, count - passed);

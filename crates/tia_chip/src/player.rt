@@ -627,8 +627,20 @@ impl Player {
     {
         if self.is_quiet() {
             self.pass_quiet(count);
-            return;
+        } else {
+            self.pass_strides(count);
         }
+    }
+
+    /// The same by its strides.
+    #[inline(never)]
+    fn pass_strides(&mut self, count: u8)
+        requires range { IsPlayerInRange self.old }
+        requires some { 1 ≤ count }
+        requires most { count ≤ 160 }
+        ensures value { self.new ≡ record (iterate player_after_step count self.old) { seen = false } }
+        ensures range { IsPlayerInRange self.new }
+    {
         let mut passed = 0;
         while passed < count {
             passed += self.stride(count - passed);

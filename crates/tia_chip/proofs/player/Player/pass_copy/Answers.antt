@@ -1,23 +1,7 @@
-use Rattle.std.proofs.Common.{◌∙◌, false, ap, sym, arith}
-use Rattle.std.specs.Fn.{iterate}
-use Rattle.tia_chip.proofs.ClocksLemmas.{iterate-add}
+use Rattle.std.proofs.Common.{◌∙◌, false, ap, sym}
 use Rattle.tia_chip.proofs.QuietPlayers.{player-steps}
-use Rattle.tia_chip.specs.Player.{player_after_step}
 use Rattle.tia_chip.specs.declared.player.Player.{Player}
 use Rattle.tia_chip.proofs.player.Player.pass_copy.Goals as goal
-
-pub loop-passed-preserved : goal.loop-passed-preserved
-loop-passed-preserved c =
-    let before = c.args.self.now in
-    let n = c.loop-passed.passed in
-    let r = c.stride-passed.result in
-    let made = c.stride-passed.ensures in
-    let held = c.loop-passed.invariant in
-    record {
-      most = omega arith;
-      value = made.value ∙ (ap (iterate player_after_step r) held.value ∙ sym (iterate-add player_after_step n r before));
-      range = made.range;
-    }
 
 pub returns-then-is_quiet-clause-value : goal.returns-then-is_quiet-clause-value
 returns-then-is_quiet-clause-value c =

@@ -2,7 +2,7 @@ use Rattle.std.proofs.Common.{◌≡◌, ◌-◌, ◌≤◌, false}
 use Rattle.std.specs.Fn.{iterate}
 use Rattle.tia_chip.specs.Ball.{ball_after_step}
 use Rattle.tia_chip.specs.Private.Ranges.{IsBallInRange}
-use Rattle.tia_chip.proofs.ball.Ball.pass_copy.Given as goal
+use Rattle.tia_chip.proofs.ball.Ball.pass_strides.Given as goal
 
 abbrev pub invariant-loop-passed : goal.invariant-loop-passed
 invariant-loop-passed l = record {
