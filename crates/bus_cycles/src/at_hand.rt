@@ -42,20 +42,21 @@ pub(crate) fn short_at<B: CycleBus>(bus: &B, at: u16) -> Option<ShortInstruction
 /// The cycles up to the last that reads, and what it reads of page zero, if it does.
 #[inline(always)]
 fn begin<B: CycleBus>(bus: &mut B, at: u16, short: ShortInstruction) -> u8
+    requires { IsShort B.meaning (B.state bus.old) at short }
     ensures byte { result ≡ byte_read B.meaning (B.state bus.old) at short.low short.class }
     ensures bus { B.state bus.new ≡ begun B.meaning (B.state bus.old) at short.low short.class }
 {
     match short.class {
         Class::Implied | Class::Accumulator => {
-            bus.read_two(at, Purpose::Discarded);
+            bus.read_two(at, short.low, Purpose::Discarded);
             0
         }
         Class::ZeroPageRead => {
-            bus.read_two(at, Purpose::Code);
+            bus.read_two(at, short.low, Purpose::Code);
             bus.read(short.low as u16, Purpose::Data)
         }
         _ => {
-            bus.read_two(at, Purpose::Code);
+            bus.read_two(at, short.low, Purpose::Code);
             0
         }
     }

@@ -48,9 +48,10 @@ pub trait CycleBus {
         None
     }
 
-    /// Two cycles that read, the first a byte of the program and the second the byte after it. The
-    /// bytes are thrown away.
-    fn read_two(&mut self, address: u16, purpose: Purpose)
+    /// Two cycles that read, the first a byte of the program and the second the byte after it, which is
+    /// known.
+    fn read_two(&mut self, address: u16, _second: u8, purpose: Purpose)
+        requires { _second ≡ meaning.read_value (meaning.after_read (state self.old) Purpose.Code address) ((address + 1) % 65536) }
         ensures { state self.new ≡ meaning.after_read (meaning.after_read (state self.old) Purpose.Code address) purpose ((address + 1) % 65536) }
     {
         let _ = self.read(address, Purpose::Code);

@@ -1,5 +1,5 @@
 //! A board: how the bytes of a cartridge are wired.
-ghost use Rattle.std.specs.Prelude.{ℕ, ◌≡◌, ◌==◌, ◌<◌, ◌%◌, IfSome, bytes_eq, find, length, map, option_map, slice_get, take};
+ghost use Rattle.std.specs.Prelude.{ℕ, ◌≡◌, ◌==◌, ◌<◌, ◌≤◌, ◌%◌, IfSome, bytes_eq, find, length, map, option_map, slice_get, take};
 ghost use Rattle.std.specs.List.{list_all};
 ghost use Rattle.cart_board.specs.Board.{row_of, index_of, has_length, last_bank};
 ghost use Rattle.cart_board.specs.Access.{banks_selected, banks_of_byte, is_at, is_in};
@@ -154,7 +154,8 @@ impl Board {
     /// Accesses to addresses below this one, of 13 lines, select nothing, and are in no window; 0 of a
     /// board of which that isn't known.
     pub(crate) fn plain_to(&self) -> u16
-        ensures { (at : ℕ) → at % 8192 < result → IsPlainAt (row_of self.now) at }
+        ensures plain { (at : ℕ) → at % 8192 < result → IsPlainAt (row_of self.now) at }
+        ensures most { result ≤ 8192 }
     {
         if self.trigger.is_none() && self.windows.is_empty() && self.has_high_hot_spots() {
             FIRST_HIGH

@@ -4,7 +4,8 @@ ghost use Rattle.cart_board.specs.Board.{has_length};
 ghost use Rattle.cart_board.specs.Boards.{IsBoard};
 ghost use Rattle.cart_board.specs.CartState.{CartState, are_banks, fits, is_bank, cart_at_power_on, cart_target};
 ghost use Rattle.cart_board.specs.CartState.{cart_read, after_select, after_write, after_byte};
-ghost use Rattle.cart_board.specs.Plain.{SelectsNothing, ShowsRom};
+ghost use Rattle.cart_board.specs.Plain.{SelectsNothing, ShowsRom, ShowsRomPair};
+ghost use Rattle.cart_board.specs.Private.Kept.{IsPlainAt};
 
 use crate::bank::BankByte;
 use crate::cart::Cart;
@@ -38,6 +39,8 @@ pub struct MappedCart<'a> {
     rest: usize,
     /// Addresses below this one, of 13 lines, select nothing and are in no window.
     plain_to: u16,
+    /// So many of those, from the first of the cartridge on, have another behind them.
+    pairs: u16,
 }
 
 impl<'a> Model for MappedCart<'a> {
@@ -48,7 +51,7 @@ impl<'a> Model for MappedCart<'a> {
 
     ghost view = { λ c. record { cartridge = c.cart.now; banks = c.banks; ram = c.ram.items } };
 
-    ghost invariant = { λ c. IsKept c.cart.now c.banks c.ram.items c.rest c.plain_to };
+    ghost invariant = { λ c. IsKept c.cart.now c.banks c.ram.items c.rest c.plain_to c.pairs };
 }
 
 impl<'a> MappedCart<'a> {
@@ -73,6 +76,7 @@ impl<'a> MappedCart<'a> {
             ram,
             rest,
             plain_to,
+            pairs: plain_to.saturating_sub(4097),
         }
     }
 
@@ -138,6 +142,7 @@ impl<'a> MappedCart<'a> {
             ram,
             rest: _,
             plain_to: _,
+            pairs: _,
         } = self;
         (banks, ram)
     }
@@ -203,6 +208,16 @@ impl<'a> MappedCart<'a> {
         address % 8192 < self.plain_to
     }
 
+    /// The byte of ROM that a read from a plain address of the cartridge gives.
+    #[inline(always)]
+    fn plain_rom(&self, address: u16) -> u8
+        requires { IsPlainAt self.now.cartridge.row address }
+        ensures { ShowsRom self.now address result }
+    {
+        let mask = self.cart.board().rest.mask;
+        self.cart.bytes()[self.rest + (address & mask) as usize]
+    }
+
     /// The byte of ROM that a read from an address of the cartridge gives, if it surely selects
     /// nothing. None says nothing.
     #[inline(always)]
@@ -210,8 +225,19 @@ impl<'a> MappedCart<'a> {
         ensures { IfSome result (λ byte. ShowsRom self.now address byte) }
     {
         if address % 8192 < self.plain_to {
-            let mask = self.cart.board().rest.mask;
-            Some(self.cart.bytes()[self.rest + (address & mask) as usize])
+            Some(self.plain_rom(address))
+        } else {
+            None
+        }
+    }
+
+    /// The same of an address and of the one after it, if both are of the cartridge.
+    #[inline(always)]
+    pub fn rom_pair_at(&self, address: u16) -> Option<(u8, u8)>
+        ensures { IfSome result (λ bytes. ShowsRomPair self.now address bytes.0 bytes.1) }
+    {
+        if address.wrapping_add(4096) % 8192 < self.pairs {
+            Some((self.plain_rom(address), self.plain_rom(address + 1)))
         } else {
             None
         }

@@ -1,14 +1,31 @@
 -- Reads of ROM that do nothing but let their cycle pass.
-use Rattle.std.proofs.Common.{◌≡◌, ◌∙◌, ℕ, ◌+◌, ◌%◌, true, false, Option, Some, None, refl, sym, ap}
+use Rattle.std.proofs.Common.{◌≡◌, ◌∙◌, ℕ, ◌+◌, ◌/◌, ◌%◌, true, false, Option, Some, None, refl, sym, ap}
 use Rattle.std.specs.Prelude.{IfSome}
 use Rattle.bus_cycles.specs.Buses.{AtHand}
 use Rattle.bus_cycles.specs.declared.bus.Purpose.{Purpose}
 use Rattle.bus_cycles.specs.declared.bus.Purpose.TheVariants.{Code}
 use Rattle.cart_board.specs.CartState.{CartState, after_byte, after_write, cart_read}
+use Rattle.cart_board.specs.Plain.{ShowsRomPair}
+use Rattle.riot_map.specs.Place.{place_of}
 use Rattle.riot_map.specs.declared.places.Place.{Place}
+use Rattle.riot_map.specs.declared.places.Place.TheVariants.{Cart}
 use Rattle.chip_machine.specs.Consoles.{Console, after_cycle, after_stop, byte_at, byte_found, found_at, meaning_of, read_at}
 use Rattle.chip_machine.specs.Consoles.{seen, selected}
 use Rattle.chip_machine.specs.Private.AtHand.{AreAtHand, IsRomAt, ReadsAlone}
+
+-- A12 high leads to the cartridge.
+high-place : (at : ℕ) → at / 4096 % 2 ≡ 1 → place_of at ≡ Cart at
+high-place at high = rw high refl
+
+pub pair-at-hand : {S : Type 0} (c : Console S) (at : ℕ) (bytes : Option (ℕ × ℕ)) → c.is_stopped ≡ false
+    → IfSome bytes (λ bytes. ShowsRomPair c.cart at bytes.0 bytes.1)
+    → IfSome bytes (λ bytes. AreAtHand c at bytes.0 bytes.1)
+pair-at-hand c at (Some bytes) free pair = record {
+  free = free;
+  first_rom = record { place = high-place at pair.first_high; shown = pair.first_shown };
+  second_rom = record { place = high-place ((at + 1) % 65536) pair.second_high; shown = pair.second_shown };
+}
+pair-at-hand c at None free pair = tt
 
 module _ {S : Type 0} where
   rom-read : (c : Console S) (at byte : ℕ) → IsRomAt c.cart at byte → ReadsAlone c at byte
@@ -67,10 +84,13 @@ module _ {S : Type 0} (drawn : S → ℕ → ℕ → ℕ → S) where
       second_is = rw (one.after Code) (sym two.value);
     }
 
-    pub two-read : (purpose : Purpose)
-        → record (after_cycle drawn (after_cycle drawn c)) { byte = second }
+    pub two-read : (purpose : Purpose) (byte : ℕ)
+        → byte ≡ (meaning_of drawn).read_value ((meaning_of drawn).after_read c Code at) ((at + 1) % 65536)
+        → record (after_cycle drawn (after_cycle drawn c)) { byte = byte }
         ≡ (meaning_of drawn).after_read ((meaning_of drawn).after_read c Code at) purpose ((at + 1) % 65536)
-    two-read purpose = rw (one.after Code) (sym (two.after purpose))
+    two-read purpose byte is =
+        ap (λ (byte : ℕ). record (after_cycle drawn (after_cycle drawn c)) { byte = byte }) (is ∙ sym at-hand.second_is)
+        ∙ rw (one.after Code) (sym (two.after purpose))
 
   pub both-at-hand : (c : Console S) (at : ℕ) (bytes : Option (ℕ × ℕ)) → IfSome bytes (λ bytes. AreAtHand c at bytes.0 bytes.1)
       → IfSome bytes (λ bytes. AtHand (meaning_of drawn) c at bytes.0 bytes.1)

@@ -40,10 +40,13 @@ pub struct Console<'a, S: Paint> {
     has_ended: bool,
     /// The RIOT's ports or timer were read.
     has_read_riot: bool,
+    /// One of these has come true since `clear_event`.
+    has_event: bool,
 }
 
 impl<'a, S: Paint> Model for Console<'a, S> {
     ghost use Rattle.chip_machine.specs.Consoles.{Console as ConsoleOf};
+    ghost use Rattle.chip_machine.specs.Private.Events.{AreTold};
     ghost use Rattle.chip_machine.specs.Private.Lag.{IsBehind, cycles_seen, riot_seen, sink_seen};
     ghost use Rattle.chip_machine.specs.Private.Lag.{tia_seen};
 
@@ -60,7 +63,7 @@ impl<'a, S: Paint> Model for Console<'a, S> {
       cycles = cycles_seen c.devices;
     } };
 
-    ghost invariant = { λ c. IsBehind c.devices };
+    ghost invariant = { λ c. (IsBehind c.devices) × (AreTold c.is_stopped c.has_ended c.has_event) };
 }
 
 impl<'a, S: Paint> CycleBus for Console<'a, S> {
@@ -99,9 +102,9 @@ impl<'a, S: Paint> CycleBus for Console<'a, S> {
     }
 
     #[inline(always)]
-    fn read_two(&mut self, address: u16, purpose: Purpose) {
+    fn read_two(&mut self, address: u16, second: u8, purpose: Purpose) {
         match self.two_at(address) {
-            Some((_, second)) => {
+            Some(_) => {
                 self.two_cycles();
                 self.byte = second;
             }
@@ -130,6 +133,7 @@ impl<'a, S: Paint> Console<'a, S> {
             is_stopped: false,
             has_ended: false,
             has_read_riot: false,
+            has_event: false,
         }
     }
 
@@ -185,17 +189,16 @@ impl<'a, S: Paint> Console<'a, S> {
         }
     }
 
-    /// Two such bytes one after the other, if the processor isn't stopped.
+    /// Two bytes of ROM one after the other, if reads of them select nothing and the processor isn't
+    /// stopped. None says nothing.
     #[inline(always)]
     fn two_at(&self, address: u16) -> Option<(u8, u8)>
         ensures { IfSome result (λ bytes. AreAtHand self.now address bytes.0 bytes.1) }
     {
-        if self.is_stopped {
+        if self.has_event {
             return None;
         }
-        let first = self.rom_at(address)?;
-        let second = self.rom_at(address.wrapping_add(1))?;
-        Some((first, second))
+        self.cart.rom_pair_at(address)
     }
 
     /// The byte of ROM or of the RIOT's memory at an address, if an access that reads it leaves it on
@@ -300,14 +303,24 @@ impl<'a, S: Paint> Console<'a, S> {
         byte
     }
 
-    /// Whether WSYNC has stopped the processor, the frame has ended, or the RIOT was read since that was
-    /// asked.
+    /// Whether WSYNC has stopped the processor, the frame has ended, or the RIOT was read since the last
+    /// `clear_event`.
     #[inline(always)]
     pub fn has_event(&self) -> bool
         ensures no_stop { result ≡ false → self.now.is_stopped ≡ false }
         ensures no_end { result ≡ false → self.now.has_ended ≡ false }
     {
-        self.is_stopped | self.has_ended | self.has_read_riot
+        self.has_event
+    }
+
+    /// What there was of that has been dealt with.
+    #[inline(always)]
+    pub fn clear_event(&mut self)
+        requires no_stop { self.old.is_stopped ≡ false }
+        requires no_end { self.old.has_ended ≡ false }
+        ensures { self.new ≡ self.old }
+    {
+        self.has_event = false;
     }
 
     /// Whether the RIOT's ports or timer were read since this was asked.
@@ -333,6 +346,7 @@ impl<'a, S: Paint> Console<'a, S> {
             Place::Ram(index) => self.devices.riot.ram(index),
             Place::Io(register) => {
                 self.has_read_riot = true;
+                self.has_event = true;
                 self.devices.catch_up_riot();
                 self.devices.riot.read(register)
             }
@@ -345,8 +359,14 @@ impl<'a, S: Paint> Console<'a, S> {
     {
         match self.devices.write_tia(register, value) {
             Effect::Nothing => {}
-            Effect::Sync => self.is_stopped = true,
-            Effect::FrameEnd => self.has_ended = true,
+            Effect::Sync => {
+                self.has_event = true;
+                self.is_stopped = true;
+            }
+            Effect::FrameEnd => {
+                self.has_event = true;
+                self.has_ended = true;
+            }
         }
     }
 
@@ -443,6 +463,7 @@ impl<'a, S: Paint> Console<'a, S> {
             is_stopped: _,
             has_ended: _,
             has_read_riot: _,
+            has_event: _,
         } = self;
         devices.catch_up_tia();
         devices.catch_up_riot();

@@ -26,6 +26,8 @@ fn pass_rounds<S: Paint>(cpu: Cpu, console: &mut Console<S>) -> Cpu
         ≡ stop_of S.drawn (record { registers = result; console = console.new }) }
     ensures cartridge { console.new.cart.cartridge ≡ console.old.cart.cartridge }
     ensures later { console.old.cycles ≤ console.new.cycles }
+    ensures running { console.new.is_stopped ≡ false }
+    ensures going { console.new.has_ended ≡ false }
 {
     let cycles = console.cycles();
     let Some(poll) = console.poll_at(cpu.pc) else {
@@ -54,6 +56,8 @@ fn pass_rounds_after_read<S: Paint>(cpu: &mut RunningCpu, console: &mut Console<
         ≡ stop_of S.drawn (record { registers = cpu.new; console = console.new }) }
     ensures cartridge { console.new.cart.cartridge ≡ console.old.cart.cartridge }
     ensures later { console.old.cycles ≤ console.new.cycles }
+    ensures running { console.new.is_stopped ≡ false }
+    ensures going { console.new.has_ended ≡ false }
 {
     if console.has_read_riot() {
         *cpu = RunningCpu::of(&pass_rounds(cpu.registers(), console));
@@ -82,6 +86,7 @@ pub fn run_until_stop<S: Paint>(
                 return Ok(());
             }
             pass_rounds_after_read(cpu, console);
+            console.clear_event();
         }
     }
     Err(FaultKind::Overlong)

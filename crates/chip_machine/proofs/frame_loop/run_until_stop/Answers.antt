@@ -1,5 +1,6 @@
-use Rattle.std.proofs.Common.{◌<◌, ◌∙◌, sym, arith}
-use Rattle.chip_machine.specs.Frame.{Machine, overlong_cycles}
+use Rattle.std.proofs.Common.{◌<◌, ◌∙◌, sym, ap, arith}
+use Rattle.chip_machine.specs.Consoles.{Console}
+use Rattle.chip_machine.specs.Frame.{Machine, overlong_cycles, stop_of}
 use Rattle.chip_machine.proofs.CartLemmas.{step-cart, stop-kept}
 use Rattle.chip_machine.proofs.FrameOutcomes.{stop-kind}
 use Rattle.chip_machine.proofs.LagLemmas.{no-stop}
@@ -44,7 +45,8 @@ loop-cpu-smaller-then-has_event g c =
     let there = went drawn m c.in_default.field-0 c.step_running.new.cpu c.step_running.new.bus c.pass_stop.new.self (sym c.in_default.is ∙ c.step_running.ensures.answer)
     c.step_running.ensures.registers c.step_running.ensures.bus c.pass_stop.ensures in
     let later = turn-more drawn m next short there in
-    omega (arith, later, short, c.pass_rounds_after_read.ensures.later)
+    let same-cycles = ap (λ (x : Console g.row.S.Denot). x.cycles) c.clear_event.ensures in
+    omega (arith, later, short, c.pass_rounds_after_read.ensures.later, same-cycles)
 
 pub loop-cpu-preserved-then-has_event : goal.loop-cpu-preserved-then-has_event
 loop-cpu-preserved-then-has_event g c =
@@ -59,8 +61,9 @@ loop-cpu-preserved-then-has_event g c =
     record {
       stops = c.loop-cpu.invariant.stops
           ∙ stops-later drawn m next short there (sym c.has_ended.ensures ∙ c.if-has_ended.false)
-          ∙ c.pass_rounds_after_read.ensures.stops;
-      cartridge = c.pass_rounds_after_read.ensures.cartridge ∙ rw c.pass_stop.ensures (stop-kept drawn k c.step_running.new.bus (rw c.step_running.ensures.bus after));
+          ∙ c.pass_rounds_after_read.ensures.stops
+          ∙ ap (λ (x : Console g.row.S.Denot). stop_of drawn (record { registers = c.pass_rounds_after_read.new.cpu; console = x })) (sym c.clear_event.ensures);
+      cartridge = ap (λ (x : Console g.row.S.Denot). x.cart.cartridge) c.clear_event.ensures ∙ c.pass_rounds_after_read.ensures.cartridge ∙ rw c.pass_stop.ensures (stop-kept drawn k c.step_running.new.bus (rw c.step_running.ensures.bus after));
     }
 
 pub loop-cpu-smaller : goal.loop-cpu-smaller

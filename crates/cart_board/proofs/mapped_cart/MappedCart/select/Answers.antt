@@ -25,4 +25,6 @@ invariant_of-self c =
           ∙ ap (λ (all : List ℕ). start_of row.rest (length all) c.select.new.banks) c.bytes-bytes.ensures.value;
       small = search rules;
       plain = c.self.invariant.plain;
+      most_plain = c.self.invariant.most_plain;
+      paired = c.self.invariant.paired;
     }

@@ -2,13 +2,13 @@ use Rattle.std.proofs.Common.{ap, refl}
 use Rattle.cart_board.specs.Board.{Row}
 use Rattle.cart_board.specs.CartState.{CartState}
 use Rattle.cart_board.proofs.PlainLemmas.{plain-shows}
-use Rattle.cart_board.proofs.mapped_cart.MappedCart.rom_at.Goals as goal
+use Rattle.cart_board.proofs.mapped_cart.MappedCart.plain_rom.Goals as goal
 
-pub returns-then-address-self : goal.returns-then-address-self
-returns-then-address-self c =
+pub returns : goal.returns
+returns c =
     let inside = c.self.inside in
     let here : CartState = record { cartridge = inside.cart.now; banks = inside.banks; ram = inside.ram.items } in
     let mask = ap (λ (row : Row). row.rest.mask) c.board.ensures.value in
     rw (← c.self.view_is)
-    (plain-shows here c.args.address _ (c.self.invariant.plain c.args.address c.if-address-self.true)
+    (plain-shows here c.args.address _ (rw (← c.self.view_is) at c.requires)
     (rw (c.bytes.ensures.value, mask, c.self.invariant.begins) refl))
