@@ -150,7 +150,7 @@ step-any nusiz clock other m e =
     let same : m ≡ unmoved m = ap (λ (moves : Bool). record m { moves = moves }) e in
     ap (λ (q : Missile). missile_after_step nusiz clock q) same ∙ (unmoved-any nusiz clock other m ∙ ap (λ (q : Missile). missile_after_step nusiz other q) (sym same))
 
-steps-any : (nusiz other-nusiz clock other : ℕ) (m : Missile) (n : ℕ) → nusiz ≡ other-nusiz → m.moves ≡ false
+pub steps-any : (nusiz other-nusiz clock other : ℕ) (m : Missile) (n : ℕ) → nusiz ≡ other-nusiz → m.moves ≡ false
     → iterate (missile_after_step nusiz clock) n m ≡ iterate (missile_after_step other-nusiz other) n m
 steps-any nusiz other-nusiz clock other m zero s e = refl
 steps-any nusiz other-nusiz clock other m (suc n) s e =

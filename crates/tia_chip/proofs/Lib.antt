@@ -13,6 +13,10 @@ pub mod LitSteps
 pub mod MeetLemmas
 pub mod NumberLemmas
 pub mod OtherPairs
+pub mod OwedLemmas
+pub mod OwedReads
+pub mod OwedSteps
+pub mod OwedWrites
 pub mod PulseClocks
 pub mod PulseLemmas
 pub mod QuietAges

@@ -2,4 +2,5 @@
 -- can be read without them.
 pub mod Late
 pub mod Lines
+pub mod Owed
 pub mod Ranges

@@ -1,12 +1,15 @@
 //! Many colour clocks at once, where no write is on its way and nothing moves.
 ghost use Rattle.std.specs.Fn.{iterate};
-ghost use Rattle.std.specs.Prelude.{◌≡◌, ◌<◌, ◌≤◌, ◌+◌, ◌-◌, ◌^◌, ◌%◌, ◌&&◌, ◌==◌, ℕ, nat_le, nat_lt, true};
+ghost use Rattle.std.specs.Prelude.{◌≡◌, ◌<◌, ◌≤◌, ◌+◌, ◌-◌, ◌^◌, ◌%◌, ◌&&◌, ◌==◌, ℕ, nat_le, nat_lt, true, false};
 ghost use Rattle.tia_chip.specs.Bits.{has_bit as bit_of};
-ghost use Rattle.tia_chip.specs.Calm.{IsCalm, IsCalmInPicture, after_steps, blank_end};
-ghost use Rattle.tia_chip.specs.Clock.{after_clock, without_seen};
+ghost use Rattle.tia_chip.specs.Calm.{IsCalm, IsCalmInPicture, blank_end};
+ghost use Rattle.tia_chip.specs.Clock.{after_clock};
 ghost use Rattle.tia_chip.specs.Clocks.{sink_after_clocks};
 ghost use Rattle.tia_chip.specs.Private.Lines.{AreLit, IsAtRestInBlank, IsLatched, gone_on, line_of};
-ghost use Rattle.tia_chip.specs.Private.Lines.{lit_at, lit_somewhere, shown_playfield, unlatched_line, with_line};
+ghost use Rattle.tia_chip.specs.Private.Lines.{lit_at, lit_somewhere, shown_playfield, unlatched_line};
+ghost use Rattle.tia_chip.specs.Private.Lines.{with_beam, with_line};
+ghost use Rattle.tia_chip.specs.Motion.{any_moves};
+ghost use Rattle.tia_chip.specs.Private.Owed.{MayOwe, settled};
 ghost use Rattle.tia_chip.specs.Private.Ranges.{IsInRange};
 
 use crate::bits::{bits_at, bits_from, first_bits, has_bit};
@@ -16,9 +19,13 @@ use crate::line::{Line, shown_mirrored, shown_playfield};
 use crate::lit_pixels::LitPixels;
 use crate::motion::any_moves;
 use crate::objects::Objects;
+use crate::owed::Owed;
 use crate::sight::{forget_seen, look};
 use crate::state::TiaState;
 use tia_core::Paint;
+
+/// Where more steps than these are owed, no others are.
+const MOST_OWED: u32 = 1_000_000;
 
 /// Whether no write is on its way, nothing moves, and pixels are put where the line's clock is.
 #[inline(always)]
@@ -41,19 +48,22 @@ pub fn is_at_rest_in_blank(tia: &TiaState) -> bool
 }
 
 /// So many clocks up to the picture that do nothing.
-pub fn pass_blank(tia: &mut TiaState, count: u8)
+#[inline(always)]
+pub fn pass_blank(tia: &mut TiaState, owed: &mut Owed, count: u8)
     requires range { IsInRange tia.old }
     requires rest { IsAtRestInBlank tia.old }
     requires some { 1 ≤ count }
     requires end { tia.old.clock + count ≤ 68 }
-    ensures value { tia.new ≡ iterate after_clock count tia.old }
+    ensures value { settled owed.new tia.new ≡ iterate after_clock count (settled owed.old tia.old) }
     ensures range { IsInRange tia.new }
+    ensures still { any_moves tia.new ≡ false }
 {
     let leaves = leaves_blank(tia, count);
     tia.clock += count;
     tia.beam = tia.clock;
     if leaves {
         forget_seen(tia);
+        owed.looked = false;
     }
 }
 
@@ -76,21 +86,24 @@ pub fn is_calm_in_picture(tia: &TiaState) -> bool
 
 /// The first of so many clocks of the picture, at least one, whose pixels go to the sink in order. How
 /// many they were.
-pub fn pass_some<S: Paint>(tia: &mut TiaState, most: u8, sink: &mut S) -> u8
+#[inline(always)]
+pub fn pass_some<S: Paint>(tia: &mut TiaState, owed: &mut Owed, most: u8, sink: &mut S) -> u8
     requires range { IsInRange tia.old }
     requires calm { IsCalmInPicture tia.old }
     requires some { 1 ≤ most }
     requires end { tia.old.clock + most ≤ 228 }
     ensures some { 1 ≤ result }
     ensures most { result ≤ most }
-    ensures value { tia.new ≡ iterate after_clock result tia.old }
-    ensures sink { sink.new ≡ sink_after_clocks S.drawn sink.old result tia.old }
+    ensures value { settled owed.new tia.new ≡ iterate after_clock result (settled owed.old tia.old) }
+    ensures sink { sink.new ≡ sink_after_clocks S.drawn sink.old result (settled owed.old tia.old) }
     ensures range { IsInRange tia.new }
+    ensures still { MayOwe owed.new tia.new }
 {
-    if !sink.keeps() && latches_none(tia) {
-        pass_latched(tia, most);
+    if !sink.keeps() && owed.steps <= MOST_OWED && latches_none(tia) {
+        pass_latched(tia, owed, most);
         return most;
     }
+    owed.settle(tia);
     let count = most.min(64);
     pass_picture(tia, count, sink);
     count
@@ -104,36 +117,23 @@ fn latches_none(tia: &TiaState) -> bool
 }
 
 /// So many clocks of the picture that latch no pair, wherever the objects are.
-fn pass_latched(tia: &mut TiaState, count: u8)
+#[inline(always)]
+fn pass_latched(tia: &mut TiaState, owed: &mut Owed, count: u8)
     requires range { IsInRange tia.old }
     requires calm { IsCalmInPicture tia.old }
     requires latched { IsLatched tia.old (lit_somewhere tia.old) }
+    requires few { owed.old.steps ≤ 1000000 }
     requires some { 1 ≤ count }
     requires end { tia.old.clock + count ≤ 228 }
-    ensures value { tia.new ≡ iterate after_clock count tia.old }
+    ensures value { settled owed.new tia.new ≡ iterate after_clock count (settled owed.old tia.old) }
     ensures range { IsInRange tia.new }
+    ensures still { any_moves tia.new ≡ false }
 {
     let line = unlatched_line(tia, count);
-    pass_objects(tia, count);
-    end_pixels(tia, line, count);
-}
-
-/// So many steps of each object. What was seen of them is forgotten.
-fn pass_objects(tia: &mut TiaState, count: u8)
-    requires range { IsInRange tia.old }
-    requires calm { IsCalm tia.old }
-    requires some { 1 ≤ count }
-    requires most { count ≤ 160 }
-    ensures value { tia.new ≡ without_seen (after_steps count tia.old) }
-    ensures range { IsInRange tia.new }
-{
-    let (clock, ctrlpf) = (tia.clock, tia.ctrlpf);
-    let (nusiz0, nusiz1) = (tia.player0.nusiz, tia.player1.nusiz);
-    tia.player0.pass(count);
-    tia.player1.pass(count);
-    tia.missile0.pass(nusiz0, clock, count);
-    tia.missile1.pass(nusiz1, clock, count);
-    tia.ball.pass(ctrlpf, count);
+    set_line(tia, line);
+    let is_over = move_beam(tia, count);
+    owed.steps += u32::from(count);
+    owed.looked = is_over;
 }
 
 /// So many clocks of the picture, at most 64, whose pixels go to the sink in order.
@@ -163,11 +163,22 @@ fn end_pixels(tia: &mut TiaState, line: Line, count: u8)
     ensures value { tia.new ≡ gone_on count (with_line line tia.old) }
     ensures range { IsInRange tia.new }
 {
+    set_line(tia, line);
+    go_on(tia, count);
+}
+
+/// Sets the playfield and the collisions after some clocks.
+#[inline(always)]
+fn set_line(tia: &mut TiaState, line: Line)
+    requires range { IsInRange tia.old }
+    requires collisions { line.collisions < 2 ^ 15 }
+    ensures value { tia.new ≡ with_line line tia.old }
+    ensures range { IsInRange tia.new }
+{
     tia.playfield = line.playfield;
     tia.mirrored = line.mirrored;
     tia.collisions = line.collisions;
     tia.changed = false;
-    go_on(tia, count);
 }
 
 /// The playfield and the collisions after so many clocks, whose pixels go to the sink in order.
@@ -245,6 +256,7 @@ fn playfield_part(tia: &TiaState, pixels: u64, first: u8, k: u8, count: u8) -> u
 }
 
 /// The playfield and the collisions after so many clocks that latch no pair.
+#[inline(always)]
 fn unlatched_line(tia: &TiaState, count: u8) -> Line
     requires picture { 68 ≤ tia.now.clock }
     requires some { 1 ≤ count }
@@ -291,14 +303,30 @@ fn go_on(tia: &mut TiaState, count: u8)
     ensures value { tia.new ≡ gone_on count tia.old }
     ensures range { IsInRange tia.new }
 {
-    if tia.clock + count == 228 {
+    if move_beam(tia, count) {
         look(tia);
+    } else {
+        forget_seen(tia);
+    }
+}
+
+/// Moves the beam on by so many clocks of the picture. Whether the line is over.
+#[inline(always)]
+fn move_beam(tia: &mut TiaState, count: u8) -> bool
+    requires range { IsInRange tia.old }
+    requires end { tia.old.clock + count ≤ 228 }
+    ensures over { result ≡ (tia.old.clock + count == 228) }
+    ensures value { tia.new ≡ with_beam result count tia.old }
+    ensures range { IsInRange tia.new }
+{
+    if tia.clock + count == 228 {
         tia.clock = 0;
         tia.beam = 0;
         tia.line = tia.line.wrapping_add(1);
+        true
     } else {
-        forget_seen(tia);
         tia.clock += count;
         tia.beam = tia.clock;
+        false
     }
 }

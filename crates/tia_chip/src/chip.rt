@@ -9,9 +9,10 @@ ghost use Rattle.tia_chip.specs.Colour.{pixel_of};
 ghost use Rattle.tia_chip.specs.Numbers.{is_settled, is_tia};
 ghost use Rattle.tia_chip.specs.PowerOn.{at_frame_start, tia_at_power_on, with_fire};
 ghost use Rattle.tia_chip.specs.Private.Late.{gives_way, is_free, is_there as is_there_of, written_of};
+ghost use Rattle.tia_chip.specs.Private.Owed.{MayOwe, settled};
 ghost use Rattle.tia_chip.specs.Private.Ranges.{IsInRange};
 ghost use Rattle.tia_chip.specs.Read.{tia_after_read, tia_read};
-ghost use Rattle.tia_chip.specs.Write.{effect_of, tia_after_write};
+ghost use Rattle.tia_chip.specs.Write.{after_register_write, effect_of, tia_after_write, with_waited_write};
 ghost use Rattle.tia_chip.specs.declared.effect.Effect.TheVariants.{Nothing};
 
 use crate::ball::Ball;
@@ -21,6 +22,7 @@ use crate::colour::pixel;
 use crate::effect::Effect;
 use crate::missile::Missile;
 use crate::motion::pulse;
+use crate::owed::{NO_STEPS, Owed};
 use crate::pixel::Pixel;
 use crate::player::Player;
 use crate::playfield::take;
@@ -37,17 +39,19 @@ use tia_core::{NoPaint, Paint};
 #[derive(Drop)]
 pub struct Chip {
     state: TiaState,
+    owed: Owed,
 }
 
 impl Model for Chip {
+    ghost use Rattle.tia_chip.specs.Private.Owed.{MayOwe, settled};
     ghost use Rattle.tia_chip.specs.Private.Ranges.{IsInRange};
     ghost use Rattle.tia_chip.specs.declared.state.TiaState.{TiaState};
 
     ghost Value = { TiaState };
 
-    ghost view = { λ a. a.state };
+    ghost view = { λ a. settled a.owed a.state };
 
-    ghost invariant = { λ a. IsInRange a.state };
+    ghost invariant = { λ a. IsInRange a.state × MayOwe a.owed a.state };
 }
 
 /// A player that was just switched on.
@@ -235,12 +239,40 @@ fn awaits_rsync(waiting: Option<Waiting>) -> bool
     }
 }
 
+/// The write that is on its way acts.
+fn act_owing(tia: &mut TiaState, owed: &mut Owed, waiting: Waiting)
+    requires waiting { tia.old.waiting ≡ Some waiting }
+    requires range { IsInRange tia.old }
+    requires still { MayOwe owed.old tia.old }
+    ensures value { settled owed.new tia.new ≡ with_waited_write (settled owed.old tia.old) }
+    ensures range { IsInRange tia.new }
+    ensures still { MayOwe owed.new tia.new }
+{
+    owed.settle_for(waiting.register, tia);
+    bring_on_write(tia);
+}
+
+/// Writes a register.
+fn write_owing(tia: &mut TiaState, owed: &mut Owed, register: Register, value: u8)
+    requires range { IsInRange tia.old }
+    requires still { MayOwe owed.old tia.old }
+    ensures value { settled owed.new tia.new ≡ after_register_write register value (settled owed.old tia.old) }
+    ensures range { IsInRange tia.new }
+    ensures still { MayOwe owed.new tia.new }
+{
+    owed.settle_for(register, tia);
+    write_register(tia, register, value);
+}
+
 impl Chip {
     /// A TIA that was just switched on.
     pub fn power_on() -> Self
         ensures { result ≡ tia_at_power_on }
     {
-        Chip { state: POWER_ON }
+        Chip {
+            state: POWER_ON,
+            owed: NO_STEPS,
+        }
     }
 
     /// The TIA of a state. None if its numbers aren't lawful, or if a record doesn't say all of it.
@@ -249,7 +281,10 @@ impl Chip {
         ensures { result ≡ (if is_tia state && is_settled state then Some state else None) }
     {
         if state.is_lawful() && state.is_settled() {
-            Some(Chip { state })
+            Some(Chip {
+                state,
+                owed: NO_STEPS,
+            })
         } else {
             None
         }
@@ -284,21 +319,27 @@ impl Chip {
     pub fn line(&self) -> u16
         ensures { result ≡ self.now.line }
     {
-        self.state().line
+        self.state.line
     }
 
     /// The same TIA again.
     pub fn copy(&self) -> Chip
         ensures value { result ≡ self.now }
     {
-        Chip { state: self.state }
+        Chip {
+            state: self.state,
+            owed: self.owed,
+        }
     }
 
     /// Its state.
     pub fn state(&self) -> TiaState
         ensures { result ≡ self.now }
     {
-        self.state
+        let mut state = self.state;
+        let mut owed = self.owed;
+        owed.settle(&mut state);
+        state
     }
 
     /// One colour clock, and the pixel that it puts.
@@ -307,6 +348,7 @@ impl Chip {
         ensures value { self.new ≡ after_clock self.old }
         ensures pixel { result ≡ pixel_of (at_pixel self.old) }
     {
+        self.owed.settle(&mut self.state);
         begin_clock(&mut self.state);
         let pixel = pixel(&self.state);
         latch(&mut self.state);
@@ -348,7 +390,7 @@ impl Chip {
             return self.unwritten_clocks(waiting, most, sink);
         }
         if waiting.clocks == 0 {
-            bring_on_write(&mut self.state);
+            act_owing(&mut self.state, &mut self.owed, waiting);
             return self.free_clocks(most, sink);
         }
         self.waited_clocks(waiting, most.min(u32::from(waiting.clocks)), sink)
@@ -402,11 +444,12 @@ impl Chip {
         let most = most.min(160) as u8;
         if is_at_rest_in_blank(&self.state) {
             let count = most.min(68 - self.state.clock);
-            pass_blank(&mut self.state, count);
+            pass_blank(&mut self.state, &mut self.owed, count);
             u32::from(count)
         } else if is_calm_in_picture(&self.state) {
             let most = most.min(228 - self.state.clock);
-            u32::from(pass_some(&mut self.state, most, sink))
+            let passed = pass_some(&mut self.state, &mut self.owed, most, sink);
+            u32::from(passed)
         } else {
             self.put_clock(sink);
             1
@@ -432,7 +475,7 @@ impl Chip {
     {
         let register = Register::from_number(number);
         let effect = effect(&self.state, register, value);
-        write_register(&mut self.state, register, value);
+        write_owing(&mut self.state, &mut self.owed, register, value);
         effect
     }
 

@@ -20,6 +20,7 @@ mod missile;
 mod motion;
 mod numbers;
 mod objects;
+mod owed;
 mod pixel;
 mod player;
 mod playfield;

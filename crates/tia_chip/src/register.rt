@@ -1,6 +1,7 @@
 //! The registers that are written, by name and number, and the bits that each keeps.
 ghost use Rattle.std.specs.Prelude.{◌≡◌, ◌≤◌};
 ghost use Rattle.tia_chip.specs.Private.Late.{acts_late, is_colour, keeps_shown};
+ghost use Rattle.tia_chip.specs.Private.Owed.{is_of_objects};
 ghost use Rattle.tia_chip.specs.Registers.{register_of, mask_of, register_bits, delay_of, value_by_delay};
 
 use crate::bits::has_bit;
@@ -184,6 +185,20 @@ impl Register {
             Register::Enam0 | Register::Enam1 | Register::Enabl => false,
             Register::Vdelp0 | Register::Vdelp1 | Register::Vdelbl => false,
             Register::Resmp0 | Register::Resmp1 => false,
+            _ => true,
+        }
+    }
+
+    /// Whether a write of it changes an object, or what its steps depend on.
+    #[inline(always)]
+    pub(crate) fn is_of_objects(self) -> bool
+        ensures { result ≡ is_of_objects self }
+    {
+        match self {
+            Register::Vsync | Register::Vblank | Register::Wsync | Register::Rsync => false,
+            Register::Colup0 | Register::Colup1 | Register::Colupf | Register::Colubk => false,
+            Register::Pf0 | Register::Pf1 | Register::Pf2 => false,
+            Register::Cxclr | Register::Ignored => false,
             _ => true,
         }
     }

@@ -102,7 +102,15 @@ unlatched_line n t =
 abbrev pub with_line : Line → TiaState → TiaState
 with_line l t = record t { playfield = l.playfield; mirrored = l.mirrored; collisions = l.collisions; changed = false }
 
--- a TIA whose beam has gone on by n clocks of the picture
+-- a TIA whose beam has moved on by n clocks of the picture, with which its line is over or not
+abbrev pub with_beam : Bool → ℕ → TiaState → TiaState
+with_beam is_over n t = record t {
+  clock = if is_over then 0 else t.clock + n;
+  beam = if is_over then 0 else t.clock + n;
+  line = if is_over then (t.line + 1) % 65536 else t.line;
+}
+
+-- the same, and what that makes of what was seen
 abbrev pub gone_on : ℕ → TiaState → TiaState
 gone_on n t =
     if t.clock + n == 228 then record (looked_at t) { clock = 0; beam = 0; line = (t.line + 1) % 65536 }

@@ -4,12 +4,13 @@ use Rattle.tia_chip.proofs.WaitingLemmas.{waiting-of}
 use Rattle.tia_chip.specs.Private.Late.{acts_late, gives_way, written_of}
 use Rattle.tia_chip.specs.Registers.{delay_of, register_of}
 use Rattle.tia_chip.specs.declared.register.Register.{Register}
+use Rattle.tia_chip.specs.Private.Owed.{settled}
 use Rattle.tia_chip.specs.declared.state.TiaState.{TiaState}
 use Rattle.tia_chip.proofs.chip.Chip.write_late.Goals as goal
 
 pub returns-clause-state : goal.returns-clause-state
 returns-clause-state c = λ h.
-    let t = c.self.inside.state in
+    let t = settled c.self.inside.owed c.self.inside.state in
     let lag = c.args.lag in
     let v = c.args.value in
     let r = c.from_number-register.result in
@@ -26,7 +27,7 @@ returns-clause-state c = λ h.
 
 pub returns-clause-pixels : goal.returns-clause-pixels
 returns-clause-pixels c = λ h n l.
-    let t = c.self.inside.state in
+    let t = settled c.self.inside.owed c.self.inside.state in
     let lag = c.args.lag in
     let way : gives_way t.waiting (written_of t) ≡ true =
     ap (λ (x : TiaState). gives_way x.waiting (written_of x)) c.self.view_is ∙ (sym c.gives_way.ensures ∙ c.if-not-gives_way.false)
