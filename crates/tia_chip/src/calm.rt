@@ -76,6 +76,7 @@ pub fn is_calm_in_picture(tia: &TiaState) -> bool
 
 /// The first of so many clocks of the picture, at least one, whose pixels go to the sink in order. How
 /// many they were.
+#[inline(never)]
 pub fn pass_some<S: Paint>(tia: &mut TiaState, most: u8, sink: &mut S) -> u8
     requires range { IsInRange tia.old }
     requires calm { IsCalmInPicture tia.old }
@@ -245,6 +246,7 @@ fn playfield_part(tia: &TiaState, pixels: u64, first: u8, k: u8, count: u8) -> u
 }
 
 /// The playfield and the collisions after so many clocks that latch no pair.
+#[inline(always)]
 fn unlatched_line(tia: &TiaState, count: u8) -> Line
     requires picture { 68 ≤ tia.now.clock }
     requires some { 1 ≤ count }
