@@ -141,6 +141,7 @@ fn act_hmclr(tia: &mut TiaState)
 }
 
 /// A write of a register acts.
+#[inline(always)]
 fn act(tia: &mut TiaState, register: Register, value: u8)
     requires { IsInRange tia.old }
     ensures value { tia.new ≡ acted register value tia.old }
@@ -226,6 +227,7 @@ fn notice(before: &TiaState, after: &mut TiaState)
 }
 
 /// A write acts, and what it changes is looked at.
+#[inline(always)]
 fn act_and_notice(tia: &mut TiaState, register: Register, value: u8)
     requires { IsInRange tia.old }
     ensures value { tia.new ≡ after_action register value tia.old }
@@ -297,6 +299,7 @@ pub fn write_register(tia: &mut TiaState, register: Register, value: u8)
 }
 
 /// Whether a write that is on its way is known to change nothing.
+#[inline(always)]
 pub fn is_there(tia: &TiaState, waiting: Waiting) -> bool
     ensures { result ≡ is_there waiting.register waiting.value (written_of tia.now) }
 {
