@@ -86,7 +86,7 @@ pub fn is_calm_in_picture(tia: &TiaState) -> bool
 
 /// The first of so many clocks of the picture, at least one, whose pixels go to the sink in order. How
 /// many they were.
-#[inline(always)]
+#[inline(never)]
 pub fn pass_some<S: Paint>(tia: &mut TiaState, owed: &mut Owed, most: u8, sink: &mut S) -> u8
     requires range { IsInRange tia.old }
     requires calm { IsCalmInPicture tia.old }
