@@ -21,6 +21,8 @@ NAME = pathlib.Path(sys.argv[0]).name
 # The status of a run that could do nothing, which is also that of wrong arguments.
 NOTHING_DONE = 2
 ENDING = (signal.SIGINT, signal.SIGTERM, signal.SIGHUP)
+# What Python says where the system has no thread for it.
+NO_THREAD = "can't start new thread"
 
 
 class Stop(Exception):
@@ -181,6 +183,18 @@ def _status(work: Callable[[], int]) -> int:
         return ended.code if isinstance(ended.code, int) else NOTHING_DONE
 
 
+def _stop_of(error: Exception) -> Stop | None:
+    """Why nothing can be done: by an error of this program, or since the system has no room or no thread for it, as it may for a moment.
+    None of other errors, which are mistakes here."""
+    if isinstance(error, Stop):
+        return error
+    if isinstance(error, OSError):
+        return Stop(reason(error))
+    if isinstance(error, MemoryError):
+        return Stop("out of memory")
+    return Stop("no thread") if isinstance(error, RuntimeError) and str(error) == NO_THREAD else None
+
+
 def _told(work: Callable[[], int]) -> int:
     """Does a program's work, and returns its status; an error is told, and has status 2."""
     try:
@@ -188,8 +202,9 @@ def _told(work: Callable[[], int]) -> int:
         status = _status(work)
         sys.stdout.flush()
         return status
-    except (Stop, OSError) as error:
-        stop = Stop(reason(error)) if isinstance(error, OSError) else error
+    except Exception as error:
+        if not (stop := _stop_of(error)):
+            raise
         say(str(stop))
         if _Json.is_on:
             print(json.dumps(stop.members()))

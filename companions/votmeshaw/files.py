@@ -54,7 +54,7 @@ def lock(descriptor: int, place: pathlib.Path, is_patient: bool = True) -> bool:
     """Keeps other runs from an open file or folder, and says whether it could: it waits if it is patient, and tells so after a second.
     The system ends this when the process ends, however it does."""
     until = time.monotonic() + 1
-    while time.monotonic() < until:
+    while True:  # (at least once: a process may stand still for a second)
         try:
             fcntl.flock(descriptor, fcntl.LOCK_EX | fcntl.LOCK_NB)
             return True
@@ -63,6 +63,8 @@ def lock(descriptor: int, place: pathlib.Path, is_patient: bool = True) -> bool:
                 return False
         except OSError as error:
             raise Stop(f"{place}: the file system knows no locks ({error.strerror})") from None
+        if time.monotonic() >= until:
+            break
         time.sleep(0.02)
     say("waiting for the run that is there")
     fcntl.flock(descriptor, fcntl.LOCK_EX)
