@@ -97,8 +97,9 @@ def check_length(data: bytes, lengths: tuple[int, ...]) -> None:
 
 
 def bank_scheme(said: str) -> str:
-    """The bank scheme or board that a run names, as it is called here."""
-    return said.upper().removeprefix("M")
+    """The bank scheme or board that a run names, as it is called here; the names of some begin with an 'M' of their own."""
+    name = said.upper()
+    return name if name in NOT_PLAYED else name.removeprefix("M")
 
 
 def doubt(data: bytes, board: str) -> str:
