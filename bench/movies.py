@@ -64,9 +64,17 @@ def lay_out(cartridge: bytes, inputs: bytes, folder: pathlib.Path) -> None:
     (folder / "inputs").write_text("".join(lines))
 
 
+def by_guide(movie: pathlib.Path) -> Parts:
+    """The parts of a movie that is judged by the guide's rules."""
+    parts = read(movie)
+    if parts.board:
+        fail(f"{movie.name} is of version 3, and judged by the chip's rules: bench/chip plays it")
+    return parts
+
+
 def make(program: str, movie: pathlib.Path, folder: pathlib.Path) -> list[bytes]:
     """Makes a movie again by the guide's rules, as 'made_of' does; leaves what other emulators play."""
-    parts = read(movie)
+    parts = by_guide(movie)
     lay_out(parts.cartridge, parts.inputs, folder)
     return made_of(program, movie.name, folder)
 

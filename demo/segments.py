@@ -20,11 +20,14 @@ SIGNS = {0: ".", 1: "X", 2: "F"}
 
 def segments(movie: bytes) -> list[bytes]:
     """Returns a movie for each segment."""
-    version, length = int.from_bytes(movie[4:6], "big"), int.from_bytes(movie[6:8], "big")
-    frames, record = int.from_bytes(movie[8:12], "big"), 186 + version
-    inputs = 14 + length + record
+    begin = 17 if movie[4:6] == b"\0\3" else 14  # where the cartridge begins; before it stand frames and checkpoints
+    length = int.from_bytes(movie[7 if begin == 17 else 6 : begin - 6], "big")
+    frames, checkpoints = (int.from_bytes(movie[at : at + count], "big") for at, count in ((begin - 6, 4), (begin - 2, 2)))
+    # What is left are the start state, and of each checkpoint a frame's number and a state.
+    record = (len(movie) - begin - length - 3 * frames - 4 * checkpoints) // (checkpoints + 1)
+    inputs = begin + length + record
     claims = range(inputs + 3 * frames, len(movie), 4 + record)
-    states = [movie[14 + length : inputs]] + [movie[at + 4 : at + 4 + record] for at in claims]
+    states = [movie[begin + length : inputs]] + [movie[at + 4 : at + 4 + record] for at in claims]
     ends = [0] + [int.from_bytes(movie[at : at + 4], "big") for at in claims]
     found = []
     for place, (first, state) in enumerate(zip(ends, states)):
@@ -32,9 +35,9 @@ def segments(movie: bytes) -> list[bytes]:
         count = (frames if is_last else ends[place + 1]) - first
         claimed = b"" if is_last else count.to_bytes(4, "big") + states[place + 1]
         if count:
-            header = movie[:8] + count.to_bytes(4, "big") + (0 if is_last else 1).to_bytes(2, "big")
+            header = movie[: begin - 6] + count.to_bytes(4, "big") + (0 if is_last else 1).to_bytes(2, "big")
             held = movie[inputs + 3 * first : inputs + 3 * (first + count)]
-            found.append(header + movie[14 : 14 + length] + state + held + claimed)
+            found.append(header + movie[begin : begin + length] + state + held + claimed)
     return found
 
 

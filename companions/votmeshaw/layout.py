@@ -65,7 +65,7 @@ def version_of(movie: bytes) -> Version:
     magic, number = pieces.take(len(MAGIC)), pieces.number(VERSION)
     version = next((it for it in VERSIONS if it.number == number), None)
     if magic != MAGIC or not version:
-        raise NoMovie(f"has version {number}, which isn't known here" if magic == MAGIC else f"begins with {magic!r}")
+        raise NoMovie(f"has version {number}, which isn't known here" if magic == MAGIC else f"begins with {magic.hex(' ').upper()}")
     return version
 
 

@@ -17,11 +17,12 @@ SIZES = (2048, 4096, 8192)
 BANK = 4096
 # How much of a file is looked at.
 MOST = 1_048_576
-# What a file is that is no cartridge, by its first bytes.
+# What a file is that is no cartridge, by its first bytes, and where a tar says that it is one.
 PACKED = {
-    b"PK\x03\x04": "a zip", b"\x1f\x8b": "packed by gzip", b"7z\xbc\xaf": "packed by 7-Zip",
+    b"PK\x03\x04": "a zip", b"\x1f\x8b\x08": "packed by gzip", b"7z\xbc\xaf": "packed by 7-Zip",
     b"Rar!": "packed by RAR", b"\xfd7zXZ": "packed by xz",
 }
+TAR = slice(257, 262), b"ustar"
 OTHERS = {
     b"A26M": "a movie of this project", b"\x01ATARI7800": "a cartridge of the Atari 7800, with its header",
     b"\x00ATARI7800": "a cartridge of the Atari 7800, with its header", b"NES\x1a": "a cartridge of the NES, with its header",
@@ -82,6 +83,8 @@ def check_length(data: bytes, lengths: tuple[int, ...]) -> None:
             raise Refused(f"GAME is {what}" + (": unpack it first" if begin in PACKED else ""))
     if (length := len(data)) in lengths:
         return
+    if data[TAR[0]] == TAR[1]:
+        raise Refused("GAME is a tar: unpack it first")
     said = f"more than {MOST:,} bytes" if length > MOST else f"{length} bytes"
     if length in LENGTHS:
         said += f", as {LENGTHS[length]} has"
@@ -94,8 +97,9 @@ def check_length(data: bytes, lengths: tuple[int, ...]) -> None:
 
 
 def bank_scheme(said: str) -> str:
-    """The bank scheme or board that a run names, as it is called here."""
-    return said.upper().removeprefix("M")
+    """The bank scheme or board that a run names, as it is called here; the names of some begin with an 'M' of their own."""
+    name = said.upper()
+    return name if name in NOT_PLAYED else name.removeprefix("M")
 
 
 def doubt(data: bytes, board: str) -> str:

@@ -16,8 +16,10 @@ FAULTS = 2
 LOOKED_AT = 3600
 CYCLES = re.compile(rb"^frame \d+: (\d+) cycles", re.M)
 CYCLES_OF_A_LINE = 76
-# Below, and from this many lines on, a frame isn't one of a television; between are NTSC (262) and PAL (312), which this parts.
+# Below, and from this many lines on, a frame isn't one of a television; between are NTSC (262) and PAL (312), which this parts, and which
+# have so many lines more or less in games.
 SHORTEST, PARTING, LONGEST = 240, 288, 325
+NTSC, PAL, FEW = 262, 312, 4
 
 
 class Game(NamedTuple):
@@ -73,7 +75,8 @@ def standard(verifier: Verifier, movie: bytes) -> str:
     out = asked_of(verifier, movie, "frames", "-", "--count", str(LOOKED_AT)).out
     lines = round(statistics.median_low([int(it) for it in CYCLES.findall(out)] or [0]) / CYCLES_OF_A_LINE)
     if not SHORTEST <= lines < LONGEST:
-        return f"{lines} lines a frame, which is neither NTSC (262) nor PAL (312)"
+        return f"{lines} lines a frame, which is neither NTSC ({NTSC}) nor PAL ({PAL})"
     if lines < PARTING:
-        return f"{lines} lines a frame, as NTSC has"
-    return f"{lines} lines a frame, as PAL has; the machine here has the colours and the time of NTSC"
+        return f"{lines} lines a frame, " + ("as NTSC has" if abs(lines - NTSC) <= FEW else f"nearer to NTSC ({NTSC}) than to PAL ({PAL})")
+    like = "as PAL has" if abs(lines - PAL) <= FEW else f"nearer to PAL ({PAL}) than to NTSC ({NTSC})"
+    return f"{lines} lines a frame, {like}; the machine here has the colours and the time of NTSC"
