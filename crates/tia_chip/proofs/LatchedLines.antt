@@ -1,6 +1,6 @@
 -- Clocks of the picture in which the pairs of all objects that may be lit are latched.
 use Rattle.std.proofs.Common.{◌≡◌, ◌∙◌, ℕ, zero, suc, ◌+◌, ◌-◌, ◌%◌, ◌<◌, ◌≤◌, ◌==◌, ◌&&◌, not, Bool, true, false, arith, refl, ap, sym, if◌then◌else◌, Option, Some, None}
-use Rattle.std.proofs.lemmas.Bool.{and_parts, and_right, cond-false, cond-true, cond_both}
+use Rattle.std.proofs.lemmas.Bool.{and_parts, and_right, cond_both}
 use Rattle.std.proofs.lemmas.Bool.Decides.{nat_tests}
 use Rattle.std.specs.Fn.{iterate}
 use Rattle.std.specs.Prelude.{nat_lt}
@@ -12,15 +12,14 @@ use Rattle.tia_chip.proofs.ShownLemmas.{LatchNothing, begun-shown}
 use Rattle.tia_chip.specs.Ball.{ball_after_step, enable_of, is_ball_lit}
 use Rattle.tia_chip.specs.Bits.{has_bit}
 use Rattle.tia_chip.specs.Calm.{IsCalmInPicture}
-use Rattle.tia_chip.specs.Clock.{after_clock, at_pixel, without_seen}
+use Rattle.tia_chip.specs.Clock.{after_clock, at_pixel}
 use Rattle.tia_chip.specs.Missile.{is_locked, is_missile_lit, missile_after_step}
 use Rattle.tia_chip.specs.Objects.{lit_objects}
 use Rattle.tia_chip.specs.Counter.{begins_copy, next_counter}
 use Rattle.tia_chip.specs.Player.{copy_after_step, counts_for_change, graphic_of, is_drawn_at, looked_at_player, player_after_step, shows_one}
 use Rattle.tia_chip.specs.Playfield.{playfield_bit, playfield_index}
-use Rattle.tia_chip.specs.Private.Lines.{IsLatched, gone_on, lit_somewhere, shown_mirrored, shown_playfield, with_line, with_objects}
+use Rattle.tia_chip.specs.Private.Lines.{IsLatched, lit_somewhere, shown_mirrored, shown_playfield, with_objects}
 use Rattle.tia_chip.specs.declared.ball.Ball.{Ball}
-use Rattle.tia_chip.specs.declared.line.Line.{Line}
 use Rattle.tia_chip.specs.declared.missile.Missile.{Missile}
 use Rattle.tia_chip.specs.declared.objects.Objects.{Objects}
 use Rattle.tia_chip.specs.Quiet.{counter_after, player_copy_at, quiet_player_after}
@@ -120,7 +119,3 @@ player-forgotten (suc n) p s = refl
 pub objects-alike : (t : TiaState) (p p' q q' : Player) (m m' n n' : Missile) (b b' : Ball) → p ≡ p' → q ≡ q' → m ≡ m' → n ≡ n' → b ≡ b'
     → with_objects t p q m n b ≡ with_objects t p' q' m' n' b'
 objects-alike t p p' q q' m m' n n' b b' e f g h i = cc
-
--- as the beam goes on, what was seen is forgotten or looked at anew
-pub gone-forgotten : (n : ℕ) (l : Line) (t : TiaState) → gone_on n (with_line l (without_seen t)) ≡ gone_on n (with_line l t)
-gone-forgotten n l t = cond_both (t.clock + n == 228) _ _ (λ (u : TiaState). u ≡ gone_on n (with_line l t)) (λ e. sym (cond-true _ _ _ e)) (λ e. sym (cond-false _ _ _ e))

@@ -1,6 +1,5 @@
 -- A TIA that owes steps, and what it is once it has made them.
-use Rattle.std.proofs.Common.{◌≡◌, ◌∙◌, ℕ, zero, suc, ◌+◌, ◌-◌, ◌%◌, ◌<◌, ◌≤◌, ◌==◌, Bool, true, false, arith, refl, ap, sym, subst, if◌then◌else◌, Some}
-use Rattle.std.proofs.lemmas.Bool.{cases_Bool, cond_both}
+use Rattle.std.proofs.Common.{◌≡◌, ◌∙◌, ℕ, ◌+◌, ◌%◌, ◌≤◌, ◌==◌, Bool, true, false, ap, sym, subst, if◌then◌else◌}
 use Rattle.std.specs.Fn.{iterate}
 use Rattle.tia_chip.proofs.CalmClocks.{steps-any, still}
 use Rattle.tia_chip.proofs.LatchedLines.{latched-latch_nothing, objects-alike}
@@ -16,11 +15,9 @@ use Rattle.tia_chip.specs.Missile.{missile_after_step}
 use Rattle.tia_chip.specs.Motion.{any_moves}
 use Rattle.tia_chip.specs.Player.{player_after_step}
 use Rattle.tia_chip.specs.Private.Late.{written_of}
-use Rattle.tia_chip.specs.Private.Lines.{IsAtRestInBlank, IsLatched, gone_on, lit_somewhere, unlatched_line, with_beam, with_line, with_objects}
+use Rattle.tia_chip.specs.Private.Lines.{IsAtRestInBlank, IsLatched, lit_somewhere, unlatched_line, with_beam, with_line, with_objects}
 use Rattle.tia_chip.specs.Private.Owed.{after_owed, ball_seen, made_steps, missile_seen, player_seen}
-use Rattle.tia_chip.specs.declared.ball.Ball.{Ball}
 use Rattle.tia_chip.specs.declared.line.Line.{Line}
-use Rattle.tia_chip.specs.declared.missile.Missile.{Missile}
 use Rattle.tia_chip.specs.declared.objects.Objects.{Objects}
 use Rattle.tia_chip.specs.declared.player.Player.{Player}
 use Rattle.tia_chip.specs.declared.state.TiaState.{TiaState}
@@ -88,10 +85,6 @@ made-add n k t =
     (ap (λ (z : ℕ). after_owed (missile_after_step z 0) (missile_seen false) k s.missile1) nusiz1
     ∙ owed-add (missile_after_step t.player1.nusiz 0) (missile_seen false) n k t.missile1 (missile-overwrites t.player1.nusiz 0 false))
     (owed-add (ball_after_step t.ctrlpf false) (ball_seen false) n k t.ball (ball-overwrites t.ctrlpf false))
-
-pub made-looked : (n : ℕ) (t : TiaState) → 1 ≤ n → looked_at (made_steps n false t) ≡ made_steps n true t
-made-looked zero t s = absurd (omega arith)
-made-looked (suc n) t s = refl
 
 -- ---- the blank
 pub made-forgotten : (n : ℕ) (looked : Bool) (t : TiaState) → made_steps n false (without_seen t) ≡ without_seen (made_steps n looked t)

@@ -1,5 +1,5 @@
 -- Reads, and steps that a TIA owes.
-use Rattle.std.proofs.Common.{◌≡◌, ◌∙◌, ℕ, ◌+◌, ◌%◌, ◌==◌, ◌&&◌, not, Bool, true, false, refl, ap, sym, if◌then◌else◌}
+use Rattle.std.proofs.Common.{◌≡◌, ◌∙◌, ℕ, ◌%◌, ◌==◌, ◌&&◌, not, Bool, true, false, refl, ap, sym, if◌then◌else◌}
 use Rattle.std.proofs.lemmas.Bool.{cond_both}
 use Rattle.tia_chip.specs.Bits.{has_bit}
 use Rattle.tia_chip.specs.Motion.{any_moves}

@@ -13,10 +13,6 @@ use Rattle.tia_chip.specs.declared.missile.Missile.{Missile}
 use Rattle.tia_chip.specs.declared.player.Player.{Player}
 use Rattle.std.specs.Prelude.{None}
 
--- a step doesn't know what was seen
-abbrev pub Overwrites : {A : Type 0} → (A → A) → (A → A) → Type 0
-Overwrites step seen = (x : _) → step (seen x) ≡ step x
-
 pub owed-some : {A : Type 0} (step seen : A → A) (n : ℕ) (a : A) → 1 ≤ n → after_owed step seen n a ≡ seen (iterate step n a)
 owed-some step seen zero a s = absurd (omega arith)
 owed-some step seen (suc n) a s = refl

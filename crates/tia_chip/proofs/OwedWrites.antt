@@ -1,12 +1,11 @@
 -- Writes of registers that are none of an object's, and steps that a TIA owes.
-use Rattle.std.proofs.Common.{◌≡◌, ◌∙◌, ℕ, ◌≤◌, ◌==◌, ◌⊎◌, arith, inl, inr, Bool, true, false, refl, ap, sym, None, Some}
+use Rattle.std.proofs.Common.{◌≡◌, ◌∙◌, ℕ, ◌≤◌, ◌==◌, arith, inl, inr, Bool, true, false, refl, ap, sym, None, Some}
 use Rattle.std.proofs.lemmas.Bool.{cases_Bool, cond-false, cond-true, cond_both}
 use Rattle.tia_chip.proofs.OwedLemmas.{made-none}
 use Rattle.tia_chip.proofs.ShownWrites.{acts-alone}
 use Rattle.tia_chip.specs.Motion.{any_moves}
 use Rattle.tia_chip.specs.Private.Late.{keeps_shown}
 use Rattle.tia_chip.specs.Private.Owed.{is_of_objects, made_steps}
-use Rattle.tia_chip.specs.Registers.{delay_of}
 use Rattle.tia_chip.specs.Write.{acted, after_action, after_register_write, with_waited, with_waited_write}
 use Rattle.tia_chip.specs.declared.register.Register.{Register}
 use Rattle.tia_chip.specs.declared.register.Register.TheVariants.{Vsync, Vblank, Wsync, Rsync, Nusiz0, Nusiz1, Colup0, Colup1, Colupf, Colubk, Ctrlpf, Refp0, Refp1, Pf0, Pf1, Pf2}
