@@ -423,12 +423,12 @@ impl<'a, S: Paint> Console<'a, S> {
         self.cart.banks()
     }
 
-    /// Lets the TIA see all cycles. It is the same console, and what its TIA is asked next takes less.
-    pub fn settle(&mut self)
+    /// Lets the TIA see all cycles. It stays the same console: what its TIA is asked next takes less.
+    pub fn catch_up_tia(&mut self)
         ensures { self.new ≡ self.old }
     {
         self.devices.catch_up_tia();
-        self.devices.tia.settle();
+        self.devices.tia.catch_up();
     }
 
     /// The scanline of the frame, counted from 0, and the cycle of it at which the beam stands.

@@ -44,7 +44,7 @@ fn frame_onto<S: Paint + Drop>(
     let mut console = Console::begin(mapped, state.riot(), state.tia(), input, sink);
     let ran = run_until_stop(&mut cpu, &mut console);
     let cycles = console.cycles();
-    console.settle();
+    console.catch_up_tia();
     let rows = console.rows();
     let Left {
         cart: mapped,

@@ -106,7 +106,7 @@ impl<'a> Stepping<'a> {
     {
         let cpu = self.cpu;
         let banks = self.bus.console.banks();
-        self.bus.console.settle();
+        self.bus.console.catch_up_tia();
         let (line, cycle) = self.bus.console.beam();
         let answer = step(&mut self.cpu, &mut self.bus);
         let code = mem::replace(&mut self.bus.code, ArrayVec::new());

@@ -157,8 +157,8 @@ impl Tia {
         }
     }
 
-    /// Passes the clocks that were only counted. It is the same TIA, and what it is asked next takes less.
-    pub fn settle(&mut self)
+    /// Passes the clocks that were only counted. It stays the same TIA: what it is asked next takes less.
+    pub fn catch_up(&mut self)
         ensures { self.new ≡ self.old }
     {
         if self.behind > 0 {

@@ -17,20 +17,20 @@ M = meaning_of undrawn
 pub returns-in-Err-clause-fault : goal.returns-in-Err-clause-fault
 returns-in-Err-clause-fault c =
     let bus = c.self.inside.bus in
-    let l : Listed (Console NoPaint) = record { bus = c.settle.new.self; code = bus.code.items; accesses = bus.accesses.items } in
+    let l : Listed (Console NoPaint) = record { bus = c.catch_up_tia.new.self; code = bus.code.items; accesses = bus.accesses.items } in
     let with : Console NoPaint → Machine NoPaint = λ (console : Console NoPaint). record { registers = c.self.inside.cpu; console = console } in
-    let m = with c.settle.new.self in
-    let at : m ≡ c.args.self.now = ap with c.settle.ensures ∙ c.self.view_is in
+    let m = with c.catch_up_tia.new.self in
+    let at : m ≡ c.args.self.now = ap with c.catch_up_tia.ensures ∙ c.self.view_is in
     let faulty = sym c.in-Err.is ∙ c.step-answer.ensures.answer in
     (c.in-Err.fault, c.from.ensures, rw (← at) (turn-faulty undrawn m c.in-Err.fault (rw (listed-below M m.registers l) (sym faulty))))
 
 pub returns-clause-went : goal.returns-clause-went
 returns-clause-went c =
     let bus = c.self.inside.bus in
-    let l : Listed (Console NoPaint) = record { bus = c.settle.new.self; code = bus.code.items; accesses = bus.accesses.items } in
+    let l : Listed (Console NoPaint) = record { bus = c.catch_up_tia.new.self; code = bus.code.items; accesses = bus.accesses.items } in
     let with : Console NoPaint → Machine NoPaint = λ (console : Console NoPaint). record { registers = c.self.inside.cpu; console = console } in
-    let m = with c.settle.new.self in
-    let at : m ≡ c.args.self.now = ap with c.settle.ensures ∙ c.self.view_is in
+    let m = with c.catch_up_tia.new.self in
+    let at : m ≡ c.args.self.now = ap with c.catch_up_tia.ensures ∙ c.self.view_is in
     let below = listed-below M m.registers l in
     let answer = sym c.in_default.is ∙ c.step-answer.ensures.answer in
     rw (← at)
