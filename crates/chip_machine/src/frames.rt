@@ -43,8 +43,8 @@ fn frame_onto<S: Paint + Drop>(
     let mapped = state.take_cart(alloc, cart);
     let mut console = Console::begin(mapped, state.riot(), state.tia(), input, sink);
     let ran = run_until_stop(&mut cpu, &mut console);
-    let cycles = console.cycles();
     console.catch_up_tia();
+    let cycles = console.cycles();
     let rows = console.rows();
     let Left {
         cart: mapped,

@@ -1,18 +1,17 @@
 -- Writes of registers that are none of an object's, and steps that a TIA owes.
-use Rattle.std.proofs.Common.{◌≡◌, ◌∙◌, ℕ, ◌≤◌, ◌==◌, arith, inl, inr, Bool, true, false, refl, ap, sym, None, Some}
-use Rattle.std.proofs.lemmas.Bool.{cases_Bool, cond-false, cond-true, cond_both}
+use Rattle.std.proofs.Common.{◌≡◌, ◌∙◌, ℕ, ◌≤◌, inl, inr, Bool, true, false, arith, refl, ap, sym}
+use Rattle.std.proofs.lemmas.Bool.{cases_Bool}
 use Rattle.tia_chip.proofs.OwedLemmas.{made-none}
 use Rattle.tia_chip.proofs.ShownWrites.{acts-alone}
 use Rattle.tia_chip.specs.Motion.{any_moves}
 use Rattle.tia_chip.specs.Private.Late.{keeps_shown}
 use Rattle.tia_chip.specs.Private.Owed.{is_of_objects, made_steps}
-use Rattle.tia_chip.specs.Write.{acted, after_action, after_register_write, with_waited, with_waited_write}
+use Rattle.tia_chip.specs.Write.{acted, after_action}
 use Rattle.tia_chip.specs.declared.register.Register.{Register}
 use Rattle.tia_chip.specs.declared.register.Register.TheVariants.{Vsync, Vblank, Wsync, Rsync, Nusiz0, Nusiz1, Colup0, Colup1, Colupf, Colubk, Ctrlpf, Refp0, Refp1, Pf0, Pf1, Pf2}
 use Rattle.tia_chip.specs.declared.register.Register.TheVariants.{Resp0, Resp1, Resm0, Resm1, Resbl, Grp0, Grp1, Enam0, Enam1, Enabl, Hmp0, Hmp1}
 use Rattle.tia_chip.specs.declared.register.Register.TheVariants.{Hmm0, Hmm1, Hmbl, Vdelp0, Vdelp1, Vdelbl, Resmp0, Resmp1, Hmove, Hmclr, Cxclr, Ignored}
 use Rattle.tia_chip.specs.declared.state.TiaState.{TiaState}
-use Rattle.tia_chip.specs.declared.waiting.Waiting.{Waiting}
 
 -- such a write shows nothing of an object, and keeps all objects
 record IsAlone (r : Register) (v : ℕ) : Type 0 where
@@ -82,118 +81,12 @@ by-settled r n looked f t h k = elim (cases_Bool (is_of_objects r)) [
   | inr e ↦ k e
 ]
 
--- and nothing moves after it, if steps are owed
-pub still-settled : (r : Register) (n : ℕ) (t u : TiaState) → Settles r n → (1 ≤ n → any_moves t ≡ false)
-    → (is_of_objects r ≡ false → any_moves u ≡ any_moves t) → 1 ≤ n → any_moves u ≡ false
-still-settled r n t u h k kept some = elim (cases_Bool (is_of_objects r)) [
+pub action-made : (r : Register) (v n : ℕ) (looked : Bool) (t : TiaState) → Settles r n
+    → made_steps n looked (after_action r v t) ≡ after_action r v (made_steps n looked t)
+action-made r v n looked t h = by-settled r n looked (after_action r v) t h (alone-made r v n looked t)
+
+pub action-still : (r : Register) (v n : ℕ) (t : TiaState) → Settles r n → (1 ≤ n → any_moves t ≡ false) → 1 ≤ n → any_moves (after_action r v t) ≡ false
+action-still r v n t h k some = elim (cases_Bool (is_of_objects r)) [
   | inl e ↦ absurd (omega (arith, h e))
-  | inr e ↦ kept e ∙ k some
+  | inr e ↦ action-moves r v t e ∙ k some
 ]
-
-waits-made : (w : Waiting) (n : ℕ) (looked : Bool) (t : TiaState) → is_of_objects w.register ≡ false
-    → made_steps n looked (with_waited (Some w) t) ≡ with_waited (Some w) (made_steps n looked t)
-waits-made w n looked t e = elim (cases_Bool (w.clocks == 0)) [
-  | inl f ↦ ap (made_steps n looked) (cond-true (w.clocks == 0) _ _ f)
-      ∙ (alone-made w.register w.value n looked (record t { waiting = None }) e ∙ sym (cond-true (w.clocks == 0) _ _ f))
-  | inr f ↦ ap (made_steps n looked) (cond-false (w.clocks == 0) _ _ f) ∙ sym (cond-false (w.clocks == 0) _ _ f)
-]
-
-pub waited-made : (w : Waiting) (n : ℕ) (looked : Bool) (t : TiaState) → t.waiting ≡ Some w → Settles w.register n
-    → made_steps n looked (with_waited_write t) ≡ with_waited_write (made_steps n looked t)
-waited-made w n looked t i h =
-    ap (λ o. made_steps n looked (with_waited o t)) i
-    ∙ (by-settled w.register n looked (with_waited (Some w)) t h (waits-made w n looked t) ∙ sym (ap (λ o. with_waited o (made_steps n looked t)) i))
-
-pub waited-moves : (w : Waiting) (t : TiaState) → t.waiting ≡ Some w → is_of_objects w.register ≡ false → any_moves (with_waited_write t) ≡ any_moves t
-waited-moves w t i e =
-    ap (λ o. any_moves (with_waited o t)) i
-    ∙ cond_both (w.clocks == 0) _ _ (λ (u : TiaState). any_moves u ≡ any_moves t) (λ f. action-moves w.register w.value (record t { waiting = None }) e) (λ f. refl)
-
-write-made : (r : Register) (v n : ℕ) (looked : Bool) (t : TiaState) → is_of_objects r ≡ false
-    → made_steps n looked (after_register_write r v t) ≡ after_register_write r v (made_steps n looked t)
-write-made Vsync v n looked t e = alone-made Vsync v n looked t refl
-write-made Vblank v n looked t e = refl
-write-made Wsync v n looked t e = alone-made Wsync v n looked t refl
-write-made Rsync v n looked t e = alone-made Rsync v n looked t refl
-write-made Nusiz0 v n looked t e = absurd cc
-write-made Nusiz1 v n looked t e = absurd cc
-write-made Colup0 v n looked t e = alone-made Colup0 v n looked t refl
-write-made Colup1 v n looked t e = alone-made Colup1 v n looked t refl
-write-made Colupf v n looked t e = alone-made Colupf v n looked t refl
-write-made Colubk v n looked t e = alone-made Colubk v n looked t refl
-write-made Ctrlpf v n looked t e = absurd cc
-write-made Refp0 v n looked t e = absurd cc
-write-made Refp1 v n looked t e = absurd cc
-write-made Pf0 v n looked t e = refl
-write-made Pf1 v n looked t e = refl
-write-made Pf2 v n looked t e = refl
-write-made Resp0 v n looked t e = absurd cc
-write-made Resp1 v n looked t e = absurd cc
-write-made Resm0 v n looked t e = absurd cc
-write-made Resm1 v n looked t e = absurd cc
-write-made Resbl v n looked t e = absurd cc
-write-made Grp0 v n looked t e = absurd cc
-write-made Grp1 v n looked t e = absurd cc
-write-made Enam0 v n looked t e = absurd cc
-write-made Enam1 v n looked t e = absurd cc
-write-made Enabl v n looked t e = absurd cc
-write-made Hmp0 v n looked t e = absurd cc
-write-made Hmp1 v n looked t e = absurd cc
-write-made Hmm0 v n looked t e = absurd cc
-write-made Hmm1 v n looked t e = absurd cc
-write-made Hmbl v n looked t e = absurd cc
-write-made Vdelp0 v n looked t e = absurd cc
-write-made Vdelp1 v n looked t e = absurd cc
-write-made Vdelbl v n looked t e = absurd cc
-write-made Resmp0 v n looked t e = absurd cc
-write-made Resmp1 v n looked t e = absurd cc
-write-made Hmove v n looked t e = absurd cc
-write-made Hmclr v n looked t e = absurd cc
-write-made Cxclr v n looked t e = alone-made Cxclr v n looked t refl
-write-made Ignored v n looked t e = alone-made Ignored v n looked t refl
-
-pub register-made : (r : Register) (v n : ℕ) (looked : Bool) (t : TiaState) → Settles r n
-    → made_steps n looked (after_register_write r v t) ≡ after_register_write r v (made_steps n looked t)
-register-made r v n looked t h = by-settled r n looked (after_register_write r v) t h (write-made r v n looked t)
-
-pub register-moves : (r : Register) (v : ℕ) (t : TiaState) → is_of_objects r ≡ false → any_moves (after_register_write r v t) ≡ any_moves t
-register-moves Vsync v t e = action-moves Vsync v t refl
-register-moves Vblank v t e = refl
-register-moves Wsync v t e = action-moves Wsync v t refl
-register-moves Rsync v t e = action-moves Rsync v t refl
-register-moves Nusiz0 v t e = absurd cc
-register-moves Nusiz1 v t e = absurd cc
-register-moves Colup0 v t e = action-moves Colup0 v t refl
-register-moves Colup1 v t e = action-moves Colup1 v t refl
-register-moves Colupf v t e = action-moves Colupf v t refl
-register-moves Colubk v t e = action-moves Colubk v t refl
-register-moves Ctrlpf v t e = absurd cc
-register-moves Refp0 v t e = absurd cc
-register-moves Refp1 v t e = absurd cc
-register-moves Pf0 v t e = refl
-register-moves Pf1 v t e = refl
-register-moves Pf2 v t e = refl
-register-moves Resp0 v t e = absurd cc
-register-moves Resp1 v t e = absurd cc
-register-moves Resm0 v t e = absurd cc
-register-moves Resm1 v t e = absurd cc
-register-moves Resbl v t e = absurd cc
-register-moves Grp0 v t e = absurd cc
-register-moves Grp1 v t e = absurd cc
-register-moves Enam0 v t e = absurd cc
-register-moves Enam1 v t e = absurd cc
-register-moves Enabl v t e = absurd cc
-register-moves Hmp0 v t e = absurd cc
-register-moves Hmp1 v t e = absurd cc
-register-moves Hmm0 v t e = absurd cc
-register-moves Hmm1 v t e = absurd cc
-register-moves Hmbl v t e = absurd cc
-register-moves Vdelp0 v t e = absurd cc
-register-moves Vdelp1 v t e = absurd cc
-register-moves Vdelbl v t e = absurd cc
-register-moves Resmp0 v t e = absurd cc
-register-moves Resmp1 v t e = absurd cc
-register-moves Hmove v t e = absurd cc
-register-moves Hmclr v t e = absurd cc
-register-moves Cxclr v t e = action-moves Cxclr v t refl
-register-moves Ignored v t e = action-moves Ignored v t refl

@@ -267,6 +267,10 @@ acts-clock t w h z = clock-is (with_waited_write t) ∙ (ap without-writes (acts
 pub acts-pixel : (t : TiaState) (w : Waiting) → t.waiting ≡ Some w → w.clocks ≡ 0 → at_pixel (with_waited_write t) ≡ at_pixel t
 acts-pixel t w h z = pixel-is (with_waited_write t) ∙ (ap pixel-without (acts-once t w h z) ∙ sym (pixel-is t))
 
+-- the write itself, which is on its way no more
+pub acts-now : (t : TiaState) (w : Waiting) → t.waiting ≡ Some w → w.clocks ≡ 0 → after_action w.register w.value (record t { waiting = None }) ≡ with_waited_write t
+acts-now t w h z = sym (ap (λ o. with_waited o t) h ∙ cond-true (w.clocks == 0) _ _ (eq-eqb w.clocks 0 z))
+
 pub acts-state : (t : TiaState) (w : Waiting) (n : ℕ) → t.waiting ≡ Some w → w.clocks ≡ 0 → 1 ≤ n → iterate after_clock n (with_waited_write t) ≡ iterate after_clock n t
 acts-state t w zero h z l = absurd (omega arith)
 acts-state t w (suc n) h z l = ap (iterate after_clock n) (acts-clock t w h z)

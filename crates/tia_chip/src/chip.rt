@@ -12,7 +12,7 @@ ghost use Rattle.tia_chip.specs.Private.Late.{gives_way, is_free, is_there as is
 ghost use Rattle.tia_chip.specs.Private.Owed.{MayOwe, settled};
 ghost use Rattle.tia_chip.specs.Private.Ranges.{IsInRange};
 ghost use Rattle.tia_chip.specs.Read.{tia_after_read, tia_read};
-ghost use Rattle.tia_chip.specs.Write.{after_register_write, effect_of, tia_after_write, with_waited_write};
+ghost use Rattle.tia_chip.specs.Write.{after_action, after_register_write, effect_of, tia_after_write};
 ghost use Rattle.tia_chip.specs.declared.effect.Effect.TheVariants.{Nothing};
 
 use crate::ball::Ball;
@@ -31,7 +31,7 @@ use crate::register::Register;
 use crate::sight::{forget_seen, look};
 use crate::state::TiaState;
 use crate::waiting::Waiting;
-use crate::write::{bring_on, bring_on_write, effect, is_there, waits_after, write_register};
+use crate::write::{act_and_notice, bring_on, effect, is_there, put_on_its_way, waits_after};
 use std::marker::Model;
 use tia_core::{NoPaint, Paint};
 
@@ -239,17 +239,16 @@ fn awaits_rsync(waiting: Option<Waiting>) -> bool
     }
 }
 
-/// The write that is on its way acts.
-fn act_owing(tia: &mut TiaState, owed: &mut Owed, waiting: Waiting)
-    requires waiting { tia.old.waiting ≡ Some waiting }
+/// A write acts, and what it changes is looked at.
+fn act_owing(tia: &mut TiaState, owed: &mut Owed, register: Register, value: u8)
     requires range { IsInRange tia.old }
     requires still { MayOwe owed.old tia.old }
-    ensures value { settled owed.new tia.new ≡ with_waited_write (settled owed.old tia.old) }
+    ensures value { settled owed.new tia.new ≡ after_action register value (settled owed.old tia.old) }
     ensures range { IsInRange tia.new }
     ensures still { MayOwe owed.new tia.new }
 {
-    owed.settle_for(waiting.register, tia);
-    bring_on_write(tia);
+    owed.settle_for(register, tia);
+    act_and_notice(tia, register, value);
 }
 
 /// Writes a register.
@@ -260,8 +259,11 @@ fn write_owing(tia: &mut TiaState, owed: &mut Owed, register: Register, value: u
     ensures range { IsInRange tia.new }
     ensures still { MayOwe owed.new tia.new }
 {
-    owed.settle_for(register, tia);
-    write_register(tia, register, value);
+    if register.delay() == 0 {
+        act_owing(tia, owed, register, value);
+    } else {
+        put_on_its_way(tia, register, value);
+    }
 }
 
 impl Chip {
@@ -390,7 +392,13 @@ impl Chip {
             return self.unwritten_clocks(waiting, most, sink);
         }
         if waiting.clocks == 0 {
-            act_owing(&mut self.state, &mut self.owed, waiting);
+            self.state.waiting = None;
+            act_owing(
+                &mut self.state,
+                &mut self.owed,
+                waiting.register,
+                waiting.value,
+            );
             return self.free_clocks(most, sink);
         }
         self.waited_clocks(waiting, most.min(u32::from(waiting.clocks)), sink)

@@ -2,7 +2,7 @@
 //! when somebody does.
 ghost use Rattle.std.specs.Prelude.{◌≡◌, ◌≤◌, true, false};
 ghost use Rattle.tia_chip.specs.Motion.{any_moves};
-ghost use Rattle.tia_chip.specs.Private.Owed.{MayOwe, is_of_objects, made_steps, settled};
+ghost use Rattle.tia_chip.specs.Private.Owed.{AreQuiet, MayOwe, is_of_objects, made_steps, settled};
 ghost use Rattle.tia_chip.specs.Private.Ranges.{IsInRange};
 
 use crate::register::Register;
@@ -79,7 +79,7 @@ fn make_steps(tia: &mut TiaState, steps: u32)
     ensures value { tia.new ≡ made_steps steps false tia.old }
     ensures range { IsInRange tia.new }
 {
-    let mut left = steps;
+    let mut left = make_rounds(tia, steps);
     while left > 0 {
         let count = left.min(160) as u8;
         pass_objects(tia, count);
@@ -87,7 +87,40 @@ fn make_steps(tia: &mut TiaState, steps: u32)
     }
 }
 
-/// The same of at least one and at most 160 steps.
+/// Makes the first of many steps, and answers how many are left. A round of 160 leads a quiet object to
+/// where it is, so further rounds change nothing.
+#[inline(always)]
+fn make_rounds(tia: &mut TiaState, steps: u32) -> u32
+    requires range { IsInRange tia.old }
+    requires still { any_moves tia.old ≡ false }
+    ensures value { made_steps result false tia.new ≡ made_steps steps false tia.old }
+    ensures range { IsInRange tia.new }
+    ensures still { any_moves tia.new ≡ false }
+{
+    if steps < 480 {
+        return steps;
+    }
+    pass_objects(tia, 160);
+    if !are_quiet(tia) {
+        return steps - 160;
+    }
+    pass_objects(tia, 160);
+    (steps - 320) % 160
+}
+
+/// Whether each object is quiet.
+fn are_quiet(tia: &TiaState) -> bool
+    requires { IsInRange tia.now }
+    ensures { result ≡ true → AreQuiet tia.now }
+{
+    tia.player0.is_quiet()
+        && tia.player1.is_quiet()
+        && tia.missile0.is_quiet(tia.player0.nusiz)
+        && tia.missile1.is_quiet(tia.player1.nusiz)
+        && tia.ball.is_quiet(tia.ctrlpf)
+}
+
+/// So many steps of each object, at least one and at most 160. What was seen is forgotten.
 fn pass_objects(tia: &mut TiaState, count: u8)
     requires range { IsInRange tia.old }
     requires still { any_moves tia.old ≡ false }
@@ -95,6 +128,7 @@ fn pass_objects(tia: &mut TiaState, count: u8)
     requires most { count ≤ 160 }
     ensures value { tia.new ≡ made_steps count false tia.old }
     ensures range { IsInRange tia.new }
+    ensures still { any_moves tia.new ≡ false }
 {
     let ctrlpf = tia.ctrlpf;
     let (nusiz0, nusiz1) = (tia.player0.nusiz, tia.player1.nusiz);

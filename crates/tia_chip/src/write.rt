@@ -2,7 +2,7 @@
 ghost use Rattle.std.specs.Prelude.{◌≡◌, ◌<◌, ◌≤◌};
 ghost use Rattle.tia_chip.specs.Private.Late.{is_there, waits_after, written_of};
 ghost use Rattle.tia_chip.specs.Private.Ranges.{IsInRange, IsPlayerInRange};
-ghost use Rattle.tia_chip.specs.Write.{acted, after_action, after_register_write, at_once, effect_after};
+ghost use Rattle.tia_chip.specs.Write.{acted, after_action, at_once, effect_after};
 ghost use Rattle.tia_chip.specs.Write.{after_rsync, is_changed, player_after_write, vblank_of};
 ghost use Rattle.tia_chip.specs.Write.{with_changes, with_latching, with_waited_hmove, with_waited_write};
 ghost use Rattle.tia_chip.specs.Write.{with_waited_writes, with_waiting};
@@ -228,7 +228,7 @@ fn notice(before: &TiaState, after: &mut TiaState)
 
 /// A write acts, and what it changes is looked at.
 #[inline(always)]
-fn act_and_notice(tia: &mut TiaState, register: Register, value: u8)
+pub fn act_and_notice(tia: &mut TiaState, register: Register, value: u8)
     requires { IsInRange tia.old }
     ensures value { tia.new ≡ after_action register value tia.old }
     ensures range { IsInRange tia.new }
@@ -240,24 +240,6 @@ fn act_and_notice(tia: &mut TiaState, register: Register, value: u8)
     let before = *tia;
     act(tia, register, value);
     notice(&before, tia);
-}
-
-/// Puts a write on its way.
-fn put_on_its_way(tia: &mut TiaState, register: Register, value: u8)
-    requires { IsInRange tia.old }
-    ensures value { tia.new ≡ with_waiting register value tia.old }
-    ensures range { IsInRange tia.new }
-{
-    let clocks = register.delay();
-    if register == Register::Hmove {
-        tia.hmove = Some(clocks);
-    } else {
-        tia.waiting = Some(Waiting {
-            register,
-            value,
-            clocks,
-        });
-    }
 }
 
 /// VBLANK D6 acts.
@@ -284,17 +266,22 @@ fn act_at_once(tia: &mut TiaState, register: Register, value: u8)
     }
 }
 
-/// Writes a register.
-pub fn write_register(tia: &mut TiaState, register: Register, value: u8)
+/// Puts a write on its way.
+pub fn put_on_its_way(tia: &mut TiaState, register: Register, value: u8)
     requires { IsInRange tia.old }
-    ensures value { tia.new ≡ after_register_write register value tia.old }
+    ensures value { tia.new ≡ with_waiting register value (at_once register value tia.old) }
     ensures range { IsInRange tia.new }
 {
-    if register.delay() == 0 {
-        act_and_notice(tia, register, value);
+    act_at_once(tia, register, value);
+    let clocks = register.delay();
+    if register == Register::Hmove {
+        tia.hmove = Some(clocks);
     } else {
-        act_at_once(tia, register, value);
-        put_on_its_way(tia, register, value);
+        tia.waiting = Some(Waiting {
+            register,
+            value,
+            clocks,
+        });
     }
 }
 
@@ -340,7 +327,7 @@ pub fn waits_after(waiting: Waiting, clocks: u32) -> Option<Waiting>
 }
 
 /// A write that is on its way is a clock nearer, or acts.
-pub fn bring_on_write(tia: &mut TiaState)
+fn bring_on_write(tia: &mut TiaState)
     requires { IsInRange tia.old }
     ensures value { tia.new ≡ with_waited_write tia.old }
     ensures range { IsInRange tia.new }

@@ -5,6 +5,7 @@ use Rattle.tia_chip.specs.Ball.{ball_after_step, looked_at_ball}
 use Rattle.tia_chip.specs.Missile.{missile_after_step, looked_at_missile}
 use Rattle.tia_chip.specs.Motion.{any_moves}
 use Rattle.tia_chip.specs.Player.{player_after_step, looked_at_player}
+use Rattle.tia_chip.specs.Quiet.{IsQuietBall, IsQuietMissile, IsQuietPlayer}
 use Rattle.tia_chip.specs.declared.ball.Ball.{Ball}
 use Rattle.tia_chip.specs.declared.missile.Missile.{Missile}
 use Rattle.tia_chip.specs.declared.owed.Owed.{Owed}
@@ -49,6 +50,14 @@ settled o t = made_steps o.steps o.looked t
 -- steps are owed only while nothing moves
 abbrev pub MayOwe : Owed → TiaState → Type 0
 MayOwe o t = 1 ≤ o.steps → any_moves t ≡ false
+
+-- each object is quiet
+pub record AreQuiet (t : TiaState) : Type 0 where
+  pub player0 : IsQuietPlayer t.player0
+  pub player1 : IsQuietPlayer t.player1
+  pub missile0 : IsQuietMissile t.player0.nusiz t.missile0
+  pub missile1 : IsQuietMissile t.player1.nusiz t.missile1
+  pub ball : IsQuietBall t.ctrlpf t.ball
 
 -- whether a write of this register changes an object, or what its steps depend on
 abbrev pub is_of_objects : Register → Bool

@@ -1,6 +1,5 @@
 use Rattle.std.proofs.Common.{◌≡◌, ◌∙◌, ◌+◌, ◌-◌, ℕ, false, ap, arith}
-use Rattle.tia_chip.proofs.OwedLemmas.{made-add, made-moves}
-use Rattle.tia_chip.specs.Motion.{any_moves}
+use Rattle.tia_chip.proofs.OwedLemmas.{made-add}
 use Rattle.tia_chip.specs.Private.Owed.{made_steps}
 use Rattle.tia_chip.specs.declared.state.TiaState.{TiaState}
 use Rattle.tia_chip.proofs.owed.make_steps.Goals as goal
@@ -16,6 +15,6 @@ loop-left-preserved c =
     record {
       value = rw c.from-left.ensures (ap (λ (x : TiaState). made_steps (left - n) false x) made.value
           ∙ (made-add n (left - n) t ∙ (ap (λ (k : ℕ). made_steps k false t) all ∙ held.value)));
-      still = ap any_moves made.value ∙ (made-moves n false t ∙ held.still);
+      still = made.still;
       range = made.range;
     }

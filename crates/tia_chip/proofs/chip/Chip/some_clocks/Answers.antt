@@ -1,7 +1,7 @@
 use Rattle.std.proofs.Common.{◌∙◌, ap, sym}
 use Rattle.std.specs.Fn.{iterate}
 use Rattle.tia_chip.proofs.OwedLemmas.{made-written}
-use Rattle.tia_chip.proofs.WaitingLemmas.{acts-sink, acts-state}
+use Rattle.tia_chip.proofs.WaitingLemmas.{acts-now, acts-sink, acts-state}
 use Rattle.tia_chip.specs.Clock.{after_clock}
 use Rattle.tia_chip.specs.Clocks.{sink_after_clocks}
 use Rattle.tia_chip.specs.Private.Late.{Written, is_there}
@@ -15,7 +15,7 @@ returns-then-waiting-eq0-clause-state g c =
     let n = c.free_clocks-then-waiting-eq0.result in
     rw (← c.self.view_is)
     (c.free_clocks-then-waiting-eq0.ensures.state
-    ∙ (ap (λ (x : TiaState). iterate after_clock n x) c.act_owing.ensures.value
+    ∙ (ap (λ (x : TiaState). iterate after_clock n x) (c.act_owing.ensures.value ∙ acts-now t c.in-Some.waiting c.in-Some.is c.if-waiting-eq0.true)
     ∙ acts-state t c.in-Some.waiting n c.in-Some.is c.if-waiting-eq0.true c.free_clocks-then-waiting-eq0.ensures.some))
 
 pub returns-then-waiting-eq0-clause-sink : goal.returns-then-waiting-eq0-clause-sink
@@ -25,7 +25,7 @@ returns-then-waiting-eq0-clause-sink g c =
     let drawn = g.S.Paint.drawn in
     rw (← c.self.view_is)
     (c.free_clocks-then-waiting-eq0.ensures.sink
-    ∙ (ap (λ (x : TiaState). sink_after_clocks drawn c.args.sink.now n x) c.act_owing.ensures.value
+    ∙ (ap (λ (x : TiaState). sink_after_clocks drawn c.args.sink.now n x) (c.act_owing.ensures.value ∙ acts-now t c.in-Some.waiting c.in-Some.is c.if-waiting-eq0.true)
     ∙ acts-sink drawn c.args.sink.now t c.in-Some.waiting n c.in-Some.is c.if-waiting-eq0.true c.free_clocks-then-waiting-eq0.ensures.some))
 
 pub unwritten_clocks-requires-clause-there : goal.unwritten_clocks-requires-clause-there
