@@ -15,6 +15,7 @@ pub mod NumberLemmas
 pub mod OtherPairs
 pub mod OwedLemmas
 pub mod OwedReads
+pub mod OwedRegisters
 pub mod OwedRounds
 pub mod OwedSteps
 pub mod OwedWrites

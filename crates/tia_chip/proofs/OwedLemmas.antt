@@ -23,10 +23,10 @@ use Rattle.tia_chip.specs.declared.player.Player.{Player}
 use Rattle.tia_chip.specs.declared.state.TiaState.{TiaState}
 
 -- ---- what the steps keep
-bare : TiaState → TiaState
+unfoldable pub bare : TiaState → TiaState
 bare t = with_objects t (bare_player t.player0) (bare_player t.player1) (bare_missile t.missile0) (bare_missile t.missile1) (bare_ball t.ball)
 
-bare-made : (n : ℕ) (looked : Bool) (t : TiaState) → bare (made_steps n looked t) ≡ bare t
+pub bare-made : (n : ℕ) (looked : Bool) (t : TiaState) → bare (made_steps n looked t) ≡ bare t
 unfolding bare
 bare-made n looked t =
     let s = made_steps n looked t in

@@ -20,7 +20,7 @@ use Rattle.tia_chip.specs.declared.register.Register.TheVariants.{Cxclr, Ignored
 use Rattle.tia_chip.specs.declared.register.Register.TheVariants.{Enam0, Enam1, Enabl, Vdelp0, Vdelp1, Vdelbl, Resmp0, Resmp1}
 use Rattle.tia_chip.specs.declared.state.TiaState.{TiaState}
 
-same-player : (p q : Player) → graphic_of p ≡ graphic_of q → p.refp ≡ q.refp → p.vdelp ≡ q.vdelp → is_player_changed p q ≡ false
+pub same-player : (p q : Player) → graphic_of p ≡ graphic_of q → p.refp ≡ q.refp → p.vdelp ≡ q.vdelp → is_player_changed p q ≡ false
 same-player p q e f g =
     and_right (is_drawn q.width q.copy) (not (graphic_of p == graphic_of q && p.refp == q.refp && p.vdelp == q.vdelp)) (grind (arith, nat_tests))
 

@@ -2,7 +2,7 @@
 //! when somebody does.
 ghost use Rattle.std.specs.Prelude.{◌≡◌, ◌≤◌, true, false};
 ghost use Rattle.tia_chip.specs.Motion.{any_moves};
-ghost use Rattle.tia_chip.specs.Private.Owed.{AreQuiet, MayOwe, is_of_objects, made_steps, settled};
+ghost use Rattle.tia_chip.specs.Private.Owed.{AreQuiet, MayOwe, needs_steps, made_steps, settled};
 ghost use Rattle.tia_chip.specs.Private.Ranges.{IsInRange};
 
 use crate::register::Register;
@@ -56,17 +56,17 @@ impl Owed {
         }
     }
 
-    /// The same if a write of this register asks for it.
+    /// The same if a write of this register needs them.
     #[inline(always)]
     pub fn settle_for(&mut self, register: Register, tia: &mut TiaState)
         requires range { IsInRange tia.old }
         requires still { MayOwe self.old tia.old }
         ensures value { settled self.new tia.new ≡ settled self.old tia.old }
-        ensures none { is_of_objects register ≡ true → self.new.steps ≡ 0 }
+        ensures none { needs_steps register ≡ true → self.new.steps ≡ 0 }
         ensures range { IsInRange tia.new }
         ensures still { MayOwe self.new tia.new }
     {
-        if register.is_of_objects() {
+        if register.needs_steps() {
             self.settle(tia);
         }
     }

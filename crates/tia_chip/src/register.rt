@@ -1,7 +1,7 @@
 //! The registers that are written, by name and number, and the bits that each keeps.
 ghost use Rattle.std.specs.Prelude.{◌≡◌, ◌≤◌};
 ghost use Rattle.tia_chip.specs.Private.Late.{acts_late, is_colour, keeps_shown};
-ghost use Rattle.tia_chip.specs.Private.Owed.{is_of_objects};
+ghost use Rattle.tia_chip.specs.Private.Owed.{needs_steps};
 ghost use Rattle.tia_chip.specs.Registers.{register_of, mask_of, register_bits, delay_of, value_by_delay};
 
 use crate::bits::has_bit;
@@ -189,17 +189,21 @@ impl Register {
         }
     }
 
-    /// Whether a write of it changes an object, or what its steps depend on.
+    /// Whether a write of it depends on the steps of objects, or they on it.
     #[inline(always)]
-    pub(crate) fn is_of_objects(self) -> bool
-        ensures { result ≡ is_of_objects self }
+    pub(crate) fn needs_steps(self) -> bool
+        ensures { result ≡ needs_steps self }
     {
         match self {
-            Register::Vsync | Register::Vblank | Register::Wsync | Register::Rsync => false,
-            Register::Colup0 | Register::Colup1 | Register::Colupf | Register::Colubk => false,
-            Register::Pf0 | Register::Pf1 | Register::Pf2 => false,
-            Register::Cxclr | Register::Ignored => false,
-            _ => true,
+            Register::Nusiz0 | Register::Nusiz1 | Register::Ctrlpf => true,
+            Register::Refp0 | Register::Refp1 => true,
+            Register::Resp0 | Register::Resp1 => true,
+            Register::Resm0 | Register::Resm1 | Register::Resbl => true,
+            Register::Grp0 | Register::Grp1 => true,
+            Register::Vdelp0 | Register::Vdelp1 => true,
+            Register::Resmp0 | Register::Resmp1 => true,
+            Register::Hmove => true,
+            _ => false,
         }
     }
 

@@ -11,8 +11,9 @@ use Rattle.tia_chip.specs.declared.missile.Missile.{Missile}
 use Rattle.tia_chip.specs.declared.owed.Owed.{Owed}
 use Rattle.tia_chip.specs.declared.player.Player.{Player}
 use Rattle.tia_chip.specs.declared.register.Register.{Register}
-use Rattle.tia_chip.specs.declared.register.Register.TheVariants.{Vsync, Vblank, Wsync, Rsync, Colup0, Colup1}
-use Rattle.tia_chip.specs.declared.register.Register.TheVariants.{Colupf, Colubk, Pf0, Pf1, Pf2, Cxclr, Ignored}
+use Rattle.tia_chip.specs.declared.register.Register.TheVariants.{Nusiz0, Nusiz1, Ctrlpf, Refp0, Refp1, Resp0}
+use Rattle.tia_chip.specs.declared.register.Register.TheVariants.{Resp1, Resm0, Resm1, Resbl, Grp0, Grp1}
+use Rattle.tia_chip.specs.declared.register.Register.TheVariants.{Vdelp0, Vdelp1, Resmp0, Resmp1, Hmove}
 use Rattle.tia_chip.specs.declared.state.TiaState.{TiaState}
 
 -- an object after n steps, and after what comes of what the last of them saw
@@ -59,19 +60,24 @@ pub record AreQuiet (t : TiaState) : Type 0 where
   pub missile1 : IsQuietMissile t.player1.nusiz t.missile1
   pub ball : IsQuietBall t.ctrlpf t.ball
 
--- whether a write of this register changes an object, or what its steps depend on
-abbrev pub is_of_objects : Register → Bool
-is_of_objects Vsync = false
-is_of_objects Vblank = false
-is_of_objects Wsync = false
-is_of_objects Rsync = false
-is_of_objects Colup0 = false
-is_of_objects Colup1 = false
-is_of_objects Colupf = false
-is_of_objects Colubk = false
-is_of_objects Pf0 = false
-is_of_objects Pf1 = false
-is_of_objects Pf2 = false
-is_of_objects Cxclr = false
-is_of_objects Ignored = false
-is_of_objects _ = true
+-- Whether a write of this register depends on the steps, or they on it. An enable, VDELBL and motion are
+-- nothing to an object that doesn't move.
+abbrev pub needs_steps : Register → Bool
+needs_steps Nusiz0 = true
+needs_steps Nusiz1 = true
+needs_steps Ctrlpf = true
+needs_steps Refp0 = true
+needs_steps Refp1 = true
+needs_steps Resp0 = true
+needs_steps Resp1 = true
+needs_steps Resm0 = true
+needs_steps Resm1 = true
+needs_steps Resbl = true
+needs_steps Grp0 = true
+needs_steps Grp1 = true
+needs_steps Vdelp0 = true
+needs_steps Vdelp1 = true
+needs_steps Resmp0 = true
+needs_steps Resmp1 = true
+needs_steps Hmove = true
+needs_steps _ = false
